@@ -11,3 +11,6 @@ mod OneNext
 mod OneShells
 mod OneParts
 pub mod SameText
+mod FrameLinks
+mod FrameParts
+mod FrameText

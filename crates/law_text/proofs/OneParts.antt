@@ -62,7 +62,7 @@ shell-equal : (g h : Shell) → g.sides ≡ h.sides → g ≡ h
 shell-equal g h e = ap (λ r. record { sides = r }) e
 
 -- planes through one point with parallel normals are one
-plane-one : (g h : Plane) (y : Place) → IsZero (cross (normal_of (form_of g)) (normal_of (form_of h))) → form_at (form_of g) y ≡ pos 0 → form_at (form_of h) y ≡ pos 0 → g ≡ h
+pub plane-one : (g h : Plane) (y : Place) → IsZero (cross (normal_of (form_of g)) (normal_of (form_of h))) → form_at (form_of g) y ≡ pos 0 → form_at (form_of h) y ≡ pos 0 → g ≡ h
 plane-one g h y z e f = by (plane_test g h) refl
   where
     by : (b : Bool) → plane_test g h ≡ b → g ≡ h
@@ -73,7 +73,7 @@ no-more : (a b : ℕ) → ((n : ℕ) → n < a → n < b) → a ≤ b
 no-more zero b h = omega arith
 no-more (suc a) b h = let g = h a (omega arith) in omega arith
 
-as-many : (a b : ℕ) → ((n : ℕ) → n < a → n < b) → ((n : ℕ) → n < b → n < a) → a ≡ b
+pub as-many : (a b : ℕ) → ((n : ℕ) → n < a → n < b) → ((n : ℕ) → n < b → n < a) → a ≡ b
 as-many a b h g = let i = no-more a b h in let k = no-more b a g in omega arith
 
 module _ (C : Complex) where
@@ -87,7 +87,7 @@ module _ (C : Complex) where
   volume-one : (rows : List (List ℕ)) (x : VertexSide) (m n : ℕ) → IsVolumeOf C rows x m → IsVolumeOf C rows x n → m ≡ n
   volume-one rows x m n (i, a, f) (k, b, g) = table-one rows x.vertex i m n f (subst (λ (j : ℕ). IsInTable rows x.vertex j n) (side-number-one x k i b a) g)
 
-  has-label : (x : VertexSide) (i : ℕ) → IsSideNumber C x i → (l : Label) × HasSideLabel C x l
+  pub has-label : (x : VertexSide) (i : ℕ) → IsSideNumber C x i → (l : Label) × HasSideLabel C x l
   has-label x i a = (a.label, (a.vertex, a.is_vertex, side-has a.vertex.map i x.side a.label a.is_side))
 
 module _ (C : Complex) (one : HasOneNext C) (p q : Parts) (P : IsParts C p) (Q : IsParts C q) where

@@ -1,6 +1,7 @@
 //! The laws of texts, and of what the set that a complex shows determines.
 
 ghost use Rattle.law_text.specs.Laws.{TextReadsBack, CountsRead};
+ghost use Rattle.law_text.specs.Frame.{EmptyText, FullText};
 ghost use Rattle.law_text.specs.Determined.{SamePartsOfSame, SameSetSameText, TurnedBackSameText, SameTextSameSet, SpelledHolds};
 
 /// Complexes with one text, in either version, have the same vertices, with equal maps, and as many edges, facets and
@@ -20,4 +21,10 @@ pub fn determined_laws()
     ensures turned_back { TurnedBackSameText }
     ensures same_set { SameTextSameSet }
     ensures spelled { SpelledHolds }
+{}
+
+/// The texts of the empty set and of the whole frame in the first version, byte by byte, whatever they were made of.
+pub fn frame_text_laws()
+    ensures empty { EmptyText }
+    ensures full { FullText }
 {}

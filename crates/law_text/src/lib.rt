@@ -4,4 +4,4 @@
 
 mod laws;
 
-pub use laws::{determined_laws, text_laws};
+pub use laws::{determined_laws, frame_text_laws, text_laws};

@@ -21,7 +21,7 @@ use Rattle.nef_frame.specs.Ends.{Ends, IsCornerPlace, IsCornerOf, at_wall, corne
 use Rattle.nef_frame.proofs.Walls.{Axis, on_x, on_y, on_z, wall, wall-listed, IsWhole, germ-inward, germ-outward}
 use Rattle.nef_frame.proofs.CornerVertices.{end_of, through, leads-in}
 
-abbrev axis_of : Axis → Vector
+abbrev pub axis_of : Axis → Vector
 axis_of on_x = x_axis
 axis_of on_y = y_axis
 axis_of on_z = z_axis
@@ -40,10 +40,10 @@ outward-is on_z true d = refl
 outward-is on_z false d = let e : slope (wall on_z false) d ≡ neg_ℤ (dot z_axis d) = omega (arith, ints) in ap sign e ∙ sign-neg (dot z_axis d)
 
 -- at one side: inward with the label, or not inward with Out
-abbrev AtSide : Axis → Bool → Label → Vector → Type 0
+abbrev pub AtSide : Axis → Bool → Label → Vector → Type 0
 AtSide a b l d = ((sign (slope (wall a b) d) ≡ minus) × (at_wall b l (sign (dot (axis_of a) d)) ≡ l)) ⊎ ((sign (slope (wall a b) d) ≡ minus → ⊥) × (at_wall b l (sign (dot (axis_of a) d)) ≡ Out))
 
-at-side : (a : Axis) (b : Bool) (l : Label) (d : Vector) → AtSide a b l d
+pub at-side : (a : Axis) (b : Bool) (l : Label) (d : Vector) → AtSide a b l d
 at-side a b l d = subst (λ (t : Sign). ((t ≡ minus) × (at_wall b l (sign (dot (axis_of a) d)) ≡ l)) ⊎ ((t ≡ minus → ⊥) × (at_wall b l (sign (dot (axis_of a) d)) ≡ Out)))
     (sym (outward-is a b d)) (by b (sign (dot (axis_of a) d)))
   where

@@ -1,4 +1,4 @@
--- The vertices of a set that holds all of the frame or nothing of it are the frame's corners.
+-- The frame's corners are vertices of every set, and the only ones of a set that holds all of the frame or nothing of it.
 use Rattle.std.proofs.Common.{◌≡◌, ℤ, pos, negsuc, neg_ℤ, ◌+ℤ◌, ◌*ℤ◌, ◌<ℤ◌, arith, refl, sym, ◌∙◌, ap, ◌⊎◌, inl, inr, ⊎_elim, Bool, true, false, not, subst}
 use Rattle.std.proofs.lemmas.Int.{ints}
 use Rattle.law_arithmetic.specs.Signs.{minus, nought, sign}
@@ -15,7 +15,7 @@ use Rattle.law_near.proofs.Cells.{is_nought}
 use Rattle.law_near.proofs.Germs.{Germ-unique}
 use Rattle.law_near.proofs.Flats.{FlatCone-from_carriers, FlatCone-from_flat, Flat-from_cone, slope-slide}
 use Rattle.nef_frame.specs.Ends.{end_at, Ends, ends, IsCornerPlace, x_axis, y_axis, z_axis}
-use Rattle.nef_frame.proofs.Walls.{Axis, on_x, on_y, on_z, wall, listed-wall, IsWhole, LeadsIn, germ-inward, germ-outward}
+use Rattle.nef_frame.proofs.Walls.{Axis, on_x, on_y, on_z, wall, listed-wall, IsWhole, LeadsIn, germ-framed, germ-outward}
 
 abbrev pub end_of : Ends → Axis → Bool
 end_of k on_x = k.x
@@ -27,7 +27,7 @@ coordinate on_x p = p.x
 coordinate on_y p = p.y
 coordinate on_z p = p.z
 
-abbrev inward : Bool → ℤ
+abbrev pub inward : Bool → ℤ
 inward true = negsuc 0
 inward false = pos 1
 
@@ -57,7 +57,7 @@ coordinate-from on_z true p e = omega (arith, ints)
 coordinate-from on_z false p e = omega (arith, ints)
 
 -- an inward vector
-abbrev inward_way : Ends → Vector
+abbrev pub inward_way : Ends → Vector
 inward_way k = vector (inward k.x) (inward k.y) (inward k.z)
 
 inward-slope : (k : Ends) (a : Axis) (b : Bool) → b ≡ end_of k a → slope (wall a b) (inward_way k) ≡ negsuc 0
@@ -95,7 +95,7 @@ slope-z : (b : Bool) (d : Vector) → slope (wall on_z b) d ≡ pos 0 → d.z �
 slope-z true d e = omega (arith, ints)
 slope-z false d e = omega (arith, ints)
 
--- ---- a corner is a vertex
+-- ---- a corner is a vertex, whatever the set
 pub beside : (k : Ends) (p : Place) → IsCornerPlace k p → (a : Axis) → coordinate a p ≡ end_at (end_of k a) *ℤ pos p.w
 beside k p c on_x = c.along_x
 beside k p c on_y = c.along_y
@@ -111,16 +111,17 @@ leads-in k p c d f a b = ⊎_elim
     (λ e. subst (LeadsIn p d a) (sym e) (inl (sign-minus (form_at (wall a (not (end_of k a))) p) (off-wall a (end_of k a) p (beside k p c a)))))
     (either-end b (end_of k a))
 
-module _ (s : Set) (l : Label) (W : IsWhole s l) (k : Ends) (p : Place) (c : IsCornerPlace k p) where
+module _ (s : Set) (k : Ends) (p : Place) (c : IsCornerPlace k p) where
   carried : (d : Vector) (a : Axis) → (slope (wall a (end_of k a)) d ≡ pos 0 → ⊥) → FlatCone s p d → ⊥
   carried d a n f =
       let h = wall a (end_of k a) in
       let m = slope h d in
       let v = inward_way k in
-      let into = (f v 1 m (omega arith) l).0 (germ-inward s l W p v (leads-in k p c v (λ o. ap sign (inward-slope k o (end_of k o) refl)))) in
+      let g = germ-framed s p v (leads-in k p c v (λ o. ap sign (inward-slope k o (end_of k o) refl))) in
+      let into = (f v 1 m (omega arith) g.0).0 g.2 in
       let out = germ-outward s p (slide 1 v m d) a (end_of k a) (through k p c a) (λ e.
       not-minus m n (sym (ap sign (slope-slide h 1 v m d ∙ ap (λ z. pos 1 *ℤ z +ℤ m *ℤ m) (inward-slope k a (end_of k a) refl))) ∙ e)) in
-      W.some (Germ-unique s p (slide 1 v m d) l Out into out)
+      g.1 (Germ-unique s p (slide 1 v m d) g.0 Out into out)
 
   -- a flat direction lies in all three sides: it would carry the inward direction outward
   level : (d : Vector) → FlatCone s p d → (a : Axis) → slope (wall a (end_of k a)) d ≡ pos 0

@@ -17,10 +17,10 @@ use Rattle.nef_frame.specs.Planes.{sorted_sides}
 use Rattle.nef_frame.specs.Ends.{end_at, Ends, ends, all_ends, IsCornerPlace, IsCornerOf, AreCorners}
 
 -- ---- the order of two corners
-abbrev IsLow : Bool → Bool → Type 0
+abbrev pub IsLow : Bool → Bool → Type 0
 IsLow a b = (a ≡ false) × (b ≡ true)
 
-abbrev IsEndsBelow : Ends → Ends → Type 0
+abbrev pub IsEndsBelow : Ends → Ends → Type 0
 IsEndsBelow k j = IsLow k.x j.x ⊎ ((k.x ≡ j.x) × (IsLow k.y j.y ⊎ ((k.y ≡ j.y) × IsLow k.z j.z)))
 
 along-low : (a b : Bool) (x y w v : ℤ) → IsLow a b → pos 0 <ℤ w → pos 0 <ℤ v → x ≡ end_at a *ℤ w → y ≡ end_at b *ℤ v → (x *ℤ v) <ℤ (y *ℤ w)
@@ -43,7 +43,7 @@ same-corner k p q c d = record {
 positive : (p : Place) → pos 0 <ℤ pos p.w
 positive p = let m = p.proper in omega (arith, ints)
 
-corner-below : (k j : Ends) (p q : Place) → IsEndsBelow k j → IsCornerPlace k p → IsCornerPlace j q → IsPlaceBelow p q
+pub corner-below : (k j : Ends) (p q : Place) → IsEndsBelow k j → IsCornerPlace k p → IsCornerPlace j q → IsPlaceBelow p q
 corner-below k j p q (inl l) c d = inl (along-low k.x j.x p.x q.x (pos p.w) (pos q.w) l (positive p) (positive q) c.along_x d.along_x)
 corner-below k j p q (inr (e, inl l)) c d = inr (
   along-same k.x j.x p.x q.x (pos p.w) (pos q.w) e c.along_x d.along_x,

@@ -1,6 +1,12 @@
-mod Walls
-mod CornerVertices
-mod CornerCones
+pub mod Walls
+pub mod CornerVertices
+pub mod CornerCones
 mod CornerMaps
 mod InOrder
 mod Shown
+pub mod EachCorner
+pub mod Octants
+pub mod OctantShapes
+pub mod OctantCones
+pub mod Listed
+pub mod FrameEdges

@@ -94,7 +94,7 @@ module _ (s : Set) (l : Label) (W : IsWhole s l) (hs : List Plane) (vs : List Ve
 
   shown : (es : List PlainEdge) → Edges (map vertex_of vs) es → Shows s (record { carriers = map form_of hs; vertices = map vertex_of vs; edges = es })
   shown es E = record {
-    vertices = each-vertex (λ v. IsVertex s v.point) (λ k v c. corner-vertex s l W k (place_of v.point) c.place);
+    vertices = each-vertex (λ v. IsVertex s v.point) (λ k v c. corner-vertex s k (place_of v.point) c.place);
     complete = complete;
     ordered = placed;
     cones = each-vertex (λ v. Cone v.map s v.point) (λ k v c. corner-cone s l k v W c);

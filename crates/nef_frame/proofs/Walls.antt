@@ -1,5 +1,5 @@
 -- The sides of the frame by their axis and end, and the germs of a set that holds all of the frame or nothing of it.
-use Rattle.std.proofs.Common.{◌≡◌, pos, negsuc, arith, refl, sym, ◌∙◌, ◌⊎◌, inl, inr, Bool, true, false}
+use Rattle.std.proofs.Common.{◌≡◌, pos, negsuc, arith, refl, sym, ◌∙◌, ◌⊎◌, inl, inr, Bool, true, false, subst}
 use Rattle.std.proofs.lemmas.Int.{ints}
 use Rattle.law_arithmetic.specs.Signs.{Sign, minus, nought, sign, Lies}
 use Rattle.law_arithmetic.proofs.Lists.{lies-left}
@@ -12,6 +12,7 @@ use Rattle.nef_space.specs.declared.label.Label.TheVariants.{Out, Not, In}
 use Rattle.law_forms.proofs.Near.{reach_all, step-within}
 use Rattle.law_near.specs.Cells.{sign_at, side, frame, carriers}
 use Rattle.law_near.proofs.Cells.{keeps-all, coordinate-in}
+use Rattle.law_near.proofs.Decided.{label_of}
 use Rattle.law_near.proofs.Frames.{frame-minus}
 use Rattle.law_near.proofs.Germs.{Germ-from_sample, sample, sample-short, sign-along}
 
@@ -75,8 +76,9 @@ LeadsIn p d a b = (sign_at (wall a b) p ≡ minus) ⊎ ((sign_at (wall a b) p �
 abbrev stepped : Set → Place → Vector → Place
 stepped s p d = step p (sample s p d) d
 
-pub germ-inward : (s : Set) (l : Label) → IsWhole s l → (p : Place) (d : Vector) → ((a : Axis) (b : Bool) → LeadsIn p d a b) → Germ s p d l
-germ-inward s l W p d f = Germ-from_sample s p d l (W.inside (stepped s p d) (inside-all (stepped s p d) (λ a b. by a b (f a b))))
+-- a direction that leads inward from all six leads into the frame
+inward-framed : (s : Set) (p : Place) (d : Vector) → ((a : Axis) (b : Bool) → LeadsIn p d a b) → InFrame (stepped s p d)
+inward-framed s p d f = inside-all (stepped s p d) (λ a b. by a b (f a b))
   where
     differ : (t : Sign) → t ≡ minus → t ≡ nought → ⊥
     differ t e f = cc
@@ -85,6 +87,15 @@ germ-inward s l W p d f = Germ-from_sample s p d l (W.inside (stepped s p d) (in
     by a b (inl e) = keeps-all (carriers s) p (stepped s p d) (step-within (reach_all (carriers s) p) p d (sample s p d) (sample-short s p d)) (wall a b)
         (lies-left frame (halves s) (wall a b) (wall-listed a b)) (differ (sign_at (wall a b) p) e) ∙ e
     by a b (inr (z, e)) = sign-along (wall a b) p (sample s p d) d z (sample-short s p d).0 ∙ e
+
+pub germ-inward : (s : Set) (l : Label) → IsWhole s l → (p : Place) (d : Vector) → ((a : Axis) (b : Bool) → LeadsIn p d a b) → Germ s p d l
+germ-inward s l W p d f = Germ-from_sample s p d l (W.inside (stepped s p d) (inward-framed s p d f))
+
+-- so the germ there isn't Out, whatever the set
+pub germ-framed : (s : Set) (p : Place) (d : Vector) → ((a : Axis) (b : Bool) → LeadsIn p d a b) → (l : Label) × (l ≡ Out → ⊥) × Germ s p d l
+germ-framed s p d f =
+    let l = label_of s (stepped s p d) in
+    (l.0, λ e. subst (HasLabel s (stepped s p d)) e l.1 (inward-framed s p d f), Germ-from_sample s p d l.0 l.1)
 
 pub germ-outward : (s : Set) (p : Place) (d : Vector) (a : Axis) (b : Bool) → sign_at (wall a b) p ≡ nought → (sign (slope (wall a b) d) ≡ minus → ⊥) → Germ s p d Out
 germ-outward s p d a b z n = Germ-from_sample s p d Out (λ i.

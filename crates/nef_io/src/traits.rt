@@ -56,4 +56,10 @@ pub trait Sink {
 /// lock. A test counts the calls, or holds one job back until another began.
 pub trait Gate {
     fn before(&self, job: u64, free: bool);
+
+    /// Whether it may hold a job back until another began. Then as many workers start as were asked
+    /// for, whether the jobs pay for them or not.
+    fn holds(&self) -> bool {
+        true
+    }
 }

@@ -1,4 +1,5 @@
 pub mod Pieces
 pub mod Decimal
+pub mod Signs
 pub mod LineLaws
 pub mod WordLaws

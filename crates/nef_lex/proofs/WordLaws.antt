@@ -6,8 +6,8 @@ use Rattle.std.proofs.lemmas.Bool.Decides.{eqb_tells}
 use Rattle.std.proofs.lemmas.Grind.{common_steps}
 use Rattle.std.proofs.lemmas.List.Elements.{All-head, All-tail, All-cons, All-nil, All-weaker}
 use Rattle.std.proofs.lemmas.List.Splits.{slice_split-cons_yes, slice_split_none, slice_split_at}
-use Rattle.nef_lex.specs.Words.{comment_mark, is_comment_mark, is_gap, is_filled}
-use Rattle.nef_lex.specs.Laws.{IsGap, IsWord, is_word_byte, IsRest, spaced, IsParted, WordsOfSpaced, SpacedWords}
+use Rattle.nef_lex.specs.Words.{comment_mark, is_gap, is_filled}
+use Rattle.nef_lex.specs.Laws.{is_comment_mark, IsGap, IsWord, is_word_byte, IsRest, spaced, IsParted, WordsOfSpaced, SpacedWords}
 
 -- ---- bytes
 

@@ -1,8 +1,8 @@
 -- Laws that say what lines and words are: the bytes are made of their lines, and a line of its words and the gaps between them.
-use Rattle.std.specs.Prelude.{◌≡◌, ℕ, ◌<◌, Bool, true, false, List, [], ◌∷◌, ◌++◌, map, length, ◌⊎◌, ⊤, not, if◌then◌else◌}
+use Rattle.std.specs.Prelude.{◌≡◌, ℕ, ◌<◌, ◌==◌, Bool, true, false, List, [], ◌∷◌, ◌++◌, map, length, ◌⊎◌, ⊤, not, if◌then◌else◌}
 use Rattle.std.specs.List.{All}
 use Rattle.nef_lex.specs.Lines.{line_feed, carriage_return, is_line_feed, pieces_of, without_return}
-use Rattle.nef_lex.specs.Words.{comment_mark, is_comment_mark, is_gap, words_of}
+use Rattle.nef_lex.specs.Words.{comment_mark, is_gap, words_of}
 
 abbrev pub LacksFeed : List ℕ → Type 0
 LacksFeed bytes = All (λ b. is_line_feed b ≡ false) bytes
@@ -34,6 +34,9 @@ OthersKept = (bytes : List ℕ) (b : ℕ) → (b ≡ carriage_return → ⊥) �
 
 abbrev pub IsGap : List ℕ → Type 0
 IsGap bytes = All (λ b. is_gap b ≡ true) bytes
+
+abbrev pub is_comment_mark : ℕ → Bool
+is_comment_mark b = b == comment_mark
 
 -- neither a blank nor a tab nor a comment mark
 abbrev pub is_word_byte : ℕ → Bool

@@ -9,13 +9,10 @@ line_feed = 10
 abbrev pub carriage_return : ℕ
 carriage_return = 13
 
-abbrev pub is_line_feed : ℕ → Bool
-is_line_feed b = b == line_feed
-
 -- the bytes cut at each line feed; what follows the last one is a piece where it isn't empty
 abbrev pub pieces_of : List ℕ → List (List ℕ)
 pieces_of [] = []
-pieces_of (b ∷ bs) = cond (is_line_feed b) ([] ∷ pieces_of bs) (onto_first b (pieces_of bs))
+pieces_of (b ∷ bs) = cond (b == line_feed) ([] ∷ pieces_of bs) (onto_first b (pieces_of bs))
 
 -- a carriage return that is the last byte is dropped
 abbrev pub without_return : List ℕ → List ℕ
@@ -26,6 +23,9 @@ without_return (b ∷ c ∷ bs) = b ∷ without_return (c ∷ bs)
 -- the lines of a script, with their comments
 abbrev pub lines_of : List ℕ → List (List ℕ)
 lines_of bytes = map without_return (pieces_of bytes)
+
+abbrev pub is_line_feed : ℕ → Bool
+is_line_feed b = b == line_feed
 
 -- a line as its number and its bytes
 abbrev pub line_shown : Line → ℕ × List ℕ

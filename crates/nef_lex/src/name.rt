@@ -1,8 +1,9 @@
 //! Names.
 
-ghost use Rattle.std.specs.Prelude.{◌≡◌};
+ghost use Rattle.std.specs.Prelude.{◌≡◌, ◌==◌, ◌||◌};
 ghost use Rattle.std.specs.List.{list_all};
-ghost use Rattle.nef_lex.specs.Names.{is_name, begins_name, continues_name};
+ghost use Rattle.std.specs.Char.{is_ascii_alphabetic, is_ascii_alphanumeric};
+ghost use Rattle.nef_lex.specs.Names.{is_name, underscore};
 
 // The most bytes of a name.
 const LIMIT: usize = 32;
@@ -20,14 +21,14 @@ pub fn is_name(word: &[u8]) -> bool
 
 // Whether a name may begin with the byte.
 fn begins(byte: u8) -> bool
-    ensures begins { result ≡ begins_name byte }
+    ensures begins { result ≡ (is_ascii_alphabetic byte || byte == underscore) }
 {
     byte.is_ascii_alphabetic() || byte == b'_'
 }
 
 // Whether each byte may stand in a name after the first.
 fn all_continue(bytes: &[u8]) -> bool
-    ensures all { result ≡ list_all continues_name bytes.now }
+    ensures all { result ≡ list_all (λ b. is_ascii_alphanumeric b || b == underscore) bytes.now }
 {
     bytes
         .iter()

@@ -23,6 +23,7 @@ const LIMIT: u64 = 1 << 62;
 
 /// The whole number that a word spells: an optional minus sign and one or more digits. Leading
 /// zeros and `-0` are accepted.
+#[tactic(auto, using(crate::proofs::Signs::number_of_parts))]
 pub fn whole_number(word: &[u8]) -> NumberWord
     ensures not_one { (result ≡ NumberWord.NotOne) ↔ (number_of word.now ≡ None) }
     ensures beyond { (result ≡ NumberWord.Beyond) ↔ IsSomeAnd (number_of word.now) IsBeyond }

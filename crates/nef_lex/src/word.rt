@@ -1,8 +1,8 @@
 //! The words of a line.
 
-ghost use Rattle.std.specs.Prelude.{◌≡◌, map, IfOk};
+ghost use Rattle.std.specs.Prelude.{◌≡◌, ◌==◌, map, IfOk};
 ghost use Rattle.std.specs.List.{before_first};
-ghost use Rattle.nef_lex.specs.Words.{is_comment_mark, words_of, without_comment};
+ghost use Rattle.nef_lex.specs.Words.{comment_mark, words_of};
 
 use crate::search::index_of;
 use std::alloc::{AllocError, Global};
@@ -20,7 +20,7 @@ pub fn words<'a>(alloc: Global, line: &'a [u8]) -> Result<Vec<&'a [u8]>, AllocEr
 
 // The line up to its first comment mark.
 fn strip_comment(line: &[u8]) -> &[u8]
-    ensures stripped { result.now ≡ without_comment line.now }
+    ensures stripped { result.now ≡ before_first (λ b. b == comment_mark) line.now }
 {
     match index_of(line, b'#') {
         Some(end) => &line[..end],

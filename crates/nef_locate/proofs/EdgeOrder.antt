@@ -1,36 +1,42 @@
 -- A point of an edge comes between the edge's ends in the order of vertices, and what comes between on its line lies on it.
-use Rattle.std.proofs.Common.{ℕ, ◌<◌, ◌≤◌, pos, arith, inl, inr, ⊎_elim}
+use Rattle.std.proofs.Common.{◌≡◌, ℕ, ◌<◌, ◌≤◌, pos, Bool, IsTrue, ◌↔◌, List, arith, ap, inl, inr, ⊎_elim, subst}
+use Rattle.std.proofs.Math.Nat.{eq-or-lt_of_le}
 use Rattle.std.proofs.lemmas.Bool.{cases_lt}
 use Rattle.std.proofs.lemmas.Int.{ints}
 use Rattle.law_arithmetic.proofs.Order.{by_order}
-use Rattle.nef_space.specs.Place.{Place as PlainPlace, toward, SamePlace, IsBetween, IsPlaceBelow}
+use Rattle.nef_space.specs.Lists.{IsAt}
+use Rattle.nef_space.specs.Place.{Place as PlainPlace, Form, form_at, toward, SamePlace, IsBetween, IsPlaceBelow}
 use Rattle.nef_space.specs.Sets.{Set}
 use Rattle.nef_space.specs.Vectors.{IsNormal, IsZero, cross}
-use Rattle.nef_geo.specs.Shapes.{form_of, place_of, hit_place}
-use Rattle.nef_geo.specs.declared.hit.Hit.{Hit}
+use Rattle.nef_geo.specs.Shapes.{form_of, place_of}
+use Rattle.nef_geo.specs.declared.point.Point.{Point}
 use Rattle.law_near.proofs.FlatDecided.{cross-turned}
 use Rattle.law_near.proofs.PlaceOrder.{place_below-same, same-place_below, place_below-trans, place_below-apart}
 use Rattle.law_near.proofs.Rays.{same-place_sym}
 use Rattle.law_sphere.specs.Maps.{At}
 use Rattle.law_sphere.proofs.Compare.{SameDirection-turned}
 use Rattle.nef_smap.proofs.Lists.{map-at}
-use Rattle.nef_smap.proofs.SideLists.{get-from_at}
+use Rattle.nef_smap.proofs.SideLists.{get-from_at, at-from_get}
+use Rattle.nef_classes.proofs.ClassLists.{is-at_one}
+use Rattle.law_complex.specs.Complexes.{IsEdgeBelow}
 use Rattle.law_complex.specs.Shows.{Shows}
 use Rattle.law_complex.specs.Skeleton.{IsVertexPoint, IsEdgePoint}
-use Rattle.law_complex.proofs.EqualPoints.{vertex-same}
 use Rattle.law_complex.proofs.FacetAngles.{aligned, cross-back}
 use Rattle.law_complex.proofs.Planes.{plane-way}
 use Rattle.law_complex.proofs.Ways.{between-way, same-itself}
 use Rattle.nef_complex.specs.declared.complex.Vertex.{Vertex}
 use Rattle.nef_complex.specs.declared.complex.Edge.{Edge}
 use Rattle.nef_complex.specs.declared.complex.Complex.{Complex}
-use Rattle.nef_complex.specs.Complexes.{edge_of, vertex_of, complex_of}
-use Rattle.nef_complex.proofs.Ends.{apart, edge-inside, ends, listed_edge}
-use Rattle.nef_complex.proofs.Sorted.{none-there}
+use Rattle.nef_complex.specs.Complexes.{edge_of, vertex_of, complex_of, AreBelow, AreAbove}
+use Rattle.nef_complex.specs.Index.{EdgeLiesIn, AreNumbersWith}
+use Rattle.nef_complex.proofs.Ends.{apart, edge-inside, ends, listed_edge, vertex-same}
+use Rattle.nef_complex.proofs.Parted.{held-between}
 use Rattle.nef_edges.proofs.Rays.{toward-normal, normal-kept, normals-same}
 use Rattle.nef_plane.specs.Amid.{AllThrough}
 use Rattle.nef_plane.proofs.Crossed.{edge-along}
-use Rattle.nef_locate.specs.Rays.{PartsVertices}
+use Rattle.nef_plane.proofs.Listed.{lies, lying-ends}
+use Rattle.nef_plane.proofs.Meeting.{level-same}
+use Rattle.nef_locate.specs.Orders.{PartsOn}
 
 -- where q - p begins with a positive number, q is a later point
 normal-below : (p q : PlainPlace) → IsNormal (toward p q) → IsPlaceBelow p q
@@ -69,12 +75,12 @@ module _ (s : Set) (c : Complex) (S : Shows s (complex_of c)) (k : ℕ) (e : Edg
       let b = between-order low y high ends-order (edge-inside s c S k e u v l i j y x) in
       (place_below-same low y p b.0 o, same-place_below p y high (same-place_sym y p o) b.1)
 
-  -- so where the vertices before number n come before the point, and the others after it, the lower end is one of the first n and the upper one isn't
-  pub edge-parted : (q : Hit) (n : ℕ) → PartsVertices c q n → IsEdgePoint (complex_of c) k (hit_place q) → (e.low < n) × (n ≤ e.high)
-  edge-parted q n (p, o, below, above) x =
-      let b = edge-order (place_of p) (hit_place q) o x in (
-        ⊎_elim (λ m. m) (λ m. absurd (never low (place_of p) b.0 (above e.low u m (get-from_at c.vertices e.low u i)))) (cases_lt e.low n),
-        ⊎_elim (λ m. absurd (never (place_of p) high b.1 (below e.high v m (get-from_at c.vertices e.high v j)))) (λ m. m) (cases_lt e.high n),
+  -- so where the vertices of a plane that holds the edge are parted at number n, the lower end has a smaller number and the upper one hasn't
+  pub edge-parted : (h : Form) (y : PlainPlace) (n : ℕ) → PartsOn c.vertices h y n → form_at h low ≡ pos 0 → form_at h high ≡ pos 0 → IsEdgePoint (complex_of c) k y → (e.low < n) × (n ≤ e.high)
+  edge-parted h y n P f g x =
+      let b = edge-order y y (same-itself y) x in (
+        ⊎_elim (λ m. m) (λ m. absurd (never low y b.0 (P.after e.low u m (get-from_at c.vertices e.low u i) f))) (cases_lt e.low n),
+        ⊎_elim (λ m. absurd (never y high b.1 (P.before e.high v m (get-from_at c.vertices e.high v j) g))) (λ m. m) (cases_lt e.high n),
       )
     where
       never : (a b : PlainPlace) → IsPlaceBelow a b → IsPlaceBelow b a → ⊥
@@ -93,15 +99,71 @@ module _ (s : Set) (c : Complex) (S : Shows s (complex_of c)) (k : ℕ) (e : Edg
       turned : IsZero (cross (toward low y) (toward y high))
       turned = cross-back (toward low y) high y (aligned low y high (cross-turned (toward low high) (toward low y) line))
 
-  -- so it does where the vertices that come before it have the lower end among them and not the upper one
-  pub parted-edge : (q : Hit) (n : ℕ) → PartsVertices c q n → e.low < n → n ≤ e.high → AllThrough c.carriers low high (hit_place q) → IsEdgePoint (complex_of c) k (hit_place q)
-  parted-edge q n (p, o, below, above) m r T =
-      let y = hit_place q in
-      let back = same-place_sym y (place_of p) o in
-      line-edge y
-      (place_below-same low (place_of p) y (below e.low u m (get-from_at c.vertices e.low u i)) back)
-      (same-place_below y (place_of p) high o (above e.high v r (get-from_at c.vertices e.high v j))) T
+  -- so it does where the numbers of the plane's vertices tell that it comes between
+  pub parted-edge : (h : Form) (y : PlainPlace) (n : ℕ) → PartsOn c.vertices h y n → form_at h low ≡ pos 0 → form_at h high ≡ pos 0 → e.low < n → n ≤ e.high → AllThrough c.carriers low high y → IsEdgePoint (complex_of c) k y
+  parted-edge h y n P f g m r T = line-edge y (P.before e.low u m (get-from_at c.vertices e.low u i) f) (P.after e.high v r (get-from_at c.vertices e.high v j) g) T
 
 -- such a point is no vertex
-pub parts-off : (c : Complex) (q : Hit) (n : ℕ) → PartsVertices c q n → (k : ℕ) → IsVertexPoint (complex_of c) k (hit_place q) → ⊥
-parts-off c q n (p, o, below, above) k v = none-there c.vertices n n p (omega arith) below above k (vertex-same (hit_place q) (place_of p) o (complex_of c) k v)
+pub parts-off : (c : Complex) (h : Form) (y : PlainPlace) (n : ℕ) → form_at h y ≡ pos 0 → PartsOn c.vertices h y n → (k : ℕ) → IsVertexPoint (complex_of c) k y → ⊥
+parts-off c h y n on P k (x, a, e) =
+    let l = lies c h k x a (level-same h y x.point (same-place_sym x.point y e) on) in
+    let o = vertex-same c k l.0 (at-from_get c.vertices k l.0 l.1) y (x, a, e) in
+    ⊎_elim
+    (λ m. place_below-apart (place_of l.0.point) y (P.before k l.0 m l.1 l.2) o)
+    (λ m. place_below-apart y (place_of l.0.point) (P.after k l.0 m l.1 l.2) (same-place_sym (place_of l.0.point) y o))
+    (cases_lt k n)
+
+-- a point that parts all vertices parts those of each plane
+pub parts-all : (c : Complex) (p : Point) (y : PlainPlace) (n : ℕ) → SamePlace y (place_of p) → AreBelow c.vertices n p → AreAbove c.vertices n p → (h : Form) → PartsOn c.vertices h y n
+parts-all c p y n o below above h = record {
+  before = λ j v l e f. place_below-same (place_of v.point) (place_of p) y (below j v l e) (same-place_sym y (place_of p) o);
+  after = λ j v l e f. same-place_below y (place_of p) (place_of v.point) o (above j v l e);
+}
+
+-- ---- edges in a plane
+module _ (s : Set) (c : Complex) (S : Shows s (complex_of c)) (h : Form) (y : PlainPlace) (n : ℕ) (P : PartsOn c.vertices h y n) where
+  -- an edge in it with the point on it has its lower end among the first vertices, and not its upper one
+  pub number-parted : (k : ℕ) (e : Edge) → IsAt c.edges k e → EdgeLiesIn c.vertices c.edges h k → IsEdgePoint (complex_of c) k y → (e.low < n) × (n ≤ e.high)
+  number-parted k e a L x =
+      let l = at-from_get c.edges k e a in
+      let E = lying-ends c.vertices c.edges h k e a L in
+      edge-parted s c S k e E.0.0 E.1.0 l (at-from_get c.vertices e.low E.0.0 E.0.1) (at-from_get c.vertices e.high E.1.0 E.1.1) h y n P E.0.2 E.1.2 x
+
+  -- where the ends' numbers tell that, the edge has the point on it exactly where its line does
+  pub number-edge : (k : ℕ) (e : Edge) → IsAt c.edges k e → EdgeLiesIn c.vertices c.edges h k → e.low < n → n ≤ e.high
+      → (b : Bool) → ((e : Edge) (u v : Vertex) → IsAt c.edges k e → IsAt c.vertices e.low u → IsAt c.vertices e.high v → (IsTrue b ↔ AllThrough c.carriers (place_of u.point) (place_of v.point) y))
+      → IsTrue b ↔ IsEdgePoint (complex_of c) k y
+  number-edge k e a L m r b line =
+      let l = at-from_get c.edges k e a in
+      let E = lying-ends c.vertices c.edges h k e a L in
+      let u = E.0.0 in let v = E.1.0 in
+      let i = at-from_get c.vertices e.low u E.0.1 in let j = at-from_get c.vertices e.high v E.1.1 in
+      let T = line e u v a E.0.1 E.1.1 in (
+        λ t. parted-edge s c S k e u v l i j h y n P E.0.2 E.1.2 m r (T.0 t),
+        λ x. T.1 (λ g f o H. held-between (form_of f) (place_of u.point) (place_of v.point) y (edge-inside s c S k e u v l i j y x) H),
+      )
+
+  -- the lower ends of edges rise
+  low-rises : (i k : ℕ) (e f : Edge) → i ≤ k → IsAt c.edges i e → IsAt c.edges k f → e.low ≤ f.low
+  low-rises i k e f l a b = ⊎_elim
+      (λ o. let r : e ≡ f = is-at_one c.edges k e f (subst (λ x. IsAt c.edges x e) o a) b in let t = ap (λ (x : Edge). x.low) r in omega (arith, t))
+      (λ o. by (S.edges.ordered i k (edge_of e) (edge_of f) o (map-at edge_of c.edges i e (at-from_get c.edges i e a)) (map-at edge_of c.edges k f (at-from_get c.edges k f b))))
+      (eq-or-lt_of_le {n = i} {m = k} l)
+    where
+      by : IsEdgeBelow (edge_of e) (edge_of f) → e.low ≤ f.low
+      by (inl m) = omega (arith, ints)
+      by (inr m) = let t = m.0 in omega (arith, ints)
+
+  module _ (ns : List ℕ) (N : AreNumbersWith (EdgeLiesIn c.vertices c.edges h) ns) (m r : ℕ) (e : Edge) (a : IsAt ns m r) (b : IsAt c.edges r e) (past : n ≤ e.low) (none : (j k : ℕ) → j < m → At ns j k → IsEdgePoint (complex_of c) k y → ⊥) where
+    later : (i k : ℕ) → m ≤ i → IsAt ns i k → IsEdgePoint (complex_of c) k y → ⊥
+    later i k l o x =
+        let L = N.each i k o in
+        let f = L.0 in
+        let t = low-rises r k e f (⊎_elim (λ q. let w : r ≡ k = is-at_one ns i r k (subst (λ z. IsAt ns z r) q a) o in omega (arith, w)) (λ q. let w = N.ordered m i r k q a o in omega (arith, w)) (eq-or-lt_of_le {n = m} {m = i} l)) b L.1 in
+        let z = number-parted k f L.1 L x in
+        let w = z.0 in
+        omega (arith, w, t, past)
+
+    -- so from an edge on whose lower end isn't among the first vertices the point lies on none
+    pub none-later : (i k : ℕ) → IsAt ns i k → IsEdgePoint (complex_of c) k y → ⊥
+    none-later i k o x = ⊎_elim (λ q. none i k q (at-from_get ns i k o) x) (λ q. later i k q o x) (cases_lt i m)

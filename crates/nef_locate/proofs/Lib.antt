@@ -19,6 +19,6 @@ pub mod Behind
 pub mod ItemsFound
 pub mod FacetFound
 pub mod EdgeOrder
+pub mod HitOrder
 pub mod Listed
 pub mod Windows
-pub mod NumbersFound

@@ -1,9 +1,6 @@
 -- What a ray along an upright direction meets in one plane, and what it meets first.
-use Rattle.std.proofs.Common.{◌≡◌, ℕ, ◌*◌, ◌<◌, ◌≤◌, List, length, nat_abs, neg_ℤ, arith, inl, inr, ⊎_elim, Option, Some, None, IfSome, [], ◌∷◌}
-use Rattle.std.proofs.lemmas.Bool.{cases_lt}
+use Rattle.std.proofs.Common.{◌≡◌, ℕ, ◌<◌, ◌≤◌, List, length, neg_ℤ, arith, inl, inr, Option, Some, None, IfSome, [], ◌∷◌}
 use Rattle.std.proofs.lemmas.Int.{ints}
-use Rattle.nef_space.specs.Limits.{half_side}
-use Rattle.nef_space.specs.Local.{FlatDim}
 use Rattle.law_arithmetic.proofs.Ring.{ring, at, neg, ◌⊕◌, ◌⊗◌}
 use Rattle.nef_space.specs.Place.{Place as PlainPlace, Form, SamePlace, InClosedFrame, toward, IsAhead, IsBetween}
 use Rattle.nef_space.specs.Sets.{Set}
@@ -14,18 +11,15 @@ use Rattle.nef_geo.specs.declared.hit.Hit.{Hit}
 use Rattle.nef_geo.specs.declared.plane.Plane.{Plane}
 use Rattle.law_forms.proofs.Between.{place-toward}
 use Rattle.law_forms.proofs.Directions.{direction-left, direction-right, self-pos}
-use Rattle.law_near.proofs.Alike.{FlatDim-one}
 use Rattle.law_near.proofs.Between.{between-inner}
-use Rattle.law_near.proofs.Frames.{flat_dim-outside}
 use Rattle.law_sphere.specs.Maps.{At}
 use Rattle.law_sphere.proofs.Compare.{SameDirection-turned, SameDirection-trans}
 use Rattle.law_complex.specs.Complexes.{Complex as PlainComplex}
 use Rattle.law_complex.specs.Skeleton.{IsSkeletonPoint, meets_vertex, meets_edge}
 use Rattle.law_complex.proofs.FacetEdges.{ahead-back}
-use Rattle.law_complex.proofs.Edges.{edge-points}
-use Rattle.law_complex.proofs.FacetWays.{dim-same}
 use Rattle.nef_complex.proofs.Lines.{one-crossing}
 use Rattle.nef_plane.proofs.Found.{not-end}
+use Rattle.nef_plane.proofs.Framed.{dim-framed, vertex-framed, edge-framed}
 use Rattle.nef_plane.proofs.Nearest.{between-ahead}
 use Rattle.nef_complex.specs.declared.complex.Complex.{Complex}
 use Rattle.nef_complex.specs.declared.groups.Cluster.{Cluster}
@@ -70,24 +64,10 @@ reached-of D p d (Some m) M = M.reached
 pub sooner-next : (b : Beam) (old best new : Option Met) → MeetsSooner b old best → MeetsSooner b best new → MeetsSooner b old new
 sooner-next b old best new F G = record { met = G.met; kept = λ y n. G.kept y (F.kept y n) }
 
--- ---- outside the closed frame there is no skeleton
-dim-outside : (s : Set) (y : PlainPlace) (n : ℕ) → n < 3 → (InClosedFrame y → ⊥) → FlatDim s y n → ⊥
-dim-outside s y n l o f = let e = FlatDim-one s y n 3 f (flat_dim-outside s y o) in omega (arith, l)
-
--- so a point of the skeleton lies in it
-dim-framed : (s : Set) (y : PlainPlace) (n : ℕ) → n < 3 → FlatDim s y n → InClosedFrame y
-dim-framed s y n m f = record {
-  along_x = within (nat_abs y.x) (λ l. dim-outside s y n m (λ i. let k = i.along_x in omega arith) f);
-  along_y = within (nat_abs y.y) (λ l. dim-outside s y n m (λ i. let k = i.along_y in omega arith) f);
-  along_z = within (nat_abs y.z) (λ l. dim-outside s y n m (λ i. let k = i.along_z in omega arith) f);
-}
-  where
-    within : (n : ℕ) → (half_side * y.w < n → ⊥) → n ≤ half_side * y.w
-    within n never = ⊎_elim (λ l. absurd (never l)) (λ l. l) (cases_lt (half_side * y.w) n)
-
+-- ---- a point of the skeleton lies in the closed frame
 pub skeleton-framed : (s : Set) (c : Complex) → ShowsSet s c → (h : Form) (y : PlainPlace) → IsSkeletonIn s (complex_of c) h y → InClosedFrame y
-skeleton-framed s c S h y (inl (meets_vertex k, (v, a, e))) = dim-framed s y 0 (omega arith) (dim-same s v.point y 0 e (S.shows.vertices k v a))
-skeleton-framed s c S h y (inl (meets_edge k, ((e, v, w, a, H, b), l))) = dim-framed s y 1 (omega arith) (edge-points s (complex_of c) k e v w y S.shows a H b).0
+skeleton-framed s c S h y (inl (meets_vertex k, x)) = vertex-framed s (complex_of c) S.shows k y x
+skeleton-framed s c S h y (inl (meets_edge k, x)) = edge-framed s (complex_of c) S.shows k y x.0
 skeleton-framed s c S h y (inr f) = dim-framed s y 2 (omega arith) f.0
 
 -- ---- carriers whose span doesn't meet the window, within which all points ahead lie

@@ -5,3 +5,4 @@ pub mod Halves
 pub mod Facets
 pub mod Beams
 pub mod Probes
+pub mod Orders

@@ -1,22 +1,21 @@
 -- What a ray meets of the skeleton, carrier by carrier.
 use Rattle.std.specs.Prelude.{◌≡◌, ℕ, pos, ◌⊎◌, Option, Some, None}
 use Rattle.nef_space.specs.Lists.{IsAt}
-use Rattle.nef_space.specs.Place.{Place as PlainPlace, Form, form_at, SamePlace, IsAhead, IsBetween}
+use Rattle.nef_space.specs.Place.{Place as PlainPlace, Form, form_at, IsAhead, IsBetween}
 use Rattle.nef_space.specs.Sets.{Set}
 use Rattle.nef_space.specs.Vectors.{Vector}
 use Rattle.nef_space.specs.declared.label.Label.{Label}
 use Rattle.nef_geo.specs.Hits.{IsReached, IsCrossing}
-use Rattle.nef_geo.specs.Shapes.{form_of, hit_place, place_of}
+use Rattle.nef_geo.specs.Shapes.{form_of, hit_place}
 use Rattle.nef_geo.specs.declared.hit.Hit.{Hit}
 use Rattle.nef_geo.specs.declared.plane.Plane.{Plane}
-use Rattle.nef_geo.specs.declared.point.Point.{Point}
 use Rattle.law_sphere.specs.Maps.{Side}
 use Rattle.law_complex.specs.Complexes.{Complex}
 use Rattle.law_complex.specs.Laws.{IsFlatIn}
 use Rattle.law_complex.specs.Rays.{IsAbove}
 use Rattle.law_complex.specs.Skeleton.{Spot as PlainSpot, IsSpot, IsSkeletonPoint, PlaneMeet, Meets}
 use Rattle.nef_complex.specs.declared.complex.Complex.{Complex as ProgramComplex}
-use Rattle.nef_complex.specs.Complexes.{complex_of, ShowsSet, AreBelow, AreAbove}
+use Rattle.nef_complex.specs.Complexes.{complex_of, ShowsSet}
 use Rattle.nef_locate.specs.declared.place.Spot.{Spot}
 use Rattle.nef_locate.specs.declared.ray.Met.{Met}
 use Rattle.nef_locate.specs.Places.{spot_place, IsPlaceIn, IsPlaceAt, IsSideOf}
@@ -70,7 +69,3 @@ IsSooner d q (Some m) = IsAhead (hit_place q) d (hit_place m.at)
 -- side number j of vertex i lies above each skeleton point at the floor
 abbrev pub IsSideAbove : Complex → Spot → ℕ → ℕ → Type 0
 IsSideAbove C floor i j = (o : Side) × (l : Label) × IsSideOf C i j o l × ((y : PlainPlace) → IsPlaceAt C y (spot_place floor) → (t : PlainSpot) × IsSpot C t y × IsAbove C y t (record { vertex = i; side = o }))
-
--- the hit is a point before which the first n vertices come, and after which the others do
-abbrev pub PartsVertices : ProgramComplex → Hit → ℕ → Type 0
-PartsVertices c q n = (p : Point) × SamePlace (hit_place q) (place_of p) × AreBelow c.vertices n p × AreAbove c.vertices n p

@@ -11,6 +11,7 @@ mod hit;
 mod label;
 mod local;
 mod maps;
+mod order;
 mod place;
 mod plane;
 mod point;

@@ -18,14 +18,10 @@ ghost use Rattle.nef_locate.specs.Probes.{IsProbe, IsFoundAt, IsOffCarrier};
 use crate::above::side_above;
 use crate::place::{Place, Spot};
 use crate::ray::first_spot;
-use crate::spot::facet_spot;
+use crate::spot::spot_beside_vertices;
 use crate::window::may_hold;
-use nef_complex::{
-    Cluster, Complex, Edge, Group, Span, carrier_clusters, carrier_items, carrier_spans,
-    find_vertex,
-};
+use nef_complex::{Cluster, Complex, Group, Span, carrier_clusters, carrier_spans, find_vertex};
 use nef_geo::{Hit, Plane, Point, Sign, hit_at, hit_side, up};
-use nef_plane::is_in_line;
 
 // A point that is asked where it lies in a complex, and a window within which it lies. It is no vertex: so many vertices
 // come before it, and the others after it.
@@ -37,40 +33,7 @@ struct Probe<'a> {
     window: Span,
 }
 
-// Whether the first vertices, so many of them, have the lower end of the edge among them and not the upper one.
-fn is_parted(edge: &Edge, before: usize) -> bool
-    ensures parted { IsTrue result ↔ ((edge.now.low < before) × (before ≤ edge.now.high)) }
-{
-    edge.low < before && before <= edge.high
-}
-
 impl Probe<'_> {
-    // Whether the point lies on the edge with this number: it lies on the edge's line, and comes between the ends in the
-    // order of vertices, which their numbers tell.
-    fn is_on(&self, number: usize) -> bool
-        requires probe { IsProbe self.now }
-        requires within { number < length self.now.complex.now.edges }
-        ensures on { IsTrue result ↔ IsEdgePoint (complex_of self.now.complex.now) number (hit_place self.now.at) }
-    {
-        is_parted(self.complex.edges.at(number), self.before)
-            && is_in_line(self.complex, number, &self.at)
-    }
-
-    // Of the edges with these numbers that on which the point lies.
-    fn edge_among(&self, numbers: &[usize]) -> Option<usize>
-        requires probe { IsProbe self.now }
-        requires within { AreWithin self.now.complex.now.edges numbers.now }
-        ensures edge { MatchOption result ((i k : ℕ) → IsAt numbers.now i k → IsEdgePoint (complex_of self.now.complex.now) k (hit_place self.now.at) → ⊥) (λ k. IsEdgePoint (complex_of self.now.complex.now) k (hit_place self.now.at)) }
-    {
-        numbers.iter().copied().find(
-            |number|
-                requires probe { IsProbe self.now }
-                requires within { number.now < length self.now.complex.now.edges }
-                ensures on { IsTrue result ↔ IsEdgePoint (complex_of self.entry.now.complex.now) number.now (hit_place self.entry.now.at) }
-            { self.is_on(*number) },
-        )
-    }
-
     // The edge or the facet of the carrier with this number on which the point lies, one of the carrier's.
     fn spot_on(&self, number: usize, h: &Plane) -> Option<Spot>
         requires probe { IsProbe self.now }
@@ -79,10 +42,7 @@ impl Probe<'_> {
         ensures at { IsFoundAt self.now result }
         ensures none { IsNone result → HasNotAt self.now.complex.now (hit_place self.now.at) h.now }
     {
-        if let Some(edge) = self.edge_among(carrier_items(self.complex, number).edges) {
-            return Some(Spot::OnEdge(edge));
-        }
-        facet_spot(self.complex, h, &self.at)
+        spot_beside_vertices(self.complex, number, h, &self.at, self.before)
     }
 
     // The same of any point.

@@ -66,9 +66,10 @@ fn load_of(a: &Complex, b: &Complex) -> Load {
     }
 }
 
-/// The complex of the combination of the sets of two complexes. One job for each candidate, in their order, is worked by
-/// `how.workers` workers, from 1 to 64, over the board that `how` names; the gate is told of each before it begins.
-/// `OutOfMemory` says that memory was wanted and not found.
+/// The complex of the combination of the sets of two complexes. One job for each candidate, in their order, is worked over
+/// the board that `how` names, by `how.workers` workers, from 1 to 64, or by fewer where the jobs don't pay for so many
+/// and the gate holds none back; the gate is told of each job before it begins. `OutOfMemory` says that memory was wanted
+/// and not found.
 pub fn binary<R: Threads + Wait + Sync, G: Gate + Sync>(
     rt: &R,
     alloc: Global,
@@ -91,7 +92,7 @@ pub fn binary<R: Threads + Wait + Sync, G: Gate + Sync>(
         second: b,
         points,
     };
-    let workers = crew(how, job.jobs(), load_of(a, b));
+    let workers = crew(how, job.jobs(), load_of(a, b), gate.holds());
     let maps = finished(rt, alloc, &job, how.board, workers, gate)?;
     let carriers = merge_carriers(alloc, a, b)?;
     let complex = assemble(rt, alloc, carriers, points, maps, workers)?;

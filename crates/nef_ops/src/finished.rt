@@ -1,6 +1,7 @@
 //! All jobs of an operation, worked over the board that was chosen.
 
-ghost use Rattle.std.specs.Prelude.{◌≡◌, ℕ, ◌≤◌, ◌<◌, ◌/◌, min, max, IfOk, Some, slice_get, vec_len};
+ghost use Rattle.std.specs.Prelude.{◌≡◌, ℕ, ◌≤◌, ◌<◌, ◌/◌, min, max, true, false, IfOk, Some, slice_get, vec_len};
+ghost use Rattle.nef_ops.specs.Crews.{jobs_paying};
 
 use crate::OutOfMemory;
 use nef_board::LockBoard;
@@ -21,10 +22,11 @@ pub(crate) enum Load {
     Heavy,
 }
 
-// So many jobs pay for one more worker. Starting a thread and waiting for its end costs as much as a hundred of them. On
-// the lock board each job takes two turns besides, which the passes have one after another: where a job takes little
-// longer than its turns, more of them are wanted.
+// So many jobs pay for a worker. Starting a thread and waiting for its end costs as much as a hundred of them. On the lock
+// board each job takes two turns besides, which the passes have one after another: where a job takes little longer than its
+// turns, more of them are wanted.
 fn jobs_for_a_worker(board: BoardKind, load: Load) -> u64
+    ensures paying { result ≡ jobs_paying board load }
     ensures some { 0 < result }
 {
     match (board, load) {
@@ -34,28 +36,19 @@ fn jobs_for_a_worker(board: BoardKind, load: Load) -> u64
     }
 }
 
-// So many workers run beside each other where no more were asked for, however few jobs there are.
-const WORKERS_AS_ASKED: u32 = 2;
-
-// How many of the workers work so many jobs. Of more than two no more start than the jobs pay for.
-fn paid_workers(workers: u32, jobs: u64, paying: u64) -> u32
-    requires some { 0 < paying }
-    ensures few { workers ≤ 2 → result ≡ workers }
-    ensures paid { 2 < workers → result ≡ min workers (max 1 (jobs / paying)) }
-{
-    if workers <= WORKERS_AS_ASKED {
-        return workers;
-    }
-    let paid = (jobs / paying).max(1);
-    u64::from(workers).min(paid) as u32
-}
-
-/// How many workers work so many jobs of this load: one worker or two as asked; of more, as many as the jobs pay for.
-pub(crate) fn crew(how: &How, jobs: u64, load: Load) -> u32
+/// How many of the workers that were asked for work so many jobs of this load: as many as the jobs pay for, and one at
+/// least; or all, where the gate may hold jobs back until others began.
+pub(crate) fn crew(how: &How, jobs: u64, load: Load, holds: bool) -> u32
     requires workers { how.now.workers ≤ 64 }
     ensures workers { result ≤ 64 }
+    ensures all { holds ≡ true → result ≡ how.now.workers }
+    ensures paid { holds ≡ false → result ≡ min how.now.workers (max 1 (jobs / jobs_paying how.now.board load)) }
 {
-    paid_workers(how.workers, jobs, jobs_for_a_worker(how.board, load))
+    if holds {
+        return how.workers;
+    }
+    let paid = jobs / jobs_for_a_worker(how.board, load);
+    u64::from(how.workers).min(paid.max(1)) as u32
 }
 
 /// One right result for each job, in the order of the jobs, worked by so many workers over a board of this kind.

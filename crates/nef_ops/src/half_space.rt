@@ -78,7 +78,7 @@ pub fn half_within<R: Threads + Wait + Sync, G: Gate + Sync>(
         oriented,
         closed,
     };
-    let workers = crew(how, job.jobs(), Load::Light);
+    let workers = crew(how, job.jobs(), Load::Light, gate.holds());
     let maps = finished(rt, alloc, &job, how.board, workers, gate)?;
     let carriers = add_carrier(alloc, whole, &plane)?;
     let complex = assemble(rt, alloc, carriers, points, maps, workers)?;
@@ -86,8 +86,9 @@ pub fn half_within<R: Threads + Wait + Sync, G: Gate + Sync>(
 }
 
 /// The complex of a half of the frame: where the given form is negative, or where it is at most zero if the half is
-/// closed. One job for each candidate, in their order, is worked by `how.workers` workers, from 1 to 64, over the board
-/// that `how` names; the gate is told of each before it begins. `OutOfMemory` says that memory was wanted and not found.
+/// closed. One job for each candidate, in their order, is worked over the board that `how` names, by `how.workers` workers,
+/// from 1 to 64, or by fewer where the jobs don't pay for so many and the gate holds none back; the gate is told of each
+/// job before it begins. `OutOfMemory` says that memory was wanted and not found.
 pub fn half<R: Threads + Wait + Sync, G: Gate + Sync>(
     rt: &R,
     alloc: Global,

@@ -74,8 +74,9 @@ impl<'a> Job for UnaryJob<'a> {
 }
 
 /// The complex of what the operation makes of the set of a complex. Its vertices are among those of the set. One job for
-/// each of these, in their order, is worked by `how.workers` workers, from 1 to 64, over the board that `how` names; the
-/// gate is told of each before it begins. `OutOfMemory` says that memory was wanted and not found.
+/// each of these, in their order, is worked over the board that `how` names, by `how.workers` workers, from 1 to 64, or by
+/// fewer where the jobs don't pay for so many and the gate holds none back; the gate is told of each job before it begins.
+/// `OutOfMemory` says that memory was wanted and not found.
 pub fn unary<R: Threads + Wait + Sync, G: Gate + Sync>(
     rt: &R,
     alloc: Global,
@@ -90,7 +91,7 @@ pub fn unary<R: Threads + Wait + Sync, G: Gate + Sync>(
 {
     let points = vertex_points(alloc, a)?;
     let job = UnaryJob { op, complex: a };
-    let workers = crew(how, job.jobs(), Load::Heavy);
+    let workers = crew(how, job.jobs(), Load::Heavy, gate.holds());
     let maps = finished(rt, alloc, &job, how.board, workers, gate)?;
     let carriers = copy_carriers(alloc, a)?;
     let complex = assemble(rt, alloc, carriers, points.as_slice(), maps, workers)?;

@@ -26,7 +26,7 @@ use Rattle.nef_complex.specs.declared.complex.PlaneMeet.{PlaneMeet}
 use Rattle.nef_complex.specs.Complexes.{complex_of}
 use Rattle.nef_complex.specs.Index.{LiesOn, EdgeLiesIn, AreNumbersWith}
 use Rattle.nef_complex.proofs.Reading.{got-at}
-use Rattle.nef_plane.specs.Levels.{IsShort, AreShort, AreFar, AreShortBelow, AreFarFrom, IsLevel, IsUnparted}
+use Rattle.nef_plane.specs.Levels.{IsShort, AreShort, AreFar, AreShortBelow, AreFarFrom, IsLevel, IsUnparted, IsSwept}
 use Rattle.nef_plane.specs.Ends.{MeetLiesIn, AreEnds}
 use Rattle.nef_plane.specs.Meets.{IsParallelToAxis, AtVertexNumber, AtEdgeNumber, AtMeet, sweep_form, IsMissed}
 use Rattle.nef_plane.specs.declared.level.Level.{Level}
@@ -57,17 +57,14 @@ plus-short b (pos zero) e = cc
 plus-short b (negsuc n) e = cc
 
 -- ---- the vertices of the plane, in order
-module _ (s : Set) (c : Complex) (S : Shows s (complex_of c)) (h : Plane) (p : Place) (ns : List ℕ) (N : AreNumbersWith (LiesOn c.vertices (form_of h)) ns) (b : Bool) where
-  abbrev k : Form
-  k = sweep_form (form_of h) p
-
+module _ (s : Set) (c : Complex) (S : Shows s (complex_of c)) (h : Plane) (k : Form) (K : IsSwept (form_of h) k) (ns : List ℕ) (N : AreNumbersWith (LiesOn c.vertices (form_of h)) ns) (b : Bool) where
   earlier-short : (t : Bool) (i j : ℕ) (u v : Vertex) → IsAt c.vertices i u → IsAt c.vertices j v → form_at (form_of h) (place_of u.point) ≡ pos 0 → form_at (form_of h) (place_of v.point) ≡ pos 0 → i ≤ j
       → IsShort t (form_at k (place_of v.point)) → IsShort t (form_at k (place_of u.point))
   earlier-short true i j u v a e o r l m = by_order (form_at k (place_of u.point)) (pos 0) (λ x. omega (arith, ints)) (λ x. omega (arith, ints))
-      (λ x. absurd (let y = later-past s c S h p i j u v (got-at c.vertices i u a) (got-at c.vertices j v e) o r l x in omega (arith, ints)))
+      (λ x. absurd (let y = later-past s c S h k K i j u v (got-at c.vertices i u a) (got-at c.vertices j v e) o r l x in omega (arith, ints)))
   earlier-short false i j u v a e o r l m = by_order (form_at k (place_of u.point)) (pos 0) (λ x. x)
-      (λ x. absurd (let y = later-from s c S h p i j u v (got-at c.vertices i u a) (got-at c.vertices j v e) o r l (omega (arith, ints)) in omega (arith, ints)))
-      (λ x. absurd (let y = later-from s c S h p i j u v (got-at c.vertices i u a) (got-at c.vertices j v e) o r l (omega (arith, ints)) in omega (arith, ints)))
+      (λ x. absurd (let y = later-from s c S h k K i j u v (got-at c.vertices i u a) (got-at c.vertices j v e) o r l (omega (arith, ints)) in omega (arith, ints)))
+      (λ x. absurd (let y = later-from s c S h k K i j u v (got-at c.vertices i u a) (got-at c.vertices j v e) o r l (omega (arith, ints)) in omega (arith, ints)))
 
   in-order : (i m n j : ℕ) → i ≤ m → IsAt ns i n → IsAt ns m j → n ≤ j
   in-order i m n j l a e = ⊎_elim

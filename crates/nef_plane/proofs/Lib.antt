@@ -18,3 +18,6 @@ pub mod Ordered
 pub mod Passed
 pub mod Leveled
 mod AxisSizes
+pub mod Framed
+pub mod Close
+pub mod Shifting

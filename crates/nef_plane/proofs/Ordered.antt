@@ -27,6 +27,7 @@ use Rattle.nef_complex.specs.declared.complex.Vertex.{Vertex}
 use Rattle.nef_complex.specs.declared.complex.Complex.{Complex}
 use Rattle.nef_complex.specs.Complexes.{vertex_of, complex_of}
 use Rattle.nef_complex.proofs.Parted.{times-pos, times-nought}
+use Rattle.nef_plane.specs.Levels.{IsSwept}
 use Rattle.nef_plane.specs.Meets.{sweep_axis, sweep_form}
 
 weight : (r : Place) → pos 0 <ℤ pos r.w
@@ -100,8 +101,12 @@ module _ (h : Plane) (p : Place) where
         (λ x. absurd (let y = ap (λ z. pos p.w *ℤ z) x in let u = ring (pos p.w ∷ []) (at 0 ⊗ num (pos 0)) (num (pos 0)) tt in omega (arith, ints)))
         (λ x. absurd (let y = mul_pos (pos p.w) (form_at k q) (weight p) x in omega (arith, ints)))
 
+-- the form of a line changes with that coordinate
+pub swept : (h : Form) (p : Place) → IsSwept h (sweep_form h p)
+swept h p = (pos p.w, weight p, through-slope (sweep_axis h) p)
+
 -- ---- vertices of a plane
-module _ (s : Set) (c : Complex) (S : Shows s (complex_of c)) (h : Plane) (p : Place) (i j : ℕ) (u v : Vertex) (a : At c.vertices i u) (b : At c.vertices j v)
+module _ (s : Set) (c : Complex) (S : Shows s (complex_of c)) (h : Plane) (k : Form) (K : IsSwept (form_of h) k) (i j : ℕ) (u v : Vertex) (a : At c.vertices i u) (b : At c.vertices j v)
     (on_u : form_at (form_of h) (place_of u.point) ≡ pos 0) (on_v : form_at (form_of h) (place_of v.point) ≡ pos 0) (l : i ≤ j) where
   abbrev U : Place
   U = place_of u.point
@@ -145,18 +150,18 @@ module _ (s : Set) (c : Complex) (S : Shows s (complex_of c)) (h : Plane) (p : P
       (λ o. in-order (S.ordered i j (vertex_of u) (vertex_of v) o (map-at vertex_of c.vertices i u a) (map-at vertex_of c.vertices j v b)) (int_eq h.c (pos 0)) (int_eq h.b (pos 0)) refl refl)
       (eq-or-lt_of_le {n = i} {m = j} l)
 
-  step : (pos V.w *ℤ form_at (sweep_form (form_of h) p) U) ≤ℤ (pos U.w *ℤ form_at (sweep_form (form_of h) p) V)
+  step : (pos V.w *ℤ form_at k U) ≤ℤ (pos U.w *ℤ form_at k V)
   step =
-      let r = slope-toward (sweep_form (form_of h) p) U V in
-      let o = through-slope (sweep_axis (form_of h)) p t in
-      let m = mul_nonneg (pos p.w) (dot (sweep_axis (form_of h)) t) (let x = weight p in omega (arith, ints)) sweep-order in
+      let r = slope-toward k U V in
+      let o = K.2 t in
+      let m = mul_nonneg K.0 (dot (sweep_axis (form_of h)) t) (let x = K.1 in omega (arith, ints)) sweep-order in
       omega (arith, ints)
 
-  -- what comes after a vertex past the start is past it too
-  pub later-past : pos 0 <ℤ form_at (sweep_form (form_of h) p) U → pos 0 <ℤ form_at (sweep_form (form_of h) p) V
-  later-past m = let x = mul_pos (pos V.w) (form_at (sweep_form (form_of h) p) U) (weight V) m in let y = step in times-pos (pos U.w) (form_at (sweep_form (form_of h) p) V) (weight U) (omega (arith, ints))
+  -- what comes after a vertex past the line is past it too
+  pub later-past : pos 0 <ℤ form_at k U → pos 0 <ℤ form_at k V
+  later-past m = let x = mul_pos (pos V.w) (form_at k U) (weight V) m in let y = step in times-pos (pos U.w) (form_at k V) (weight U) (omega (arith, ints))
 
-  pub later-from : pos 0 ≤ℤ form_at (sweep_form (form_of h) p) U → pos 0 ≤ℤ form_at (sweep_form (form_of h) p) V
-  later-from m = by_order (form_at (sweep_form (form_of h) p) V) (pos 0)
-      (λ o. absurd (let x = mul_nonneg (pos V.w) (form_at (sweep_form (form_of h) p) U) (let w = weight V in omega (arith, ints)) m in let y = step in let z = mul_neg (pos U.w) (form_at (sweep_form (form_of h) p) V) (weight U) o in omega (arith, ints)))
+  pub later-from : pos 0 ≤ℤ form_at k U → pos 0 ≤ℤ form_at k V
+  later-from m = by_order (form_at k V) (pos 0)
+      (λ o. absurd (let x = mul_nonneg (pos V.w) (form_at k U) (let w = weight V in omega (arith, ints)) m in let y = step in let z = mul_neg (pos U.w) (form_at k V) (weight U) o in omega (arith, ints)))
       (λ o. omega (arith, ints)) (λ o. omega (arith, ints))

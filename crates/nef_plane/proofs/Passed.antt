@@ -1,9 +1,9 @@
 -- What the course of a ray within a plane passes over, the ray doesn't meet.
-use Rattle.std.proofs.Common.{◌≡◌, ℕ, zero, suc, ◌≤◌, ℤ, pos, negsuc, ◌<ℤ◌, ◌≤ℤ◌, arith, inl, inr, ⊎_elim, sym, ◌∙◌, subst}
+use Rattle.std.proofs.Common.{◌≡◌, ℕ, zero, suc, ◌+◌, ◌≤◌, ℤ, pos, negsuc, ◌<ℤ◌, ◌≤ℤ◌, arith, inl, inr, ⊎_elim, sym, ◌∙◌, subst}
 use Rattle.std.proofs.lemmas.Int.{ints}
 use Rattle.law_arithmetic.proofs.Order.{by_order, sign-plus, sign-minus, plus-is, minus-is}
 use Rattle.nef_space.specs.Lists.{IsAt}
-use Rattle.nef_space.specs.Place.{Place, Form, form_at, SamePlace, IsAhead, IsBetween}
+use Rattle.nef_space.specs.Place.{Place, Form, form_at, SamePlace, InClosedFrame, IsAhead, IsBetween}
 use Rattle.nef_space.specs.Sets.{Set}
 use Rattle.nef_space.specs.Vectors.{Vector, dot, IsDirection}
 use Rattle.nef_geo.specs.Shapes.{form_of, place_of}
@@ -14,22 +14,26 @@ use Rattle.nef_geo.specs.Signs.{sign_of}
 use Rattle.law_near.proofs.Rays.{sign-same}
 use Rattle.law_sphere.specs.Maps.{At}
 use Rattle.law_sphere.proofs.Lists.{at-one}
+use Rattle.nef_smap.proofs.Lists.{map-at}
+use Rattle.nef_smap.proofs.SideLists.{get-from_at}
+use Rattle.law_complex.proofs.Ways.{same-itself}
 use Rattle.law_complex.specs.Shows.{Shows}
 use Rattle.nef_complex.specs.declared.complex.Vertex.{Vertex}
 use Rattle.nef_complex.specs.declared.complex.Edge.{Edge}
 use Rattle.nef_complex.specs.declared.complex.Complex.{Complex}
 use Rattle.nef_complex.specs.declared.complex.PlaneMeet.{PlaneMeet}
-use Rattle.nef_complex.specs.Complexes.{edge_of, complex_of}
+use Rattle.nef_complex.specs.Complexes.{vertex_of, edge_of, complex_of}
 use Rattle.nef_complex.specs.Index.{LiesOn, EdgeLiesIn}
-use Rattle.nef_complex.proofs.Ends.{listed_edge}
+use Rattle.nef_complex.proofs.Ends.{listed_edge, ends}
 use Rattle.nef_complex.proofs.Reading.{got-at}
-use Rattle.nef_plane.specs.Courses.{IsOffCourse, IsCourse, IsPassed}
+use Rattle.nef_plane.specs.Courses.{StartsAt, IsOffCourse, IsCourse, IsPassed, IsFirst, IsPast}
 use Rattle.nef_plane.specs.Ends.{MeetLiesIn, AreEnds}
 use Rattle.nef_plane.specs.Meets.{AtVertexNumber, AtEdgeNumber, AtMeet, sweep_axis, sweep_form, IsMissed}
 use Rattle.nef_plane.specs.declared.course.Course.{Course}
 use Rattle.nef_plane.proofs.Either.{by-numbers}
 use Rattle.nef_plane.proofs.Found.{vertex-none, edge-none}
-use Rattle.nef_plane.proofs.Ordered.{start-level, ahead-past, ahead-before, between-at_most, between-at_least, later-past, later-from}
+use Rattle.nef_plane.proofs.Framed.{vertex-framed, edge-framed}
+use Rattle.nef_plane.proofs.Ordered.{start-level, swept, ahead-past, ahead-before, between-at_most, between-at_least, later-past, later-from}
 use Rattle.nef_plane.proofs.RayPlanes.{beside-vertex, beside-edge}
 
 plus_sign : (z : ℤ) → sign_of z ≡ Plus → pos 0 <ℤ z
@@ -42,65 +46,100 @@ minus_sign (pos zero) e = cc
 minus_sign (pos (suc n)) e = cc
 minus_sign (negsuc n) e = omega (arith, ints)
 
+-- ---- a vertex from which a ray starts
+module _ (s : Set) (c : Complex) (S : Shows s (complex_of c)) (h : Plane) (P : Point) (d : Vector) (on : form_at (form_of h) (place_of P) ≡ pos 0) (n : ℕ) (start : StartsAt c.vertices n P) where
+  abbrev from : Place
+  from = place_of P
+
+  abbrev across : Form
+  across = sweep_form (form_of h) from
+
+  abbrev first : Vertex
+  first = start.0
+
+  at-start : At c.vertices n first
+  at-start = got-at c.vertices n first start.1
+
+  start-on : form_at (form_of h) (place_of first.point) ≡ pos 0
+  start-on = subst (λ (r : Point). form_at (form_of h) (place_of r) ≡ pos 0) (sym start.2) on
+
+  start-nought : form_at across (place_of first.point) ≡ pos 0
+  start-nought = subst (λ (r : Point). form_at across (place_of r) ≡ pos 0) (sym start.2) (start-level h from)
+
+  pub start-framed : InClosedFrame from
+  start-framed = vertex-framed s (complex_of c) S n from (vertex_of first, map-at vertex_of c.vertices n first at-start, subst (λ (r : Point). SamePlace (place_of first.point) (place_of r)) start.2 (same-itself (place_of first.point)))
+
+  -- no vertex of the plane up to it is past it, and a ray that goes on in the coordinate meets what is past it
+  pub first-forward : sign_of (dot (sweep_axis (form_of h)) d) ≡ Plus → IsFirst c.vertices (form_of h) from d (n + 1)
+  first-forward e = (
+    across,
+    λ q i m. ahead-past h from d q m (plus_sign (dot (sweep_axis (form_of h)) d) e),
+    λ j v l a o. by_order (form_at across (place_of v.point)) (pos 0) (λ m. omega (arith, ints)) (λ m. omega (arith, ints))
+        (λ m. absurd (
+        let z = start-nought in
+        let y = later-past s c S h across (swept (form_of h) from) j n v first (got-at c.vertices j v a) at-start o start-on (omega (arith, l)) m in
+        omega (arith, ints))),
+  )
+
+  -- none from it on is before it, and a ray that goes back meets what is before it
+  pub past-back : sign_of (dot (sweep_axis (form_of h)) d) ≡ Minus → IsPast c.vertices (form_of h) from d n
+  past-back e = (
+    across,
+    λ q i m. ahead-before h from d q m (minus_sign (dot (sweep_axis (form_of h)) d) e),
+    λ j v l a o m. let y = later-from s c S h across (swept (form_of h) from) n j first v at-start (got-at c.vertices j v a) start-on o l (let z = start-nought in omega (arith, ints)) in omega (arith, ints),
+  )
+
+-- ---- what the course passes over
 module _ (s : Set) (c : Complex) (S : Shows s (complex_of c)) (h : Plane) (P : Point) (d : Vector) (some : IsDirection d) (x : Course) (K : IsCourse c.vertices (form_of h) P d x) where
   abbrev p : Place
   p = place_of P
 
-  abbrev k : Form
-  k = sweep_form (form_of h) p
+  -- what the ray meets is seen on other sides than what is passed
+  not-below : (q : Place) → InClosedFrame q → IsAhead p d q → form_at K.first.0 q ≤ℤ pos 0 → ⊥
+  not-below q i m l = let y = K.first.1 q i m in omega (arith, ints)
 
-  abbrev w : Vertex
-  w = K.start.0
+  not-past : (q : Place) → InClosedFrame q → IsAhead p d q → pos 0 ≤ℤ form_at K.past.0 q → ⊥
+  not-past q i m l = let y = K.past.1 q i m in omega (arith, ints)
 
-  at-start : At c.vertices x.start w
-  at-start = got-at c.vertices x.start w K.start.1
-
-  start-on : form_at (form_of h) (place_of w.point) ≡ pos 0
-  start-on = subst (λ (r : Point). form_at (form_of h) (place_of r) ≡ pos 0) (sym K.start.2) K.holds.0
-
-  start-nought : form_at k (place_of w.point) ≡ pos 0
-  start-nought = subst (λ (r : Point). form_at k (place_of r) ≡ pos 0) (sym K.start.2) (start-level h p)
-
-  -- a vertex of the plane with a number no greater than the start's isn't past the start
-  not-past : (n : ℕ) (v : Vertex) → At c.vertices n v → form_at (form_of h) (place_of v.point) ≡ pos 0 → n ≤ x.start → form_at k (place_of v.point) ≤ℤ pos 0
-  not-past n v a o l = by_order (form_at k (place_of v.point)) (pos 0) (λ m. omega (arith, ints)) (λ m. omega (arith, ints))
-      (λ m. absurd (let z = start-nought in let y = later-past s c S h p n x.start v w a at-start o start-on l m in omega (arith, ints)))
-
-  not-before : (n : ℕ) (v : Vertex) → At c.vertices n v → form_at (form_of h) (place_of v.point) ≡ pos 0 → x.start ≤ n → pos 0 ≤ℤ form_at k (place_of v.point)
-  not-before n v a o l = later-from s c S h p x.start n w v at-start a start-on o l (let z = start-nought in omega (arith, ints))
-
-  forward : x.sweep ≡ Plus → (q : Place) → IsAhead p d q → pos 0 <ℤ form_at k q
-  forward e q m = ahead-past h p d q m (plus_sign (dot (sweep_axis (form_of h)) d) (sym K.sweep ∙ e))
-
-  back : x.sweep ≡ Minus → (q : Place) → IsAhead p d q → form_at k q <ℤ pos 0
-  back e q m = ahead-before h p d q m (minus_sign (dot (sweep_axis (form_of h)) d) (sym K.sweep ∙ e))
+  past-not : (n : ℕ) (v : Vertex) → At c.vertices n v → form_at (form_of h) (place_of v.point) ≡ pos 0 → x.past ≤ n → pos 0 ≤ℤ form_at K.past.0 (place_of v.point)
+  past-not n v a o l = by_order (form_at K.past.0 (place_of v.point)) (pos 0)
+      (λ m. absurd (K.past.2 n v l (get-from_at c.vertices n v a) o m)) (λ m. omega (arith, ints)) (λ m. omega (arith, ints))
 
   passed-vertex : (n : ℕ) (v : Vertex) → At c.vertices n v → form_at (form_of h) (place_of v.point) ≡ pos 0 → IsPassed x n n → IsMissed p d (AtVertexNumber (complex_of c) n)
   passed-vertex n v a o f = vertex-none s c S p d some n v a (λ q m e. absurd (never q m e f))
     where
+      framed : (q : Place) → SamePlace (place_of v.point) q → InClosedFrame q
+      framed q e = vertex-framed s (complex_of c) S n q (vertex_of v, map-at vertex_of c.vertices n v a, e)
+
       never : (q : Place) → IsAhead p d q → SamePlace (place_of v.point) q → IsPassed x n n → ⊥
-      never q m e (inl (i, l)) =
-          let y = plus-is (form_at k (place_of v.point)) (sign-same k (place_of v.point) q e ∙ sign-plus (form_at k q) (forward i q m)) in
-          let z = not-past n v a o l in omega (arith, ints)
-      never q m e (inr (i, l)) =
-          let y = minus-is (form_at k (place_of v.point)) (sign-same k (place_of v.point) q e ∙ sign-minus (form_at k q) (back i q m)) in
-          let z = not-before n v a o l in omega (arith, ints)
+      never q m e (inl l) =
+          let k = K.first.0 in
+          let z = K.first.2 n v l (get-from_at c.vertices n v a) o in
+          not-below q (framed q e) m (by_order (form_at k q) (pos 0) (λ y. omega (arith, ints)) (λ y. omega (arith, ints))
+          (λ y. absurd (let u = plus-is (form_at k (place_of v.point)) (sign-same k (place_of v.point) q e ∙ sign-plus (form_at k q) y) in omega (arith, ints))))
+      never q m e (inr l) =
+          let k = K.past.0 in
+          let z = past-not n v a o l in
+          not-past q (framed q e) m (by_order (form_at k q) (pos 0)
+          (λ y. absurd (let u = minus-is (form_at k (place_of v.point)) (sign-same k (place_of v.point) q e ∙ sign-minus (form_at k q) y) in omega (arith, ints)))
+          (λ y. omega (arith, ints)) (λ y. omega (arith, ints)))
 
   module _ (n : ℕ) (e : Edge) (l : At c.edges n e) (u v : Vertex) (i : At c.vertices e.low u) (j : At c.vertices e.high v) (on_u : form_at (form_of h) (place_of u.point) ≡ pos 0) (on_v : form_at (form_of h) (place_of v.point) ≡ pos 0) where
     upward : e.low ≤ e.high
     upward = let E = S.edges.edges n (edge_of e) (listed_edge s c S n e u v l i j) in let m = E.upward in omega (arith, m)
 
+    framed : (q : Place) → IsBetween (place_of u.point) q (place_of v.point) → InClosedFrame q
+    framed q b = edge-framed s (complex_of c) S n q (edge_of e, vertex_of u, vertex_of v, listed_edge s c S n e u v l i j, ends s c S n e u v l i j, b)
+
     never : (q : Place) → IsAhead p d q → IsBetween (place_of u.point) q (place_of v.point) → IsPassed x e.low e.high → ⊥
-    never q m b (inl (f, o)) =
-        let y = forward f q m in
+    never q m b (inl o) =
         let t = upward in
-        let z = between-at_most k (place_of u.point) q (place_of v.point) b (not-past e.low u i on_u (omega (arith, o, t))) (not-past e.high v j on_v o) in
-        omega (arith, ints)
-    never q m b (inr (f, o)) =
-        let y = back f q m in
+        not-below q (framed q b) m
+        (between-at_most K.first.0 (place_of u.point) q (place_of v.point) b (K.first.2 e.low u (omega (arith, o, t)) (get-from_at c.vertices e.low u i) on_u) (K.first.2 e.high v o (get-from_at c.vertices e.high v j) on_v))
+    never q m b (inr o) =
         let t = upward in
-        let z = between-at_least k (place_of u.point) q (place_of v.point) b (not-before e.low u i on_u o) (not-before e.high v j on_v (omega (arith, o, t))) in
-        omega (arith, ints)
+        not-past q (framed q b) m
+        (between-at_least K.past.0 (place_of u.point) q (place_of v.point) b (past-not e.low u i on_u o) (past-not e.high v j on_v (omega (arith, o, t))))
 
     none-met : IsPassed x e.low e.high → IsMissed p d (AtEdgeNumber (complex_of c) (form_of h) d n)
     none-met f = edge-none s c S (form_of h) p d some n e u v l i j (λ q m b o. absurd (never q m b f))

@@ -38,7 +38,7 @@ pub numbers-same : (x v y w : ℤ) (x' v' y' w' : ℤ) → x ≡ x' → v ≡ v'
 numbers-same x v y w x' v' y' w' a b c d = ap (λ r. r *ℤ v -ℤ y *ℤ w) a ∙ ap (λ r. x' *ℤ r -ℤ y *ℤ w) b ∙ ap (λ r. x' *ℤ v' -ℤ r *ℤ w) c ∙ ap (λ r. x' *ℤ v' -ℤ y' *ℤ r) d
 
 -- a plane that doesn't keep the first coordinate is swept along it
-first-swept : (h : Plane) → (h.c ≡ pos 0 → h.b ≡ pos 0 → ⊥) → false ≡ (int_eq h.c (pos 0) && int_eq h.b (pos 0))
+pub first-swept : (h : Plane) → (h.c ≡ pos 0 → h.b ≡ pos 0 → ⊥) → false ≡ (int_eq h.c (pos 0) && int_eq h.b (pos 0))
 first-swept h n = by (int_eq h.c (pos 0)) (int_eq h.b (pos 0)) refl refl
   where
     by : (c b : Bool) → int_eq h.c (pos 0) ≡ c → int_eq h.b (pos 0) ≡ b → false ≡ (c && b)

@@ -1,32 +1,47 @@
 -- Courses of rays within a plane from a vertex.
-use Rattle.std.specs.Prelude.{◌≡◌, ℕ, ◌≤◌, List, IfSome, ◌⊎◌}
+use Rattle.std.specs.Prelude.{◌≡◌, ℕ, ◌*◌, ◌<◌, ◌≤◌, ℤ, pos, ◌-ℤ◌, ◌*ℤ◌, ◌<ℤ◌, nat_abs, true, false, List, IfSome, ◌⊎◌}
 use Rattle.std.specs.Option.{MatchOption}
 use Rattle.nef_space.specs.Lists.{IsAt}
-use Rattle.nef_space.specs.Place.{Form}
+use Rattle.nef_space.specs.Place.{Place, Form, form, form_at, toward, InClosedFrame, IsAhead}
 use Rattle.nef_space.specs.Vectors.{Vector, dot}
 use Rattle.nef_geo.specs.Shapes.{place_of}
-use Rattle.nef_geo.specs.Signs.{sign_of}
 use Rattle.nef_geo.specs.declared.point.Point.{Point}
-use Rattle.nef_geo.specs.declared.sign.Sign.TheVariants.{Minus, Plus}
 use Rattle.nef_complex.specs.declared.complex.Vertex.{Vertex}
 use Rattle.nef_plane.specs.declared.course.Course.{Course}
-use Rattle.nef_plane.specs.Meets.{sweep_axis, AreOpposite, HoldsRay}
+use Rattle.nef_plane.specs.Levels.{AreShortBelow, AreFarFrom}
+use Rattle.nef_plane.specs.Meets.{sweep_form, AreOpposite, HoldsRay}
 use Rattle.nef_plane.specs.Parting.{ray_form, IsAcrossRay}
 
 -- the point is that of the vertex with this number
 abbrev pub StartsAt : List Vertex → ℕ → Point → Type 0
 StartsAt vs k p = (v : Vertex) × IsAt vs k v × (v.point ≡ p)
 
+-- of two points of the closed frame on a ray along d the products with e, over w, differ by less than one
+abbrev pub StaysClose : Vector → Vector → Type 0
+StaysClose e d = (p q : Place) → InClosedFrame p → InClosedFrame q → IsAhead p d q → nat_abs (dot e (toward p q)) < p.w * q.w
+
+-- the plane on which the coordinate that the plane's axis keeps is by z greater than at p
+abbrev pub shifted_form : Form → Place → ℤ → Form
+shifted_form h p z = let k = sweep_form h p in form k.a k.b k.c (k.d -ℤ z *ℤ pos p.w)
+
+-- some form is positive at all that the ray meets in the closed frame, and at none of the vertices on the plane with smaller numbers
+abbrev pub IsFirst : List Vertex → Form → Place → Vector → ℕ → Type 0
+IsFirst vs h p d n = (k : Form) × ((q : Place) → InClosedFrame q → IsAhead p d q → pos 0 <ℤ form_at k q) × AreShortBelow vs h k true n
+
+-- some form is negative at all that the ray meets in the closed frame, and at none of the vertices on the plane with these numbers
+abbrev pub IsPast : List Vertex → Form → Place → Vector → ℕ → Type 0
+IsPast vs h p d n = (k : Form) × ((q : Place) → InClosedFrame q → IsAhead p d q → form_at k q <ℤ pos 0) × AreFarFrom vs h k false n
+
 -- the course of the ray from p along d, which the plane holds
 pub record IsCourse (vs : List Vertex) (h : Form) (p : Point) (d : Vector) (x : Course) : Type 0 where
   pub holds : HoldsRay h (place_of p) d
-  pub start : StartsAt vs x.start p
-  pub sweep : x.sweep ≡ sign_of (dot (sweep_axis h) d)
+  pub first : IsFirst vs h (place_of p) d x.first
+  pub past : IsPast vs h (place_of p) d x.past
   pub across : IfSome x.normal (IsAcrossRay d)
 
--- the ray goes on, and no number is past the start's, or it goes back, and none is before it
+-- both numbers are below the first, or both are past
 abbrev pub IsPassed : Course → ℕ → ℕ → Type 0
-IsPassed x low high = ((x.sweep ≡ Plus) × (high ≤ x.start)) ⊎ ((x.sweep ≡ Minus) × (x.start ≤ low))
+IsPassed x low high = (high < x.first) ⊎ (x.past ≤ low)
 
 -- the course, or the plane with its normal, tells that the ray meets nothing between the vertices with these numbers
 abbrev pub IsOffCourse : List Vertex → Point → Course → ℕ → ℕ → Type 0

@@ -1,11 +1,16 @@
 -- The vertices of a plane beside a line along its axis.
-use Rattle.std.specs.Prelude.{◌≡◌, ℕ, ◌<◌, ◌≤◌, ℤ, pos, ◌<ℤ◌, ◌≤ℤ◌, Bool, true, false, List, ◌⊎◌}
+use Rattle.std.specs.Prelude.{◌≡◌, ℕ, ◌<◌, ◌≤◌, ℤ, pos, ◌*ℤ◌, ◌<ℤ◌, ◌≤ℤ◌, Bool, true, false, List, ◌⊎◌}
 use Rattle.nef_space.specs.Lists.{IsAt}
-use Rattle.nef_space.specs.Place.{Place, Form, form_at}
+use Rattle.nef_space.specs.Place.{Place, Form, form_at, slope}
+use Rattle.nef_space.specs.Vectors.{Vector, dot}
 use Rattle.nef_geo.specs.Shapes.{place_of}
 use Rattle.nef_complex.specs.declared.complex.Vertex.{Vertex}
 use Rattle.nef_plane.specs.declared.level.Level.{Level}
-use Rattle.nef_plane.specs.Meets.{sweep_form}
+use Rattle.nef_plane.specs.Meets.{sweep_axis, sweep_form}
+
+-- the form changes as a positive multiple of the coordinate that the plane's axis keeps
+abbrev pub IsSwept : Form → Form → Type 0
+IsSwept h k = (m : ℤ) × (pos 0 <ℤ m) × ((d : Vector) → slope k d ≡ m *ℤ dot (sweep_axis h) d)
 
 -- a point at which a form has this value lies before the plane, or on it where that counts
 abbrev pub IsShort : Bool → ℤ → Type 0

@@ -140,7 +140,7 @@ fn first_met(c: &Complex, ray: &VertexRay, start: usize) -> Option<Met<Hit>>
 {
     match items_along(c, ray) {
         Some(items) => {
-            let course = Some(Course::of(ray.plane, start, ray.direction));
+            let course = Some(Course::of(c, ray, start, items.vertices));
             let vertices = Numbers::Listed(items.vertices);
             nearest_met(ray, c, &course, &vertices, &Numbers::Listed(items.edges))
         }

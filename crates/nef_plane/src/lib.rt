@@ -6,6 +6,7 @@ mod course;
 mod ends;
 mod first;
 mod level;
+mod line;
 mod lying;
 mod met;
 mod numbers;

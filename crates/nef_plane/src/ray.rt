@@ -10,6 +10,7 @@ ghost use Rattle.nef_geo.specs.Signs.{sign_of};
 ghost use Rattle.nef_geo.specs.Widths.{ray_limit, upright_limit, upright_weight_limit, ratio_limit};
 ghost use Rattle.nef_plane.specs.Meets.{IsParallelToAxis, sweep_form, AreOpposite};
 
+use crate::line::Line;
 use nef_geo::{Dir, Hit, Plane, Point, Sign};
 
 // A ray from a vertex, and the plane in which edges are to be met. The plane need not hold the ray.
@@ -45,11 +46,10 @@ fn ratio_sign(x: i64, w: i64, y: i128, v: i128) -> Sign
     Sign::of(x as i128 * v - y * w as i128)
 }
 
-impl AxisRay<'_> {
-    // The side of the ray's line on which a point of the plane lies.
-    pub(crate) fn across(&self, a: &Point) -> Sign
-        ensures across { result ≡ sign_of (form_at (sweep_form (form_of self.now.plane.now) (hit_place self.now.start.now)) (place_of a.now)) }
-    {
+impl Line for AxisRay<'_> {
+    ghost form = { λ r. sweep_form (form_of r.plane.now) (hit_place r.start.now) };
+
+    fn across(&self, a: &Point) -> Sign {
         let p = self.start;
         if self.plane.c() == 0 && self.plane.b() == 0 {
             ratio_sign(a.y(), a.w(), p.y(), p.w())
@@ -57,7 +57,9 @@ impl AxisRay<'_> {
             ratio_sign(a.x(), a.w(), p.x(), p.w())
         }
     }
+}
 
+impl AxisRay<'_> {
     // Whether points of the plane lie on different sides of the ray's line, or both on it.
     pub(crate) fn parts(&self, a: &Point, b: &Point) -> bool
         ensures opposite { IsTrue result ↔ AreOpposite (sweep_form (form_of self.now.plane.now) (hit_place self.now.start.now)) (place_of a.now) (place_of b.now) }

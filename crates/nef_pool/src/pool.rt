@@ -39,36 +39,36 @@ fn work_all<J: Job, B: Board<J>, G: Gate>(
     pass
 }
 
-// Makes a pass for each worker.
+// Makes so many passes.
 fn passes_of<J: Job, B: Board<J>>(
     alloc: Global,
     board: &B,
     pass: &mut B::Pass,
-    workers: u32,
+    count: u32,
 ) -> Result<Vec<B::Pass>, OutOfMemory>
     requires of { B.belongs board.now pass.old }
-    requires spare { workers ≤ B.spare pass.old }
+    requires spare { count ≤ B.spare pass.old }
     requires free { B.hand pass.old ≡ None }
     ensures of { B.belongs board.now pass.new × (B.hand pass.new ≡ None) }
     ensures each { IfOk result (λ v. All (λ p. B.belongs board.now p × (B.hand p ≡ None)) v.items) }
-    ensures len { IfOk result (λ v. vec_len v ≡ workers) }
+    ensures len { IfOk result (λ v. vec_len v ≡ count) }
 {
-    let mut passes = Vec::with_capacity(alloc, workers as usize)?;
-    for _ in 0..workers {
+    let mut passes = Vec::with_capacity(alloc, count as usize)?;
+    for _ in 0..count {
         passes.push(board.split(pass))?;
     }
     Ok(passes)
 }
 
-// Works the jobs by the other passes, each in a thread of its own where one can be made, and takes them in. The last of
-// them works in this thread, which starts all others itself: one that another new thread starts often waits for its turn
-// on the processor of that one, while a processor is free.
+// Works the jobs by all passes, and takes the other ones in, which work each in a thread of its own where one can be made.
+// The first pass works in this thread, which starts all others itself: one that another new thread starts often waits for
+// its turn on the processor of that one, while a processor is free. Where there are no others no thread starts.
 #[cycle(beside)]
 fn work_beside<R: Threads + Sync, J: Job, B: Board<J>, G: Gate + Sync>(
     rt: &R,
     alloc: Global,
     board: &B,
-    mut pass: B::Pass,
+    pass: B::Pass,
     mut others: Vec<B::Pass>,
     job: &J,
     gate: &G,
@@ -80,13 +80,8 @@ fn work_beside<R: Threads + Sync, J: Job, B: Board<J>, G: Gate + Sync>(
     ensures pass { B.belongs board.now result × (B.hand result ≡ None) }
 {
     let Some(other) = others.pop() else {
-        return pass;
+        return work_all(alloc, board, pass, job, gate);
     };
-    if others.is_empty() {
-        let done = work_all(alloc, board, other, job, gate);
-        board.join(&mut pass, done);
-        return pass;
-    }
     let works = move || -> B::Pass
         requires { (B.made_for board.now ≡ job.now) × J.workable job.now × B.belongs board.now other × (B.hand other ≡ None) }
         ensures { B.belongs board.entry.now result × (B.hand result ≡ None) }
@@ -143,9 +138,10 @@ fn filled<J: Job>(
 /// Works every job of the board, and returns one right result for each, in the order of the jobs.
 ///
 /// The board was made for this job value, whose jobs can be worked. The pass is its first one,
-/// holds nothing, and may make one for each worker. A worker claims a job, tells the gate, works
-/// the job and deposits the result; where it finds no memory it gives the job back and ends. Then
-/// the caller works what isn't done itself.
+/// holds nothing, and may make one for each worker. The calling thread is one of the workers, so
+/// where one is asked for it works alone, and no thread starts. A worker claims a job, tells the
+/// gate, works the job and deposits the result; where it finds no memory it gives the job back and
+/// ends. Then the caller works what isn't done itself.
 ///
 /// `OutOfMemory` says that the caller wanted memory and found none; the results are gone then.
 pub fn finish<R: Threads + Sync, J: Job, B: Board<J>, G: Gate + Sync>(
@@ -164,8 +160,8 @@ pub fn finish<R: Threads + Sync, J: Job, B: Board<J>, G: Gate + Sync>(
     ensures len { IfOk result (λ v. vec_len v ≡ J.count job.now) }
     ensures right { IfOk result (λ v. (i : ℕ) (out : _) → slice_get v.items i ≡ Some out → J.right job.now i out) }
 {
-    let passes = passes_of(alloc, &board, &mut pass, workers)?;
-    let pass = work_beside(rt, alloc, &board, pass, passes, job, gate);
+    let others = passes_of(alloc, &board, &mut pass, workers.saturating_sub(1))?;
+    let pass = work_beside(rt, alloc, &board, pass, others, job, gate);
     let slots = board.close(alloc, pass)?;
     filled(alloc, job, slots)
 }

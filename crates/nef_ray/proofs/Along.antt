@@ -125,6 +125,22 @@ module _ (s : Set) (d : Vector) (m : Label) where
         (λ h i o. sum-sign k (slope h (toward x y)) (slope h d) (slope-same h (toward x y) d w) ∙ ap sign (sym (slope-blend h k (toward x y) d))) m g,
   )
 
+-- ---- the ray leaves the frame
+pub beyond-ahead : (p : Place) (d : Vector) → IsDirection d → IsAhead p d (beyond p d)
+beyond-ahead p d some = factor-same (toward p (beyond p d)) d (record {
+  k = 1;
+  l = way_factor p;
+  some_k = omega arith;
+  some_l = way_factor-some p;
+  is_x = each (toward p (beyond p d)).x d.x (ap (λ (v : Vector). v.x) (leads p d));
+  is_y = each (toward p (beyond p d)).y d.y (ap (λ (v : Vector). v.y) (leads p d));
+  is_z = each (toward p (beyond p d)).z d.z (ap (λ (v : Vector). v.z) (leads p d));
+  is_w = ring (pos (way_factor p) ∷ []) (num (pos 1) ⊗ num (pos 0)) (at 0 ⊗ num (pos 0)) tt;
+}) (leads-somewhere p d some)
+  where
+    each : (t e : ℤ) → t ≡ pos (way_factor p) *ℤ e +ℤ pos 0 *ℤ e → pos 1 *ℤ t ≡ pos (way_factor p) *ℤ e
+    each t e h = ap (λ (i : ℤ). pos 1 *ℤ i) h ∙ ring (pos (way_factor p) ∷ e ∷ []) (num (pos 1) ⊗ (at 0 ⊗ at 1 ⊕ num (pos 0) ⊗ at 1)) (at 0 ⊗ at 1) tt
+
 -- ---- the label stays
 module _ (s : Set) (p : Place) (d : Vector) (m : Label) (inside : InFrame p) (germ : Germ s p d m) where
   -- at each crossing before q in the closed frame it doesn't change
@@ -190,24 +206,8 @@ module _ (s : Set) (p : Place) (d : Vector) (m : Label) (inside : InFrame p) (ge
         (λ level. level-label s d m r level (germs-stay r b))
         (crossing-or s d m p r (between-ahead p r q d b ahead))
 
-  -- ---- the ray leaves the frame
-  beyond-ahead : IsDirection d → IsAhead p d (beyond p d)
-  beyond-ahead some = factor-same (toward p (beyond p d)) d (record {
-    k = 1;
-    l = way_factor p;
-    some_k = omega arith;
-    some_l = way_factor-some p;
-    is_x = each (toward p (beyond p d)).x d.x (ap (λ (v : Vector). v.x) (leads p d));
-    is_y = each (toward p (beyond p d)).y d.y (ap (λ (v : Vector). v.y) (leads p d));
-    is_z = each (toward p (beyond p d)).z d.z (ap (λ (v : Vector). v.z) (leads p d));
-    is_w = ring (pos (way_factor p) ∷ []) (num (pos 1) ⊗ num (pos 0)) (at 0 ⊗ num (pos 0)) tt;
-  }) (leads-somewhere p d some)
-    where
-      each : (t e : ℤ) → t ≡ pos (way_factor p) *ℤ e +ℤ pos 0 *ℤ e → pos 1 *ℤ t ≡ pos (way_factor p) *ℤ e
-      each t e h = ap (λ (i : ℤ). pos 1 *ℤ i) h ∙ ring (pos (way_factor p) ∷ e ∷ []) (num (pos 1) ⊗ (at 0 ⊗ at 1 ⊕ num (pos 0) ⊗ at 1)) (at 0 ⊗ at 1) tt
-
   -- so the label changes at some crossing in the closed frame
   pub changes-somewhere : IsDirection d → ((h : Form) → Lies (carriers s) h → (y : Place) → IsCrossing p d h y → InClosedFrame y → IsUnchanged s d m y) → ⊥
   changes-somewhere some stays =
-      let h = label-stays (beyond p d) (beyond-ahead some) (λ h l y X b i. stays h l y X i) (halfway p d) (halfway-between p d (leads-somewhere p d some)) in
+      let h = label-stays (beyond p d) (beyond-ahead p d some) (λ h l y X b i. stays h l y X i) (halfway p d) (halfway-between p d (leads-somewhere p d some)) in
       not-out (label-outside s (halfway p d) m (halfway-outside p d some) h)

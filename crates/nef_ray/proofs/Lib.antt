@@ -1,5 +1,6 @@
 pub mod Along
 pub mod OneEnd
+pub mod SomeEnd
 pub mod Nearest
 pub mod Found
 pub mod Steps

@@ -1,9 +1,9 @@
 -- Where the label along a ray first changes.
 use Rattle.std.specs.Prelude.{◌≡◌, Bool, true, false}
 use Rattle.nef_space.specs.Local.{HasLabel, Germ}
-use Rattle.nef_space.specs.Place.{Place, SamePlace, IsAhead, IsBetween}
+use Rattle.nef_space.specs.Place.{Place, InFrame, SamePlace, IsAhead, IsBetween}
 use Rattle.nef_space.specs.Sets.{Set}
-use Rattle.nef_space.specs.Vectors.{Vector}
+use Rattle.nef_space.specs.Vectors.{Vector, IsDirection}
 use Rattle.nef_space.specs.declared.label.Label.{Label}
 
 -- the label along d changes from m to l at q: q has l, or q has m and l comes just after it
@@ -23,3 +23,7 @@ pub record IsRayEnd (s : Set) (p : Place) (d : Vector) (q : Place) (after : Bool
 -- a ray has one end
 abbrev pub OneRayEnd : Type 0
 OneRayEnd = (s : Set) (p : Place) (d : Vector) (q r : Place) (a b : Bool) (l m : Label) → IsRayEnd s p d q a l → IsRayEnd s p d r b m → SamePlace q r × (a ≡ b) × (l ≡ m)
+
+-- a ray from a point of the frame has an end
+abbrev pub RayHasEnd : Type 0
+RayHasEnd = (s : Set) (p : Place) (d : Vector) → InFrame p → IsDirection d → (q : Place) × (after : Bool) × (l : Label) × IsRayEnd s p d q after l

@@ -3,3 +3,4 @@ pub mod Lines
 pub mod Steps
 pub mod Outs
 pub mod Marking
+pub mod Planning

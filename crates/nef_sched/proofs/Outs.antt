@@ -1,5 +1,5 @@
 -- Lists of results that are there.
-use Rattle.std.proofs.Common.{◌≡◌, ℕ, zero, suc, ◌+◌, ◌<◌, List, [], ◌∷◌, ◌++◌, length, refl, ap, sym, ◌∙◌, arith, ◌⊎◌, inl, inr, Option, Some, None, slice_get, slice_set, slice_index_or, All, IfSome, IsSomeAnd, cond, Bool, subst}
+use Rattle.std.proofs.Common.{◌≡◌, ◌≢◌, ℕ, zero, suc, ◌+◌, ◌<◌, List, [], ◌∷◌, ◌++◌, length, refl, ap, sym, ◌∙◌, arith, ◌⊎◌, inl, inr, Option, Some, None, slice_get, slice_set, slice_index_or, All, IfSome, IsSomeAnd, cond, Bool, subst}
 use Rattle.std.proofs.lemmas.List.{length-append, length-set}
 use Rattle.std.proofs.lemmas.Bool.{ne_eqb}
 use Rattle.nef_sched.specs.declared.pass.RoundPass.{RoundPass}
@@ -8,8 +8,7 @@ use Rattle.nef_sched.specs.Counts.{one, times, Differ}
 use Rattle.nef_sched.specs.Results.{kept, IsKept, IsReady, AreSound}
 use Rattle.nef_sched.specs.Rounds.{parts, total_parts}
 use Rattle.nef_sched.specs.Workers.{total_worked}
-use Rattle.nef_sched.proofs.Totals.{counts, same_or_not}
-use Rattle.nef_sched.proofs.Steps.{differ_more}
+use Rattle.nef_sched.proofs.Totals.{counts, counts_itself, same_or_not}
 
 none_differs : {X : Type 0} (x : X) → None ≡ Some x → ⊥
 none_differs x e = cc
@@ -127,18 +126,6 @@ all_in P (y ∷ ys) x e h = elim (counts y x) [
   | inr q ↦ all_in P ys x (omega arith) (λ k d low. h (suc k) d (omega arith))
 ]
 
-times_above : (xs : List ℕ) (n : ℕ) → All (λ i. i < n) xs → times n xs ≡ 0
-times_above [] n h = refl
-times_above (x ∷ xs) n h =
-    let low : x < n = h 0 x (omega arith) in
-    let a : one n x ≡ 0 = ap (λ (b : Bool). cond b 1 0) (ne_eqb x n (λ e. omega arith)) in
-    let b = times_above xs n (λ k d s. h (suc k) d (omega arith)) in
-    omega arith
-
--- a number above all of them is new
-pub differ_next : (xs : List ℕ) (n : ℕ) → Differ xs → All (λ i. i < n) xs → Differ (xs ++ n ∷ [])
-differ_next xs n d h = differ_more xs n d (times_above xs n h)
-
 -- what holds below n and at n holds below its successor
 pub all_next : (P : ℕ → Type 0) (n : ℕ) → ((k : ℕ) → k < n → P k) → P n → (k : ℕ) → k < n + 1 → P k
 all_next P n below at k low = elim (same_or_not k n) [ inl e ↦ subst P (sym e) at | inr d ↦ below k (omega arith) ]
@@ -148,3 +135,23 @@ pub any_default : (xs : List ℕ) (k d : ℕ) → k < length xs → slice_index_
 any_default [] k d low = absurd (omega arith)
 any_default (x ∷ xs) zero d low = refl
 any_default (x ∷ xs) (suc k) d low = any_default xs k d (omega arith)
+
+-- what stands in the list
+pub times_at : (xs : List ℕ) (i d : ℕ) → i < length xs → 0 < times (slice_index_or xs i d) xs
+times_at [] i d low = absurd (omega arith)
+times_at (x ∷ xs) zero d low = let e = counts_itself x in omega arith
+times_at (x ∷ xs) (suc i) d low = let h = times_at xs i d (omega arith) in omega arith
+
+pub not_listed : (xs : List ℕ) (i d k : ℕ) → i < length xs → times k xs ≡ 0 → k ≢ slice_index_or xs i d
+not_listed xs i d k low none e = let h = times_at xs i d low in let same : times k xs ≡ times (slice_index_or xs i d) xs = ap (λ z. times z xs) e in omega arith
+
+pub found : (k : ℕ) (xs : List ℕ) → 0 < times k xs → (i : ℕ) × (i < length xs) × (slice_index_or xs i 0 ≡ k)
+found k [] some = absurd (omega arith)
+found k (x ∷ xs) some = elim (same_or_not x k) [
+  | inl same ↦ (0, omega arith, same)
+  | inr other ↦
+      let none : one k x ≡ 0 = ap (λ (b : Bool). cond b 1 0) (ne_eqb x k other) in
+      let h = found k xs (omega arith) in
+      let i = h.1 in
+      (suc h.0, omega arith, h.2)
+]

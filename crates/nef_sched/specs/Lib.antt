@@ -6,4 +6,5 @@ pub mod Rounds
 pub mod Laws
 pub mod Results
 pub mod Marks
+pub mod Plans
 pub mod Workers

@@ -1,6 +1,6 @@
 -- Results that are there.
-use Rattle.std.specs.Prelude.{◌≡◌, ℕ, Bool, List, Option, Some, None, slice_get, length, IfSome, IsSomeAnd, All, ◌<◌}
-use Rattle.nef_sched.specs.Marks.{IsMarked, IsAwaited}
+use Rattle.std.specs.Prelude.{◌≡◌, ℕ, List, Option, Some, None, slice_get, length, IfSome, IsSomeAnd, All, ◌<◌}
+use Rattle.nef_sched.specs.Counts.{times}
 
 abbrev pub flat : {X : Type 0} → Option (Option X) → Option X
 flat None = None
@@ -22,14 +22,10 @@ IsReady fits first second list = IfSome first (λ k. IsSomeAnd (kept list k) (fi
 abbrev pub HasNeeds : {X : Type 0} → ℕ → (ℕ → X → Type 0) → (ℕ → Option ℕ) → (ℕ → Option ℕ) → List (Option X) → ℕ → Type 0
 HasNeeds size fits first second list i = (i < size) × IsReady fits (first i) (second i) list
 
--- a result is kept for each worked number that a number which isn't worked yet needs
-abbrev pub AreAwaitedKept : {X : Type 0} → (ℕ → Option ℕ) → (ℕ → Option ℕ) → List Bool → List (Option X) → Type 0
-AreAwaitedKept first second worked list = (k : ℕ) → IsMarked worked k → IsAwaited first second worked k → IsKept list k
-
 -- there is room for this many results, and each that is kept fits
 abbrev pub AreSound : {X : Type 0} → ℕ → (ℕ → X → Type 0) → List (Option X) → Type 0
 AreSound {X} size fits list = (length list ≡ size) × ((i : ℕ) (out : X) → kept list i ≡ Some out → fits i out)
 
--- each number stands beside a result that fits it
-abbrev pub AreFitting : {X : Type 0} → ℕ → (ℕ → X → Type 0) → List (ℕ × X) → Type 0
-AreFitting size fits outs = All (λ o. (o.0 < size) × fits o.0 o.1) outs
+-- each number is one of these, and stands beside a result that fits it
+abbrev pub AreFitting : {X : Type 0} → ℕ → (ℕ → X → Type 0) → List ℕ → List (ℕ × X) → Type 0
+AreFitting size fits numbers outs = All (λ o. (o.0 < size) × (times o.0 numbers ≡ 1) × fits o.0 o.1) outs

@@ -1,53 +1,10 @@
 //! Lets results go that nothing asks for.
-ghost use Rattle.std.specs.Prelude.{◌≡◌, ℕ, true, false, ◌<◌, ◌⊎◌, ◌↔◌, None, Some, IfOk, length, slice_set};
-ghost use Rattle.nef_sched.specs.Marks.{IsMarked, IsUnmarked, IsAwaited, IsAsked, NeedsOf};
-ghost use Rattle.nef_sched.specs.Results.{kept, IsKept, AreSound};
+ghost use Rattle.std.specs.Prelude.{◌≡◌, ℕ, true, false, ◌<◌, None, Some, All, length, slice_set};
+ghost use Rattle.nef_sched.specs.Counts.{times};
+ghost use Rattle.nef_sched.specs.Marks.{IsMarked, IsUnmarked};
+ghost use Rattle.nef_sched.specs.Results.{kept};
 
-use crate::OutOfMemory;
-use crate::marks::mark_some;
-use crate::stage::{Results, Stage};
-use std::alloc::Global;
-
-// Marks the numbers that this one needs, unless it was worked.
-fn mark_needs<T: Stage>(stage: &T, worked: &[bool], marks: &mut [bool], number: usize)
-    requires workable { T.workable stage.now }
-    requires number { number < T.size stage.now }
-    requires worked { length worked.now ≡ T.size stage.now }
-    requires marks { length marks.old ≡ T.size stage.now }
-    ensures len { length marks.new ≡ length marks.old }
-    ensures stays { (k : ℕ) → IsMarked marks.old k → IsMarked marks.new k }
-    ensures needs { IsUnmarked worked.now number → (k : ℕ) → NeedsOf (T.first stage.now) (T.second stage.now) number k → IsMarked marks.new k }
-    ensures only { (k : ℕ) → IsMarked marks.new k → IsMarked marks.old k ⊎ (IsUnmarked worked.now number × NeedsOf (T.first stage.now) (T.second stage.now) number k) }
-{
-    if worked[number] {
-        return;
-    }
-    let needs = stage.needs(number);
-    mark_some(marks, needs.first);
-    mark_some(marks, needs.second);
-}
-
-// Marks on the numbers whose results are wanted at the end, or needed by a number that isn't
-// worked yet.
-fn asked<T: Stage>(
-    alloc: Global,
-    stage: &T,
-    wanted: &[bool],
-    worked: &[bool],
-) -> Result<Vec<bool>, OutOfMemory>
-    requires workable { T.workable stage.now }
-    requires wanted { length wanted.now ≡ T.size stage.now }
-    requires worked { length worked.now ≡ T.size stage.now }
-    ensures len { IfOk result (λ v. length v.items ≡ T.size stage.now) }
-    ensures asked { IfOk result (λ v. (k : ℕ) → IsMarked v.items k ↔ IsAsked (T.first stage.now) (T.second stage.now) wanted.now worked.now k) }
-{
-    let mut asked = Vec::from_slice(alloc, wanted)?;
-    let marks = asked.as_mut_slice();
-    for number in 0..stage.count() {
-        mark_needs(stage, worked, marks, number);
-    }
-    Ok(asked)
-}
+use crate::stage::Results;
 
 // Lets the result of the number go, unless it stays.
 fn let_go_unless<X: Drop>(list: &mut [Option<X>], number: usize, stays: bool)
@@ -60,37 +17,35 @@ fn let_go_unless<X: Drop>(list: &mut [Option<X>], number: usize, stays: bool)
     }
 }
 
-// Keeps the results of the marked numbers alone.
-fn only<X: Drop>(list: &mut [Option<X>], marks: &[bool])
-    requires len { length marks.now ≡ length list.old }
+// Lets the results of these numbers go, but for those that are marked.
+fn without<X: Drop>(list: &mut [Option<X>], numbers: &[usize], wanted: &[bool])
+    requires len { length wanted.now ≡ length list.old }
+    requires numbers { All (λ k. k < length list.old) numbers.now }
     ensures len { length list.new ≡ length list.old }
     ensures part { (k : ℕ) (out : X) → kept list.new k ≡ Some out → kept list.old k ≡ Some out }
-    ensures stays { (k : ℕ) → IsMarked marks.now k → kept list.new k ≡ kept list.old k }
-    ensures gone { (k : ℕ) → IsUnmarked marks.now k → kept list.new k ≡ None }
+    ensures wanted { (k : ℕ) → IsMarked wanted.now k → kept list.new k ≡ kept list.old k }
+    ensures other { (k : ℕ) → times k numbers.now ≡ 0 → kept list.new k ≡ kept list.old k }
+    ensures gone { (k : ℕ) → 0 < times k numbers.now → IsUnmarked wanted.now k → kept list.new k ≡ None }
 {
-    for number in 0..marks.len() {
-        let_go_unless(list, number, marks[number]);
+    for number in numbers {
+        let_go_unless(list, *number, wanted[*number]);
     }
 }
 
-/// Lets each result go that neither is wanted at the end nor needed by a number that isn't worked
-/// yet, and keeps the others.
-pub(crate) fn let_go<T: Stage>(
-    alloc: Global,
-    stage: &T,
+/// Lets the result of each of these numbers go that isn't wanted, and keeps the others.
+pub(crate) fn let_go<X: Drop>(
+    numbers: &[usize],
     wanted: &[bool],
-    worked: &[bool],
-    mut done: Results<T::Out>,
-) -> Result<Results<T::Out>, OutOfMemory>
-    requires workable { T.workable stage.now }
-    requires wanted { length wanted.now ≡ T.size stage.now }
-    requires worked { length worked.now ≡ T.size stage.now }
-    requires sound { AreSound (T.size stage.now) (T.fits stage.now) done.list.items }
-    ensures sound { IfOk result (λ r. AreSound (T.size stage.now) (T.fits stage.now) r.list.items) }
-    ensures asked { IfOk result (λ r. (k : ℕ) → IsAsked (T.first stage.now) (T.second stage.now) wanted.now worked.now k → IsKept done.list.items k → IsKept r.list.items k) }
-    ensures gone { IfOk result (λ r. (k : ℕ) → IsUnmarked wanted.now k → ¬ (IsAwaited (T.first stage.now) (T.second stage.now) worked.now k) → kept r.list.items k ≡ None) }
+    mut done: Results<X>,
+) -> Results<X>
+    requires len { length wanted.now ≡ length done.list.items }
+    requires numbers { All (λ k. k < length done.list.items) numbers.now }
+    ensures len { length result.list.items ≡ length done.list.items }
+    ensures part { (k : ℕ) (out : X) → kept result.list.items k ≡ Some out → kept done.list.items k ≡ Some out }
+    ensures wanted { (k : ℕ) → IsMarked wanted.now k → kept result.list.items k ≡ kept done.list.items k }
+    ensures other { (k : ℕ) → times k numbers.now ≡ 0 → kept result.list.items k ≡ kept done.list.items k }
+    ensures gone { (k : ℕ) → 0 < times k numbers.now → IsUnmarked wanted.now k → kept result.list.items k ≡ None }
 {
-    let marks = asked(alloc, stage, wanted, worked)?;
-    only(done.list.as_mut_slice(), &marks);
-    Ok(done)
+    without(done.list.as_mut_slice(), numbers, wanted);
+    done
 }

@@ -4,8 +4,8 @@
 mod ahead;
 mod laws;
 mod lean;
-mod marks;
 mod pass;
+mod plan;
 mod round;
 mod rule;
 mod stage;

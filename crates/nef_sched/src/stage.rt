@@ -58,6 +58,15 @@ pub trait Stage: Sync {
         ensures second { result.second ≡ second self.now i }
         ensures below { IfSome result.first (λ k. k < i) × IfSome result.second (λ k. k < i) };
 
+    /// Returns how long the work on a number may take, in microseconds: an estimate, by which alone it
+    /// is told how many workers a round is worked by.
+    ///
+    /// The results that it needs are there, and they fit.
+    fn load(&self, i: usize, done: &Results<Self::Out>) -> u64
+        requires number { i < size self.now }
+        requires workable { workable self.now }
+        requires there { IsReady (fits self.now) (first self.now i) (second self.now i) done.now.list.items };
+
     /// Works a number, and returns a fitting result for it.
     ///
     /// The results that it needs are there, and they fit. `alone` says that no other number is

@@ -8,11 +8,13 @@ use Rattle.nef_lex.specs.Lines.{line_feed, carriage_return, is_line_feed, pieces
 use Rattle.nef_lex.specs.Words.{words_of}
 use Rattle.nef_lex.specs.Laws.{LacksFeed, ended}
 use Rattle.nef_lex.proofs.LineLaws.{pieces_of_ended}
-use Rattle.nef_script.specs.Tests.{line_limit, is_bad_byte, is_refused_for}
+use Rattle.nef_script.specs.Tests.{line_limit, is_bad_byte}
+use Rattle.nef_script.specs.Checks.{is_refused_for}
 use Rattle.nef_script.specs.Refusal.{line_refusal, bound_name, names_of, Passes, IsAccepted}
 use Rattle.nef_script.specs.Laws.{script_of}
 use Rattle.nef_script.specs.declared.fault.ScriptKind.{ScriptKind}
 use Rattle.nef_script.specs.declared.fault.ScriptKind.TheVariants as kind
+use Rattle.nef_script.proofs.ByCommand.{none-by-kinds}
 use Rattle.nef_script.proofs.Adding.{first_none}
 use Rattle.nef_script.proofs.LineByLine.{names_of-push, here_at, passes_more}
 
@@ -87,13 +89,13 @@ kept_whole (b ∷ c ∷ bs) clean = ap (λ l. b ∷ l) (kept_whole (c ∷ bs) (A
 
 clean_line : (names : List (List ℕ)) (line : List ℕ) → line_refusal names line ≡ None → IsClean line
 clean_line names line passes =
-    let a = first_none (is_refused_for kind.LineTooLong names line) kind.LineTooLong _ passes in
+    let a = first_none (is_refused_for kind.LineTooLong names line) kind.LineTooLong _ (none-by-kinds names line passes) in
     let b = first_none (is_refused_for kind.BadByte names line) kind.BadByte _ a.1 in
     all_fail line b.0
 
 short_line : (names : List (List ℕ)) (line : List ℕ) → line_refusal names line ≡ None → length line ≤ line_limit
 short_line names line passes =
-    let a = first_none (is_refused_for kind.LineTooLong names line) kind.LineTooLong _ passes in
+    let a = first_none (is_refused_for kind.LineTooLong names line) kind.LineTooLong _ (none-by-kinds names line passes) in
     ltb-false line_limit (length line) a.0
 
 -- the lines, each with its line feed, are cut apart again

@@ -17,10 +17,10 @@ use Rattle.nef_expr.proofs.Chains.{pair-of}
 use Rattle.nef_expr.proofs.Tables.{extends-length}
 use Rattle.nef_script.specs.Table.{verb_of, roles, binds, is_own}
 use Rattle.nef_script.specs.Limits.{KeepsRayLimits}
-use Rattle.nef_script.specs.Tests.{is_refused_for, is_unknown_command, is_among, is_taken, on_verb}
+use Rattle.nef_script.specs.Tests.{word_test, on_verb}
 use Rattle.nef_script.specs.Refusal.{line_refusal, bound_name}
 use Rattle.nef_script.specs.Meaning.{Names, IsNode, IsQuestion, IsTurn, MeansCommand, MeansWords, has_words, adds_base}
-use Rattle.nef_script.specs.Checks.{command_test, command_in}
+use Rattle.nef_script.specs.Checks.{command_test, command_in, is_among, is_refused_for, is_unknown_command}
 use Rattle.nef_script.specs.Reading.{Fits, State, sets_of, IsSound, AddsWords, AddsLine, AddsCommand, number_at}
 use Rattle.nef_script.specs.declared.table.Verb.{Verb}
 use Rattle.nef_script.specs.declared.table.Verb.TheVariants as verb
@@ -30,7 +30,7 @@ use Rattle.nef_script.specs.declared.script.Command.{Command}
 use Rattle.nef_script.specs.declared.script.Command.TheVariants.{Bind, Turn}
 use Rattle.nef_script.specs.declared.fault.ScriptKind.{ScriptKind}
 use Rattle.nef_script.specs.declared.fault.ScriptKind.TheVariants as kind
-use Rattle.nef_script.proofs.ByCommand.{on_command-Some, on_command-None, some_value}
+use Rattle.nef_script.proofs.ByCommand.{on_command-Some, on_command-None, some_value, none-by-kinds}
 use Rattle.nef_script.proofs.Looking.{node-operands, question-asks}
 use Rattle.nef_script.proofs.More.{names-more, node-more, own-binding, own-binds, ask-owns}
 use Rattle.nef_script.proofs.Shapes.{three_words}
@@ -71,10 +71,10 @@ some_word names v ws fits e =
     let longer : length (roles v) ≡ length (NewName ∷ first.0) = ap length first.1 in
     omega arith
 
-new_of : (names : List (List ℕ)) (v : Verb) (rest : List Role) (ws : List (List ℕ)) → 0 < length ws → roles v ≡ NewName ∷ rest → list_any (is_taken names) (zip (roles v) ws) ≡ false → position (bytes_eq (get_or ws 0 [])) names ≡ None
+new_of : (names : List (List ℕ)) (v : Verb) (rest : List Role) (ws : List (List ℕ)) → 0 < length ws → roles v ≡ NewName ∷ rest → list_any (word_test kind.NameTaken names) (zip (roles v) ws) ≡ false → position (bytes_eq (get_or ws 0 [])) names ≡ None
 new_of names v rest [] some e free = absurd (omega arith)
 new_of names v rest (w ∷ ws) some e free =
-    let parts = or_parts (is_among w names) (list_any (is_taken names) (zip rest ws)) (sym (ap (λ rs. list_any (is_taken names) (zip rs (w ∷ ws))) e) ∙ free) in
+    let parts = or_parts (is_among w names) (list_any (word_test kind.NameTaken names) (zip rest ws)) (sym (ap (λ rs. list_any (word_test kind.NameTaken names) (zip rs (w ∷ ws))) e) ∙ free) in
     none_from _ (position-any (bytes_eq w) names ∙ parts.0)
 
 pub new_name : (names : List (List ℕ)) (v : Verb) (ws : List (List ℕ)) → Fits names v ws → binds v ≡ true → position (bytes_eq (get_or ws 0 [])) names ≡ None
@@ -225,7 +225,7 @@ first_none false k o e = (refl, e)
 pub Fits-from : (names : List (List ℕ)) (text : List ℕ) (v : Verb) (args : List (List ℕ)) → line_refusal names text ≡ None → command_in (words_of text) ≡ Some (v, args) → Fits names v args
 Fits-from names text v args passes command =
     let test = λ (k : ScriptKind). is_refused_for k names text in
-    let a = first_none (test kind.LineTooLong) kind.LineTooLong _ passes in
+    let a = first_none (test kind.LineTooLong) kind.LineTooLong _ (none-by-kinds names text passes) in
     let b = first_none (test kind.BadByte) kind.BadByte _ a.1 in
     let c = first_none (test kind.UnknownCommand) kind.UnknownCommand _ b.1 in
     let d = first_none (test kind.WordCount) kind.WordCount _ c.1 in
@@ -301,7 +301,7 @@ no_words (word ∷ rest) e known = pick (verb_of word) refl e
 pub AddsLine-blank : (number : ℕ) (text : List ℕ) (old : State) → IsSound old → line_refusal old.names text ≡ None → command_in (words_of text) ≡ None → AddsLine number text old old
 AddsLine-blank number text old sound passes command =
     let test = λ (k : ScriptKind). is_refused_for k old.names text in
-    let a = first_none (test kind.LineTooLong) kind.LineTooLong _ passes in
+    let a = first_none (test kind.LineTooLong) kind.LineTooLong _ (none-by-kinds old.names text passes) in
     let b = first_none (test kind.BadByte) kind.BadByte _ a.1 in
     let c = first_none (test kind.UnknownCommand) kind.UnknownCommand _ b.1 in
     let none = no_words (words_of text) command c.0 in

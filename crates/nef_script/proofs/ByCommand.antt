@@ -1,10 +1,13 @@
 -- The tests of a kind, by the command of the line.
-use Rattle.std.proofs.Common.{◌≡◌, ℕ, Bool, false, nat_eq, List, [], ◌∷◌, length, Option, Some, None, is_none, refl, ap}
+use Rattle.std.proofs.Common.{◌≡◌, ℕ, Bool, true, false, cond, nat_eq, List, [], ◌∷◌, length, map, drop, Option, Some, None, is_none, refl, ap, sym, ◌∙◌}
+use Rattle.std.specs.Prelude.{nat_lt}
+use Rattle.std.specs.List.{find, list_any}
 use Rattle.std.specs.Option.{option_map}
 use Rattle.nef_lex.specs.Words.{words_of}
 use Rattle.nef_script.specs.Table.{verb_of}
-use Rattle.nef_script.specs.Tests.{on_command, on_verb, is_unknown_command, is_refused_for}
-use Rattle.nef_script.specs.Checks.{command_test, command_in}
+use Rattle.nef_script.specs.Tests.{line_limit, is_bad_byte, on_verb, command_tests, words_tests}
+use Rattle.nef_script.specs.Refusal.{line_refusal}
+use Rattle.nef_script.specs.Checks.{command_test, command_in, on_command, is_unknown_command, holds_for, is_refused_for, kinds}
 use Rattle.nef_script.specs.declared.table.Verb.{Verb}
 use Rattle.nef_script.specs.declared.fault.ScriptKind.{ScriptKind}
 use Rattle.nef_script.specs.declared.fault.ScriptKind.TheVariants as kind
@@ -56,3 +59,34 @@ refused-Some kind.BadMode names line v args e a b c d = on_command-Some (command
 refused-Some kind.BadWeight names line v args e a b c d = on_command-Some (command_test kind.BadWeight names) (words_of line) args v e
 refused-Some kind.ZeroDirection names line v args e a b c d = on_command-Some (command_test kind.ZeroDirection names) (words_of line) args v e
 refused-Some kind.TooManyNames names line v args e a b c d = on_command-Some (command_test kind.TooManyNames names) (words_of line) args v e
+
+-- ---- the kinds one after the other
+
+find-first : (test : ScriptKind → Bool) (ks : List ScriptKind) → option_map (λ (t : ScriptKind × Bool). t.0) (find (λ (t : ScriptKind × Bool). t.1) (map (λ k. (k, test k)) ks)) ≡ find test ks
+find-first test [] = refl
+find-first test (k ∷ ks) = by (test k) (test k) (find-first test ks)
+  where
+    by : (s t : Bool) → option_map (λ (t : ScriptKind × Bool). t.0) (find (λ (t : ScriptKind × Bool). t.1) (map (λ k. (k, test k)) ks)) ≡ find test ks → option_map (λ (t : ScriptKind × Bool). t.0) (cond t (Some (k, s)) (find (λ (t : ScriptKind × Bool). t.1) (map (λ k. (k, test k)) ks))) ≡ cond t (Some k) (find test ks)
+    by s true later = refl
+    by s false later = later
+
+-- the first two kinds are before all others
+front : (a b s t : Bool) (o : Option (ScriptKind × Bool)) (r : Option ScriptKind) → option_map (λ (t : ScriptKind × Bool). t.0) o ≡ r → option_map (λ (t : ScriptKind × Bool). t.0) (cond a (Some (kind.LineTooLong, s)) (cond b (Some (kind.BadByte, t)) o)) ≡ cond a (Some kind.LineTooLong) (cond b (Some kind.BadByte) r)
+front true b s t o r e = refl
+front false true s t o r e = refl
+front false false s t o r e = e
+
+by-words : (names : List (List ℕ)) (line : List ℕ) (words : List (List ℕ)) → option_map (λ (t : ScriptKind × Bool). t.0) (find (λ (t : ScriptKind × Bool). t.1) ((kind.LineTooLong, nat_lt line_limit (length line)) ∷ (kind.BadByte, list_any is_bad_byte line) ∷ words_tests names words)) ≡ find (λ k. holds_for k names line words) kinds
+by-words names line [] = front (nat_lt line_limit (length line)) (list_any is_bad_byte line) _ _ None None refl
+by-words names line (word ∷ args) = front (nat_lt line_limit (length line)) (list_any is_bad_byte line) _ _ _ _ (by (verb_of word))
+  where
+    by : (o : Option Verb) → option_map (λ (t : ScriptKind × Bool). t.0) (find (λ (t : ScriptKind × Bool). t.1) (command_tests names o args)) ≡ cond (is_none o) (Some kind.UnknownCommand) (find (λ k. on_verb (λ v. command_test k names v args) o) (drop 3 kinds))
+    by None = refl
+    by (Some v) = find-first (λ k. command_test k names v args) (drop 3 kinds)
+
+-- the tests of a line give the kind that the kinds give, tried one after the other
+pub refusal-by-kinds : (names : List (List ℕ)) (line : List ℕ) → line_refusal names line ≡ find (λ k. is_refused_for k names line) kinds
+refusal-by-kinds names line = by-words names line (words_of line)
+
+pub none-by-kinds : (names : List (List ℕ)) (line : List ℕ) → line_refusal names line ≡ None → find (λ k. is_refused_for k names line) kinds ≡ None
+none-by-kinds names line passes = sym (refusal-by-kinds names line) ∙ passes

@@ -32,8 +32,8 @@ there names bound word k (i, at, is) = (i, is)
 -- the operands of a line's node are the nodes of names
 pub node-operands : (names : List (List ℕ)) (bound : List ℕ) (v : Verb) (args : List (List ℕ)) (n : Node) → IsNode names bound v args n → (k : ℕ) → IsOperand k n → IsThere bound k
 node-operands names bound verb.Half (name ∷ a ∷ b ∷ c ∷ d ∷ mode ∷ []) n (o, is, given) k operand = absurd (subst (IsOperand k) is operand)
-node-operands names bound verb.Empty args n is k operand = absurd (subst (IsOperand k) is operand)
-node-operands names bound verb.Full args n is k operand = absurd (subst (IsOperand k) is operand)
+node-operands names bound verb.Empty (name ∷ []) n is k operand = absurd (subst (IsOperand k) is operand)
+node-operands names bound verb.Full (name ∷ []) n is k operand = absurd (subst (IsOperand k) is operand)
 node-operands names bound verb.And (name ∷ left ∷ right ∷ []) n (i, j, p, q, is) k operand = elim (subst (IsOperand k) is operand) [ inl e ↦ rw e (there names bound left i p) | inr e ↦ rw e (there names bound right j q) ]
 node-operands names bound verb.Or (name ∷ left ∷ right ∷ []) n (i, j, p, q, is) k operand = elim (subst (IsOperand k) is operand) [ inl e ↦ rw e (there names bound left i p) | inr e ↦ rw e (there names bound right j q) ]
 node-operands names bound verb.Diff (name ∷ left ∷ right ∷ []) n (i, j, p, q, is) k operand = elim (subst (IsOperand k) is operand) [ inl e ↦ rw e (there names bound left i p) | inr e ↦ rw e (there names bound right j q) ]

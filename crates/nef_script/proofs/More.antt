@@ -21,8 +21,8 @@ module _ (names : List (List ℕ)) (old new : List ℕ) (more : Extends old new)
 
   pub node-more : (v : Verb) (args : List (List ℕ)) (n : Node) → IsNode names old v args n → IsNode names new v args n
   node-more verb.Half (name ∷ a ∷ b ∷ c ∷ d ∷ mode ∷ []) n is = is
-  node-more verb.Empty args n is = is
-  node-more verb.Full args n is = is
+  node-more verb.Empty (name ∷ []) n is = is
+  node-more verb.Full (name ∷ []) n is = is
   node-more verb.And (name ∷ left ∷ right ∷ []) n (i, j, p, q, is) = (i, j, names-more left i p, names-more right j q, is)
   node-more verb.Or (name ∷ left ∷ right ∷ []) n (i, j, p, q, is) = (i, j, names-more left i p, names-more right j q, is)
   node-more verb.Diff (name ∷ left ∷ right ∷ []) n (i, j, p, q, is) = (i, j, names-more left i p, names-more right j q, is)

@@ -8,9 +8,8 @@ use Rattle.nef_space.specs.Vectors.{vector, IsDirection}
 use Rattle.nef_geo.specs.declared.dir.Dir.{Dir}
 use Rattle.nef_geo.specs.declared.point.Point.{Point}
 use Rattle.nef_script.specs.Table.{roles}
-use Rattle.nef_script.specs.Tests.{is_from_one_to, is_from_zero_to, is_zero, is_past_limit, is_bad_weight, has_zero_direction}
+use Rattle.nef_script.specs.Tests.{is_from, is_zero, word_test, has_zero_direction}
 use Rattle.nef_script.specs.Meaning.{Names, IsQuestion, IsQuotient, IsToward}
-use Rattle.nef_script.specs.Checks.{word_test}
 use Rattle.nef_script.specs.Reading.{Fits, HasPointAt, HasDirectionAt, HasTurn, HasOperand, HasTwoOperands, number_at}
 use Rattle.nef_script.specs.declared.table.Verb.{Verb}
 use Rattle.nef_script.specs.declared.table.Verb.TheVariants as verb
@@ -35,7 +34,7 @@ true_from_not false e = cc
 pub count_is : (names : List (List ℕ)) (v : Verb) (ws : List (List ℕ)) → Fits names v ws → length ws ≡ length (roles v)
 count_is names v ws fits = eqb-true (length ws) (length (roles v)) (true_from_not _ fits.word_count)
 
-from_one : (most : ℕ) (z : ℤ) → is_from_one_to most z ≡ true → (pos 0 <ℤ z) × (nat_abs z ≤ most)
+from_one : (most : ℕ) (z : ℤ) → is_from 1 most z ≡ true → (pos 0 <ℤ z) × (nat_abs z ≤ most)
 from_one most (pos n) e =
     let parts = and_parts (nat_le 1 n) (nat_le n most) e in
     let positive : 1 ≤ n = leb-true 1 n parts.0 in
@@ -54,14 +53,14 @@ number_within : (names : List (List ℕ)) (v : Verb) (ws : List (List ℕ)) (i m
 number_within names v ws i m fits within role =
     let count = count_is names v ws fits in
     let passes = word_passes (word_test kind.OutOfRange names) (roles v) ws i fits.within within (omega arith) in
-    let here : is_past_limit (Coefficient m, get_or ws i []) ≡ false = subst (λ r. is_past_limit (r, get_or ws i []) ≡ false) role passes in
+    let here : word_test kind.OutOfRange names (Coefficient m, get_or ws i []) ≡ false = subst (λ r. word_test kind.OutOfRange names (r, get_or ws i []) ≡ false) role passes in
     ltb-false m (nat_abs (number_at ws i)) here
 
 weight_within : (names : List (List ℕ)) (v : Verb) (ws : List (List ℕ)) (i n : ℕ) → Fits names v ws → i < length (roles v) → get_or (roles v) i NewName ≡ Weight n → (pos 0 <ℤ number_at ws i) × (nat_abs (number_at ws i) ≤ n)
 weight_within names v ws i n fits within role =
     let count = count_is names v ws fits in
     let passes = word_passes (word_test kind.BadWeight names) (roles v) ws i fits.weight within (omega arith) in
-    let here : is_bad_weight (Weight n, get_or ws i []) ≡ false = subst (λ r. is_bad_weight (r, get_or ws i []) ≡ false) role passes in
+    let here : word_test kind.BadWeight names (Weight n, get_or ws i []) ≡ false = subst (λ r. word_test kind.BadWeight names (r, get_or ws i []) ≡ false) role passes in
     from_one n (number_at ws i) (true_from_not _ here)
 
 -- the turn of a line that nothing refuses
@@ -86,8 +85,8 @@ HasTwoOperands-from names v ws e fits =
     let passes = word_passes (word_test kind.UnknownName names) (NewName ∷ Operand ∷ Operand ∷ []) ws in
     record { count = count; second_known = true_from_not _ (passes 1 known (omega arith) (omega arith)); third_known = true_from_not _ (passes 2 known (omega arith) (omega arith)) }
 
-pub from_zero : (most : ℕ) (z : ℤ) → is_from_zero_to most z ≡ true → (n : ℕ) × (z ≡ pos n) × (n ≤ most)
-from_zero most (pos n) e = (n, refl, leb-true n most e)
+pub from_zero : (most : ℕ) (z : ℤ) → is_from 0 most z ≡ true → (n : ℕ) × (z ≡ pos n) × (n ≤ most)
+from_zero most (pos n) e = (n, refl, leb-true n most (and_parts (nat_le 0 n) (nat_le n most) e).1)
 from_zero most (negsuc n) e = cc
 
 -- the numbers of a point, by their roles

@@ -4,7 +4,8 @@ use Rattle.std.proofs.lemmas.Bool.{cases_lt}
 use Rattle.std.proofs.lemmas.Option.{slice_get_within, slice_get-get_or}
 use Rattle.nef_lex.specs.Lines.{lines_of}
 use Rattle.nef_script.specs.Refusal.{script_limit, line_refusal, names_of, RefusalAt, Passes, FirstRefusal, IsAccepted}
-use Rattle.nef_script.specs.Laws.{OneRefusal, NeverBoth, Decided}
+use Rattle.nef_script.specs.Laws.{CommandsFound, OneRefusal, NeverBoth, Decided}
+use Rattle.nef_script.specs.declared.table.Verb.TheVariants as verb
 use Rattle.nef_script.specs.declared.fault.ScriptKind.{ScriptKind}
 use Rattle.nef_script.specs.declared.fault.ScriptKind.TheVariants as kind
 use Rattle.nef_script.proofs.LineByLine.{passes_more}
@@ -71,3 +72,25 @@ decided bytes = elim (cases_lt script_limit (length bytes)) [
   | inl long ↦ inr (0, kind.ScriptTooLong, FirstRefusal.too_long long)
   | inr short ↦ decide_short bytes short
 ]
+
+-- the word of each command
+pub commands_found : CommandsFound
+commands_found verb.Half = refl
+commands_found verb.Empty = refl
+commands_found verb.Full = refl
+commands_found verb.And = refl
+commands_found verb.Or = refl
+commands_found verb.Diff = refl
+commands_found verb.Xor = refl
+commands_found verb.Not = refl
+commands_found verb.Int = refl
+commands_found verb.Cl = refl
+commands_found verb.Bd = refl
+commands_found verb.Reg = refl
+commands_found verb.Turn = refl
+commands_found verb.Has = refl
+commands_found verb.Joined = refl
+commands_found verb.Ray = refl
+commands_found verb.Same = refl
+commands_found verb.Count = refl
+commands_found verb.Print = refl

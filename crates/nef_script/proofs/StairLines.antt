@@ -4,7 +4,8 @@ use Rattle.std.specs.List.{flat_map, range_with_len}
 use Rattle.std.specs.Fmt.{digits}
 use Rattle.nef_space.specs.Limits.{most_stairs}
 use Rattle.nef_script.specs.Refusal.{names_of, IsAccepted}
-use Rattle.nef_script.specs.Stairs.{or_line, count_line, box_name, whole_name, step_box, join_lines, step_lines, stairs_lines, stairs_text}
+use Rattle.nef_script.specs.Stairs.{box_name, whole_name, step_lines, stairs_text}
+use Rattle.nef_script.specs.Boxes.{or_line, count_line, step_box, join_lines}
 use Rattle.nef_script.proofs.Accepted.{passes_after, and_parts, passes_after-append, accepted_lines}
 
 -- the lines of the k boxes from i on pass, one box after the other, and after each box the count of all so far would
@@ -71,4 +72,4 @@ stairs-accepted (suc j) some most =
     let pass = subst (λ m. passes_after [] (flat_map step_lines (range_with_len 0 (suc j)) ++ count_line (whole_name m) ∷ []) ≡ true) last counted in
     let few = boxes_few 0 (suc j) in
     let longer = length-append (flat_map step_lines (range_with_len 0 (suc j))) (count_line (whole_name (suc j - 1)) ∷ []) in
-    accepted_lines (stairs_lines (suc j)) pass (omega arith)
+    accepted_lines (flat_map step_lines (range_with_len 0 (suc j)) ++ count_line (whole_name (suc j - 1)) ∷ []) pass (omega arith)

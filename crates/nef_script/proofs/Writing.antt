@@ -1,14 +1,15 @@
 -- The lines of a script written one after the other.
-use Rattle.std.proofs.Common.{◌≡◌, ℕ, zero, suc, ◌<◌, ◌≤◌, get_or, drop, length, ◌+◌, ◌-◌, ◌*◌, ℤ, pos, neg_ℤ, List, [], ◌∷◌, ◌++◌, codes, refl, sym, ◌∙◌, ap, subst, arith, append-nil, append_assoc}
+use Rattle.std.proofs.Common.{◌≡◌, ℕ, zero, suc, ◌<◌, ◌≤◌, get_or, drop, length, ◌+◌, ◌-◌, ◌*◌, List, [], ◌∷◌, ◌++◌, codes, refl, sym, ◌∙◌, ap, arith, append-nil, append_assoc}
 use Rattle.std.specs.Prelude.{if◌then◌else◌}
 use Rattle.std.proofs.Math.Seq.{drop-cons}
 use Rattle.std.proofs.lemmas.Bool.{ne_eqb}
 use Rattle.std.specs.List.{concat, flat_map, range_with_len}
-use Rattle.std.specs.Fmt.{digits, decimal, signed_decimal}
+use Rattle.std.specs.Fmt.{decimal}
 use denote.Ref.{Bor}
 use Rattle.nef_script.specs.Names.{pointed}
 use Rattle.nef_script.specs.Laws.{script_of}
-use Rattle.nef_script.specs.Stairs.{joined_words, half_lines, and_lines, and_line, or_line, join_lines, step_box, step_lines, count_line, stairs_text, box_name, whole_name}
+use Rattle.nef_script.specs.Stairs.{step_lines, stairs_text, box_name, whole_name}
+use Rattle.nef_script.specs.Boxes.{half_line, and_line, or_line, count_line, half_lines, and_lines, join_lines, step_box}
 
 -- ---- bytes after bytes
 
@@ -35,16 +36,12 @@ five-lines o a b c d e u v w x y ea eb ec ed ee =
 
 -- ---- words of one line
 
--- a closed half-space whose numbers are written as words
-abbrev pub half_put : List ℕ → List ℕ → List ℕ → List ℕ
-half_put name normal offset = joined_words (codes "half" ∷ name ∷ normal ∷ offset ∷ codes "closed" ∷ [])
-
 pub half-written : (o t name letter normal offset : List ℕ)
-    → t ≡ o ++ concat (codes "half " ∷ name ∷ letter ∷ codes " " ∷ normal ∷ codes " " ∷ offset ∷ codes " closed\n" ∷ []) → t ≡ o ++ (half_put (name ++ letter) normal offset ++ 10 ∷ [])
+    → t ≡ o ++ concat (codes "half " ∷ name ∷ letter ∷ codes " " ∷ normal ∷ codes " " ∷ offset ∷ codes " closed\n" ∷ []) → t ≡ o ++ (half_line name letter normal offset ++ 10 ∷ [])
 half-written o t name letter normal offset e = e ∙ ap (λ r. o ++ r) (simp append_assoc)
 
 pub and-written : (o t name letter left right : List ℕ)
-    → t ≡ o ++ concat (codes "and " ∷ name ∷ letter ∷ codes " " ∷ name ∷ left ∷ codes " " ∷ name ∷ right ∷ codes "\n" ∷ []) → t ≡ o ++ (and_line (name ++ letter) (name ++ left) (name ++ right) ++ 10 ∷ [])
+    → t ≡ o ++ concat (codes "and " ∷ name ∷ letter ∷ codes " " ∷ name ∷ left ∷ codes " " ∷ name ∷ right ∷ codes "\n" ∷ []) → t ≡ o ++ (and_line name letter left right ++ 10 ∷ [])
 and-written o t name letter left right e = e ∙ ap (λ r. o ++ r) (simp append_assoc)
 
 pub or-written : (o t name left right : List ℕ) → t ≡ o ++ concat (codes "or " ∷ name ∷ codes " " ∷ left ∷ codes " " ∷ right ∷ codes "\n" ∷ []) → t ≡ o ++ (or_line name left right ++ 10 ∷ [])
@@ -80,91 +77,56 @@ join-written o t whole before name i some is_whole is_before is_name e =
     ∙ ap (λ w. o ++ (or_line (whole_name i) (whole_name (i - 1)) w ++ 10 ∷ [])) is_name
     ∙ ap (λ none. o ++ script_of (if none then [] else or_line (whole_name i) (whole_name (i - 1)) (box_name i) ∷ [])) (sym (ne_eqb i 0 some))
 
--- ---- the half-spaces of a box, with their offsets as words
+-- ---- the lines of a box
 
-abbrev half_with : List ℕ → ℤ → ℤ → ℤ → List ℕ → List ℕ
-half_with name a b c offset = joined_words (codes "half" ∷ name ∷ signed_decimal a ∷ signed_decimal b ∷ signed_decimal c ∷ offset ∷ codes "closed" ∷ [])
+-- a word written out, as any word that is the same
+offset-put : (t s name letter normal word offset : List ℕ) → word ≡ offset → s ≡ t ++ (half_line name letter normal word ++ 10 ∷ []) → s ≡ t ++ (half_line name letter normal offset ++ 10 ∷ [])
+offset-put t s name letter normal word offset same e = e ∙ ap (λ w. t ++ (half_line name letter normal w ++ 10 ∷ [])) same
 
-abbrev halves_with : List ℕ → List ℕ → List ℕ → List (List ℕ)
-halves_with name low high =
-    half_with (name ++ codes "a") (neg_ℤ (pos 1)) (pos 0) (pos 0) low
-    ∷ half_with (name ++ codes "b") (pos 1) (pos 0) (pos 0) high
-    ∷ half_with (name ++ codes "c") (pos 0) (neg_ℤ (pos 1)) (pos 0) low
-    ∷ half_with (name ++ codes "d") (pos 0) (pos 1) (pos 0) high
-    ∷ half_with (name ++ codes "e") (pos 0) (pos 0) (neg_ℤ (pos 1)) low
-    ∷ half_with (name ++ codes "f") (pos 0) (pos 0) (pos 1) high
-    ∷ []
-
-halves_put : (name low high : List ℕ) →
-    half_put (name ++ codes "a") (codes "-1 0 0") low
-    ∷ half_put (name ++ codes "b") (codes "1 0 0") high
-    ∷ half_put (name ++ codes "c") (codes "0 -1 0") low
-    ∷ half_put (name ++ codes "d") (codes "0 1 0") high
-    ∷ half_put (name ++ codes "e") (codes "0 0 -1") low
-    ∷ half_put (name ++ codes "f") (codes "0 0 1") high
-    ∷ [] ≡ halves_with name low high
-unfolding digits
-halves_put name low high = refl
-
-negative : (n : ℕ) → signed_decimal (neg_ℤ (pos (suc n))) ≡ 45 ∷ decimal (suc n)
-negative n = refl
-
-high_word : (i : ℕ) → 45 ∷ decimal (8 * i + 12) ≡ signed_decimal (neg_ℤ (pos (8 * i + 12)))
-high_word i =
-    let same : suc (8 * i + 11) ≡ 8 * i + 12 = omega arith in
-    subst (λ n. 45 ∷ decimal n ≡ signed_decimal (neg_ℤ (pos n))) same (sym (negative (8 * i + 11)))
-
--- an offset written out, as any word that is the same
-offset-put : (t s name normal word offset : List ℕ) → word ≡ offset → s ≡ t ++ (half_put name normal word ++ 10 ∷ []) → s ≡ t ++ (half_put name normal offset ++ 10 ∷ [])
-offset-put t s name normal word offset same e = e ∙ ap (λ w. t ++ (half_put name normal w ++ 10 ∷ [])) same
-
-pub halves-written : (o a b c d e f name wa wb wc wd we wf : List ℕ) (i : ℕ)
-    → wa ≡ decimal (8 * i) → wb ≡ 45 ∷ decimal (8 * i + 12) → wc ≡ decimal (8 * i) → wd ≡ 45 ∷ decimal (8 * i + 12) → we ≡ decimal (8 * i) → wf ≡ 45 ∷ decimal (8 * i + 12)
-    → a ≡ o ++ (half_put (name ++ codes "a") (codes "-1 0 0") wa ++ 10 ∷ [])
-    → b ≡ a ++ (half_put (name ++ codes "b") (codes "1 0 0") wb ++ 10 ∷ [])
-    → c ≡ b ++ (half_put (name ++ codes "c") (codes "0 -1 0") wc ++ 10 ∷ [])
-    → d ≡ c ++ (half_put (name ++ codes "d") (codes "0 1 0") wd ++ 10 ∷ [])
-    → e ≡ d ++ (half_put (name ++ codes "e") (codes "0 0 -1") we ++ 10 ∷ [])
-    → f ≡ e ++ (half_put (name ++ codes "f") (codes "0 0 1") wf ++ 10 ∷ [])
-    → f ≡ o ++ script_of (half_lines name (pos (8 * i)) (pos (8 * i + 12)) (pos (8 * i)) (pos (8 * i + 12)) (pos (8 * i)) (pos (8 * i + 12)) (codes "closed"))
-halves-written o a b c d e f name wa wb wc wd we wf i is_a is_b is_c is_d is_e is_f ea eb ec ed ee ef =
-    let low = decimal (8 * i) in
-    let high = signed_decimal (neg_ℤ (pos (8 * i + 12))) in
-    let u = half_put (name ++ codes "a") (codes "-1 0 0") low in
-    let v = half_put (name ++ codes "b") (codes "1 0 0") high in
-    let w = half_put (name ++ codes "c") (codes "0 -1 0") low in
-    let x = half_put (name ++ codes "d") (codes "0 1 0") high in
-    let y = half_put (name ++ codes "e") (codes "0 0 -1") low in
-    let z = half_put (name ++ codes "f") (codes "0 0 1") high in
+pub halves-written : (o a b c d e f name low high wa wb wc wd we wf : List ℕ)
+    → wa ≡ low → wb ≡ 45 ∷ high → wc ≡ low → wd ≡ 45 ∷ high → we ≡ low → wf ≡ 45 ∷ high
+    → a ≡ o ++ (half_line name (codes "a") (codes "-1 0 0") wa ++ 10 ∷ [])
+    → b ≡ a ++ (half_line name (codes "b") (codes "1 0 0") wb ++ 10 ∷ [])
+    → c ≡ b ++ (half_line name (codes "c") (codes "0 -1 0") wc ++ 10 ∷ [])
+    → d ≡ c ++ (half_line name (codes "d") (codes "0 1 0") wd ++ 10 ∷ [])
+    → e ≡ d ++ (half_line name (codes "e") (codes "0 0 -1") we ++ 10 ∷ [])
+    → f ≡ e ++ (half_line name (codes "f") (codes "0 0 1") wf ++ 10 ∷ [])
+    → f ≡ o ++ script_of (half_lines name low high)
+halves-written o a b c d e f name low high wa wb wc wd we wf is_a is_b is_c is_d is_e is_f ea eb ec ed ee ef =
+    let u = half_line name (codes "a") (codes "-1 0 0") low in
+    let v = half_line name (codes "b") (codes "1 0 0") (45 ∷ high) in
+    let w = half_line name (codes "c") (codes "0 -1 0") low in
+    let x = half_line name (codes "d") (codes "0 1 0") (45 ∷ high) in
+    let y = half_line name (codes "e") (codes "0 0 -1") low in
+    let z = half_line name (codes "f") (codes "0 0 1") (45 ∷ high) in
     let five = five-lines o a b c d e u v w x y
-    (offset-put o a (name ++ codes "a") (codes "-1 0 0") wa low is_a ea)
-    (offset-put a b (name ++ codes "b") (codes "1 0 0") wb high (is_b ∙ high_word i) eb)
-    (offset-put b c (name ++ codes "c") (codes "0 -1 0") wc low is_c ec)
-    (offset-put c d (name ++ codes "d") (codes "0 1 0") wd high (is_d ∙ high_word i) ed)
-    (offset-put d e (name ++ codes "e") (codes "0 0 -1") we low is_e ee) in
-    let last = offset-put e f (name ++ codes "f") (codes "0 0 1") wf high (is_f ∙ high_word i) ef in
-    line-next o e f (u ∷ v ∷ w ∷ x ∷ y ∷ []) z five last ∙ ap (λ ls. o ++ script_of ls) (halves_put name low high)
+    (offset-put o a name (codes "a") (codes "-1 0 0") wa low is_a ea)
+    (offset-put a b name (codes "b") (codes "1 0 0") wb (45 ∷ high) is_b eb)
+    (offset-put b c name (codes "c") (codes "0 -1 0") wc low is_c ec)
+    (offset-put c d name (codes "d") (codes "0 1 0") wd (45 ∷ high) is_d ed)
+    (offset-put d e name (codes "e") (codes "0 0 -1") we low is_e ee) in
+    let all : u ∷ v ∷ w ∷ x ∷ y ∷ z ∷ [] ≡ half_lines name low high = simp append_assoc refl in
+    line-next o e f (u ∷ v ∷ w ∷ x ∷ y ∷ []) z five (offset-put e f name (codes "f") (codes "0 0 1") wf (45 ∷ high) is_f ef) ∙ ap (λ ls. o ++ script_of ls) all
 
 -- the five lines after them
 pub ands-written : (o a b c d e name : List ℕ)
-    → a ≡ o ++ (and_line (name ++ codes "g") (name ++ codes "a") (name ++ codes "b") ++ 10 ∷ [])
-    → b ≡ a ++ (and_line (name ++ codes "h") (name ++ codes "g") (name ++ codes "c") ++ 10 ∷ [])
-    → c ≡ b ++ (and_line (name ++ codes "i") (name ++ codes "h") (name ++ codes "d") ++ 10 ∷ [])
-    → d ≡ c ++ (and_line (name ++ codes "j") (name ++ codes "i") (name ++ codes "e") ++ 10 ∷ [])
-    → e ≡ d ++ (and_line (name ++ []) (name ++ codes "j") (name ++ codes "f") ++ 10 ∷ [])
+    → a ≡ o ++ (and_line name (codes "g") (codes "a") (codes "b") ++ 10 ∷ [])
+    → b ≡ a ++ (and_line name (codes "h") (codes "g") (codes "c") ++ 10 ∷ [])
+    → c ≡ b ++ (and_line name (codes "i") (codes "h") (codes "d") ++ 10 ∷ [])
+    → d ≡ c ++ (and_line name (codes "j") (codes "i") (codes "e") ++ 10 ∷ [])
+    → e ≡ d ++ (and_line name [] (codes "j") (codes "f") ++ 10 ∷ [])
     → e ≡ o ++ script_of (and_lines name)
 ands-written o a b c d e name ea eb ec ed ee =
-    five-lines o a b c d e
-    (and_line (name ++ codes "g") (name ++ codes "a") (name ++ codes "b"))
-    (and_line (name ++ codes "h") (name ++ codes "g") (name ++ codes "c"))
-    (and_line (name ++ codes "i") (name ++ codes "h") (name ++ codes "d"))
-    (and_line (name ++ codes "j") (name ++ codes "i") (name ++ codes "e"))
-    (and_line name (name ++ codes "j") (name ++ codes "f"))
-    ea eb ec ed
-    (ee ∙ ap (λ n. d ++ (and_line n (name ++ codes "j") (name ++ codes "f") ++ 10 ∷ [])) (append-nil name))
+    let u = and_line name (codes "g") (codes "a") (codes "b") in
+    let v = and_line name (codes "h") (codes "g") (codes "c") in
+    let w = and_line name (codes "i") (codes "h") (codes "d") in
+    let x = and_line name (codes "j") (codes "i") (codes "e") in
+    let y = and_line name [] (codes "j") (codes "f") in
+    let all : u ∷ v ∷ w ∷ x ∷ y ∷ [] ≡ and_lines name = simp append_assoc refl in
+    five-lines o a b c d e u v w x y ea eb ec ed ee ∙ ap (λ ls. o ++ script_of ls) all
 
 abbrev box_halves : List ℕ → ℕ → List (List ℕ)
-box_halves name i = half_lines name (pos (8 * i)) (pos (8 * i + 12)) (pos (8 * i)) (pos (8 * i + 12)) (pos (8 * i)) (pos (8 * i + 12)) (codes "closed")
+box_halves name i = half_lines name (decimal (8 * i)) (decimal (8 * i + 12))
 
 -- a box is its half-spaces and what they have in common
 pub box-written : (o t s name other : List ℕ) (i : ℕ) → name ≡ box_name i → other ≡ box_name i → t ≡ o ++ script_of (box_halves name i) → s ≡ t ++ script_of (and_lines other) → s ≡ o ++ script_of (step_box i)

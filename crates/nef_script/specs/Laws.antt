@@ -1,8 +1,14 @@
 -- What is true of every script: it is accepted or has one first refusal.
-use Rattle.std.specs.Prelude.{◌≡◌, ℕ, List, [], ◌∷◌, ◌++◌, codes, ◌⊎◌}
+use Rattle.std.specs.Prelude.{◌≡◌, ℕ, List, [], ◌∷◌, ◌++◌, Some, codes, ◌⊎◌}
+use Rattle.nef_script.specs.Table.{shape, verb_of}
 use Rattle.nef_script.specs.Refusal.{FirstRefusal, IsAccepted}
+use Rattle.nef_script.specs.declared.table.Verb.{Verb}
 use Rattle.nef_script.specs.declared.fault.ScriptKind.{ScriptKind}
 use Rattle.nef_script.specs.declared.fault.ScriptKind.TheVariants as kind
+
+-- each command is the one that its word is
+abbrev pub CommandsFound : Type 0
+CommandsFound = (v : Verb) → verb_of (shape v).0 ≡ Some v
 
 -- a script has at most one first refusal
 abbrev pub OneRefusal : Type 0

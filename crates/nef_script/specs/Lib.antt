@@ -11,3 +11,4 @@ pub mod Reading
 pub mod Progress
 pub mod Laws
 pub mod Stairs
+pub mod Boxes

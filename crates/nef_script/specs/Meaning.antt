@@ -19,7 +19,8 @@ use Rattle.nef_lex.specs.Lines.{lines_of}
 use Rattle.nef_lex.specs.Words.{words_of}
 use Rattle.nef_script.specs.Limits.{IsRayWithin}
 use Rattle.nef_script.specs.Table.{verb_of, binds, is_own}
-use Rattle.nef_script.specs.Tests.{number_or_zero, on_command}
+use Rattle.nef_script.specs.Tests.{number_or_zero}
+use Rattle.nef_script.specs.Checks.{on_command}
 use Rattle.nef_script.specs.Refusal.{names_of}
 use Rattle.nef_script.specs.declared.table.Verb.{Verb}
 use Rattle.nef_script.specs.declared.table.Verb.TheVariants as verb
@@ -45,8 +46,8 @@ Names names bound word k = (i : ℕ) × (position (bytes_eq word) names ≡ Some
 -- the node that a line adds and binds its name to, by the command and the words after it
 abbrev pub IsNode : List (List ℕ) → List ℕ → Verb → List (List ℕ) → Node → Type 0
 IsNode names bound verb.Half (name ∷ a ∷ b ∷ c ∷ d ∷ mode ∷ []) n = (o : Oriented) × (n ≡ node.Half o (bytes_eq mode (codes "closed"))) × IsGiven o (number_or_zero a) (number_or_zero b) (number_or_zero c) (number_or_zero d)
-IsNode names bound verb.Empty args n = n ≡ node.Empty
-IsNode names bound verb.Full args n = n ≡ node.Full
+IsNode names bound verb.Empty (name ∷ []) n = n ≡ node.Empty
+IsNode names bound verb.Full (name ∷ []) n = n ≡ node.Full
 IsNode names bound verb.And (name ∷ left ∷ right ∷ []) n = (i : ℕ) × (j : ℕ) × Names names bound left i × Names names bound right j × (n ≡ node.And i j)
 IsNode names bound verb.Or (name ∷ left ∷ right ∷ []) n = (i : ℕ) × (j : ℕ) × Names names bound left i × Names names bound right j × (n ≡ node.Or i j)
 IsNode names bound verb.Diff (name ∷ left ∷ right ∷ []) n = (i : ℕ) × (j : ℕ) × Names names bound left i × Names names bound right j × (n ≡ node.Diff i j)

@@ -6,12 +6,12 @@ use Rattle.nef_geo.specs.Reading.{IsInRange}
 use Rattle.nef_lex.specs.Words.{words_of}
 use Rattle.nef_expr.specs.Table.{Table}
 use Rattle.nef_expr.specs.Copying.{Extends}
-use Rattle.nef_script.specs.Table.{binds, is_own, last_turn}
-use Rattle.nef_script.specs.Tests.{number_or_zero, is_among, is_from_zero_to}
+use Rattle.nef_script.specs.Table.{binds, is_own}
+use Rattle.nef_script.specs.Tests.{number_or_zero, is_from}
 use Rattle.nef_script.specs.Refusal.{line_refusal, bound_name}
 use Rattle.nef_script.specs.Meaning.{Names, Sets, MeansCommand, MeansWords, IsWithin, has_words, adds_base}
 use Rattle.nef_script.specs.Commands.{LooksAt, Binds, TurnsRight}
-use Rattle.nef_script.specs.Checks.{command_test}
+use Rattle.nef_script.specs.Checks.{command_test, is_among}
 use Rattle.nef_script.specs.declared.table.Verb.{Verb}
 use Rattle.nef_script.specs.declared.script.Command.{Command}
 use Rattle.nef_script.specs.declared.fault.ScriptKind.TheVariants as kind
@@ -127,7 +127,7 @@ pub record HasOperand (names args : List (List ℕ)) : Type 0 where
 pub record HasTurn (names args : List (List ℕ)) : Type 0 where
   pub count : length args ≡ 3
   pub known : is_among (get_or args 1 []) names ≡ true
-  pub number : is_from_zero_to last_turn (number_at args 2) ≡ true
+  pub number : is_from 0 47 (number_at args 2) ≡ true
 
 -- three words, of which the second and the third are names that are bound
 pub record HasTwoOperands (names args : List (List ℕ)) : Type 0 where

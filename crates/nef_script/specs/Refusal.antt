@@ -1,9 +1,9 @@
 -- The first refusal of a script: the first line for which some test holds, and the first such test.
-use Rattle.std.specs.Prelude.{◌≡◌, ℕ, ◌+◌, ◌<◌, ◌≤◌, List, [], ◌∷◌, ◌++◌, Option, Some, None, find, length, take, slice_get, if◌then◌else◌}
+use Rattle.std.specs.Prelude.{◌≡◌, ℕ, ◌+◌, ◌<◌, ◌≤◌, List, [], ◌∷◌, ◌++◌, Option, Some, None, find, option_map, length, take, slice_get, if◌then◌else◌}
 use Rattle.nef_lex.specs.Lines.{lines_of}
 use Rattle.nef_lex.specs.Words.{words_of}
 use Rattle.nef_script.specs.Table.{verb_of, binds}
-use Rattle.nef_script.specs.Tests.{is_refused_for, on_verb}
+use Rattle.nef_script.specs.Tests.{line_tests, on_verb}
 use Rattle.nef_script.specs.declared.fault.ScriptKind.{ScriptKind}
 use Rattle.nef_script.specs.declared.fault.ScriptKind.TheVariants as kind
 
@@ -11,34 +11,14 @@ use Rattle.nef_script.specs.declared.fault.ScriptKind.TheVariants as kind
 abbrev pub script_limit : ℕ
 script_limit = 1048576
 
--- the kinds in the order of their tests
-abbrev pub kinds : List ScriptKind
-kinds =
-    kind.LineTooLong
-    ∷ kind.BadByte
-    ∷ kind.UnknownCommand
-    ∷ kind.WordCount
-    ∷ kind.BadName
-    ∷ kind.NameTaken
-    ∷ kind.UnknownName
-    ∷ kind.NotANumber
-    ∷ kind.OutOfRange
-    ∷ kind.ZeroNormal
-    ∷ kind.BadMode
-    ∷ kind.BadWeight
-    ∷ kind.ZeroDirection
-    ∷ kind.TooManyNames
-    ∷ []
-
 -- the first kind that holds for a line, against the names bound before
 abbrev pub line_refusal : List (List ℕ) → List ℕ → Option ScriptKind
-line_refusal names line = find (λ k. is_refused_for k names line) kinds
+line_refusal names line = option_map (λ t. t.0) (find (λ t. t.1) (line_tests names line))
 
 -- the name that a line binds, if it binds one
 abbrev pub bound_name : List (List ℕ) → List (List ℕ)
-bound_name [] = []
-bound_name (word ∷ []) = []
 bound_name (word ∷ name ∷ rest) = if on_verb binds (verb_of word) then name ∷ [] else []
+bound_name words = []
 
 -- the names that lines bind, in order
 abbrev pub names_of : List (List ℕ) → List (List ℕ)

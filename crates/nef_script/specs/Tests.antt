@@ -1,5 +1,5 @@
--- The tests on one line, one for each kind of refusal, against the names that earlier lines bound.
-use Rattle.std.specs.Prelude.{ℕ, Bool, false, not, ◌&&◌, ◌||◌, nat_eq, nat_lt, nat_le, nat_abs, ℤ, pos, negsuc, List, [], ◌∷◌, Option, Some, None, is_some, is_none, unwrap_or, codes, length}
+-- The tests on one line in their order, against the names that earlier lines bound.
+use Rattle.std.specs.Prelude.{ℕ, Bool, true, false, not, ◌&&◌, ◌||◌, nat_eq, nat_lt, nat_le, nat_abs, int_le, ℤ, pos, List, [], ◌∷◌, Option, Some, None, is_none, unwrap_or, codes, length}
 use Rattle.std.specs.List.{list_any, zip}
 use Rattle.std.specs.Str.{bytes_eq}
 use Rattle.nef_lex.specs.Words.{words_of}
@@ -13,118 +13,78 @@ use Rattle.nef_script.specs.declared.table.Role.TheVariants.{NewName, Operand, C
 use Rattle.nef_script.specs.declared.fault.ScriptKind.{ScriptKind}
 use Rattle.nef_script.specs.declared.fault.ScriptKind.TheVariants as kind
 
--- the most bytes of a line, without its end
+-- the most bytes of a line without its end, and the most names that one script binds
 abbrev pub line_limit : ℕ
 line_limit = 256
 
--- the most names that one script binds
 abbrev pub name_count_limit : ℕ
 name_count_limit = 4096
-
--- the word is one of the names
-abbrev pub is_among : List ℕ → List (List ℕ) → Bool
-is_among word names = list_any (bytes_eq word) names
 
 -- neither a tab nor a printable ASCII byte
 abbrev pub is_bad_byte : ℕ → Bool
 is_bad_byte b = not (nat_eq b 9 || (nat_le 32 b && nat_le b 126))
 
--- the whole number that a word spells, or 0
+-- the whole number that a word spells, or 0, and tests of numbers
 abbrev pub number_or_zero : List ℕ → ℤ
 number_or_zero word = unwrap_or (number_of word) (pos 0)
-
-abbrev pub is_number : List ℕ → Bool
-is_number word = is_some (number_of word)
 
 abbrev pub is_zero : ℤ → Bool
 is_zero z = nat_eq (nat_abs z) 0
 
--- from 1 to most
-abbrev pub is_from_one_to : ℕ → ℤ → Bool
-is_from_one_to most (pos n) = nat_le 1 n && nat_le n most
-is_from_one_to most (negsuc n) = false
-
--- from 0 to most
-abbrev pub is_from_zero_to : ℕ → ℤ → Bool
-is_from_zero_to most (pos n) = nat_le n most
-is_from_zero_to most (negsuc n) = false
-
--- what is wrong with one word of a role
-abbrev pub is_bad_name : Role × List ℕ → Bool
-is_bad_name (NewName, word) = not (is_name word)
-is_bad_name (Operand, word) = not (is_name word)
-is_bad_name (_, word) = false
-
-abbrev pub is_taken : List (List ℕ) → Role × List ℕ → Bool
-is_taken names (NewName, word) = is_among word names
-is_taken names (_, word) = false
-
-abbrev pub is_unknown : List (List ℕ) → Role × List ℕ → Bool
-is_unknown names (Operand, word) = not (is_among word names)
-is_unknown names (_, word) = false
-
-abbrev pub is_no_number : Role × List ℕ → Bool
-is_no_number (Coefficient limit, word) = not (is_number word)
-is_no_number (Weight most, word) = not (is_number word)
-is_no_number (Index most, word) = not (is_number word)
-is_no_number (_, word) = false
-
-abbrev pub is_past_limit : Role × List ℕ → Bool
-is_past_limit (Coefficient limit, word) = nat_lt limit (nat_abs (number_or_zero word))
-is_past_limit (Index most, word) = not (is_from_zero_to most (number_or_zero word))
-is_past_limit (_, word) = false
-
-abbrev pub is_bad_mode : Role × List ℕ → Bool
-is_bad_mode (Mode, word) = not (bytes_eq word (codes "open") || bytes_eq word (codes "closed"))
-is_bad_mode (_, word) = false
-
-abbrev pub is_bad_weight : Role × List ℕ → Bool
-is_bad_weight (Weight most, word) = not (is_from_one_to most (number_or_zero word))
-is_bad_weight (_, word) = false
-
--- a, b and c of a half are all zero
-abbrev pub has_zero_normal : Verb → List (List ℕ) → Bool
-has_zero_normal verb.Half (name ∷ a ∷ b ∷ c ∷ rest) = is_zero (number_or_zero a) && is_zero (number_or_zero b) && is_zero (number_or_zero c)
-has_zero_normal _ args = false
-
--- dx, dy and dz of a ray are all zero
-abbrev pub has_zero_direction : Verb → List (List ℕ) → Bool
-has_zero_direction verb.Ray (name ∷ x ∷ y ∷ z ∷ w ∷ dx ∷ dy ∷ dz ∷ rest) = is_zero (number_or_zero dx) && is_zero (number_or_zero dy) && is_zero (number_or_zero dz)
-has_zero_direction _ args = false
+abbrev pub is_from : ℕ → ℕ → ℤ → Bool
+is_from least most z = int_le (pos least) z && int_le z (pos most)
 
 -- what a test says of a command, if there is one
 abbrev pub on_verb : (Verb → Bool) → Option Verb → Bool
 on_verb test None = false
 on_verb test (Some v) = test v
 
--- what a test says of a line with a command, given the command and the words after it; other lines pass it
-abbrev pub on_command : (Verb → List (List ℕ) → Bool) → List (List ℕ) → Bool
-on_command test [] = false
-on_command test (word ∷ args) = on_verb (λ v. test v args) (verb_of word)
+-- a kind of refusal holds for a word, by what the word is to be and by the names that are bound
+abbrev pub word_test : ScriptKind → List (List ℕ) → Role × List ℕ → Bool
+word_test kind.BadName names (NewName, word) = not (is_name word)
+word_test kind.BadName names (Operand, word) = not (is_name word)
+word_test kind.NameTaken names (NewName, word) = list_any (bytes_eq word) names
+word_test kind.UnknownName names (Operand, word) = not (list_any (bytes_eq word) names)
+word_test kind.NotANumber names (Coefficient limit, word) = is_none (number_of word)
+word_test kind.NotANumber names (Weight most, word) = is_none (number_of word)
+word_test kind.NotANumber names (Index most, word) = is_none (number_of word)
+word_test kind.OutOfRange names (Coefficient limit, word) = nat_lt limit (nat_abs (number_or_zero word))
+word_test kind.OutOfRange names (Index most, word) = not (is_from 0 most (number_or_zero word))
+word_test kind.BadMode names (Mode, word) = not (bytes_eq word (codes "open") || bytes_eq word (codes "closed"))
+word_test kind.BadWeight names (Weight most, word) = not (is_from 1 most (number_or_zero word))
+word_test k names (role, word) = false
 
--- some word of the command fails the test of its role
-abbrev pub on_words : (Role × List ℕ → Bool) → List (List ℕ) → Bool
-on_words test words = on_command (λ v args. list_any test (zip (roles v) args)) words
+-- a, b and c of a half are all zero
+abbrev pub has_zero_normal : Verb → List (List ℕ) → Bool
+has_zero_normal verb.Half (name ∷ a ∷ b ∷ c ∷ rest) = is_zero (number_or_zero a) && is_zero (number_or_zero b) && is_zero (number_or_zero c)
+has_zero_normal v args = false
 
--- the first word is there and is no command
-abbrev pub is_unknown_command : List (List ℕ) → Bool
-is_unknown_command [] = false
-is_unknown_command (word ∷ args) = is_none (verb_of word)
+-- dx, dy and dz of a ray are all zero
+abbrev pub has_zero_direction : Verb → List (List ℕ) → Bool
+has_zero_direction verb.Ray (name ∷ x ∷ y ∷ z ∷ w ∷ dx ∷ dy ∷ dz ∷ rest) = is_zero (number_or_zero dx) && is_zero (number_or_zero dy) && is_zero (number_or_zero dz)
+has_zero_direction v args = false
 
--- the kind of refusal holds for the line
-abbrev pub is_refused_for : ScriptKind → List (List ℕ) → List ℕ → Bool
-is_refused_for kind.LineTooLong names line = nat_lt line_limit (length line)
-is_refused_for kind.BadByte names line = list_any is_bad_byte line
-is_refused_for kind.UnknownCommand names line = is_unknown_command (words_of line)
-is_refused_for kind.WordCount names line = on_command (λ v args. not (nat_eq (length args) (length (roles v)))) (words_of line)
-is_refused_for kind.BadName names line = on_words is_bad_name (words_of line)
-is_refused_for kind.NameTaken names line = on_words (is_taken names) (words_of line)
-is_refused_for kind.UnknownName names line = on_words (is_unknown names) (words_of line)
-is_refused_for kind.NotANumber names line = on_words is_no_number (words_of line)
-is_refused_for kind.OutOfRange names line = on_words is_past_limit (words_of line)
-is_refused_for kind.ZeroNormal names line = on_command has_zero_normal (words_of line)
-is_refused_for kind.BadMode names line = on_words is_bad_mode (words_of line)
-is_refused_for kind.BadWeight names line = on_words is_bad_weight (words_of line)
-is_refused_for kind.ZeroDirection names line = on_command has_zero_direction (words_of line)
-is_refused_for kind.TooManyNames names line = on_command (λ v args. binds v && nat_le name_count_limit (length names)) (words_of line)
-is_refused_for kind.ScriptTooLong names line = false
+-- the tests of a line that begins with this command, or with a word that is none, and goes on with these words, in their order: each with the kind of refusal that it is for
+abbrev pub command_tests : List (List ℕ) → Option Verb → List (List ℕ) → List (ScriptKind × Bool)
+command_tests names None args = (kind.UnknownCommand, true) ∷ []
+command_tests names (Some v) args =
+    let some_word : ScriptKind → ScriptKind × Bool = λ k. (k, list_any (word_test k names) (zip (roles v) args)) in
+    (kind.WordCount, not (nat_eq (length args) (length (roles v))))
+    ∷ some_word kind.BadName
+    ∷ some_word kind.NameTaken
+    ∷ some_word kind.UnknownName
+    ∷ some_word kind.NotANumber
+    ∷ some_word kind.OutOfRange
+    ∷ (kind.ZeroNormal, has_zero_normal v args)
+    ∷ some_word kind.BadMode
+    ∷ some_word kind.BadWeight
+    ∷ (kind.ZeroDirection, has_zero_direction v args)
+    ∷ (kind.TooManyNames, binds v && nat_le name_count_limit (length names))
+    ∷ []
+
+abbrev pub words_tests : List (List ℕ) → List (List ℕ) → List (ScriptKind × Bool)
+words_tests names [] = []
+words_tests names (word ∷ args) = command_tests names (verb_of word) args
+
+abbrev pub line_tests : List (List ℕ) → List ℕ → List (ScriptKind × Bool)
+line_tests names line = (kind.LineTooLong, nat_lt line_limit (length line)) ∷ (kind.BadByte, list_any is_bad_byte line) ∷ words_tests names (words_of line)

@@ -1,8 +1,8 @@
 //! The tests on one word of a line, against the names that are bound.
 
-ghost use Rattle.std.specs.Prelude.{◌≡◌, true};
-ghost use Rattle.nef_script.specs.Checks.{is_readable, word_test};
-ghost use Rattle.nef_script.specs.Tests.{is_bad_name, is_taken, is_unknown, is_no_number, is_past_limit, is_bad_mode, is_bad_weight, is_zero, number_or_zero};
+ghost use Rattle.std.specs.Prelude.{◌≡◌, true, List, ℕ};
+ghost use Rattle.nef_script.specs.Checks.{is_readable};
+ghost use Rattle.nef_script.specs.Tests.{word_test, is_zero, number_or_zero};
 
 use crate::fault::ScriptKind;
 use crate::names::Names;
@@ -16,7 +16,7 @@ pub(crate) const CLOSED: &[u8] = b"closed";
 
 // Whether a word in the place of a name isn't a name.
 fn is_bad_name(role: Role, word: &[u8]) -> bool
-    ensures bad_name { result ≡ is_bad_name (role, word.now) }
+    ensures bad_name { (names : List (List ℕ)) → result ≡ word_test ScriptKind.BadName names (role, word.now) }
 {
     match role {
         Role::NewName | Role::Operand => !is_name(word),
@@ -26,7 +26,7 @@ fn is_bad_name(role: Role, word: &[u8]) -> bool
 
 // Whether the name to be bound is bound.
 fn is_taken(names: &Names, role: Role, word: &[u8]) -> bool
-    ensures taken { result ≡ is_taken names.now (role, word.now) }
+    ensures taken { result ≡ word_test ScriptKind.NameTaken names.now (role, word.now) }
 {
     match role {
         Role::NewName => names.find(word).is_some(),
@@ -36,7 +36,7 @@ fn is_taken(names: &Names, role: Role, word: &[u8]) -> bool
 
 // Whether an operand's name isn't bound.
 fn is_unknown(names: &Names, role: Role, word: &[u8]) -> bool
-    ensures unknown { result ≡ is_unknown names.now (role, word.now) }
+    ensures unknown { result ≡ word_test ScriptKind.UnknownName names.now (role, word.now) }
 {
     match role {
         Role::Operand => names.find(word).is_none(),
@@ -46,7 +46,7 @@ fn is_unknown(names: &Names, role: Role, word: &[u8]) -> bool
 
 // Whether a word in the place of a number isn't a number.
 fn is_no_number(role: Role, word: &[u8]) -> bool
-    ensures no_number { result ≡ is_no_number (role, word.now) }
+    ensures no_number { (names : List (List ℕ)) → result ≡ word_test ScriptKind.NotANumber names (role, word.now) }
 {
     match role {
         Role::Coefficient(_) | Role::Weight(_) | Role::Index(_) => match whole_number(word) {
@@ -60,7 +60,7 @@ fn is_no_number(role: Role, word: &[u8]) -> bool
 // Whether a number is past its limit, or isn't from 0 to its last one.
 fn is_past_limit(role: Role, word: &[u8]) -> bool
     requires readable { is_readable role ≡ true }
-    ensures past_limit { result ≡ is_past_limit (role, word.now) }
+    ensures past_limit { (names : List (List ℕ)) → result ≡ word_test ScriptKind.OutOfRange names (role, word.now) }
 {
     match role {
         Role::Coefficient(limit) => match whole_number(word) {
@@ -79,7 +79,7 @@ fn is_past_limit(role: Role, word: &[u8]) -> bool
 
 // Whether the mode is neither `open` nor `closed`.
 fn is_bad_mode(role: Role, word: &[u8]) -> bool
-    ensures bad_mode { result ≡ is_bad_mode (role, word.now) }
+    ensures bad_mode { (names : List (List ℕ)) → result ≡ word_test ScriptKind.BadMode names (role, word.now) }
 {
     match role {
         Role::Mode => !(word == OPEN || word == CLOSED),
@@ -90,7 +90,7 @@ fn is_bad_mode(role: Role, word: &[u8]) -> bool
 // Whether a weight isn't from 1 to its limit.
 fn is_bad_weight(role: Role, word: &[u8]) -> bool
     requires readable { is_readable role ≡ true }
-    ensures bad_weight { result ≡ is_bad_weight (role, word.now) }
+    ensures bad_weight { (names : List (List ℕ)) → result ≡ word_test ScriptKind.BadWeight names (role, word.now) }
 {
     match role {
         Role::Weight(most) => match whole_number(word) {

@@ -1,12 +1,14 @@
 //! What is true of every script, and the definitions at worked examples.
 
-ghost use Rattle.nef_script.specs.Laws.{OneRefusal, NeverBoth, Decided, UnknownCommandExample, WordCountExample, BadNameExample, NameTakenExample, UnknownNameExample, OwnNameExample, NotANumberExample, ZeroNormalExample, BadModeExample, OutOfRangeExample, BadWeightExample, ZeroDirectionExample, LongDirectionExample, FarPointExample, FirstLineExample, AcceptedExample};
+ghost use Rattle.nef_script.specs.Laws.{CommandsFound, OneRefusal, NeverBoth, Decided, UnknownCommandExample, WordCountExample, BadNameExample, NameTakenExample, UnknownNameExample, OwnNameExample, NotANumberExample, ZeroNormalExample, BadModeExample, OutOfRangeExample, BadWeightExample, ZeroDirectionExample, LongDirectionExample, FarPointExample, FirstLineExample, AcceptedExample};
 
-/// A script is accepted, or it is refused first at one line for one kind, and never both.
+/// A script is accepted, or it is refused first at one line for one kind, and never both; and the word of each command
+/// is read as that command.
 pub fn refusal_laws()
     ensures one { OneRefusal }
     ensures never_both { NeverBoth }
     ensures decided { Decided }
+    ensures commands { CommandsFound }
 {}
 
 /// Where some short scripts are refused first, and for what.

@@ -6,7 +6,8 @@ ghost use Rattle.nef_space.specs.Limits.{number_limit, query_limit, query_weight
 ghost use Rattle.nef_space.specs.Vectors.{IsAtMost};
 ghost use Rattle.nef_geo.specs.Shapes.{vector_of};
 ghost use Rattle.nef_script.specs.Table.{binds, is_own};
-ghost use Rattle.nef_script.specs.Tests.{number_or_zero, is_among};
+ghost use Rattle.nef_script.specs.Tests.{number_or_zero};
+ghost use Rattle.nef_script.specs.Checks.{is_among};
 ghost use Rattle.nef_script.specs.Names.{pointed};
 ghost use Rattle.nef_script.specs.Limits.{IsRayWithin, KeepsRayLimits};
 ghost use Rattle.nef_script.specs.Meaning.{Names as IsNamed, IsNode, IsQuestion, IsQuotient, IsToward};

@@ -5,9 +5,9 @@ ghost use Rattle.std.specs.List.{list_any, list_all, zip};
 ghost use Rattle.std.specs.Option.{option_map};
 ghost use Rattle.nef_lex.specs.Words.{words_of};
 ghost use Rattle.nef_script.specs.Names.{pointed};
-ghost use Rattle.nef_script.specs.Tests.{is_bad_byte, has_zero_normal, has_zero_direction, is_refused_for};
+ghost use Rattle.nef_script.specs.Tests.{is_bad_byte, has_zero_normal, has_zero_direction, word_test};
 ghost use Rattle.nef_script.specs.Refusal.{line_refusal};
-ghost use Rattle.nef_script.specs.Checks.{is_readable, word_test, command_test, command_in};
+ghost use Rattle.nef_script.specs.Checks.{is_readable, command_test, command_in, is_refused_for};
 
 use crate::checks::{is_zero, word_fails};
 use crate::fault::ScriptKind;

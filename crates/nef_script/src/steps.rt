@@ -1,12 +1,13 @@
 //! The script of boxes that stand as stairs.
 
-ghost use Rattle.std.specs.Prelude.{◌≡◌, ℕ, ◌+◌, ◌*◌, ◌<◌, ◌≤◌, pos, [], ◌∷◌, ◌++◌, codes, decimal, IfOk, OnOk};
+ghost use Rattle.std.specs.Prelude.{◌≡◌, ℕ, ◌+◌, ◌*◌, ◌<◌, ◌≤◌, [], ◌∷◌, ◌++◌, decimal, IfOk, OnOk};
 ghost use Rattle.std.specs.List.{concat};
 ghost use Rattle.nef_space.specs.Limits.{most_stairs};
 ghost use Rattle.nef_script.specs.Names.{pointed};
 ghost use Rattle.nef_script.specs.Laws.{script_of};
 ghost use Rattle.nef_script.specs.Refusal.{IsAccepted};
-ghost use Rattle.nef_script.specs.Stairs.{joined_words, and_line, count_line, half_lines, and_lines, whole_name, step_box, join_lines, step_lines, stairs_text};
+ghost use Rattle.nef_script.specs.Stairs.{whole_name, step_lines, stairs_text};
+ghost use Rattle.nef_script.specs.Boxes.{half_line, and_line, count_line, half_lines, and_lines, step_box, join_lines};
 
 use crate::OutOfMemory;
 use itoa::Buffer;
@@ -52,7 +53,7 @@ fn add_half(
     normal: &[u8],
     offset: &[u8],
 ) -> Result<(), OutOfMemory>
-    ensures added { OnOk result (text.new.items ≡ text.old.items ++ script_of (joined_words (codes "half" ∷ (name.now ++ letter.now) ∷ normal.now ∷ offset.now ∷ codes "closed" ∷ []) ∷ [])) }
+    ensures added { OnOk result (text.new.items ≡ text.old.items ++ script_of (half_line name.now letter.now normal.now offset.now ∷ [])) }
 {
     add_pieces(
         text,
@@ -78,7 +79,7 @@ fn add_and(
     left: &[u8],
     right: &[u8],
 ) -> Result<(), OutOfMemory>
-    ensures added { OnOk result (text.new.items ≡ text.old.items ++ script_of (and_line (name.now ++ letter.now) (name.now ++ left.now) (name.now ++ right.now) ∷ [])) }
+    ensures added { OnOk result (text.new.items ≡ text.old.items ++ script_of (and_line name.now letter.now left.now right.now ∷ [])) }
 {
     add_pieces(
         text,
@@ -91,7 +92,7 @@ fn add_and(
 // Adds the six half-spaces of the box i, under this name.
 fn add_halves(alloc: Global, text: &mut Vec<u8>, name: &[u8], i: u32) -> Result<(), OutOfMemory>
     requires small { i < most_stairs }
-    ensures added { OnOk result (text.new.items ≡ text.old.items ++ script_of (half_lines name.now (pos (8 * i)) (pos (8 * i + 12)) (pos (8 * i)) (pos (8 * i + 12)) (pos (8 * i)) (pos (8 * i + 12)) (codes "closed"))) }
+    ensures added { OnOk result (text.new.items ≡ text.old.items ++ script_of (half_lines name.now (decimal (8 * i)) (decimal (8 * i + 12)))) }
 {
     let low = numbered(alloc, b"", 8 * i)?;
     let high = numbered(alloc, b"-", 8 * i + 12)?;

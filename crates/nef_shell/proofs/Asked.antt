@@ -28,8 +28,8 @@ pub true-or-false : (b : Bool) → (b ≡ true) ⊎ (b ≡ false)
 true-or-false true = inl refl
 true-or-false false = inr refl
 
--- where every place is empty nothing is there
-pub none-there : (list : List (Option Complex)) (n : ℕ) → length list ≡ n → ((k : ℕ) → k < n → IsGone list k) → (k : ℕ) (x : Complex) → slice_get list k ≡ Some (Some x) → ⊥
+-- where each place is empty nothing is there
+pub none-there : {X : Type 0} (list : List (Option X)) (n : ℕ) → length list ≡ n → ((k : ℕ) → k < n → slice_get list k ≡ Some None) → (k : ℕ) (x : X) → slice_get list k ≡ Some (Some x) → ⊥
 none-there list n count gone k x at =
     let below = slice_get_within list k (Some x) at in
     let f : Some None ≡ Some (Some x) = sym (gone k (omega (arith, count, below))) ∙ at in cc

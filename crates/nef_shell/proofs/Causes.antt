@@ -1,7 +1,8 @@
 -- Why there is no script to work.
-use Rattle.std.proofs.Common.{◌≡◌, ℕ, refl}
+use Rattle.std.proofs.Common.{◌≡◌, ℕ, ◌+◌, List, length, arith, refl}
 use Rattle.nef_io.specs.declared.reading.ReadAll.{ReadAll}
 use Rattle.nef_io.specs.declared.reading.ReadAll.TheVariants as read
+use Rattle.nef_script.specs.Refusal.{script_limit, FirstRefusal}
 use Rattle.nef_script.specs.declared.fault.ScriptFault.{ScriptFault}
 use Rattle.nef_script.specs.declared.fault.ScriptFault.TheVariants as fault
 use Rattle.nef_script.specs.declared.fault.ScriptKind.{ScriptKind}
@@ -29,3 +30,7 @@ refused-alone fault.OutOfMemory line kind is = cc
 pub checking-reads_not : (e : ScriptFault) → unaccepted e ≡ ReadFault → ⊥
 checking-reads_not (fault.Refused l k) is = cc
 checking-reads_not fault.OutOfMemory is = cc
+
+-- more bytes were read than a script may have
+pub too-long : (bytes : List ℕ) → length bytes ≡ script_limit + 1 → FirstRefusal bytes 0 ScriptTooLong
+too-long bytes long = FirstRefusal.too_long (omega arith)

@@ -127,8 +127,8 @@ gone-stays list n k within gone = elim (cases_eq k n) [
   | inr other ↦ get_set_other list n k None other ∙ gone
 ]
 
--- whether a complex is there tells it
-pub there-of : (o : Option (Option Complex)) (x : Option Complex) → o ≡ Some x → is_some x ≡ true → (c : Complex) × (o ≡ Some (Some c))
+-- whether something is there tells it
+pub there-of : {X : Type 0} (o : Option (Option X)) (x : Option X) → o ≡ Some x → is_some x ≡ true → (c : X) × (o ≡ Some (Some c))
 there-of o None e is = absurd (let f : false ≡ true = is in cc)
 there-of o (Some c) e is = (c, e)
 

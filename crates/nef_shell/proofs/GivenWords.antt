@@ -1,5 +1,5 @@
 -- The words behind the program's name, from what the environment gave.
-use Rattle.std.proofs.Common.{◌≡◌, ℕ, refl, sym, ap, subst, ◌∙◌, List, Result, Ok, Err}
+use Rattle.std.proofs.Common.{◌≡◌, ℕ, refl, sym, ap, subst, ◌∙◌, arith, List, map, Result, Ok, Err, string_bytes}
 use Rattle.std.specs.Prelude.{drop, IsOkAnd, IsErrAnd}
 use Rattle.std.specs.Vec.Iter.{into_iter_items}
 use Rattle.std.specs.IoError.{error_kind}
@@ -7,17 +7,23 @@ use Rattle.std.specs.declared.io.Error.{Error}
 use Rattle.std.specs.declared.io.ErrorKind.TheVariants.{InvalidData}
 use Rattle.std.specs.declared.vec.IntoIter.{IntoIter}
 use Rattle.std.specs.declared.vec.Vec.{Vec}
+use Rattle.std.specs.declared.string.String.{String}
 use Rattle.nef_words.specs.declared.options.WordsFault.{WordsFault}
-use Rattle.nef_words.specs.declared.options.WordsFault.TheVariants.{Refused, OutOfMemory}
-use Rattle.nef_shell.specs.declared.status.Status.{Status}
-use Rattle.nef_shell.specs.Traffic.{Traffic}
+use Rattle.nef_words.specs.declared.options.WordsFault.TheVariants as fault
+use Rattle.nef_statement.specs.declared.status.Status.{Status}
+use Rattle.nef_statement.specs.declared.status.Status.TheVariants.{Done, Refused, Words, ReadFault, WriteFault, OutOfMemory}
+use Rattle.nef_statement.specs.Status.{status_code}
+use Rattle.nef_statement.specs.Traffic.{Traffic, IsUnread}
+use Rattle.nef_statement.specs.Answers.{RefusesWords}
+use Rattle.nef_statement.specs.Statement.{RunSays, ProgramSays}
+use Rattle.nef_statement.specs.Texts.{IsText}
 use Rattle.nef_shell.specs.Ended.{RunEnds}
-use Rattle.nef_shell.specs.Program.{IsCollected}
+use Rattle.nef_shell.specs.Program.{IsCollected, ProgramEnds}
 
 abbrev IsRefused : {X : Type 0} → Result X WordsFault → Type 0
 IsRefused (Ok words) = ⊥
-IsRefused (Err Refused) = Unit {0}
-IsRefused (Err OutOfMemory) = ⊥
+IsRefused (Err fault.Refused) = Unit {0}
+IsRefused (Err fault.OutOfMemory) = ⊥
 
 -- the words but the first
 pub words-given : {X Y Z : Type 0} (line : Result (IntoIter X Y) Error) (all : Result (Vec X Z) Error) (words : List X) → IsCollected line all → IsOkAnd all (λ v. words ≡ drop 1 v.items) → (it : IntoIter X Y) × (line ≡ Ok it) × (words ≡ drop 1 (into_iter_items it))
@@ -42,9 +48,40 @@ still-no-text line all same error is none = kept line all same (subst (λ z. IsE
   kept (Err e) (Err f) same none = ap error_kind same ∙ none
 
 -- one fault isn't the other
-pub refused-alone : {X : Type 0} (words : Result X WordsFault) → words ≡ Err Refused → words ≡ Err OutOfMemory → ⊥
+pub refused-alone : {X : Type 0} (words : Result X WordsFault) → words ≡ Err fault.Refused → words ≡ Err fault.OutOfMemory → ⊥
 refused-alone words refused wanted = subst IsRefused (sym refused ∙ wanted) tt
 
--- what is said of a run with the same words
-pub ends-with : (words same : List (List ℕ)) (s : Status) (io : Traffic) → words ≡ same → RunEnds words s io → RunEnds same s io
-ends-with words same s io e ends = subst (λ z. RunEnds z s io) e ends
+-- the exit status 0 is that of a run that is done
+done-alone : (s : Status) → status_code s ≡ 0 → s ≡ Done
+done-alone Done e = refl
+done-alone (Refused l k) e = absurd (omega (arith, e))
+done-alone Words e = absurd (omega (arith, e))
+done-alone ReadFault e = absurd (omega (arith, e))
+done-alone WriteFault e = absurd (omega (arith, e))
+done-alone OutOfMemory e = absurd (omega (arith, e))
+
+-- what the program says, and what it ends with
+abbrev pub HasSaid : {Y Z : Type 0} → Result (IntoIter (String Y) Z) Error → ℕ → Traffic → Type 0
+HasSaid line code io = ProgramSays IsText line code io × ProgramEnds line code io
+
+-- of one that ran with the words behind its name
+pub ended-run : {Y Z : Type 0} (line : Result (IntoIter (String Y) Z) Error) (code : ℕ) (io : Traffic) (it : IntoIter (String Y) Z) (words : List (List ℕ)) (status : Status) → line ≡ Ok it → words ≡ map string_bytes (drop 1 (into_iter_items it))
+    → RunSays IsText words status io → RunEnds words status io → code ≡ status_code status → HasSaid line code io
+ended-run line code io it words status given same says ends is = (
+  ProgramSays.ran it status given (subst (λ z. RunSays IsText z status io) same says) is,
+  λ them also zero.
+      let one : Ok it ≡ Ok them = sym given ∙ also in
+      let them_is : it ≡ them = cc in
+      let done = done-alone status (sym is ∙ zero) in
+      subst (λ z. RunEnds z Done io) (same ∙ ap (λ z. map string_bytes (drop 1 (into_iter_items z))) them_is) (subst (λ z. RunEnds words z io) done ends),
+)
+
+-- of one that refused its words, of which one isn't text
+pub ended-refused : {Y Z : Type 0} (line : Result (IntoIter (String Y) Z) Error) (code : ℕ) (io : Traffic) (error : Error) (status : Status) → line ≡ Err error → error_kind error ≡ InvalidData → IsUnread io → RefusesWords status io → code ≡ status_code status
+    → HasSaid line code io
+ended-refused line code io error status given kind unread refuses is = (ProgramSays.no_text error status given kind unread refuses is, λ words also zero. absurd (let f : Err error ≡ Ok words = sym given ∙ also in cc))
+
+-- of one that found no memory for its words
+pub ended-wanting : {Y Z : Type 0} (line : Result (IntoIter (String Y) Z) Error) (code : ℕ) (io : Traffic) → ((error : Error) → line ≡ Err error → error_kind error ≡ InvalidData → ⊥) → IsUnread io → io.after.written ≡ io.before.written → code ≡ status_code OutOfMemory
+    → HasSaid line code io
+ended-wanting line code io other unread same is = (ProgramSays.no_memory other unread same is, λ words also zero. absurd (let f = sym is ∙ zero in omega (arith, f)))

@@ -1,8 +1,10 @@
 pub mod Complexes
 pub mod Outputs
-pub mod Statuses
+pub mod Walk
 pub mod Pieces
+pub mod Statuses
 pub mod Causes
 pub mod GivenWords
 pub mod Bound
 pub mod Asked
+pub mod Held

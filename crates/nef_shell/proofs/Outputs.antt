@@ -1,7 +1,7 @@
 -- Output that grows by one piece after another.
 use Rattle.std.proofs.Common.{◌≡◌, ◌↔◌, ℕ, ◌+◌, ◌<◌, ◌≤◌, Bool, true, false, refl, sym, ap, ◌∙◌, List, [], ◌∷◌, ◌++◌, length, take, Option, Some, None, Result, Err, append_assoc, append-nil, subst, get_or, arith, inl, inr}
 use Rattle.std.proofs.lemmas.List.{take_more}
-use Rattle.std.proofs.Math.Seq.{take-append-add, take-length}
+use Rattle.std.proofs.Math.Seq.{take-append-add}
 use Rattle.std.specs.Prelude.{IsTrue}
 use Rattle.nef_space.specs.Local.{Joined, SameSet}
 use Rattle.nef_space.specs.Place.{Place, InFrame}
@@ -14,7 +14,9 @@ use Rattle.nef_shell.specs.declared.stop.Stop.{Stop}
 use Rattle.nef_shell.specs.declared.stop.Stop.TheVariants.{WriteFault, OutOfMemory}
 use Rattle.nef_shell.specs.Working.{FrontOf, WorkEnds}
 use Rattle.nef_shell.specs.Stops.{MatchStop}
-use Rattle.nef_shell.specs.Output.{same_answer, joined_answer, IsSameAnswer, IsJoinedAnswer, IsPiece, IsOutput}
+use Rattle.nef_statement.specs.Output.{same_answer, joined_answer, IsSameAnswer, IsJoinedAnswer}
+use Rattle.nef_statement.proofs.Grown.{grows_within-all, grows_within-none}
+use Rattle.nef_shell.specs.Output.{IsPiece, IsOutput}
 
 -- one more command
 pub output-more : (version : TextVersion) (nodes : List Node) (cs : List Command) (c : Command) (output piece : List ℕ) → IsOutput version nodes cs output → IsPiece version nodes c piece → IsOutput version nodes (cs ++ c ∷ []) (output ++ piece)
@@ -32,10 +34,6 @@ grows-more (Some us) (Some bs) (Some cs) xs ys h k = k ∙ (ap (λ z. z ++ ys) h
 pub grows_within-more : (a b c : Option (List ℕ)) (xs ys : List ℕ) → Grows a b xs → GrowsWithin b c ys → GrowsWithin a c (xs ++ ys)
 grows_within-more a b c xs ys h (n, k) =
     (length xs + n, subst (λ z. Grows a c z) (sym (take-append-add xs ys n)) (grows-more a b c xs (take n ys) h k))
-
--- the whole is a front
-pub grows_within-all : (a b : Option (List ℕ)) (xs : List ℕ) → Grows a b xs → GrowsWithin a b xs
-grows_within-all a b xs h = (length xs, subst (λ z. Grows a b z) (sym (take-length xs)) h)
 
 -- the output of the commands so far, and of one more
 pub output-next : (version : TextVersion) (nodes : List Node) (cs : List Command) (i : ℕ) (c : Command) (output piece : List ℕ) → i < length cs → c ≡ get_or cs i c → IsOutput version nodes (take i cs) output → IsPiece version nodes c piece → IsOutput version nodes (take (i + 1) cs) (output ++ piece)
@@ -59,14 +57,9 @@ pub stop-rose : (stop : Stop) (first old new : ℕ) (P Q : Type 0) → first ≤
 stop-rose WriteFault first old new P Q le (rose, rest) = rose-from first old new le rose
 stop-rose OutOfMemory first old new P Q le same = tt
 
--- nothing is a front of nothing
-pub grows_within-none : (a : Option (List ℕ)) → GrowsWithin a a []
-grows_within-none None = (0, tt)
-grows_within-none (Some bs) = (0, sym (append-nil bs))
-
 -- the work ended before its first command, for want of memory
 pub ends-before : {A : Type 0} (version : TextVersion) (nodes : List Node) (cs : List Command) (before : Option (List ℕ)) (faults : ℕ) (r : Result A Stop) → r ≡ Err OutOfMemory → WorkEnds version nodes cs before before faults faults r
-ends-before version nodes cs before faults r is = rw is (record { done = tt; quiet = tt; stopped = tt; front = (0, [], refl, grows_within-none before) })
+ends-before version nodes cs before faults r is = rw is (record { done = tt; quiet = tt; stopped = tt; front = (0, [], refl, grows_within-none before []) })
 
 -- the answer says whether the two sets are one
 pub same-piece : (s t : Set) (same : Bool) → IsTrue same ↔ SameSet s t → IsSameAnswer s t (same_answer same)

@@ -1,15 +1,10 @@
 -- A command has one piece, and the text in it tells its set.
-use Rattle.std.proofs.Common.{◌≡◌, ◌↔◌, ℕ, refl, ap, sym, ◌∙◌, subst, List, [], ◌∷◌, ◌++◌, length, codes, append_assoc, inl, inr}
+use Rattle.std.proofs.Common.{◌≡◌, ◌↔◌, ℕ, refl, ap, sym, ◌∙◌, subst, List, [], ◌∷◌, ◌++◌, length, codes, append_assoc}
 use Rattle.std.proofs.lemmas.List.{append_cancel_left, append_cancel_right}
 use Rattle.nef_space.specs.Local.{SameSet}
 use Rattle.nef_space.specs.Sets.{Set}
 use Rattle.law_near.proofs.Germs.{label-one}
-use Rattle.nef_space.specs.Place.{Place}
-use Rattle.nef_space.specs.Vectors.{Vector}
 use Rattle.nef_geo.specs.Shapes.{place_of, vector_of}
-use Rattle.nef_geo.proofs.Unique.{same_places_equal}
-use Rattle.nef_geo.specs.declared.point.Point.{Point}
-use Rattle.nef_ray.proofs.OneEnd.{one-end}
 use Rattle.nef_complex.specs.declared.complex.Vertex.{Vertex}
 use Rattle.nef_complex.specs.declared.complex.Edge.{Edge}
 use Rattle.nef_unique.proofs.Vertices.{set-vertices}
@@ -17,22 +12,22 @@ use Rattle.nef_core.specs.declared.how.TextVersion.{TextVersion}
 use Rattle.nef_core.specs.declared.how.TextVersion.TheVariants.{One}
 use Rattle.nef_parts.specs.declared.parts.Parts.{Parts}
 use Rattle.nef_parts.specs.Text.{line, numbers, text}
-use Rattle.law_text.proofs.SameText.{same-set_text, text-set, spelled-holds}
+use Rattle.law_text.proofs.SameText.{same-set_text, spelled-holds}
 use Rattle.nef_expr.specs.declared.nodes.Node.{Node}
 use Rattle.nef_expr.specs.Nodes.{node_set}
 use Rattle.nef_script.specs.declared.script.Command.{Command}
 use Rattle.nef_script.specs.declared.script.Command.TheVariants.{Bind, Turn, Has, Joined, Ray, Same, Count, Print}
-use Rattle.nef_shell.specs.Output.{IsWrittenOf, IsSameAnswer, IsJoinedAnswer, IsRayAnswer, IsPiece, IsOutput, change_word, count_line, framed, printed, line_end, spaced, answer_of}
+use Rattle.nef_statement.specs.Output.{framed, line_end, answer_of}
+use Rattle.nef_statement.specs.Texts.{IsWrittenOf, count_line}
+use Rattle.nef_statement.proofs.Alike.{same-self}
+use Rattle.nef_statement.proofs.Answered.{answered-one, joined-one, ended-one}
+use Rattle.nef_statement.proofs.Texts.{same-texts}
+use Rattle.nef_shell.specs.Output.{IsPiece, IsOutput, printed}
 use Rattle.nef_shell.specs.Prints.{IsPrinted, AreTextsCompared, AreTextsMeant}
-use Rattle.nef_shell.specs.Written.{TextTells, CountTells}
-use Rattle.nef_volumes.proofs.Components.{are-counted}
+use Rattle.nef_shell.specs.Written.{TextTells}
 use Rattle.law_complex.proofs.FacetNames.{facet-of}
 use Rattle.law_complex.proofs.Skeletons.{belongs-holds}
 use Rattle.nef_locate.proofs.Cones.{facet-at}
-
-pub same-texts : (version : TextVersion) (s t : Set) (x y : List ℕ) → IsWrittenOf s (text version) x → IsWrittenOf t (text version) y → (x ≡ y) ↔ SameSet s t
-same-texts version s t x y (c, p, S, P, e) (d, q, T, Q, f) =
-    (λ g. text-set version s t c d p q S T (sym e ∙ g ∙ f), λ h. e ∙ (same-set_text version s t c d p q S T h P Q).1 ∙ sym f)
 
 -- the text of a set spells the complex that shows it, and tells which points belong to it
 pub text-tells : (version : TextVersion) (s : Set) (x : List ℕ) → IsWrittenOf s (text version) x → TextTells version s x
@@ -40,22 +35,6 @@ text-tells version s x (c, p, S, P, e) =
     record {
       spelled = (c, (S.shows.edges, (p, P, e)));
       holds = λ d y spells inside. spelled-holds (λ s C p S inside. belongs-holds s C S (facet-at s C S) (facet-of s C S) p inside) version s c d p x y S e spells inside;
-    }
-
--- the counted numbers are those of components
-pub count-tells : (s : Set) (x : List ℕ) → IsWrittenOf s count_line x → CountTells s x
-count-tells s x (c, p, S, P, e) =
-    let counted = are-counted c p P s S in
-    record {
-      vertices = length c.vertices;
-      edges = length c.edges;
-      facets = length p.facets;
-      volumes = length p.volumes;
-      is = e;
-      no_direction = counted.0;
-      one_direction = counted.1;
-      two_directions = counted.2;
-      three_directions = counted.3;
     }
 
 pub printed-one : (version : TextVersion) (s t : Set) (name x y : List ℕ) → SameSet s t → IsWrittenOf s (printed version name) x → IsWrittenOf t (printed version name) y → x ≡ y
@@ -69,37 +48,6 @@ counted-one s t x y same (c, p, S, P, e) (d, q, T, Q, f) =
     ∙ ap (λ (es : List Edge). line (numbers (length d.vertices ∷ length es ∷ length p.facets ∷ length p.volumes ∷ []))) v.1
     ∙ ap (λ (r : Parts). line (numbers (length d.vertices ∷ length d.edges ∷ length r.facets ∷ length r.volumes ∷ []))) (same-set_text One s t c d p q S T same P Q).0 ∙ sym f
 
-same-itself : (s : Set) → SameSet s s
-same-itself s p l = (λ h. h, λ h. h)
-
-answered-one : (s t : Set) (x y : List ℕ) → IsSameAnswer s t x → IsSameAnswer s t y → x ≡ y
-answered-one s t x y a b = elim a [
-  | inl one ↦ elim b [ inl also ↦ one.1 ∙ sym also.1 | inr differ ↦ absurd (differ.0 one.0) ]
-  | inr differ ↦ elim b [ inl one ↦ absurd (differ.0 one.0) | inr also ↦ differ.1 ∙ sym also.1 ]
-]
-
-joined-one : (s : Set) (p q : Place) (x y : List ℕ) → IsJoinedAnswer s p q x → IsJoinedAnswer s p q y → x ≡ y
-joined-one s p q x y (IsJoinedAnswer.outside out e) (IsJoinedAnswer.outside out' f) = e ∙ sym f
-joined-one s p q x y (IsJoinedAnswer.outside out e) (IsJoinedAnswer.joined P Q j f) = absurd (out (P, Q))
-joined-one s p q x y (IsJoinedAnswer.outside out e) (IsJoinedAnswer.apart P Q j f) = absurd (out (P, Q))
-joined-one s p q x y (IsJoinedAnswer.joined P Q j e) (IsJoinedAnswer.outside out f) = absurd (out (P, Q))
-joined-one s p q x y (IsJoinedAnswer.joined P Q j e) (IsJoinedAnswer.joined P' Q' j' f) = e ∙ sym f
-joined-one s p q x y (IsJoinedAnswer.joined P Q j e) (IsJoinedAnswer.apart P' Q' a f) = absurd (a j)
-joined-one s p q x y (IsJoinedAnswer.apart P Q a e) (IsJoinedAnswer.outside out f) = absurd (out (P, Q))
-joined-one s p q x y (IsJoinedAnswer.apart P Q a e) (IsJoinedAnswer.joined P' Q' j f) = absurd (a j)
-joined-one s p q x y (IsJoinedAnswer.apart P Q a e) (IsJoinedAnswer.apart P' Q' a' f) = e ∙ sym f
-
--- a ray has one end, whose point has one form
-ended-one : (s : Set) (p : Place) (d : Vector) (x y : List ℕ) → IsRayAnswer s p d x → IsRayAnswer s p d y → x ≡ y
-ended-one s p d x y (IsRayAnswer.outside out e) (IsRayAnswer.outside out' f) = e ∙ sym f
-ended-one s p d x y (IsRayAnswer.outside out e) (IsRayAnswer.ends P a h f) = absurd (out P)
-ended-one s p d x y (IsRayAnswer.ends P a h e) (IsRayAnswer.outside out f) = absurd (out P)
-ended-one s p d x y (IsRayAnswer.ends P a h e) (IsRayAnswer.ends P' b k f) =
-    let one = one-end s p d (place_of a.point) (place_of b.point) a.after b.after a.label b.label h k in
-    e ∙ ap (λ z. change_word z ++ spaced a.point.x ++ spaced a.point.y ++ spaced a.point.z ++ spaced a.point.w ++ answer_of a.label) one.1
-    ∙ ap (λ (r : Point). change_word b.after ++ spaced r.x ++ spaced r.y ++ spaced r.z ++ spaced r.w ++ answer_of a.label) (same_places_equal a.point b.point one.0)
-    ∙ ap (λ l. change_word b.after ++ spaced b.point.x ++ spaced b.point.y ++ spaced b.point.z ++ spaced b.point.w ++ answer_of l) one.2 ∙ sym f
-
 piece-one : (version : TextVersion) (nodes : List Node) (c : Command) (x y : List ℕ) → IsPiece version nodes c x → IsPiece version nodes c y → x ≡ y
 piece-one version nodes (Bind _ k) x y a b = a ∙ sym b
 piece-one version nodes (Turn _ k i t) x y a b = a ∙ sym b
@@ -107,8 +55,8 @@ piece-one version nodes (Has _ k p) x y (l, has, e) (m, also, f) = e ∙ ap answ
 piece-one version nodes (Joined _ k p q) x y a b = joined-one (node_set nodes k) (place_of p) (place_of q) x y a b
 piece-one version nodes (Ray _ k p d) x y a b = ended-one (node_set nodes k) (place_of p) (vector_of d) x y a b
 piece-one version nodes (Same _ i j) x y a b = answered-one (node_set nodes i) (node_set nodes j) x y a b
-piece-one version nodes (Count _ k) x y a b = counted-one (node_set nodes k) (node_set nodes k) x y (same-itself (node_set nodes k)) a b
-piece-one version nodes (Print _ k name) x y a b = printed-one version (node_set nodes k) (node_set nodes k) name x y (same-itself (node_set nodes k)) a b
+piece-one version nodes (Count _ k) x y a b = counted-one (node_set nodes k) (node_set nodes k) x y (same-self (node_set nodes k)) a b
+piece-one version nodes (Print _ k name) x y a b = printed-one version (node_set nodes k) (node_set nodes k) name x y (same-self (node_set nodes k)) a b
 
 output-one : (version : TextVersion) (nodes : List Node) (cs : List Command) (x y : List ℕ) → IsOutput version nodes cs x → IsOutput version nodes cs y → x ≡ y
 output-one version nodes [] x y a b = a ∙ sym b

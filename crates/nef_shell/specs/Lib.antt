@@ -1,5 +1,4 @@
 pub mod Status
-pub mod Traffic
 pub mod Output
 pub mod Pieces
 pub mod Answers

@@ -1,14 +1,20 @@
--- The sets of operations, and the sets that are kept.
+-- The sets of operations, the sets that are kept, and what was worked of them.
 use Rattle.std.specs.Prelude.{◌≡◌, ◌⊎◌, ℕ, ◌<◌, ◌≤◌, List, Option, Some, None, slice_get, slice_index, length}
 use Rattle.nef_space.specs.Sets.{Set}
 use Rattle.nef_geo.specs.Shapes.{given_form}
 use Rattle.law_turns.specs.Turned.{turned_set}
 use Rattle.nef_combine.specs.Sets.{op_set}
 use Rattle.nef_complex.specs.declared.complex.Complex.{Complex}
-use Rattle.nef_complex.specs.Complexes.{ShowsSet}
+use Rattle.nef_complex.specs.Complexes.{ShowsSet, complex_of}
+use Rattle.nef_core.specs.declared.how.TextVersion.{TextVersion}
 use Rattle.nef_expr.specs.declared.nodes.Node.{Node}
 use Rattle.nef_expr.specs.Nodes.{operand, node_set}
 use Rattle.nef_ops.specs.Nodes.{constant_set, unary_set}
+use Rattle.nef_parts.specs.declared.parts.Parts.{Parts}
+use Rattle.nef_parts.specs.Numbers.{IsParts}
+use Rattle.nef_parts.specs.Text.{text, Text}
+use Rattle.std.specs.declared.vec.Vec.{Vec}
+use Rattle.nef_statement.specs.Texts.{IsWrittenOf}
 use Rattle.nef_shell.specs.declared.operation.Means.{Means}
 use Rattle.nef_shell.specs.declared.operation.Operation.{Operation}
 use Rattle.nef_shell.specs.declared.operation.Operation.TheVariants.{Constant, Half, Unary, Binary, Turned}
@@ -79,6 +85,35 @@ IsGone list k = slice_get list k ≡ Some None
 -- no complex is kept whose last use is among the first n commands
 abbrev pub IsLean : List ℕ → ℕ → List (Option Complex) → Type 0
 IsLean uses n list = (k : ℕ) → k < length list → slice_index uses k < n → IsGone list k
+
+-- each thing that is there was made of the complex at its place, which is there too
+abbrev pub AreMadeOf : {X : Type 0} → (Complex → X → Type 0) → List (Option Complex) → List (Option X) → Type 0
+AreMadeOf {X} IsMade list things = (k : ℕ) (x : X) → slice_get things k ≡ Some (Some x) → (c : Complex) × (slice_get list k ≡ Some (Some c)) × IsMade c x
+
+-- the parts of complexes, and their texts in one version
+abbrev pub ArePartsOf : List (Option Complex) → List (Option Parts) → Type 0
+ArePartsOf list parts = AreMadeOf (λ c p. IsParts (complex_of c) p) list parts
+
+abbrev pub AreTextsOf : {Z : Type 0} → TextVersion → List (Option Complex) → List (Option (Vec ℕ Z)) → Type 0
+AreTextsOf {Z} version list texts = AreMadeOf (λ c (x : Vec ℕ Z). Text version c x.items) list texts
+
+-- something is there for node k
+abbrev pub IsThere : {X : Type 0} → List (Option X) → ℕ → Type 0
+IsThere {X} things k = (x : X) × (slice_get things k ≡ Some (Some x))
+
+-- the complex of node k is there with its parts, and shows the node's set
+abbrev pub HasParts : List Node → List (Option Complex) → List (Option Parts) → ℕ → Type 0
+HasParts nodes list parts k = (c : Complex) × (p : Parts) × (slice_get list k ≡ Some (Some c)) × (slice_get parts k ≡ Some (Some p)) × ShowsSet (node_set nodes k) c × IsParts (complex_of c) p
+
+-- a text of the set of node k is there
+abbrev pub HasText : {Z : Type 0} → TextVersion → List Node → List (Option (Vec ℕ Z)) → ℕ → Type 0
+HasText {Z} version nodes texts k = (x : Vec ℕ Z) × (slice_get texts k ≡ Some (Some x)) × IsWrittenOf (node_set nodes k) (text version) x.items
+
+-- each complex that is there shows the set of its node, and the parts and texts that are there are of complexes that are: so none is kept longer than its complex
+pub record AreHeld {Z : Type 0} (version : TextVersion) (nodes : List Node) (list : List (Option Complex)) (parts : List (Option Parts)) (texts : List (Option (Vec ℕ Z))) : Type 0 where
+  pub shown : AreShown nodes list
+  pub parts_of : ArePartsOf list parts
+  pub texts_of : AreTextsOf version list texts
 
 -- the nodes in question have their complexes; each complex that was there stays, and no other is there
 pub record AreBound (nodes : List Node) (InQuestion : ℕ → Type 0) (old new : List (Option Complex)) : Type 0 where

@@ -6,7 +6,8 @@ use Rattle.nef_expr.specs.declared.nodes.Node.{Node}
 use Rattle.nef_expr.specs.Nodes.{node_set}
 use Rattle.nef_script.specs.declared.script.Command.{Command}
 use Rattle.nef_script.specs.declared.script.Command.TheVariants.{Print}
-use Rattle.nef_shell.specs.Output.{framed, IsOutput}
+use Rattle.nef_statement.specs.Output.{framed}
+use Rattle.nef_shell.specs.Output.{IsOutput}
 use Rattle.nef_shell.specs.Written.{TextTells}
 
 -- The command with this number prints node k, and x is the text in its place in the output.

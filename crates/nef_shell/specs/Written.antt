@@ -1,15 +1,16 @@
 -- What is written of sets tells which sets are one, and which points belong to them.
-use Rattle.std.specs.Prelude.{◌≡◌, ℕ, List, [], ◌∷◌, ◌↔◌}
+use Rattle.std.specs.Prelude.{◌≡◌, ℕ, List, ◌↔◌}
 use Rattle.nef_space.specs.Local.{SameSet}
 use Rattle.nef_space.specs.Place.{Place, InFrame}
 use Rattle.nef_space.specs.Sets.{Set, Holds}
 use Rattle.law_complex.specs.Belongs.{Belongs}
-use Rattle.nef_conn.specs.Components.{HasComponents}
 use Rattle.nef_complex.specs.declared.complex.Complex.{Complex}
 use Rattle.nef_complex.specs.Complexes.{complex_of}
 use Rattle.nef_core.specs.declared.how.TextVersion.{TextVersion}
-use Rattle.nef_parts.specs.Text.{line, numbers, text, Spells}
-use Rattle.nef_shell.specs.Output.{IsWrittenOf, count_line, printed}
+use Rattle.nef_parts.specs.Text.{text, Spells}
+use Rattle.nef_shell.specs.Output.{printed}
+use Rattle.nef_statement.specs.Texts.{IsWrittenOf, count_line}
+use Rattle.nef_statement.specs.Written.{CountTells}
 
 -- the texts of two sets, in one version, are equal exactly where the sets are the same
 abbrev pub TextsTellSets : Type 0
@@ -27,18 +28,6 @@ pub record TextTells (version : TextVersion) (s : Set) (x : List ℕ) : Type 0 w
 -- so does the text of each set
 abbrev pub TextHolds : Type 0
 TextHolds = (version : TextVersion) (s : Set) (x : List ℕ) → IsWrittenOf s (text version) x → TextTells version s x
-
--- the four numbers are those of the connected components of the points with no, one, two and three flat directions, over all of space
-pub record CountTells (s : Set) (x : List ℕ) : Type 0 where
-  pub vertices : ℕ
-  pub edges : ℕ
-  pub facets : ℕ
-  pub volumes : ℕ
-  pub is : x ≡ line (numbers (vertices ∷ edges ∷ facets ∷ volumes ∷ []))
-  pub no_direction : HasComponents s 0 vertices
-  pub one_direction : HasComponents s 1 edges
-  pub two_directions : HasComponents s 2 facets
-  pub three_directions : HasComponents s 3 volumes
 
 -- so it is of what is counted of each set
 abbrev pub CountsComponents : Type 0

@@ -14,7 +14,7 @@ ghost use Rattle.nef_shell.specs.Operations.{AreMeans, AreShown, IsKept};
 
 use crate::bindings::{Binding, bindings_of};
 use crate::operation::Means;
-use crate::sets::no_complexes;
+use crate::sets::empty_places;
 use crate::stage::work_bindings;
 use crate::uses::{bound_node, looked_at};
 use nef_complex::Complex;
@@ -120,7 +120,7 @@ fn placed(
     ensures count { IfOk result (λ v. vec_len v ≡ length nodes.now) }
     ensures placed { IfOk result (λ v. ArePlaced nodes.now bindings.now (HasResult results.old) v.items) }
 {
-    let mut complexes = no_complexes(alloc, nodes.len())?;
+    let mut complexes = empty_places(alloc, nodes.len())?;
     let list = complexes.as_mut_slice();
     for (n, binding) in bindings.iter().enumerate() {
         put(nodes, list, binding, &mut results[n]);

@@ -1,7 +1,7 @@
 //! The answers to questions.
 
 ghost use Rattle.std.specs.Prelude.{◌≡◌};
-ghost use Rattle.nef_shell.specs.Output.{answer_of, joined_answer, same_answer};
+ghost use Rattle.nef_statement.specs.Output.{answer_of, joined_answer, same_answer};
 
 use nef_geo::Label;
 

@@ -2,7 +2,9 @@
 
 ghost use Rattle.std.specs.Prelude.{◌≡◌, IfOk, IsOk, IsErr};
 ghost use Rattle.std.specs.Process.{exit_status};
-ghost use Rattle.nef_shell.specs.Traffic.{traffic};
+ghost use Rattle.nef_statement.specs.Statement.{ProgramSays};
+ghost use Rattle.nef_statement.specs.Texts.{IsText};
+ghost use Rattle.nef_statement.specs.Traffic.{traffic};
 ghost use Rattle.nef_shell.specs.Program.{IsCollected, ProgramEnds};
 
 use crate::status::{Status, code};
@@ -42,6 +44,7 @@ pub fn program<R: Threads + Wait + Sync, S: Source, K: Sink, G: Gate + Sync>(
     sink: &mut K,
     gate: &G,
 ) -> ExitCode
+    ensures says { ProgramSays IsText line (exit_status result) (traffic S.rest S.faults K.written K.faults source.old source.new sink.old sink.new) }
     ensures ends { ProgramEnds line (exit_status result) (traffic S.rest S.faults K.written K.faults source.old source.new sink.old sink.new) }
 {
     let Ok(line) = collected(alloc, line) else {

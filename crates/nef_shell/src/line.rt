@@ -1,7 +1,7 @@
 //! The line that a refused script gives.
 
 ghost use Rattle.std.specs.Prelude.{◌≡◌, IfOk};
-ghost use Rattle.nef_shell.specs.Output.{refusal_line};
+ghost use Rattle.nef_statement.specs.Output.{refusal_line};
 
 use itoa::Buffer;
 use nef_script::ScriptKind;

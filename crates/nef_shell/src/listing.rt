@@ -1,18 +1,18 @@
 //! What is written of a set: its numbers, and its text.
 
-ghost use Rattle.std.specs.Prelude.{◌≡◌, IfOk};
-ghost use Rattle.nef_space.specs.Sets.{Set};
-ghost use Rattle.nef_complex.specs.Complexes.{ShowsSet, complex_of};
-ghost use Rattle.nef_parts.specs.Numbers.{IsParts};
-ghost use Rattle.nef_shell.specs.Output.{count_line, printed, IsWrittenOf};
+ghost use Rattle.std.specs.Prelude.{◌≡◌, IfOk, OnOk};
+ghost use Rattle.nef_expr.specs.Nodes.{node_set};
+ghost use Rattle.nef_shell.specs.Operations.{IsKept, ArePartsOf, AreHeld};
+ghost use Rattle.nef_shell.specs.Output.{printed};
+ghost use Rattle.nef_statement.specs.Output.{framed};
+ghost use Rattle.nef_statement.specs.Texts.{count_line, IsWrittenOf};
 
+use crate::sets::Sets;
 use itoa::Buffer;
-use nef_canon::write_text;
 use nef_complex::Complex;
 use nef_core::TextVersion;
 use nef_parts::Parts;
 use nef_script::Name;
-use nef_volumes::parts_beside;
 use std::alloc::{AllocError, Global};
 use std::thread::Threads;
 
@@ -33,53 +33,59 @@ fn count_line(alloc: Global, complex: &Complex, parts: &Parts) -> Result<Vec<u8>
 }
 
 // The text under its name.
-fn printed(
-    alloc: Global,
-    name: &Name,
-    complex: &Complex,
-    parts: &Parts,
-    version: TextVersion,
-) -> Result<Vec<u8>, AllocError>
-    requires parts { IsParts (complex_of complex.now) parts.now }
-    ensures bytes { IfOk result (λ v. v.items ≡ printed version name.now complex.now parts.now) }
+fn printed(alloc: Global, name: &Name, text: &[u8]) -> Result<Vec<u8>, AllocError>
+    ensures bytes { IfOk result (λ v. v.items ≡ framed name.now text.now) }
 {
-    let text = write_text(alloc, complex, parts, version)?;
     let mut bytes = Vec::from_slice(alloc, b"polyhedron ")?;
     bytes.extend_from_slice(name.as_bytes())?;
     bytes.push(b'\n')?;
-    bytes.extend_from_slice(&text)?;
+    bytes.extend_from_slice(text)?;
     bytes.extend_from_slice(b"end\n")?;
     Ok(bytes)
 }
 
-/// The numbers of vertices, edges, facets and volumes of the set that the complex shows, in one line. `AllocError` says
-/// that memory was wanted and not found.
+/// The numbers of vertices, edges, facets and volumes of the node's set, in one line. Its parts are worked unless they
+/// are there. `AllocError` says that memory was wanted and not found.
 pub(crate) fn count_piece<R: Threads + Sync>(
     rt: &R,
     alloc: Global,
-    complex: &Complex,
+    sets: &mut Sets,
+    node: usize,
     workers: u32,
 ) -> Result<Vec<u8>, AllocError>
-    requires shows { (s : Set) × ShowsSet s complex.now }
-    ensures piece { IfOk result (λ v. (s : Set) → ShowsSet s complex.now → IsWrittenOf s count_line v.items) }
+    requires kept { IsKept sets.old.nodes.now sets.old.list.items node }
+    requires parts { ArePartsOf sets.old.list.items sets.old.parts.items }
+    ensures piece { IfOk result (λ v. IsWrittenOf (node_set sets.old.nodes.now node) count_line v.items) }
+    ensures parts { OnOk result (ArePartsOf sets.old.list.items sets.new.parts.items) }
+    ensures list { sets.new.list ≡ sets.old.list }
+    ensures texts { sets.new.texts ≡ sets.old.texts }
+    ensures nodes { sets.new.nodes ≡ sets.old.nodes }
+    ensures uses { sets.new.last_uses ≡ sets.old.last_uses }
 {
-    let parts = parts_beside(rt, alloc, complex, workers)?;
-    count_line(alloc, complex, &parts)
+    sets.work_parts(rt, alloc, node, workers)?;
+    let (complex, parts) = sets.get_with_parts(node);
+    count_line(alloc, complex, parts)
 }
 
-/// The text of the set that the complex shows, in this version, under its name. `AllocError` says that memory was wanted
-/// and not found.
+/// The text of the node's set, in this version, under its name. Text and parts are worked unless they are there.
+/// `AllocError` says that memory was wanted and not found.
 pub(crate) fn print_piece<R: Threads + Sync>(
     rt: &R,
     alloc: Global,
+    sets: &mut Sets,
+    node: usize,
     name: &Name,
-    complex: &Complex,
     version: TextVersion,
     workers: u32,
 ) -> Result<Vec<u8>, AllocError>
-    requires shows { (s : Set) × ShowsSet s complex.now }
-    ensures piece { IfOk result (λ v. (s : Set) → ShowsSet s complex.now → IsWrittenOf s (printed version name.now) v.items) }
+    requires kept { IsKept sets.old.nodes.now sets.old.list.items node }
+    requires held { AreHeld version sets.old.nodes.now sets.old.list.items sets.old.parts.items sets.old.texts.items }
+    ensures piece { IfOk result (λ v. IsWrittenOf (node_set sets.old.nodes.now node) (printed version name.now) v.items) }
+    ensures held { OnOk result (AreHeld version sets.old.nodes.now sets.old.list.items sets.new.parts.items sets.new.texts.items) }
+    ensures list { sets.new.list ≡ sets.old.list }
+    ensures nodes { sets.new.nodes ≡ sets.old.nodes }
+    ensures uses { sets.new.last_uses ≡ sets.old.last_uses }
 {
-    let parts = parts_beside(rt, alloc, complex, workers)?;
-    printed(alloc, name, complex, &parts, version)
+    sets.work_text(rt, alloc, node, version, workers)?;
+    printed(alloc, name, sets.text(node))
 }

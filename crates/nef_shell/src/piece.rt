@@ -1,12 +1,12 @@
 //! What is written of a command that asks.
 
-ghost use Rattle.std.specs.Prelude.{◌≡◌, ℕ, IfOk, length};
+ghost use Rattle.std.specs.Prelude.{◌≡◌, ℕ, IfOk, OnOk, length};
 ghost use Rattle.nef_space.specs.Local.{HasLabel};
 ghost use Rattle.nef_geo.specs.Shapes.{place_of};
 ghost use Rattle.nef_expr.specs.Nodes.{node_set};
 ghost use Rattle.nef_script.specs.Commands.{LooksAt};
 ghost use Rattle.nef_script.specs.Meaning.{IsWithin};
-ghost use Rattle.nef_shell.specs.Operations.{IsKept};
+ghost use Rattle.nef_shell.specs.Operations.{IsKept, AreHeld};
 ghost use Rattle.nef_shell.specs.Output.{IsPiece};
 ghost use Rattle.nef_shell.specs.Pieces.{piece_bytes};
 
@@ -56,19 +56,24 @@ fn label_at(sets: &Sets, node: usize, point: &Point) -> Label
     }
 }
 
-/// What is written of the command, with a text of this version: nothing, where it binds a name. `AllocError` says that
-/// memory was wanted and not found.
+/// What is written of the command, with a text of this version: nothing, where it binds a name. Of the set that it asks
+/// about, parts and text are kept when they are worked. `AllocError` says that memory was wanted and not found.
 pub(crate) fn piece_of<R: Threads + Sync>(
     rt: &R,
     alloc: Global,
-    sets: &Sets,
+    sets: &mut Sets,
     command: &Command,
     text: TextVersion,
     workers: u32,
 ) -> Result<Piece, AllocError>
-    requires within { IsWithin (length sets.now.nodes.now) command.now }
-    requires kept { (k : ℕ) → LooksAt sets.now.nodes.now command.now k → IsKept sets.now.nodes.now sets.now.list.items k }
-    ensures piece { IfOk result (λ p. IsPiece text sets.now.nodes.now command.now (piece_bytes p)) }
+    requires within { IsWithin (length sets.old.nodes.now) command.now }
+    requires kept { (k : ℕ) → LooksAt sets.old.nodes.now command.now k → IsKept sets.old.nodes.now sets.old.list.items k }
+    requires held { AreHeld text sets.old.nodes.now sets.old.list.items sets.old.parts.items sets.old.texts.items }
+    ensures piece { IfOk result (λ p. IsPiece text sets.old.nodes.now command.now (piece_bytes p)) }
+    ensures held { OnOk result (AreHeld text sets.old.nodes.now sets.old.list.items sets.new.parts.items sets.new.texts.items) }
+    ensures list { sets.new.list ≡ sets.old.list }
+    ensures nodes { sets.new.nodes ≡ sets.old.nodes }
+    ensures uses { sets.new.last_uses ≡ sets.old.last_uses }
 {
     match command {
         Command::Bind { .. } => Ok(Piece::Line(b"")),
@@ -80,7 +85,7 @@ pub(crate) fn piece_of<R: Threads + Sync>(
             second,
             ..
         } => {
-            let line = joined_piece(rt, alloc, sets.get(*node), first, second, workers)?;
+            let line = joined_piece(rt, alloc, sets, *node, first, second, workers)?;
             Ok(Piece::Line(line))
         }
         Command::Ray {
@@ -96,11 +101,11 @@ pub(crate) fn piece_of<R: Threads + Sync>(
             Ok(Piece::Line(same_answer(sets.same(*left, *right))))
         }
         Command::Count { node, .. } => {
-            let text = count_piece(rt, alloc, sets.get(*node), workers)?;
+            let text = count_piece(rt, alloc, sets, *node, workers)?;
             Ok(Piece::Text(text))
         }
         Command::Print { node, name, .. } => {
-            let text = print_piece(rt, alloc, name, sets.get(*node), text, workers)?;
+            let text = print_piece(rt, alloc, sets, *node, name, text, workers)?;
             Ok(Piece::Text(text))
         }
     }

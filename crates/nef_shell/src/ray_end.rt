@@ -5,7 +5,7 @@ ghost use Rattle.nef_space.specs.Sets.{Set};
 ghost use Rattle.nef_geo.specs.Shapes.{place_of, vector_of};
 ghost use Rattle.nef_complex.specs.Complexes.{ShowsSet};
 ghost use Rattle.nef_script.specs.Limits.{IsRayWithin};
-ghost use Rattle.nef_shell.specs.Output.{spaced, end_line, IsRayAnswer};
+ghost use Rattle.nef_statement.specs.Output.{spaced, end_line, IsRayAnswer};
 
 use crate::answer::answer;
 use itoa::Buffer;

@@ -10,7 +10,8 @@ ghost use Rattle.nef_script.specs.Commands.{AreBoundBefore, TurnsRight};
 ghost use Rattle.nef_script.specs.Meaning.{IsWithin};
 ghost use Rattle.nef_script.specs.Refusal.{FirstRefusal};
 ghost use Rattle.nef_script.specs.Stairs.{stairs_text};
-ghost use Rattle.nef_shell.specs.Answers.{IsRead, IsScriptFor, IsWorked};
+ghost use Rattle.nef_statement.specs.Answers.{IsRead, IsScriptFor};
+ghost use Rattle.nef_shell.specs.Answers.{IsWorked};
 
 use nef_io::{ReadAll, Source, read_all};
 use nef_script::{Script, ScriptFault, ScriptKind, parse, stairs};

@@ -1,48 +1,73 @@
-//! The complexes of the nodes.
+//! The complexes of the nodes, with their parts and their texts.
 
 ghost use Rattle.std.specs.Prelude.{◌≡◌, ◌+◌, ◌≤◌, ◌<◌, ◌↔◌, ◌⊎◌, ℕ, Some, IfOk, IfSome, IsTrue, OnOk, All, length, slice_get, slice_index, vec_len, []};
 ghost use Rattle.std.specs.Option.{option_copied};
 ghost use Rattle.nef_space.specs.Local.{SameSet};
 ghost use Rattle.nef_complex.specs.declared.complex.Complex.{Complex};
-ghost use Rattle.nef_complex.specs.Complexes.{ShowsSet};
+ghost use Rattle.nef_complex.specs.Complexes.{ShowsSet, complex_of};
+ghost use Rattle.nef_core.specs.declared.how.TextVersion.{TextVersion};
 ghost use Rattle.nef_expr.specs.Nodes.{node_set, sets_after};
+ghost use Rattle.nef_parts.specs.Numbers.{IsParts};
+ghost use Rattle.nef_parts.specs.Text.{text};
 ghost use Rattle.nef_script.specs.Commands.{LooksAt, Binds};
 ghost use Rattle.nef_script.specs.Meaning.{IsWithin};
 ghost use Rattle.nef_shell.specs.Commands.{AreLastUses, AreUses};
-ghost use Rattle.nef_shell.specs.Operations.{set_by, HasOperand, HasTurn, AreMeans, IsLent, AreShown, IsKept, IsGone, IsLean, AreBound};
+ghost use Rattle.nef_shell.specs.Operations.{set_by, HasOperand, HasTurn, AreMeans, IsLent, AreShown, IsKept, IsGone, IsLean, AreBound, ArePartsOf, AreTextsOf, IsThere, HasParts, HasText, AreHeld};
+ghost use Rattle.nef_statement.specs.Texts.{IsWrittenOf};
 
 use crate::operation::{Means, Operation, made};
 use crate::uses::{bound_node, last_uses, looked_at};
+use nef_canon::write_text;
 use nef_complex::Complex;
+use nef_core::TextVersion;
 use nef_expr::Nodes;
 use nef_io::Gate;
 use nef_ops::same;
+use nef_parts::Parts;
 use nef_script::{Command, Script};
+use nef_volumes::parts_beside;
 use std::alloc::{AllocError, Global};
 use std::sync::Wait;
 use std::thread::Threads;
 
 /// The complexes of a script's nodes: of each node that a command binds, from that command to the last
-/// one that looks at it.
+/// one that looks at it. Parts and text of a complex are worked when they are first asked for, and go with it.
 #[derive(Drop)]
 pub(crate) struct Sets<'a> {
     pub(crate) nodes: &'a Nodes,
     last_uses: Vec<usize>,
-    // A place for each node, in their order.
+    // A place for each node, in their order, and so in the next two lists.
     list: Vec<Option<Complex>>,
+    parts: Vec<Option<Parts>>,
+    texts: Vec<Option<Vec<u8>>>,
     ghost counted: { (vec_len last_uses ≡ length nodes.now) × (vec_len list ≡ length nodes.now) },
+    ghost beside: { (vec_len parts ≡ length nodes.now) × (vec_len texts ≡ length nodes.now) },
 }
 
-/// So many places without a complex. `AllocError` says that memory was wanted and not found.
-pub(crate) fn no_complexes(alloc: Global, count: usize) -> Result<Vec<Option<Complex>>, AllocError>
+/// So many places with nothing there. `AllocError` says that memory was wanted and not found.
+pub(crate) fn empty_places<X: Drop>(
+    alloc: Global,
+    count: usize,
+) -> Result<Vec<Option<X>>, AllocError>
     ensures count { IfOk result (λ v. vec_len v ≡ count) }
-    ensures empty { IfOk result (λ v. (k : ℕ) (c : Complex) → slice_get v.items k ≡ Some (Some c) → ⊥) }
+    ensures empty { IfOk result (λ v. (k : ℕ) (x : X) → slice_get v.items k ≡ Some (Some x) → ⊥) }
 {
     let mut list = Vec::with_capacity(alloc, count)?;
     for _ in 0..count {
         list.push(None)?;
     }
     Ok(list)
+}
+
+// What is there at the place.
+fn thing_at<X>(places: &[Option<X>], k: usize) -> &X
+    requires there { IsThere places.now k }
+    ensures at { slice_get places.now k ≡ Some (Some result.now) }
+{
+    match &places[k] {
+        Some(thing) => thing,
+        None => unreachable!(),
+    }
 }
 
 impl<'a> Sets<'a> {
@@ -57,13 +82,21 @@ impl<'a> Sets<'a> {
         requires count { vec_len list ≡ length script.now.nodes }
         ensures nodes { IfOk result (λ t. t.nodes.now ≡ script.entry.now.nodes) }
         ensures list { IfOk result (λ t. t.list ≡ list) }
+        ensures parts { IfOk result (λ t. ArePartsOf t.list.items t.parts.items) }
+        ensures texts { IfOk result (λ t. (version : TextVersion) → AreTextsOf version t.list.items t.texts.items) }
         ensures last { IfOk result (λ t. AreLastUses script.entry.now.nodes script.entry.now.commands t.last_uses.items) }
         ensures used { IfOk result (λ t. AreUses script.entry.now.nodes script.entry.now.commands t.last_uses.items) }
     {
+        let nodes = script.nodes();
+        let last_uses = last_uses(alloc, script)?;
+        let parts = empty_places(alloc, nodes.len())?;
+        let texts = empty_places(alloc, nodes.len())?;
         Ok(Sets {
-            nodes: script.nodes(),
-            last_uses: last_uses(alloc, script)?,
+            nodes,
+            last_uses,
             list,
+            parts,
+            texts,
         })
     }
 
@@ -71,11 +104,9 @@ impl<'a> Sets<'a> {
     pub(crate) fn get(&self, node: usize) -> &Complex
         requires kept { IsKept self.now.nodes.now self.now.list.items node }
         ensures shows { ShowsSet (node_set self.now.nodes.now node) result.now }
+        ensures at { slice_get self.now.list.items node ≡ Some (Some result.now) }
     {
-        match &self.list[node] {
-            Some(complex) => complex,
-            None => unreachable!(),
-        }
+        thing_at(&self.list, node)
     }
 
     // The complex of the node, if there is a node.
@@ -137,6 +168,8 @@ impl<'a> Sets<'a> {
         requires operands { (k : ℕ) → HasOperand operation k → IsKept self.old.nodes.now self.old.list.items k }
         ensures shown { OnOk result (AreShown self.new.nodes.now self.new.list.items) }
         ensures bound { OnOk result (AreBound self.old.nodes.now (λ k. k ≡ node) self.old.list.items self.new.list.items) }
+        ensures parts { self.new.parts ≡ self.old.parts }
+        ensures texts { self.new.texts ≡ self.old.texts }
         ensures nodes { self.new.nodes ≡ self.old.nodes }
         ensures uses { self.new.last_uses ≡ self.old.last_uses }
     {
@@ -148,11 +181,84 @@ impl<'a> Sets<'a> {
         Ok(())
     }
 
-    // Lets the complex of the node go, if there is a node and no command after this one looks at it.
+    /// Works the parts of the node's complex, unless they are there. `AllocError` says that memory was
+    /// wanted and not found.
+    pub(crate) fn work_parts<R: Threads + Sync>(
+        &mut self,
+        rt: &R,
+        alloc: Global,
+        node: usize,
+        workers: u32,
+    ) -> Result<(), AllocError>
+        requires kept { IsKept self.old.nodes.now self.old.list.items node }
+        requires parts { ArePartsOf self.old.list.items self.old.parts.items }
+        ensures has { OnOk result (HasParts self.new.nodes.now self.new.list.items self.new.parts.items node) }
+        ensures parts { OnOk result (ArePartsOf self.old.list.items self.new.parts.items) }
+        ensures list { self.new.list ≡ self.old.list }
+        ensures texts { self.new.texts ≡ self.old.texts }
+        ensures nodes { self.new.nodes ≡ self.old.nodes }
+        ensures uses { self.new.last_uses ≡ self.old.last_uses }
+    {
+        if self.parts[node].is_some() {
+            return Ok(());
+        }
+        let parts = parts_beside(rt, alloc, self.get(node), workers)?;
+        self.parts[node] = Some(parts);
+        Ok(())
+    }
+
+    /// The complex of the node, and its parts, which were worked.
+    pub(crate) fn get_with_parts(&self, node: usize) -> (&Complex, &Parts)
+        requires has { HasParts self.now.nodes.now self.now.list.items self.now.parts.items node }
+        ensures at { slice_get self.now.list.items node ≡ Some (Some result.0.now) }
+        ensures shows { ShowsSet (node_set self.now.nodes.now node) result.0.now }
+        ensures parts { IsParts (complex_of result.0.now) result.1.now }
+    {
+        (thing_at(&self.list, node), thing_at(&self.parts, node))
+    }
+
+    /// Works the text of the node's complex, in this version, unless it is there. `AllocError` says that memory
+    /// was wanted and not found.
+    pub(crate) fn work_text<R: Threads + Sync>(
+        &mut self,
+        rt: &R,
+        alloc: Global,
+        node: usize,
+        version: TextVersion,
+        workers: u32,
+    ) -> Result<(), AllocError>
+        requires kept { IsKept self.old.nodes.now self.old.list.items node }
+        requires held { AreHeld version self.old.nodes.now self.old.list.items self.old.parts.items self.old.texts.items }
+        ensures has { OnOk result (HasText version self.new.nodes.now self.new.texts.items node) }
+        ensures held { OnOk result (AreHeld version self.old.nodes.now self.old.list.items self.new.parts.items self.new.texts.items) }
+        ensures list { self.new.list ≡ self.old.list }
+        ensures nodes { self.new.nodes ≡ self.old.nodes }
+        ensures uses { self.new.last_uses ≡ self.old.last_uses }
+    {
+        if self.texts[node].is_some() {
+            return Ok(());
+        }
+        self.work_parts(rt, alloc, node, workers)?;
+        let (complex, parts) = self.get_with_parts(node);
+        let text = write_text(alloc, complex, parts, version)?;
+        self.texts[node] = Some(text);
+        Ok(())
+    }
+
+    /// The text of the node's complex, which was worked.
+    pub(crate) fn text(&self, node: usize) -> &[u8]
+        requires has { (version : TextVersion) × HasText version self.now.nodes.now self.now.texts.items node }
+        ensures written { (version : TextVersion) → HasText version self.now.nodes.now self.now.texts.items node → IsWrittenOf (node_set self.now.nodes.now node) (text version) result.now }
+    {
+        thing_at(&self.texts, node)
+    }
+
+    // Lets the complex of the node go, with its parts and its text, if there is a node and no command after this one
+    // looks at it.
     fn release_one(&mut self, node: Option<usize>, now: usize)
         requires within { IfSome node (λ k. k < length self.old.nodes.now) }
         ensures count { length self.new.list.items ≡ length self.old.list.items }
-        ensures shown { AreShown self.old.nodes.now self.old.list.items → AreShown self.new.nodes.now self.new.list.items }
+        ensures held { (version : TextVersion) → AreHeld version self.old.nodes.now self.old.list.items self.old.parts.items self.old.texts.items → AreHeld version self.new.nodes.now self.new.list.items self.new.parts.items self.new.texts.items }
         ensures kept { (k : ℕ) → now < slice_index self.old.last_uses.items k → IsKept self.old.nodes.now self.old.list.items k → IsKept self.new.nodes.now self.new.list.items k }
         ensures gone { (k : ℕ) → node ≡ Some k → slice_index self.old.last_uses.items k ≤ now → IsGone self.new.list.items k }
         ensures stays { (k : ℕ) → IsGone self.old.list.items k → IsGone self.new.list.items k }
@@ -163,16 +269,18 @@ impl<'a> Sets<'a> {
             && self.last_uses[k] <= now
         {
             self.list[k] = None;
+            self.parts[k] = None;
+            self.texts[k] = None;
         }
     }
 
-    /// Lets the complexes go that no command after this one looks at. `now` is the number of the
-    /// command, counted from 0.
+    /// Lets the complexes go, with their parts and texts, that no command after this one looks at. `now` is the number
+    /// of the command, counted from 0.
     pub(crate) fn release(&mut self, command: &Command, now: usize)
         requires within { IsWithin (length self.old.nodes.now) command.now }
         requires used { (k : ℕ) → k < length self.old.list.items → slice_index self.old.last_uses.items k < now + 1 → IsGone self.old.list.items k ⊎ (LooksAt self.old.nodes.now command.now k ⊎ Binds command.now k) }
         ensures count { length self.new.list.items ≡ length self.old.list.items }
-        ensures shown { AreShown self.old.nodes.now self.old.list.items → AreShown self.new.nodes.now self.new.list.items }
+        ensures held { (version : TextVersion) → AreHeld version self.old.nodes.now self.old.list.items self.old.parts.items self.old.texts.items → AreHeld version self.new.nodes.now self.new.list.items self.new.parts.items self.new.texts.items }
         ensures kept { (k : ℕ) → now < slice_index self.old.last_uses.items k → IsKept self.old.nodes.now self.old.list.items k → IsKept self.new.nodes.now self.new.list.items k }
         ensures lean { IsLean self.old.last_uses.items (now + 1) self.new.list.items }
         ensures nodes { self.new.nodes ≡ self.old.nodes }

@@ -10,7 +10,7 @@ ghost use Rattle.nef_shell.specs.Bindings.{AreBindings, first_need, second_need,
 ghost use Rattle.nef_shell.specs.Operations.{AreMeans};
 
 use crate::bindings::Binding;
-use crate::operation::{Means, made};
+use crate::operation::{Means, Operation, made};
 use nef_complex::Complex;
 use nef_core::How;
 use nef_expr::Nodes;
@@ -23,10 +23,12 @@ use std::thread::Threads;
 /// The bindings of a script, each of which is worked by a call.
 ///
 /// The call is no method, since a method of a stage can't hand the stage's own runtime to a thread.
+/// Where the gate holds jobs back, each binding counts as heavy.
 #[derive(Drop)]
 struct Bindings<'n, 'b, F> {
     nodes: &'n Nodes,
     list: &'b [Binding],
+    holds: bool,
     work: F,
 }
 
@@ -56,6 +58,16 @@ impl<F: Fn(usize, bool, &Results<Complex>) -> Result<Complex, AllocError> + Sync
         self.list[n].needs
     }
 
+    fn load(&self, n: usize, done: &Results<Complex>) -> u64 {
+        if self.holds {
+            return u64::MAX;
+        }
+        let binding = &self.list[n];
+        let first = vertices(needed(done, binding.needs.first));
+        let second = vertices(needed(done, binding.needs.second));
+        load_of(&binding.operation, first.saturating_add(second))
+    }
+
     fn work(
         &self,
         _alloc: Global,
@@ -75,6 +87,27 @@ fn needed(done: &Results<Complex>, need: Option<usize>) -> Option<&Complex>
         Some(n) => done.get(n),
         None => None,
     }
+}
+
+// How many vertices a complex has that there is.
+fn vertices(complex: Option<&Complex>) -> u64 {
+    match complex {
+        Some(complex) => complex.vertices.len() as u64,
+        None => 0,
+    }
+}
+
+// How many microseconds an operation takes on sets of few vertices.
+const LEAST: u64 = 30;
+
+// How many microseconds the operation may take on sets with so many vertices.
+fn load_of(operation: &Operation, vertices: u64) -> u64 {
+    let each = match *operation {
+        Operation::Constant(_) | Operation::Half { .. } => 0,
+        Operation::Unary(..) | Operation::Turned(..) => 1,
+        Operation::Binary(..) => 3,
+    };
+    vertices.saturating_mul(each).saturating_add(LEAST)
 }
 
 // What a binding is worked with: one worker, unless it is alone.
@@ -146,6 +179,7 @@ pub(crate) fn work_bindings<R: Threads + Wait + Sync, G: Gate + Sync>(
     let stage = Bindings {
         nodes,
         list: bindings,
+        holds: gate.holds(),
         work,
     };
     run_lean(rt, alloc, &stage, means.how.workers, wanted)

@@ -4,10 +4,13 @@ ghost use Rattle.std.specs.Prelude.{◌≡◌, ◌≤◌, ℕ, List, Some, IfSom
 ghost use Rattle.nef_space.specs.Limits.{most_stairs};
 ghost use Rattle.nef_io.specs.Bytes.{Rose, Grows, GrowsWithin};
 ghost use Rattle.nef_shell.specs.Status.{MatchStatus};
-ghost use Rattle.nef_shell.specs.Output.{refusal_line, words_line};
-ghost use Rattle.nef_shell.specs.Answers.{GiveStairs, GiveText, HasEnded};
+ghost use Rattle.nef_statement.specs.Output.{refusal_line, words_line};
+ghost use Rattle.nef_statement.specs.Answers.{GiveStairs, GiveText};
+ghost use Rattle.nef_statement.specs.Statement.{RunSays};
+ghost use Rattle.nef_statement.specs.Texts.{IsText};
+ghost use Rattle.nef_shell.specs.Answers.{HasEnded};
 ghost use Rattle.nef_shell.specs.Ended.{RunEnds};
-ghost use Rattle.nef_shell.specs.Traffic.{traffic, IsUnread};
+ghost use Rattle.nef_statement.specs.Traffic.{traffic, IsUnread};
 
 use crate::line::refusal_line;
 use crate::script::{NoScript, script_for};
@@ -117,6 +120,7 @@ pub fn run<R: Threads + Wait + Sync, S: Source, K: Sink, G: Gate + Sync>(
     sink: &mut K,
     gate: &G,
 ) -> Status
+    ensures says { RunSays IsText (map string_bytes words.now) result (traffic S.rest S.faults K.written K.faults source.old source.new sink.old sink.new) }
     ensures ends { RunEnds (map string_bytes words.now) result (traffic S.rest S.faults K.written K.faults source.old source.new sink.old sink.new) }
 {
     match read_words(alloc, words) {

@@ -1,17 +1,17 @@
 //! Works a script's commands.
 
-ghost use Rattle.std.specs.Prelude.{◌≡◌, ◌≤◌, ℕ, false, IfOk, OnOk, IfErr, length, vec_len};
+ghost use Rattle.std.specs.Prelude.{◌≡◌, ◌+◌, ◌≤◌, ◌<◌, ◌⊎◌, ℕ, false, IfOk, OnOk, IfErr, length, slice_index, vec_len};
 ghost use Rattle.nef_script.specs.Commands.{LooksAt, Binds, TurnsRight};
 ghost use Rattle.nef_script.specs.Meaning.{IsWithin};
 ghost use Rattle.nef_shell.specs.Bindings.{IsWorked, AreFirst};
-ghost use Rattle.nef_shell.specs.Commands.{AreWorkable};
-ghost use Rattle.nef_shell.specs.Operations.{AreMeans, AreShown, IsKept, AreBound};
+ghost use Rattle.nef_shell.specs.Commands.{AreWorkable, AreLastUses, AreUses};
+ghost use Rattle.nef_shell.specs.Operations.{AreMeans, IsKept, IsGone, IsLean, AreBound, AreHeld};
 ghost use Rattle.nef_shell.specs.Working.{HasWritten, HasStopped, WorkEnds};
 
 use crate::ahead::worked_ahead;
 use crate::operation::Means;
 use crate::piece::piece_of;
-use crate::sets::{Sets, no_complexes};
+use crate::sets::{Sets, empty_places};
 use crate::stop::Stop;
 use crate::uses::bound;
 use nef_complex::Complex;
@@ -28,16 +28,21 @@ use std::thread::Threads;
 fn write_piece<R: Threads + Sync, K: Sink>(
     rt: &R,
     alloc: Global,
-    sets: &Sets,
+    sets: &mut Sets,
     command: &Command,
     text: TextVersion,
     workers: u32,
     sink: &mut K,
 ) -> Result<(), Stop>
-    requires within { IsWithin (length sets.now.nodes.now) command.now }
-    requires kept { (k : ℕ) → LooksAt sets.now.nodes.now command.now k → IsKept sets.now.nodes.now sets.now.list.items k }
-    ensures done { OnOk result (HasWritten text sets.now.nodes.now command.now (K.written sink.old) (K.written sink.new)) }
-    ensures stopped { IfErr result (HasStopped text sets.now.nodes.now command.now (K.written sink.old) (K.written sink.new) (K.faults sink.old) (K.faults sink.new)) }
+    requires within { IsWithin (length sets.old.nodes.now) command.now }
+    requires kept { (k : ℕ) → LooksAt sets.old.nodes.now command.now k → IsKept sets.old.nodes.now sets.old.list.items k }
+    requires held { AreHeld text sets.old.nodes.now sets.old.list.items sets.old.parts.items sets.old.texts.items }
+    ensures done { OnOk result (HasWritten text sets.old.nodes.now command.now (K.written sink.old) (K.written sink.new)) }
+    ensures held { OnOk result (AreHeld text sets.old.nodes.now sets.old.list.items sets.new.parts.items sets.new.texts.items) }
+    ensures list { sets.new.list ≡ sets.old.list }
+    ensures nodes { sets.new.nodes ≡ sets.old.nodes }
+    ensures uses { sets.new.last_uses ≡ sets.old.last_uses }
+    ensures stopped { IfErr result (HasStopped text sets.old.nodes.now command.now (K.written sink.old) (K.written sink.new) (K.faults sink.old) (K.faults sink.new)) }
     ensures quiet { OnOk result (K.faults sink.new ≡ K.faults sink.old) }
     ensures count { K.faults sink.old ≤ K.faults sink.new }
 {
@@ -62,10 +67,10 @@ fn work_command<R: Threads + Wait + Sync, K: Sink, G: Gate + Sync>(
     requires means { AreMeans means.now }
     requires within { IsWithin (length sets.old.nodes.now) command.now }
     requires turned { TurnsRight sets.old.nodes.now command.now }
-    requires shown { AreShown sets.old.nodes.now sets.old.list.items }
+    requires held { AreHeld text sets.old.nodes.now sets.old.list.items sets.old.parts.items sets.old.texts.items }
     requires kept { IsWorked ahead command.now → (k : ℕ) → LooksAt sets.old.nodes.now command.now k → IsKept sets.old.nodes.now sets.old.list.items k }
     ensures done { OnOk result (HasWritten text sets.old.nodes.now command.now (K.written sink.old) (K.written sink.new)) }
-    ensures shown { OnOk result (AreShown sets.new.nodes.now sets.new.list.items) }
+    ensures held { OnOk result (AreHeld text sets.old.nodes.now sets.new.list.items sets.new.parts.items sets.new.texts.items) }
     ensures bound { OnOk result (AreBound sets.old.nodes.now (λ k. (ahead ≡ false) × Binds command.now k) sets.old.list.items sets.new.list.items) }
     ensures nodes { sets.new.nodes ≡ sets.old.nodes }
     ensures uses { sets.new.last_uses ≡ sets.old.last_uses }
@@ -83,6 +88,43 @@ fn work_command<R: Threads + Wait + Sync, K: Sink, G: Gate + Sync>(
             Ok(())
         }
     }
+}
+
+// Works the command with this number, counted from 0, and then lets go what no later command looks at. No set is kept
+// before whose last use has come, and none after.
+fn step<R: Threads + Wait + Sync, K: Sink, G: Gate + Sync>(
+    rt: &R,
+    alloc: Global,
+    sets: &mut Sets,
+    command: &Command,
+    now: usize,
+    ahead: bool,
+    means: &Means,
+    text: TextVersion,
+    sink: &mut K,
+    gate: &G,
+) -> Result<(), Stop>
+    requires means { AreMeans means.now }
+    requires within { IsWithin (length sets.old.nodes.now) command.now }
+    requires turned { TurnsRight sets.old.nodes.now command.now }
+    requires held { AreHeld text sets.old.nodes.now sets.old.list.items sets.old.parts.items sets.old.texts.items }
+    requires kept { IsWorked ahead command.now → (k : ℕ) → LooksAt sets.old.nodes.now command.now k → IsKept sets.old.nodes.now sets.old.list.items k }
+    requires lean { IsLean sets.old.last_uses.items now sets.old.list.items }
+    requires used { (k : ℕ) → k < length sets.old.list.items → slice_index sets.old.last_uses.items k ≡ now → IsGone sets.old.list.items k ⊎ LooksAt sets.old.nodes.now command.now k }
+    ensures done { OnOk result (HasWritten text sets.old.nodes.now command.now (K.written sink.old) (K.written sink.new)) }
+    ensures held { OnOk result (AreHeld text sets.old.nodes.now sets.new.list.items sets.new.parts.items sets.new.texts.items) }
+    ensures lean { OnOk result (IsLean sets.old.last_uses.items (now + 1) sets.new.list.items) }
+    ensures kept { OnOk result ((k : ℕ) → now < slice_index sets.old.last_uses.items k → IsKept sets.old.nodes.now sets.old.list.items k → IsKept sets.old.nodes.now sets.new.list.items k) }
+    ensures bound { OnOk result ((k : ℕ) → now < slice_index sets.old.last_uses.items k → ahead ≡ false → Binds command.now k → IsKept sets.old.nodes.now sets.new.list.items k) }
+    ensures nodes { sets.new.nodes ≡ sets.old.nodes }
+    ensures uses { sets.new.last_uses ≡ sets.old.last_uses }
+    ensures stopped { IfErr result (HasStopped text sets.old.nodes.now command.now (K.written sink.old) (K.written sink.new) (K.faults sink.old) (K.faults sink.new)) }
+    ensures quiet { OnOk result (K.faults sink.new ≡ K.faults sink.old) }
+    ensures count { K.faults sink.old ≤ K.faults sink.new }
+{
+    work_command(rt, alloc, sets, command, ahead, means, text, sink, gate)?;
+    sets.release(command, now);
+    Ok(())
 }
 
 // The complexes that the work begins with, each at its node's place: where all bindings are worked ahead, those that
@@ -103,11 +145,42 @@ fn first_complexes<R: Threads + Wait + Sync, G: Gate + Sync>(
     if ahead {
         worked_ahead(rt, alloc, script, means, gate)
     } else {
-        no_complexes(alloc, script.nodes().len())
+        empty_places(alloc, script.nodes().len())
     }
 }
 
-// Works the commands in order, and writes the piece of each when it is worked.
+// Works the commands in order, and writes the piece of each when it is worked. Between them no set is kept whose last use
+// has come.
+fn work_commands<R: Threads + Wait + Sync, K: Sink, G: Gate + Sync>(
+    rt: &R,
+    alloc: Global,
+    sets: &mut Sets,
+    script: &Script,
+    ahead: bool,
+    means: &Means,
+    text: TextVersion,
+    sink: &mut K,
+    gate: &G,
+) -> Result<(), Stop>
+    requires means { AreMeans means.now }
+    requires workable { AreWorkable script.now.nodes script.now.commands }
+    requires nodes { sets.old.nodes.now ≡ script.now.nodes }
+    requires last { AreLastUses script.now.nodes script.now.commands sets.old.last_uses.items }
+    requires used { AreUses script.now.nodes script.now.commands sets.old.last_uses.items }
+    requires first { AreFirst script.now.nodes script.now.commands ahead sets.old.list.items }
+    requires held { AreHeld text script.now.nodes sets.old.list.items sets.old.parts.items sets.old.texts.items }
+    ensures ends { WorkEnds text script.now.nodes script.now.commands (K.written sink.old) (K.written sink.new) (K.faults sink.old) (K.faults sink.new) result }
+    ensures lean { OnOk result (IsLean sets.old.last_uses.items (length script.now.commands) sets.new.list.items) }
+{
+    for (now, command) in script.commands().iter().enumerate() {
+        step(
+            rt, alloc, sets, command, now, ahead, means, text, sink, gate,
+        )?;
+    }
+    Ok(())
+}
+
+// Works the commands, with the complexes that the work begins with.
 fn work_all<R: Threads + Wait + Sync, K: Sink, G: Gate + Sync>(
     rt: &R,
     alloc: Global,
@@ -124,13 +197,7 @@ fn work_all<R: Threads + Wait + Sync, K: Sink, G: Gate + Sync>(
 {
     let list = first_complexes(rt, alloc, script, ahead, means, gate)?;
     let mut sets = Sets::of(alloc, script, list)?;
-    for (now, command) in script.commands().iter().enumerate() {
-        work_command(
-            rt, alloc, &mut sets, command, ahead, means, text, sink, gate,
-        )?;
-        sets.release(command, now);
-    }
-    Ok(())
+    work_commands(rt, alloc, &mut sets, script, ahead, means, text, sink, gate)
 }
 
 /// Works the commands, and writes the piece of each in their order. Where the options say so, all bindings are worked

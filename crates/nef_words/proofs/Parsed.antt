@@ -1,5 +1,5 @@
 -- What clap says of the one command, and what the words then choose.
-use Rattle.std.proofs.Common.{◌≡◌, List, [], ◌∷◌, Option, Result, Ok, Err, IfOk, IfErr, None, refl, true, subst, sym, ap, ◌∙◌, inl, inr, codes}
+use Rattle.std.proofs.Common.{◌≡◌, ℕ, Bool, List, [], ◌∷◌, Option, Result, Ok, Err, IfOk, IfErr, None, refl, true, subst, sym, ap, ◌∙◌, inl, inr, codes}
 use Rattle.clap.specs.Words.{App, Text, Kinds, IsAmong, is_simple, is_simple_and_free, fault_of, found_of, matches_of, rows_of, first_of, first_value, kind_of, HasKind, FailsBy, HasMatchesOf}
 use Rattle.clap.specs.declared.ArgMatches.{ArgMatches}
 use Rattle.clap.specs.declared.Error.{Error}
@@ -7,9 +7,12 @@ use Rattle.clap.specs.declared.error.ErrorKind.{ErrorKind}
 use Rattle.clap.specs.declared.error.ErrorKind.TheVariants.{OutOfMemory}
 use Rattle.clap.proofs.OnLiterals.{clap_on_literals}
 use Rattle.clap.proofs.WalkLemmas.{first_value-rows}
+use Rattle.nef_core.specs.declared.how.BoardKind.{BoardKind}
+use Rattle.nef_core.specs.declared.how.TextVersion.{TextVersion}
 use Rattle.nef_words.specs.declared.options.Options.{Options}
 use Rattle.nef_words.specs.Usage.{usage, given}
-use Rattle.nef_words.specs.Chosen.{if_taken, options_of, options_of_values}
+use Rattle.nef_words.specs.Chosen.{stairs_of, options_from, options_of}
+use Rattle.nef_words.specs.Values.{workers_of, board_of, text_of, is_given, options_of_values}
 
 pub usage_simple : is_simple usage ≡ true
 unfolding clap_on_literals
@@ -30,18 +33,18 @@ pub took : (r : Result ArgMatches Error) (a u : App) (ws : List Text) → a ≡ 
 took r a u ws e k h = took_here r u ws (subst (λ (z : App). is_simple_and_free z ≡ true → FailsBy (fault_of z ws) r) e k) (subst (λ (z : App). IfOk r (HasMatchesOf z ws)) e h)
 
 -- words with a fault choose nothing
-no_option : (k : ErrorKind) (ks : Kinds) (o : Option Options) → IsAmong k ks → if_taken ks o ≡ None
-no_option k [] o h = absurd h
-no_option k (x ∷ xs) o h = refl
+no_option : (k : ErrorKind) (ks : Kinds) (workers : Option ℕ) (board : Option BoardKind) (stairs : Option (Option ℕ)) (text : Option TextVersion) (ahead : Bool) → IsAmong k ks → options_from ks workers board stairs text ahead ≡ None
+no_option k [] workers board stairs text ahead h = absurd h
+no_option k (x ∷ xs) workers board stairs text ahead h = refl
 
 -- an error of another kind than memory is a fault of the words
 pub refuses : (ws : List Text) (e : Error) → HasKind (fault_of usage ws) e → (kind_of e ≡ OutOfMemory → ⊥) → options_of ws ≡ None
 unfolding options_of
-refuses ws e h n = elim h [ inl m ↦ absurd (n m) | inr among ↦ no_option (kind_of e) (fault_of usage ws) _ among ]
+refuses ws e h n = elim h [ inl m ↦ absurd (n m) | inr among ↦ no_option (kind_of e) (fault_of usage ws) _ _ _ _ _ among ]
 
 takes_them : (ws : List Text) → fault_of usage ws ≡ [] → options_of ws ≡ options_of_values (given (codes "workers") ws) (given (codes "board") ws) (given (codes "stairs") ws) (given (codes "text") ws) (given (codes "ahead") ws)
 unfolding options_of
-takes_them ws e = ap (λ (ks : Kinds). if_taken ks (options_of_values (given (codes "workers") ws) (given (codes "board") ws) (given (codes "stairs") ws) (given (codes "text") ws) (given (codes "ahead") ws))) e
+takes_them ws e = ap (λ (ks : Kinds). options_from ks (workers_of (given (codes "workers") ws)) (board_of (given (codes "board") ws)) (stairs_of (given (codes "stairs") ws)) (text_of (given (codes "text") ws)) (is_given (given (codes "ahead") ws))) e
 
 value_is : (m : ArgMatches) (ws : List Text) (id : Text) → rows_of (found_of m) ≡ matches_of usage ws → first_value (found_of m) id ≡ given id ws
 value_is m ws id e = first_value-rows (found_of m) id ∙ ap (first_of id) e

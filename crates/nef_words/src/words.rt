@@ -2,8 +2,9 @@
 ghost use Rattle.std.specs.Prelude.{◌≡◌, ◌≤◌, false, [], Some, None, IfOk, IfErr, IfSome, MatchResult, map, string_bytes};
 ghost use Rattle.nef_space.specs.Limits.{most_stairs};
 ghost use Rattle.clap.specs.Words.{fault_of, found_of, matches_of, rows_of, rule_of, HasKind};
-ghost use Rattle.nef_words.specs.Usage.{usage, option_named, flag_named};
-ghost use Rattle.nef_words.specs.Chosen.{workers_of, board_of, stairs_of, text_of, is_given, options_of, options_of_values, text_in};
+ghost use Rattle.nef_words.specs.Usage.{usage, option_named};
+ghost use Rattle.nef_words.specs.Chosen.{stairs_of, options_of};
+ghost use Rattle.nef_words.specs.Values.{workers_of, board_of, text_of, is_given, options_of_values, text_in};
 
 use crate::number::read_number;
 use crate::options::{DEFAULT_WORKERS, MOST_WORKERS, Options, WordsFault};
@@ -15,7 +16,7 @@ use std::alloc::Global;
 
 // The option of this name, which takes one value.
 fn value_option<'a>(alloc: Global, name: &'a str) -> Arg<'a>
-    ensures rule { rule_of result ≡ option_named name.entry.now }
+    ensures rule { rule_of result ≡ option_named ArgAction.Set name.entry.now }
     ensures local { result.global ≡ false }
 {
     Arg::new(alloc, name).long(name).action(ArgAction::Set)
@@ -23,7 +24,7 @@ fn value_option<'a>(alloc: Global, name: &'a str) -> Arg<'a>
 
 // The option of this name, which takes no value.
 fn flag<'a>(alloc: Global, name: &'a str) -> Arg<'a>
-    ensures rule { rule_of result ≡ flag_named name.entry.now }
+    ensures rule { rule_of result ≡ option_named ArgAction.SetTrue name.entry.now }
     ensures local { result.global ≡ false }
 {
     Arg::new(alloc, name).long(name).action(ArgAction::SetTrue)

@@ -8,7 +8,7 @@ use crate::told::{Gathering, Told};
 use nef_board::LockBoard;
 use nef_core::{Job, OutOfMemory};
 use nef_free::FreeBoard;
-use nef_io::{Gate, OpenGate};
+use nef_io::Gate;
 use nef_pool::finish;
 use std::alloc::Global;
 use std::sync::Wait;
@@ -42,25 +42,65 @@ fn finished<R: Threads + Wait + Sync, J: Job, G: Gate + Sync>(
     }
 }
 
+// Whether there are so many numbers, each the square of its place.
+fn are_squares(numbers: &[u64], count: u32) -> bool {
+    let mut wanted = (0..u64::from(count)).map(|place| place.wrapping_mul(place));
+    numbers.iter().all(|number| wanted.next() == Some(*number)) && wanted.next().is_none()
+}
+
+// Whether all jobs come out, and the gate is told of as many by this board.
+fn all_are_worked<R: Threads + Wait + Sync>(
+    rt: &R,
+    alloc: Global,
+    free: bool,
+    workers: u32,
+    count: u32,
+) -> Result<bool, OutOfMemory>
+    requires workers { workers ≤ 64 }
+{
+    let gate = Counting::new();
+    let squares = finished(rt, alloc, &Squares { count }, free, workers, &gate)?;
+    let (locked, unlocked) = (
+        gate.locked.load(Ordering::SeqCst),
+        gate.free.load(Ordering::SeqCst),
+    );
+    let told = if free { unlocked } else { locked };
+    Ok(are_squares(squares.as_slice(), count) && told == u64::from(count))
+}
+
+// Whether all jobs come out, and as many workers as were asked for begin before the first of them goes on.
+fn all_workers_begin<R: Threads + Wait + Sync>(
+    rt: &R,
+    alloc: Global,
+    free: bool,
+    workers: u32,
+    count: u32,
+) -> Result<bool, OutOfMemory>
+    requires workers { workers ≤ 64 }
+{
+    let gate = Gathering::new(u64::from(workers));
+    let squares = finished(rt, alloc, &Squares { count }, free, workers, &gate)?;
+    let waited = gate.limit_reached.load(Ordering::SeqCst);
+    Ok(are_squares(squares.as_slice(), count) && waited == 0)
+}
+
+// As many jobs as no 16 bits count, by one worker, by two, and by the most.
 #[test]
-fn five_thousand_jobs(rt: HostRuntime) -> Result<(), Fail> {
-    let job = Squares { count: 5000 };
+fn seventy_thousand_jobs(rt: HostRuntime) -> Result<(), Fail> {
     for free in BOARDS {
-        let squares = finished(&rt, rt.alloc(), &job, free, 2, &OpenGate)?;
-        assert_eq!(rt; squares.len(), 5000);
-        assert_eq!(rt; squares.last(), Some(&24_990_001));
+        for workers in [1, 2, 64] {
+            assert!(rt; all_are_worked(&rt, rt.alloc(), free, workers, 70_000)?);
+        }
     }
     Ok(())
 }
 
 #[test]
 fn as_many_workers_as_asked_for(rt: HostRuntime) -> Result<(), Fail> {
-    let job = Squares { count: 10 };
     for free in BOARDS {
-        let gate = Gathering::new(4);
-        let squares = finished(&rt, rt.alloc(), &job, free, 4, &gate)?;
-        assert_eq!(rt; squares.as_slice(), SQUARES.as_slice());
-        assert_eq!(rt; gate.limit_reached.load(Ordering::SeqCst), 0);
+        for (workers, count) in [(4, 10), (64, 600)] {
+            assert!(rt; all_workers_begin(&rt, rt.alloc(), free, workers, count)?);
+        }
     }
     Ok(())
 }

@@ -1,11 +1,13 @@
-//! A round of the numbers 4 and 7, and a stage of five numbers.
-ghost use Rattle.std.specs.Prelude.{◌≡◌, ◌==◌, if◌then◌else◌, nat_lt, Some, None};
+//! A round of the numbers 4 and 7, a stage of five numbers, and stages that tell how many are worked side by side.
+ghost use Rattle.std.specs.Prelude.{◌≡◌, ◌≤◌, ◌==◌, if◌then◌else◌, nat_lt, Some, None};
 
 use nef_sched::{Needs, OutOfMemory, Results, Round, Stage, Taken, run_ahead, run_lean};
 use std::alloc::Global;
+use std::sync::Wait;
 use std::sync::atomic::{AtomicBool, AtomicU64, Ordering};
 use std::test::Fail;
 use std::thread;
+use std::thread::Threads;
 
 #[test]
 fn one_pass_takes_all(rt: HostRuntime) -> Result<(), Fail> {
@@ -60,18 +62,23 @@ fn what_is_left_is_told(rt: HostRuntime) -> Result<(), Fail> {
     Ok(())
 }
 
+// A load that pays for any number of workers.
+const HEAVY: u64 = 1_000_000;
+
 // Five numbers: 2 needs 0 and 1, 3 needs 2, 4 needs 2 and 1. A result is one more than the sum of
 // those that it needs. Calls in which the number is alone are counted, and those for which the result
 // of 0 isn't there.
 #[derive(Drop)]
 struct Sums {
+    load: u64,
     alone: AtomicU64,
     without_first: AtomicU64,
 }
 
 impl Sums {
-    fn new() -> Sums {
+    fn new(load: u64) -> Sums {
         Sums {
+            load,
             alone: AtomicU64::new(0),
             without_first: AtomicU64::new(0),
         }
@@ -127,6 +134,10 @@ impl Stage for Sums {
         }
     }
 
+    fn load(&self, _i: usize, _done: &Results<u64>) -> u64 {
+        self.load
+    }
+
     fn work(
         &self,
         _alloc: Global,
@@ -145,20 +156,23 @@ impl Stage for Sums {
     }
 }
 
+// By threads, where 1 doesn't see the result of 0, and by the caller alone, where it does.
 #[test]
 fn results_come_in_order(rt: HostRuntime) -> Result<(), Fail> {
-    let stage = Sums::new();
-    let results = run_ahead(&rt, rt.alloc(), &stage, 2)?;
-    assert_eq!(rt; results.as_slice(), [1, 1, 3, 4, 5].as_slice());
-    assert_eq!(rt; stage.alone.load(Ordering::SeqCst), 1);
-    assert_eq!(rt; stage.without_first.load(Ordering::SeqCst), 2);
+    for (load, without_first) in [(HEAVY, 2), (0, 1)] {
+        let stage = Sums::new(load);
+        let results = run_ahead(&rt, rt.alloc(), &stage, 2)?;
+        assert_eq!(rt; results.as_slice(), [1, 1, 3, 4, 5].as_slice());
+        assert_eq!(rt; stage.alone.load(Ordering::SeqCst), 1);
+        assert_eq!(rt; stage.without_first.load(Ordering::SeqCst), without_first);
+    }
     Ok(())
 }
 
 // The result of 0 is let go once 2 is worked, so it isn't there for 0, 1, 3 and 4.
 #[test]
 fn wanted_results_stay(rt: HostRuntime) -> Result<(), Fail> {
-    let stage = Sums::new();
+    let stage = Sums::new(HEAVY);
     let wanted = [false, false, false, true, false];
     let results = run_lean(&rt, rt.alloc(), &stage, 2, &wanted)?;
     assert_eq!(rt;
@@ -172,27 +186,35 @@ fn wanted_results_stay(rt: HostRuntime) -> Result<(), Fail> {
 // More turns than another thread needs to begin a number.
 const TURNS: u64 = 20_000_000;
 
-// How many numbers there are, and how many threads work them.
-const CROWD: usize = 4;
-
-// Numbers that need nothing, each of which is worked until all began, for so many turns at most.
+// So many numbers of this load that need nothing, of which each is worked until so many began, for so many turns at most. It
+// keeps how many began, and how many were being worked at one time at most.
 #[derive(Drop)]
 struct Waiting {
+    count: usize,
+    load: u64,
+    crowd: u64,
     began: AtomicU64,
+    inside: AtomicU64,
+    most: AtomicU64,
     limit_reached: AtomicBool,
 }
 
 impl Waiting {
-    fn new() -> Waiting {
+    fn new(count: usize, load: u64, crowd: u64) -> Waiting {
         Waiting {
+            count,
+            load,
+            crowd,
             began: AtomicU64::new(0),
+            inside: AtomicU64::new(0),
+            most: AtomicU64::new(0),
             limit_reached: AtomicBool::new(false),
         }
     }
 
-    fn wait_for_all(&self) {
+    fn wait_for_crowd(&self) {
         for _ in 0..TURNS {
-            if self.began.load(Ordering::SeqCst) >= CROWD as u64 {
+            if self.began.load(Ordering::SeqCst) >= self.crowd {
                 return;
             }
             thread::yield_now();
@@ -206,7 +228,7 @@ impl Stage for Waiting {
 
     ghost use Rattle.std.specs.Prelude.{◌≡◌, None};
 
-    ghost size = { λ s. 4 };
+    ghost size = { λ s. s.count };
 
     ghost first = { λ s i. None };
 
@@ -215,7 +237,7 @@ impl Stage for Waiting {
     ghost fits = { λ s i out. out ≡ i };
 
     fn count(&self) -> usize {
-        CROWD
+        self.count
     }
 
     fn needs(&self, _i: usize) -> Needs {
@@ -225,6 +247,10 @@ impl Stage for Waiting {
         }
     }
 
+    fn load(&self, _i: usize, _done: &Results<usize>) -> u64 {
+        self.load
+    }
+
     fn work(
         &self,
         _alloc: Global,
@@ -232,17 +258,50 @@ impl Stage for Waiting {
         _alone: bool,
         _done: &Results<usize>,
     ) -> Result<usize, OutOfMemory> {
+        let inside = self.inside.fetch_add(1, Ordering::SeqCst).wrapping_add(1);
+        self.most.fetch_max(inside, Ordering::SeqCst);
         self.began.fetch_add(1, Ordering::SeqCst);
-        self.wait_for_all();
+        self.wait_for_crowd();
+        self.inside.fetch_sub(1, Ordering::SeqCst);
         Ok(i)
     }
 }
 
+// Whether each number is worked once, and so many of them side by side and no more.
+fn run_side_by_side<R: Threads + Wait + Sync>(
+    rt: &R,
+    alloc: Global,
+    workers: u32,
+    count: usize,
+    load: u64,
+    crowd: u64,
+) -> Result<bool, OutOfMemory>
+    requires workers { 1 ≤ workers }
+{
+    let stage = Waiting::new(count, load, crowd);
+    let results = run_ahead(rt, alloc, &stage, workers)?;
+    let mut wanted = 0..count;
+    let are_all = results.iter().all(|number| wanted.next() == Some(*number))
+        && wanted.next().is_none();
+    let began = stage.began.load(Ordering::SeqCst);
+    let most = stage.most.load(Ordering::SeqCst);
+    let waited = stage.limit_reached.load(Ordering::SeqCst);
+    Ok(are_all && began == count as u64 && most == crowd && !waited)
+}
+
+// By as many workers as were asked for, as there are numbers, or as the load pays for: one for each 500.
 #[test]
 fn numbers_of_a_round_run_side_by_side(rt: HostRuntime) -> Result<(), Fail> {
-    let stage = Waiting::new();
-    let results = run_ahead(&rt, rt.alloc(), &stage, 4)?;
-    assert_eq!(rt; results.as_slice(), [0, 1, 2, 3].as_slice());
-    assert!(rt; !stage.limit_reached.load(Ordering::SeqCst));
+    for (workers, count, load, crowd) in [
+        (4, 4, HEAVY, 4),
+        (3, 10, HEAVY, 3),
+        (64, 2, HEAVY, 2),
+        (64, 100, HEAVY, 64),
+        (4, 4, 250, 2),
+        (4, 4, 249, 1),
+        (1, 4, HEAVY, 1),
+    ] {
+        assert!(rt; run_side_by_side(&rt, rt.alloc(), workers, count, load, crowd)?);
+    }
     Ok(())
 }

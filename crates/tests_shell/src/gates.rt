@@ -1,4 +1,5 @@
-//! A gate that counts its calls, and one that holds a command back.
+//! A gate that counts its calls, one that holds a command back, and one for which no worker starts that the jobs don't pay
+//! for.
 
 use nef_io::Gate;
 use std::alloc::{AllocError, Global};
@@ -85,5 +86,66 @@ impl Gate for Pairing {
             thread::yield_now();
         }
         self.limit_reached.store(true, Ordering::SeqCst);
+    }
+}
+
+/// Keeps each job of one statement, the first of which is number 1, until so many workers have one at once, for so many
+/// turns at most. No worker starts for its sake.
+#[derive(Drop)]
+pub struct Crowd {
+    statement: u64,
+    wanted: u64,
+    turns: u64,
+    statements: AtomicU64,
+    inside: AtomicU64,
+    gathered: AtomicBool,
+}
+
+impl Crowd {
+    pub fn new(statement: u64, wanted: u64, turns: u64) -> Crowd {
+        Crowd {
+            statement,
+            wanted,
+            turns,
+            statements: AtomicU64::new(0),
+            inside: AtomicU64::new(0),
+            gathered: AtomicBool::new(false),
+        }
+    }
+
+    /// Whether so many workers had a job at once.
+    pub fn gathered(&self) -> bool {
+        self.gathered.load(Ordering::SeqCst)
+    }
+
+    // Whether there are so many by now.
+    fn is_here(&self) -> bool {
+        if self.inside.load(Ordering::SeqCst) >= self.wanted {
+            self.gathered.store(true, Ordering::SeqCst);
+        }
+        self.gathered()
+    }
+}
+
+impl Gate for Crowd {
+    fn before(&self, job: u64, _free: bool) {
+        if job == 0 {
+            self.statements.fetch_add(1, Ordering::SeqCst);
+        }
+        if self.statements.load(Ordering::SeqCst) != self.statement {
+            return;
+        }
+        self.inside.fetch_add(1, Ordering::SeqCst);
+        for _ in 0..self.turns {
+            if self.is_here() {
+                break;
+            }
+            thread::yield_now();
+        }
+        self.inside.fetch_sub(1, Ordering::SeqCst);
+    }
+
+    fn holds(&self) -> bool {
+        false
     }
 }

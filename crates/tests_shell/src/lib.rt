@@ -5,6 +5,8 @@
 #[cfg(test)]
 mod ahead;
 #[cfg(test)]
+mod crews;
+#[cfg(test)]
 mod empty_text;
 #[cfg(test)]
 mod extreme;
@@ -14,6 +16,12 @@ mod failing;
 mod gates;
 #[cfg(test)]
 mod generated;
+#[cfg(test)]
+mod grids;
+#[cfg(test)]
+mod kept_parts;
+#[cfg(test)]
+mod large;
 #[cfg(test)]
 mod limits;
 #[cfg(test)]

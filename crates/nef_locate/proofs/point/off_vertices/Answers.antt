@@ -11,6 +11,7 @@ use Rattle.nef_complex.specs.Index.{IsInCluster}
 use Rattle.nef_complex.specs.declared.groups.Cluster.{Cluster}
 use Rattle.nef_locate.specs.Rays.{HasNotAtCarrier}
 use Rattle.nef_locate.proofs.CarrierPoints.{skeleton-carrier}
+use Rattle.nef_locate.proofs.EdgeOrder.{parts-all}
 use Rattle.nef_locate.proofs.Located.{skeleton-same}
 use Rattle.nef_locate.proofs.Reading.{next-numbers, all-numbers}
 use Rattle.nef_locate.proofs.Windows.{span-same, none-at}
@@ -31,7 +32,7 @@ spot_in_cluster-requires-clause-probe c =
       framed = closed-same p q (same-place_sym q p c.hit_at-hit.ensures.same) c.requires.framed;
       numbers = c.hit_at-hit.ensures.upright_width;
       within = span-same c.of-window.result p q c.hit_at-hit.ensures.same c.of-window.ensures.point;
-      parts = (c.args.p.now, c.hit_at-hit.ensures.same, c.requires.before, c.requires.after);
+      parts = parts-all c.args.c.now c.args.p.now q c.args.before c.hit_at-hit.ensures.same c.requires.before c.requires.after;
     }
 
 pub loop-cluster-preserved : goal.loop-cluster-preserved

@@ -1,4 +1,4 @@
 use Rattle.nef_plane.proofs.along.first_met.Goals as goal
 
 pub nearest_met-requires-clause-guide : goal.nearest_met-requires-clause-guide
-nearest_met-requires-clause-guide c = c.of.ensures.course c.args.c.now.vertices c.args.ray.now.start.now c.requires.start c.in-Some.ensures.holds
+nearest_met-requires-clause-guide c = c.of.ensures.course

@@ -15,13 +15,14 @@ loop-pass-preserved g c =
     let i = c.loop-pass.invariant in
     let last = c.in-Some.ensures.items in
     let own = All-pop (λ (w : Worked _). Belongs c.args.round.now w.pass) _ _ (Some c.in-Some.field-0) last i.worked in
-    let fit = All-pop (λ (w : Worked _). AreFitting (g.T.Stage.size t) (g.T.Stage.fits t) w.outs.items) _ _ (Some c.in-Some.field-0) last i.outs in
+    let fit = All-pop (λ (w : Worked _). AreFitting (g.T.Stage.size t) (g.T.Stage.fits t) c.args.numbers.now w.outs.items) _ _ (Some c.in-Some.field-0) last i.outs in
     let more = ap total_parts c.in_ok-push.ensures.items ∙ parts_snoc _ _ in
     let less = ap total_worked last ∙ worked_snoc _ _ in
     let p = i.parts in
     record {
       sound = c.with_outs-done.ensures.sound;
       still = λ k h. c.with_outs-done.ensures.still k (i.still k h);
+      only = λ k none. c.with_outs-done.ensures.only k none ∙ i.only k none;
       worked = own.0;
       outs = fit.0;
       of = rw c.in_ok-push.ensures.items (All-push (λ (q : RoundPass). Belongs c.args.round.now q) _ _ i.of own.1);

@@ -1,46 +1,86 @@
-use Rattle.std.proofs.Common.{ℕ, ◌<◌, arith, inl, inr, subst, ◌∙◌, sym, rules, true, false}
-use Rattle.std.specs.Prelude.{IsSome}
-use Rattle.std.proofs.lemmas.Bool.{false≢true}
+use Rattle.std.proofs.Common.{ℕ, ◌<◌, arith, inl, ◌∙◌, length, true, false, Vec, Global}
 use Rattle.std.proofs.lemmas.Option.{slice_get_within}
-use Rattle.nef_sched.specs.Marks.{IsMarked}
-use Rattle.nef_sched.specs.Results.{IsKept}
-use Rattle.nef_sched.proofs.Marking.{all_at, asked_before, off_not_on}
+use Rattle.nef_sched.specs.Plans.{IsGroup}
+use Rattle.nef_sched.proofs.Planning.{group_at, group_differs, all_listed, round_ready, there_next, gone_next, last_low}
 use Rattle.nef_sched.proofs.ahead.run_lean.Goals as goal
-use Rattle.nef_sched.proofs.ahead.run_lean.Goals.{in-None, in-Some+in_ok-numbers+then-is_empty}
 
-pub loop-preserved : goal.loop-preserved
-loop-preserved g c =
-    let s = g.T.Stage in
-    let t = c.args.stage.now in
-    let i = c.loop.invariant in
-    let m = c.mark_all.ensures in
-    let worked = c.in_ok-done-2.ensures in
-    let left = c.in_ok-done-3.ensures in
+pub work_ready-requires-clause-differ : goal.work_ready-requires-clause-differ
+work_ready-requires-clause-differ g c κs within =
+    let size = g.T.Stage.size c.args.stage.now in
+    let end = c.loop-round-test.true in
+    let count = c.len-round-end.ensures in
+    let full = c.in_ok-plan.ensures.len in
+    let ok = c.in_ok-plan.plan.begins.ok in
+    let fine = c.in_ok-plan.plan.ends.ok in
+    let b = group_at (λ (v : Vec ℕ Global). v.items) (IsGroup size c.in_ok-plan.plan.rounds.items) _ c.loop-round.round _ _ c.in_ok-plan.ensures.begins (omega arith) c.index.ensures c.deref.ensures.value in
+    group_differs size c.in_ok-plan.plan.rounds.items c.loop-round.round _ b
+
+pub work_ready-requires-clause-each : goal.work_ready-requires-clause-each
+work_ready-requires-clause-each g c κs within =
+    let size = g.T.Stage.size c.args.stage.now in
+    let end = c.loop-round-test.true in
+    let count = c.len-round-end.ensures in
+    let full = c.in_ok-plan.ensures.len in
+    let ok = c.in_ok-plan.plan.begins.ok in
+    let fine = c.in_ok-plan.plan.ends.ok in
+    let b = group_at (λ (v : Vec ℕ Global). v.items) (IsGroup size c.in_ok-plan.plan.rounds.items) _ c.loop-round.round _ _ c.in_ok-plan.ensures.begins (omega arith) c.index.ensures c.deref.ensures.value in
+    round_ready size (g.T.Stage.fits c.args.stage.now) (g.T.Stage.first c.args.stage.now) (g.T.Stage.second c.args.stage.now) c.in_ok-plan.plan.rounds.items c.in_ok-plan.plan.lasts.items c.args.wanted.now c.loop-round.round _ _
+    c.in_ok-plan.ensures.rounds c.loop-round.invariant.sound c.loop-round.invariant.there b
+
+pub let_go-done-requires-clause-numbers : goal.let_go-done-requires-clause-numbers
+let_go-done-requires-clause-numbers g c =
+    let size = g.T.Stage.size c.args.stage.now in
+    let end = c.loop-round-test.true in
+    let count = c.len-round-end.ensures in
+    let full = c.in_ok-plan.ensures.len in
+    let ok = c.in_ok-plan.plan.begins.ok in
+    let fine = c.in_ok-plan.plan.ends.ok in
+    let e = group_at (λ (v : Vec ℕ Global). v.items) (IsGroup size c.in_ok-plan.plan.lasts.items) _ c.loop-round.round _ _ c.in_ok-plan.ensures.ends (omega arith) c.index-in-loop-round.ensures c.deref-in-loop-round.ensures.value in
+    let len = c.in_ok-done-2.ensures.sound.0 in
+    all_listed (λ k. k < length c.in_ok-done-2.done.list.items) _ (λ k some. let h = (e.1 k some).0 in omega arith)
+
+pub loop-round-preserved : goal.loop-round-preserved
+loop-round-preserved g c =
+    let size = g.T.Stage.size c.args.stage.now in
+    let end = c.loop-round-test.true in
+    let count = c.len-round-end.ensures in
+    let full = c.in_ok-plan.ensures.len in
+    let ok = c.in_ok-plan.plan.begins.ok in
+    let fine = c.in_ok-plan.plan.ends.ok in
+    let b = group_at (λ (v : Vec ℕ Global). v.items) (IsGroup size c.in_ok-plan.plan.rounds.items) _ c.loop-round.round _ _ c.in_ok-plan.ensures.begins (omega arith) c.index.ensures c.deref.ensures.value in
+    let e = group_at (λ (v : Vec ℕ Global). v.items) (IsGroup size c.in_ok-plan.plan.lasts.items) _ c.loop-round.round _ _ c.in_ok-plan.ensures.ends (omega arith) c.index-in-loop-round.ensures c.deref-in-loop-round.ensures.value in
+    let i = c.loop-round.invariant in
+    let made = c.in_ok-done-2.ensures in
+    let left = c.let_go-done.ensures in
+    let plan = c.in_ok-plan.ensures in
     record {
-      sound = left.sound;
-      len = m.len ∙ i.len;
-      there = λ k marked asked. left.asked k asked (elim (m.only k marked) [
-        | inl among ↦ all_at (IsKept c.in_ok-done-2.done.list.items) _ _ among.0 k (c.deref.ensures.value ∙ sym c.deref-in-loop.ensures.value) worked.there among.1
-        | inr was ↦ worked.still k (i.there k was (asked_before (s.first t) (s.second t) c.args.wanted.now c.loop.worked c.mark_all.new.marks k m.len m.stays asked))
-      ]);
-      gone = left.gone;
+      sound = (left.len ∙ made.sound.0, λ k out h. made.sound.1 k out (left.part k out h));
+      there = there_next size (g.T.Stage.fits c.args.stage.now) (g.T.Stage.first c.args.stage.now) (g.T.Stage.second c.args.stage.now) c.in_ok-plan.plan.rounds.items c.in_ok-plan.plan.lasts.items c.args.wanted.now c.loop-round.round _ _ _ _ _
+          plan.rounds plan.lasts b e i.there made.still made.there left.wanted left.other;
+      gone = gone_next size (g.T.Stage.fits c.args.stage.now) (g.T.Stage.first c.args.stage.now) (g.T.Stage.second c.args.stage.now) c.in_ok-plan.plan.rounds.items c.in_ok-plan.plan.lasts.items c.args.wanted.now c.loop-round.round _ _ _ _ _
+          c.requires.wanted plan.lasts b e i.gone made.only left.other left.gone;
     }
 
 pub returns-clause-wanted : goal.returns-clause-wanted
 returns-clause-wanted g c n wanted =
     let within = slice_get_within c.args.wanted.now n true wanted in
     let len = c.requires.wanted in
-    let all : (k : ℕ) → k < g.T.Stage.size c.args.stage.now → IsMarked c.loop.worked k = elim c.match-next.branch [
-      | in-None w ↦ absurd (false≢true (subst IsSome w.in-None.is c.next.ensures.steps))
-      | in-Some+in_ok-numbers+then-is_empty w ↦ w.in_ok-numbers.ensures.none (search rules)
-    ] in
-    c.loop.invariant.there n (all n (omega arith)) (inl wanted)
+    let size = g.T.Stage.size c.args.stage.now in
+    let inside : n < size = omega arith in
+    let end = c.loop-round-test.false in
+    let count = c.len-round-end.ensures in
+    let full = c.in_ok-plan.ensures.len in
+    let low = c.in_ok-plan.ensures.rounds.low n inside in
+    c.loop-round.invariant.there n inside (omega arith) (inl wanted)
 
 pub returns-clause-lean : goal.returns-clause-lean
 returns-clause-lean g c n away =
-    let len = c.loop.invariant.len in
-    let all : (k : ℕ) → k < g.T.Stage.size c.args.stage.now → IsMarked c.loop.worked k = elim c.match-next.branch [
-      | in-None w ↦ absurd (false≢true (subst IsSome w.in-None.is c.next.ensures.steps))
-      | in-Some+in_ok-numbers+then-is_empty w ↦ w.in_ok-numbers.ensures.none (search rules)
-    ] in
-    c.loop.invariant.gone n away (λ a. let low = slice_get_within c.loop.worked a.0 false a.1 in off_not_on c.loop.worked a.0 (all a.0 (omega arith)) a.1)
+    let within = slice_get_within c.args.wanted.now n false away in
+    let len = c.requires.wanted in
+    let size = g.T.Stage.size c.args.stage.now in
+    let inside : n < size = omega arith in
+    let end = c.loop-round-test.false in
+    let count = c.len-round-end.ensures in
+    let full = c.in_ok-plan.ensures.len in
+    let low = last_low size (g.T.Stage.first c.args.stage.now) (g.T.Stage.second c.args.stage.now) c.in_ok-plan.plan.rounds.items c.in_ok-plan.plan.lasts.items n c.in_ok-plan.ensures.rounds c.in_ok-plan.ensures.lasts inside in
+    c.loop-round.invariant.gone n away (omega arith)

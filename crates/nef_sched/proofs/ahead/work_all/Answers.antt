@@ -1,4 +1,4 @@
-use Rattle.std.proofs.Common.{ℕ, ◌<◌, ap, sym, ◌∙◌}
+use Rattle.std.proofs.Common.{◌≡◌, ℕ, ◌<◌, ap, sym, ◌∙◌}
 use Rattle.std.proofs.lemmas.List.Elements.{All-push}
 use Rattle.nef_sched.specs.Counts.{times}
 use Rattle.nef_sched.specs.Results.{HasNeeds}
@@ -9,24 +9,27 @@ pub work-requires-clause-number : goal.work-requires-clause-number
 work-requires-clause-number g c =
     let t = c.args.stage.now in
     let s = g.T.Stage in
-    (all_in (HasNeeds (s.size t) (s.fits t) (s.first t) (s.second t) c.args.done.now.list.items) _ _ (ap (times c.in-Some-take.number) (sym c.loop.invariant.knows) ∙ c.in-Some-take.ensures.number.1) c.requires.each).0
+    let knows = c.loop.invariant.knows ∙ c.requires.knows in
+    (all_in (HasNeeds (s.size t) (s.fits t) (s.first t) (s.second t) c.args.done.now.list.items) _ _ (ap (times c.in-Some.number) (sym knows) ∙ c.in-Some.ensures.number.1) c.requires.each).0
 
 pub work-requires-clause-there : goal.work-requires-clause-there
 work-requires-clause-there g c =
     let t = c.args.stage.now in
     let s = g.T.Stage in
-    (all_in (HasNeeds (s.size t) (s.fits t) (s.first t) (s.second t) c.args.done.now.list.items) _ _ (ap (times c.in-Some-take.number) (sym c.loop.invariant.knows) ∙ c.in-Some-take.ensures.number.1) c.requires.each).1
+    let knows = c.loop.invariant.knows ∙ c.requires.knows in
+    (all_in (HasNeeds (s.size t) (s.fits t) (s.first t) (s.second t) c.args.done.now.list.items) _ _ (ap (times c.in-Some.number) (sym knows) ∙ c.in-Some.ensures.number.1) c.requires.each).1
 
 pub loop-preserved : goal.loop-preserved
 loop-preserved g c =
     let t = c.args.stage.now in
     let s = g.T.Stage in
     let i = c.loop.invariant in
-    let n = c.in-Some-take.number in
-    let due = all_in (HasNeeds (s.size t) (s.fits t) (s.first t) (s.second t) c.args.done.now.list.items) _ _ (ap (times n) (sym i.knows) ∙ c.in-Some-take.ensures.number.1) c.requires.each in
+    let n = c.in-Some.number in
+    let among = ap (times n) (sym (i.knows ∙ c.requires.knows)) ∙ c.in-Some.ensures.number.1 in
+    let due = all_in (HasNeeds (s.size t) (s.fits t) (s.first t) (s.second t) c.args.done.now.list.items) _ _ among c.requires.each in
     record {
       of = c.take.ensures.of;
       parts = c.take.ensures.same.0 ∙ i.parts;
       knows = c.take.ensures.same.1 ∙ i.knows;
-      outs = rw (c.push_reserved.ensures.items, c.reserve.ensures.items) (All-push (λ (o : ℕ × _). (o.0 < s.size t) × s.fits t o.0 o.1) _ _ i.outs (due.0, c.in-Ok.ensures));
+      outs = rw (c.push_reserved.ensures.items, c.reserve.ensures.items) (All-push (λ (o : ℕ × _). (o.0 < s.size t) × (times o.0 c.args.numbers.now ≡ 1) × s.fits t o.0 o.1) _ _ i.outs (due.0, among, c.in-Ok.ensures));
     }

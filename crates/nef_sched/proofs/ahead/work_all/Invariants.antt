@@ -8,5 +8,5 @@ invariant-loop g l = record {
   of : Belongs l.round l.pass;
   parts : parts l.pass ≡ parts l.initial.pass;
   knows : known l.pass ≡ known l.initial.pass;
-  outs : AreFitting (g.T.Stage.size l.stage) (g.T.Stage.fits l.stage) l.outs.items;
+  outs : AreFitting (g.T.Stage.size l.stage) (g.T.Stage.fits l.stage) l.numbers l.outs.items;
 }

@@ -18,3 +18,6 @@ work_rest-requires-clause-each g c κs within k d low =
 
 pub returns-clause-still : goal.returns-clause-still
 returns-clause-still g c = IfOk-weaker c.work_rest.result _ _ (λ r h k there. h k (c.in_ok-done.ensures.still k there)) c.work_rest.ensures.still
+
+pub returns-clause-only : goal.returns-clause-only
+returns-clause-only g c = IfOk-weaker c.work_rest.result _ _ (λ r h k none. h k none ∙ c.in_ok-done.ensures.only k none) c.work_rest.ensures.only

@@ -1,6 +1,6 @@
-use Rattle.std.proofs.Common.{arith, sym, subst, slice_index_or}
+use Rattle.std.proofs.Common.{arith, sym, ◌∙◌, subst, slice_index_or}
 use Rattle.nef_sched.specs.Results.{IsKept}
-use Rattle.nef_sched.proofs.Outs.{ready_still, all_next, any_default}
+use Rattle.nef_sched.proofs.Outs.{ready_still, all_next, any_default, not_listed}
 use Rattle.nef_sched.proofs.ahead.work_rest.Goals as goal
 
 pub work_one-requires-clause-needs : goal.work_one-requires-clause-needs
@@ -16,6 +16,7 @@ loop-number-preserved g c =
     record {
       sound = e.sound;
       still = λ k h. e.still k (i.still k h);
+      only = λ k none. e.only k (not_listed c.args.numbers.now c.loop-number.number-index 0 k c.loop-number-test.true none) ∙ i.only k none;
       there = all_next (λ k. IsKept c.in_ok-done.done.list.items (slice_index_or c.args.numbers.now k 0)) c.loop-number.number-index (λ k low. e.still _ (i.there k low)) e.there;
     }
 

@@ -1,12 +1,14 @@
-use Rattle.std.proofs.Common.{◌≡◌, ℕ, List, sym, ap, subst}
+use Rattle.std.proofs.Common.{◌≡◌, ℕ, List, length, refl, sym, ap, ◌∙◌, subst}
 use Rattle.nef_script.specs.Names.{pointed}
 use Rattle.nef_script.specs.Table.{roles}
 use Rattle.nef_script.specs.Meaning.{IsNode}
 use Rattle.nef_expr.specs.declared.nodes.Node.{Node}
 use Rattle.nef_expr.specs.declared.nodes.Node.TheVariants as node
 use Rattle.nef_script.specs.declared.table.Verb.{Verb}
+use Rattle.nef_script.specs.declared.table.Verb.TheVariants as verb
 use Rattle.nef_script.specs.declared.table.Role.TheVariants.{NewName}
-use Rattle.nef_script.proofs.Questions.{HasOperand-from, HasTwoOperands-from}
+use Rattle.nef_script.proofs.Shapes.{one_word}
+use Rattle.nef_script.proofs.Questions.{count_is, HasOperand-from, HasTwoOperands-from}
 use Rattle.nef_script.proofs.Nodes.{IsNode-And, IsNode-Or, IsNode-Diff, IsNode-Xor, IsNode-Not, IsNode-Int, IsNode-Cl, IsNode-Bd, IsNode-Reg}
 use Rattle.nef_script.proofs.meaning.node_of.Goals as goal
 
@@ -43,6 +45,16 @@ second_operand-requires-in-Reg-clause-operand c = HasOperand-from c.args.names.n
 
 pub returns-in-Half : goal.returns-in-Half
 returns-in-Half c = record { node = subst (λ v. IsNode c.args.names.now c.args.bound.now v (pointed c.args.args.now) c.half_space.result) (sym c.in-Half.is) (c.half_space.ensures.node c.args.names.now c.args.bound.now) }
+
+pub returns-in-Empty : goal.returns-in-Empty
+returns-in-Empty c =
+    let ws = pointed c.args.args.now in
+    record { node = of_verb c.args.names.now c.args.bound.now ws node.Empty _ _ c.in-Empty.is (subst (λ l. IsNode c.args.names.now c.args.bound.now verb.Empty l node.Empty) (sym (one_word ws (count_is _ _ ws c.requires.fits ∙ ap (λ v. length (roles v)) c.in-Empty.is))) refl) }
+
+pub returns-in-Full : goal.returns-in-Full
+returns-in-Full c =
+    let ws = pointed c.args.args.now in
+    record { node = of_verb c.args.names.now c.args.bound.now ws node.Full _ _ c.in-Full.is (subst (λ l. IsNode c.args.names.now c.args.bound.now verb.Full l node.Full) (sym (one_word ws (count_is _ _ ws c.requires.fits ∙ ap (λ v. length (roles v)) c.in-Full.is))) refl) }
 
 pub returns-in-And : goal.returns-in-And
 returns-in-And c =

@@ -3,8 +3,7 @@ use Rattle.std.proofs.lemmas.List.{length-map}
 use Rattle.std.specs.Option.{option_map}
 use Rattle.nef_lex.specs.Words.{words_of}
 use Rattle.nef_script.specs.Names.{pointed}
-use Rattle.nef_script.specs.Tests.{is_refused_for}
-use Rattle.nef_script.specs.Checks.{command_in}
+use Rattle.nef_script.specs.Checks.{command_in, is_refused_for}
 use Rattle.nef_script.proofs.ByCommand.{refused-Some, unknown_command-filled}
 use Rattle.nef_script.proofs.refusal.is_refused_for.Goals as goal
 

@@ -1,7 +1,7 @@
 use Rattle.std.proofs.Common.{◌+◌, ◌||◌, drop, sym, ◌∙◌, ap}
 use Rattle.std.specs.List.{list_any, zip}
 use Rattle.nef_script.specs.Names.{pointed}
-use Rattle.nef_script.specs.Checks.{word_test}
+use Rattle.nef_script.specs.Tests.{word_test}
 use Rattle.nef_script.proofs.Failing.{any_at, any_past, readable_after}
 use Rattle.nef_script.proofs.refusal.some_word_fails.Goals as goal
 

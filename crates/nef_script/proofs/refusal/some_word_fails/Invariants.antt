@@ -1,7 +1,8 @@
 use Rattle.std.proofs.Common.{◌≡◌, true, drop}
 use Rattle.std.specs.List.{list_any, list_all, zip}
 use Rattle.nef_script.specs.Names.{pointed}
-use Rattle.nef_script.specs.Checks.{is_readable, word_test}
+use Rattle.nef_script.specs.Tests.{word_test}
+use Rattle.nef_script.specs.Checks.{is_readable}
 use Rattle.nef_script.proofs.refusal.some_word_fails.Given as goal
 
 -- what is left decides

@@ -1,4 +1,4 @@
-use Rattle.nef_script.specs.Stairs.{step_box, join_lines}
+use Rattle.nef_script.specs.Boxes.{step_box, join_lines}
 use Rattle.nef_script.proofs.Writing.{lines-next}
 use Rattle.nef_script.proofs.steps.add_step.Goals as goal
 

@@ -1,4 +1,5 @@
-use Rattle.nef_shell.proofs.Pieces.{same-texts, printed-one, counted-one, text-tells, count-tells}
+use Rattle.nef_statement.proofs.Texts.{same-texts, count-tells}
+use Rattle.nef_shell.proofs.Pieces.{printed-one, counted-one, text-tells}
 use Rattle.nef_shell.proofs.laws.written_laws.Goals as goal
 
 pub returns-clause-texts : goal.returns-clause-texts

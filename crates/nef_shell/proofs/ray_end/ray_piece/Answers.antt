@@ -1,5 +1,5 @@
 use Rattle.std.proofs.lemmas.Result.{IfOk-weaker}
-use Rattle.nef_shell.specs.Output.{IsRayAnswer}
+use Rattle.nef_statement.specs.Output.{IsRayAnswer}
 use Rattle.nef_shell.proofs.ray_end.ray_piece.Goals as goal
 
 pub returns : goal.returns

@@ -2,8 +2,7 @@ use Rattle.std.proofs.Common.{◌≡◌, ◌∙◌, ap, sym, subst, inl, inr, Er
 use Rattle.std.proofs.lemmas.Result.{err_from_is_err_and}
 use Rattle.nef_script.specs.Refusal.{FirstRefusal}
 use Rattle.nef_shell.specs.declared.script.NoScript.TheVariants.{ReadFault, Refused}
-use Rattle.nef_shell.proofs.Causes.{too_long-alone, fault-alone, refused-alone, checking-reads_not}
-use Rattle.nef_shell.proofs.Statuses.{too-long}
+use Rattle.nef_shell.proofs.Causes.{too_long-alone, fault-alone, refused-alone, checking-reads_not, too-long}
 use Rattle.nef_shell.proofs.script.read_script.Goals as goal
 
 pub returns-in_err-bytes-clause-refused : goal.returns-in_err-bytes-clause-refused

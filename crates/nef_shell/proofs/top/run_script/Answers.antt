@@ -1,5 +1,6 @@
 use Rattle.std.proofs.Common.{◌∙◌, ap, subst, inr, Err}
-use Rattle.nef_shell.specs.Answers.{GiveStairs, HasFront}
+use Rattle.nef_statement.specs.Answers.{GiveStairs}
+use Rattle.nef_shell.specs.Answers.{HasFront}
 use Rattle.nef_shell.proofs.Statuses.{refused-status}
 use Rattle.nef_shell.proofs.top.run_script.Goals as goal
 

@@ -20,5 +20,5 @@ returns-clause-lean c k within used =
       ]
     ]
 
-pub returns-clause-shown : goal.returns-clause-shown
-returns-clause-shown c shown = c.release_one-3.ensures.shown (c.release_one-2.ensures.shown (c.release_one.ensures.shown shown))
+pub returns-clause-held : goal.returns-clause-held
+returns-clause-held c version held = c.release_one-3.ensures.held version (c.release_one-2.ensures.held version (c.release_one.ensures.held version held))

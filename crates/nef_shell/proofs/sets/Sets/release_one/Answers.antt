@@ -1,13 +1,16 @@
 use Rattle.std.proofs.Common.{◌∙◌, arith, refl, sym}
 use Rattle.std.proofs.lemmas.Option.{slice_get_read, get_or_from_slice_get}
-use Rattle.nef_shell.proofs.Complexes.{shown-less, kept-less, gone-here, gone-stays}
+use Rattle.nef_shell.proofs.Complexes.{kept-less, gone-here, gone-stays}
+use Rattle.nef_shell.proofs.Held.{held-less}
 use Rattle.nef_shell.proofs.sets.Sets.release_one.Goals as goal
 
-pub returns-then-index-now-clause-shown : goal.returns-then-index-now-clause-shown
-returns-then-index-now-clause-shown c shown =
+pub returns-then-index-now-clause-held : goal.returns-then-index-now-clause-held
+returns-then-index-now-clause-held c version held =
     let counted = c.args.self.now.counted in
+    let beside = c.args.self.now.beside in
     let named = rw c.in-Some.is at c.requires.within in
-    shown-less c.args.self.now.nodes.now c.args.self.now.list.items c.in-Some.k (omega arith) shown
+    let old = c.args.self.now in
+    held-less version old.nodes.now old.list.items old.parts.items old.texts.items c.in-Some.k (omega arith) (omega arith) (omega arith) held
 
 pub returns-then-index-now-clause-kept : goal.returns-then-index-now-clause-kept
 returns-then-index-now-clause-kept c k later kept =

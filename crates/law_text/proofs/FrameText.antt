@@ -1,0 +1,218 @@
+-- The texts of the empty set and of the whole frame.
+use Rattle.std.proofs.Common.{◌≡◌, ℕ, zero, suc, ℤ, pos, nat_abs, ◌<ℤ◌, arith, refl, sym, ◌∙◌, ap, Bool, true, false, List, [], ◌∷◌, ◌++◌, length, map, subst, Option, Some, None, codes, option_map, option_to_list}
+use Rattle.std.proofs.lemmas.Int.{ints}
+use Rattle.std.proofs.lemmas.List.{length-map}
+use Rattle.std.specs.Fmt.{digits}
+use Rattle.std.specs.List.{flat_map}
+use Rattle.nef_space.specs.Local.{SameSet}
+use Rattle.nef_space.specs.Lists.{IsAt}
+use Rattle.nef_space.specs.Place.{Place, Form}
+use Rattle.nef_space.specs.Sets.{Set}
+use Rattle.nef_space.specs.Vectors.{Vector}
+use Rattle.nef_space.specs.declared.label.Label.{Label}
+use Rattle.nef_space.specs.declared.label.Label.TheVariants.{Out, Not, In}
+use Rattle.law_near.proofs.Alike.{cones-of_same, FlatDim-by_cone}
+use Rattle.nef_geo.specs.Shapes.{form_of}
+use Rattle.nef_geo.specs.declared.plane.Plane.{Plane}
+use Rattle.law_sphere.specs.Maps.{At, MapVertex, Arc, MapSloop}
+use Rattle.nef_smap.proofs.SideLists.{at-from_get}
+use Rattle.nef_smap.specs.Maps.{svertex_of, arc_of, sloop_of}
+use Rattle.nef_smap.specs.declared.map.SLoop.{SLoop}
+use Rattle.law_complex.specs.Complexes.{Vertex as PlainVertex, Edge as PlainEdge, Complex as PlainComplex, Corner as PlainCorner, Edges}
+use Rattle.nef_complex.specs.declared.complex.Complex.{Complex}
+use Rattle.nef_complex.specs.declared.complex.Vertex.{Vertex}
+use Rattle.nef_complex.specs.Complexes.{vertex_of, edge_of, corner_of, complex_of, ShowsSet}
+use Rattle.nef_unique.proofs.Vertices.{cone-carried, edges-one}
+use Rattle.nef_core.specs.declared.how.TextVersion.TheVariants.{One}
+use Rattle.nef_parts.specs.Numbers.{IsFacet, IsParts, cycle_corners}
+use Rattle.nef_parts.specs.Text.{Word, line, label_word, option_word, numbers, signed, plane_words, vertex_text, svertex_line, arc_line, sloop_line, edge_line, cycle_line, facet_text, volume_line, text}
+use Rattle.nef_parts.specs.declared.parts.Cycle.{Cycle}
+use Rattle.nef_parts.specs.declared.parts.Facet.{Facet}
+use Rattle.nef_parts.specs.declared.parts.Parts.{Parts}
+use Rattle.nef_frame.proofs.Walls.{Axis, on_x, on_y, on_z, IsWhole, empty-whole, full-whole}
+use Rattle.nef_frame.proofs.Listed.{frame_vertices, AreOf, vertices-listed}
+use Rattle.nef_frame.proofs.FrameEdges.{frame_edges, frame-edges}
+use Rattle.law_text.specs.Frame.{empty_text, with_in, EmptyText, FullText}
+use Rattle.law_text.proofs.FrameLinks.{frame_complex}
+use Rattle.law_text.proofs.FrameParts.{face, wall_plane, wall_cycle, above_number, beneath_number, IsWallFacet, facet-is, six-facets, volumes-are}
+use Rattle.law_text.proofs.OneCycles.{HasOneNext}
+use Rattle.law_text.proofs.OneNext.{one-next}
+
+-- ---- texts by lists of numbers
+flat-image : {X Y A : Type 0} (f : Y → List A) (g : X → Y) (xs : List X) → flat_map (λ x. f (g x)) xs ≡ flat_map f (map g xs)
+flat-image f g [] = refl
+flat-image f g (x ∷ xs) = ap (λ r. f (g x) ++ r) (flat-image f g xs)
+
+flat-same : {X Y A : Type 0} (f : X → List A) (g : Y → List A) (xs : List X) (ys : List Y) → length xs ≡ length ys → ((k : ℕ) (x : X) (y : Y) → IsAt xs k x → IsAt ys k y → f x ≡ g y) → flat_map f xs ≡ flat_map g ys
+flat-same f g [] [] e same = refl
+flat-same f g [] (y ∷ ys) e same = absurd (omega (arith, e))
+flat-same f g (x ∷ xs) [] e same = absurd (omega (arith, e))
+flat-same f g (x ∷ xs) (y ∷ ys) e same = ap (λ r. r ++ flat_map f xs) (same 0 x y refl refl) ∙ ap (λ r. g y ++ r) (flat-same f g xs ys (omega (arith, e)) (λ k a b h i. same (suc k) a b h i))
+
+-- ---- the lines of plain vertices and edges
+abbrev vector_words : Vector → List Word
+vector_words d = signed (d.x ∷ d.y ∷ d.z ∷ [])
+
+abbrev place_words : Place → List Word
+place_words p = signed (p.x ∷ p.y ∷ p.z ∷ pos p.w ∷ [])
+
+abbrev plain_svertex : MapVertex → List ℕ
+plain_svertex v = line (codes "s" ∷ [] ++ vector_words v.dir ++ label_word v.mark ∷ option_word v.around ∷ [])
+
+abbrev plain_arc : Arc → List ℕ
+plain_arc a = line (codes "a" ∷ [] ++ numbers (a.source ∷ a.target ∷ []) ++ vector_words a.normal ++ label_word a.mark ∷ label_word a.pos ∷ label_word a.neg ∷ [])
+
+abbrev plain_sloop : MapSloop → List ℕ
+plain_sloop l = line (codes "l" ∷ [] ++ vector_words l.normal ++ label_word l.mark ∷ label_word l.pos ∷ label_word l.neg ∷ [])
+
+abbrev plain_vertex : PlainVertex → List ℕ
+plain_vertex v = line (codes "v" ∷ [] ++ place_words v.point ++ label_word v.map.mark ∷ option_word v.map.ground ∷ [])
+    ++ flat_map plain_svertex v.map.svertices ++ flat_map plain_arc v.map.arcs ++ flat_map plain_sloop (option_to_list v.map.sloop)
+
+abbrev plain_edge : PlainEdge → List ℕ
+plain_edge e = line (codes "e" ∷ [] ++ numbers (e.low ∷ e.low_svertex ∷ e.high ∷ e.high_svertex ∷ []) ++ label_word e.mark ∷ [])
+
+weight-is : (w : ℤ) → pos 0 <ℤ w → w ≡ pos (nat_abs w)
+weight-is w h = omega (arith, ints)
+
+sloop-same : (o : Option SLoop) → flat_map sloop_line (option_to_list o) ≡ flat_map plain_sloop (option_to_list (option_map sloop_of o))
+sloop-same None = refl
+sloop-same (Some l) = refl
+
+-- the text of a vertex by the words of its weight and the texts of its map
+abbrev vertex_by : Vertex → ℤ → List ℕ → List ℕ → List ℕ → List ℕ
+vertex_by v w a b c = line (codes "v" ∷ [] ++ signed (v.point.x ∷ v.point.y ∷ v.point.z ∷ w ∷ []) ++ label_word v.map.mark ∷ option_word v.map.ground ∷ []) ++ a ++ b ++ c
+
+vertex-plain : (v : Vertex) → vertex_text v ≡ plain_vertex (vertex_of v)
+vertex-plain v =
+    ap (λ w. vertex_by v w (flat_map svertex_line v.map.svertices) (flat_map arc_line v.map.arcs) (flat_map sloop_line (option_to_list v.map.sloop))) (weight-is v.point.w v.point.proper)
+    ∙ ap (λ a. vertex_by v (pos (nat_abs v.point.w)) a (flat_map arc_line v.map.arcs) (flat_map sloop_line (option_to_list v.map.sloop))) (flat-image plain_svertex svertex_of v.map.svertices)
+    ∙ ap (λ b. vertex_by v (pos (nat_abs v.point.w)) (flat_map plain_svertex (map svertex_of v.map.svertices)) b (flat_map sloop_line (option_to_list v.map.sloop))) (flat-image plain_arc arc_of v.map.arcs)
+    ∙ ap (λ c. vertex_by v (pos (nat_abs v.point.w)) (flat_map plain_svertex (map svertex_of v.map.svertices)) (flat_map plain_arc (map arc_of v.map.arcs)) c) (sloop-same v.map.sloop)
+
+all-plain : (vs : List Vertex) → flat_map vertex_text vs ≡ flat_map plain_vertex (map vertex_of vs)
+all-plain [] = refl
+all-plain (v ∷ vs) = ap (λ r. r ++ flat_map vertex_text vs) (vertex-plain v) ∙ ap (λ r. plain_vertex (vertex_of v) ++ r) (all-plain vs)
+
+-- ---- the lines of facets
+abbrev plain_corner : PlainCorner → List Word
+plain_corner k = numbers (k.vertex ∷ k.item ∷ [])
+
+abbrev plain_cycle : List PlainCorner → List ℕ
+plain_cycle ks = line (codes "c" ∷ [] ++ flat_map plain_corner ks)
+
+abbrev facet_by : Plane → Label → ℕ → ℕ → List ℕ → List ℕ
+facet_by h m a b c = line (codes "f" ∷ [] ++ plane_words h ++ label_word m ∷ [] ++ numbers (a ∷ b ∷ [])) ++ c
+
+cycle-plain : (x : Cycle) → cycle_line x ≡ plain_cycle (map corner_of x.corners)
+cycle-plain x = ap (λ ws. line (codes "c" ∷ [] ++ ws)) (flat-image plain_corner corner_of x.corners)
+
+cycles-plain : (xs : List Cycle) → flat_map cycle_line xs ≡ flat_map plain_cycle (cycle_corners xs)
+cycles-plain [] = refl
+cycles-plain (x ∷ xs) = ap (λ r. r ++ flat_map cycle_line xs) (cycle-plain x) ∙ ap (λ r. plain_cycle (map corner_of x.corners) ++ r) (cycles-plain xs)
+
+abbrev wall_text : Axis → Bool → List ℕ
+wall_text a e = facet_by (wall_plane a e) Out (above_number e) (beneath_number e) (flat_map plain_cycle (wall_cycle a e ∷ []))
+
+facet-plain : (a : Axis) (e : Bool) (f : Facet) → IsWallFacet a e f → facet_text f ≡ wall_text a e
+facet-plain a e f F =
+    ap (λ h. facet_by h f.mark f.pos f.neg (flat_map cycle_line f.cycles)) F.plane
+    ∙ ap (λ m. facet_by (wall_plane a e) m f.pos f.neg (flat_map cycle_line f.cycles)) F.mark
+    ∙ ap (λ n. facet_by (wall_plane a e) Out n f.neg (flat_map cycle_line f.cycles)) F.pos
+    ∙ ap (λ n. facet_by (wall_plane a e) Out (above_number e) n (flat_map cycle_line f.cycles)) F.neg
+    ∙ ap (λ c. facet_by (wall_plane a e) Out (above_number e) (beneath_number e) c) (cycles-plain f.cycles ∙ ap (flat_map plain_cycle) F.cycles)
+
+-- the sides of the frame, by their numbers
+abbrev Wall : Type 0
+Wall = Axis × Bool
+
+abbrev walls : List Wall
+walls = (on_z, false) ∷ (on_y, false) ∷ (on_x, false) ∷ (on_z, true) ∷ (on_y, true) ∷ (on_x, true) ∷ []
+
+wall-number : (n : ℕ) (w : Wall) → At walls n w → n ≡ face w.0 w.1
+wall-number zero w h = subst (λ (v : Wall). 0 ≡ face v.0 v.1) h refl
+wall-number (suc zero) w h = subst (λ (v : Wall). 1 ≡ face v.0 v.1) h refl
+wall-number (suc (suc zero)) w h = subst (λ (v : Wall). 2 ≡ face v.0 v.1) h refl
+wall-number (suc (suc (suc zero))) w h = subst (λ (v : Wall). 3 ≡ face v.0 v.1) h refl
+wall-number (suc (suc (suc (suc zero)))) w h = subst (λ (v : Wall). 4 ≡ face v.0 v.1) h refl
+wall-number (suc (suc (suc (suc (suc zero))))) w h = subst (λ (v : Wall). 5 ≡ face v.0 v.1) h refl
+wall-number (suc (suc (suc (suc (suc (suc n)))))) w h = absurd h
+
+-- ---- the text
+abbrev text_by : List ℕ → List ℕ → List ℕ → List ℕ → List Label → List ℕ
+text_by ns vs es fs ms = line (codes "nef3" ∷ codes "1" ∷ [] ++ numbers ns) ++ vs ++ es ++ fs ++ flat_map volume_line ms
+
+abbrev frame_text : Label → List ℕ
+frame_text l = text_by (8 ∷ 12 ∷ 6 ∷ 2 ∷ []) (flat_map plain_vertex (frame_vertices l)) (flat_map plain_edge frame_edges) (flat_map (λ (w : Wall). wall_text w.0 w.1) walls) (Out ∷ l ∷ [])
+
+module _ (t : Set) (l : Label) (W : IsWhole t l) (s : Set) (c : Complex) (p : Parts) (same : SameSet s t) (S : ShowsSet s c) (P : IsParts (complex_of c) p) where
+  -- the vertices are those of the other set too
+  of-other : AreOf t (map vertex_of c.vertices)
+  of-other =
+      let cones = cones-of_same s t same in
+      record {
+        vertices = λ n v h. (FlatDim-by_cone s t v.point 0 (cones v.point)).0 (S.shows.vertices n v h);
+        complete = λ q h. S.shows.complete q ((FlatDim-by_cone s t q 0 (cones q)).1 h);
+        ordered = S.shows.ordered;
+        cones = λ n v h. cone-carried v.map s t v.point (cones v.point) (S.shows.cones n v h);
+        least = S.shows.least;
+        maps_ordered = S.shows.maps_ordered;
+      }
+
+  vertices-are : map vertex_of c.vertices ≡ frame_vertices l
+  vertices-are = vertices-listed t l W c.vertices of-other
+
+  edges-are : map edge_of c.edges ≡ frame_edges
+  edges-are = edges-one (frame_vertices l) (map edge_of c.edges) frame_edges (subst (λ (vs : List PlainVertex). Edges vs (map edge_of c.edges)) vertices-are S.shows.edges) (frame-edges l)
+
+  abbrev hs : List Form
+  hs = map form_of c.carriers
+
+  complex-is : complex_of c ≡ frame_complex l hs
+  complex-is = ap (λ (vs : List PlainVertex). record { carriers = hs; vertices = vs; edges = map edge_of c.edges }) vertices-are
+      ∙ ap (λ (es : List PlainEdge). record { carriers = hs; vertices = frame_vertices l; edges = es }) edges-are
+
+  parts : IsParts (frame_complex l hs) p
+  parts = subst (λ (C : PlainComplex). IsParts C p) complex-is P
+
+  one : HasOneNext (frame_complex l hs)
+  one = subst HasOneNext complex-is (one-next s (complex_of c) S.shows)
+
+  facets-text : flat_map facet_text p.facets ≡ flat_map (λ (w : Wall). wall_text w.0 w.1) walls
+  facets-text = flat-same facet_text (λ (w : Wall). wall_text w.0 w.1) p.facets walls (six-facets l hs W.some one p parts)
+      (λ n f w g h.
+      let e = wall-number n w (at-from_get walls n w h) in
+      facet-plain w.0 w.1 f (facet-is l hs W.some one p parts w.0 w.1 f (subst (λ (m : ℕ). IsFacet (frame_complex l hs) p m f) e (parts.facets n f g))))
+
+  many-vertices : length c.vertices ≡ 8
+  many-vertices = sym (length-map c.vertices vertex_of) ∙ ap length vertices-are
+
+  many-edges : length c.edges ≡ 12
+  many-edges = sym (length-map c.edges edge_of) ∙ ap length edges-are
+
+  pub text-is : text One c p ≡ frame_text l
+  text-is =
+      let vs = flat_map vertex_text c.vertices in
+      let es = flat_map edge_line c.edges in
+      let fs = flat_map facet_text p.facets in
+      ap (λ n. text_by (n ∷ length c.edges ∷ length p.facets ∷ length p.volumes ∷ []) vs es fs p.volumes) many-vertices
+      ∙ ap (λ n. text_by (8 ∷ n ∷ length p.facets ∷ length p.volumes ∷ []) vs es fs p.volumes) many-edges
+      ∙ ap (λ n. text_by (8 ∷ 12 ∷ n ∷ length p.volumes ∷ []) vs es fs p.volumes) (six-facets l hs W.some one p parts)
+      ∙ ap (λ (ms : List Label). text_by (8 ∷ 12 ∷ 6 ∷ length ms ∷ []) vs es fs ms) (volumes-are l hs W.some one p parts)
+      ∙ ap (λ xs. text_by (8 ∷ 12 ∷ 6 ∷ 2 ∷ []) xs es fs (Out ∷ l ∷ [])) (all-plain c.vertices ∙ ap (flat_map plain_vertex) vertices-are)
+      ∙ ap (λ xs. text_by (8 ∷ 12 ∷ 6 ∷ 2 ∷ []) (flat_map plain_vertex (frame_vertices l)) xs fs (Out ∷ l ∷ [])) (flat-image plain_edge edge_of c.edges ∙ ap (flat_map plain_edge) edges-are)
+      ∙ ap (λ xs. text_by (8 ∷ 12 ∷ 6 ∷ 2 ∷ []) (flat_map plain_vertex (frame_vertices l)) (flat_map plain_edge frame_edges) xs (Out ∷ l ∷ [])) facets-text
+
+empty-listed : frame_text Not ≡ empty_text
+unfolding digits
+empty-listed = refl
+
+full-listed : frame_text In ≡ with_in empty_text
+unfolding digits
+full-listed = refl
+
+pub empty-is : EmptyText
+empty-is s c p same S P = text-is Set.empty Not empty-whole s c p same S P ∙ empty-listed
+
+pub full-is : FullText
+full-is s c p same S P = text-is Set.full In full-whole s c p same S P ∙ full-listed

@@ -1,0 +1,27 @@
+-- In which round a number is worked, and after which its result is let go.
+use Rattle.std.specs.Prelude.{◌≡◌, ℕ, ◌+◌, ◌<◌, ◌≤◌, ◌⊎◌, max, List, Option, Some, None, length, slice_index}
+use Rattle.nef_sched.specs.Counts.{times}
+use Rattle.nef_sched.specs.Marks.{NeedsOf}
+
+-- the round after that of a number, or the first one where there is no number
+abbrev pub after : List ℕ → Option ℕ → ℕ
+after rounds None = 0
+after rounds (Some k) = slice_index rounds k + 1
+
+-- each number comes into the first round after those of the numbers that it needs, which are below it
+pub record AreRounds (size : ℕ) (first second : ℕ → Option ℕ) (rounds : List ℕ) : Type 0 where
+  pub len : length rounds ≡ size
+  pub each : (n : ℕ) → n < size → slice_index rounds n ≡ max (after rounds (first n)) (after rounds (second n))
+  pub below : (n k : ℕ) → n < size → NeedsOf first second n k → k < n
+  pub low : (n : ℕ) → n < size → slice_index rounds n ≤ n
+
+-- the last round in which the result of each number is needed, or its own one where none needs it
+pub record AreLasts (size : ℕ) (first second : ℕ → Option ℕ) (rounds lasts : List ℕ) : Type 0 where
+  pub len : length lasts ≡ size
+  pub own : (k : ℕ) → k < size → slice_index rounds k ≤ slice_index lasts k
+  pub used : (n k : ℕ) → n < size → NeedsOf first second n k → slice_index rounds n ≤ slice_index lasts k
+  pub reached : (k : ℕ) → k < size → (slice_index lasts k ≡ slice_index rounds k) ⊎ ((n : ℕ) × (n < size) × NeedsOf first second n k × (slice_index lasts k ≡ slice_index rounds n))
+
+-- the list has each of the first numbers whose round is r exactly once, and no other
+abbrev pub IsGroup : ℕ → List ℕ → ℕ → List ℕ → Type 0
+IsGroup count rounds r xs = ((k : ℕ) → k < count → slice_index rounds k ≡ r → times k xs ≡ 1) × ((k : ℕ) → 0 < times k xs → (k < count) × (slice_index rounds k ≡ r))

@@ -1,0 +1,13 @@
+pub mod Alike
+pub mod Answered
+pub mod Bound
+pub mod Counts
+pub mod Grown
+pub mod Lines
+pub mod Told
+pub mod Texts
+pub mod Moved
+pub mod Walk
+pub mod One
+pub mod Runs
+pub mod Stated

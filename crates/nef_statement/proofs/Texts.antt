@@ -1,0 +1,98 @@
+-- A set has one text, and the text tells it.
+use Rattle.std.proofs.Common.{◌≡◌, ◌↔◌, ℕ, refl, ap, sym, ◌∙◌, subst, List, [], ◌++◌, length, map, append_assoc}
+use Rattle.nef_space.specs.Local.{SameSet}
+use Rattle.nef_space.specs.Place.{Place, InFrame}
+use Rattle.nef_space.specs.Sets.{Set, Holds}
+use Rattle.law_complex.specs.Belongs.{Belongs}
+use Rattle.law_complex.specs.Complexes.{Vertex, Edge, Edges}
+use Rattle.law_complex.proofs.FacetNames.{facet-of}
+use Rattle.law_complex.proofs.Skeletons.{belongs-holds}
+use Rattle.nef_complex.specs.Complexes.{complex_of, vertex_of, edge_of, ShowsSet}
+use Rattle.nef_core.specs.declared.how.TextVersion.{TextVersion}
+use Rattle.nef_locate.proofs.Cones.{facet-at}
+use Rattle.nef_unique.proofs.Vertices.{edges-one}
+use Rattle.law_text.proofs.SameText.{same-parts, same-set_text, text-set, spelled-holds}
+use Rattle.nef_parts.specs.Numbers.{IsParts}
+use Rattle.nef_parts.specs.Text.{version_word, first_line, vertices_text, edge_line, facet_text, volumes_text, text}
+use Rattle.std.specs.Prelude.{codes}
+use Rattle.std.specs.List.{flat_map}
+use Rattle.nef_statement.proofs.Counts.{count-same}
+use Rattle.nef_parts.specs.declared.parts.Parts.{Parts}
+use Rattle.nef_complex.specs.declared.complex.Complex.{Complex}
+use Rattle.nef_core.specs.declared.how.TextVersion.TheVariants.{One, Two}
+use Rattle.nef_volumes.proofs.Components.{are-counted}
+use Rattle.nef_statement.specs.Reader.{rows_of, vertices_told, with_edges, TextSays}
+use Rattle.nef_statement.specs.Texts.{count_line, IsWrittenOf, IsText}
+use Rattle.nef_statement.specs.Written.{CountTells}
+use Rattle.nef_statement.proofs.Alike.{same-alike, same-turned, same-trans}
+use Rattle.nef_statement.proofs.Told.{HasWeights, vertices-told, weights-told}
+
+-- the texts of two sets are equal exactly where the sets are one
+pub same-texts : (version : TextVersion) (s t : Set) (x y : List ℕ) → IsWrittenOf s (text version) x → IsWrittenOf t (text version) y → (x ≡ y) ↔ SameSet s t
+same-texts version s t x y (c, p, S, P, e) (d, q, T, Q, f) =
+    (λ g. text-set version s t c d p q S T (sym e ∙ g ∙ f), λ h. e ∙ (same-set_text version s t c d p q S T h P Q).1 ∙ sym f)
+
+-- the counted numbers are those of components
+pub count-tells : (s : Set) (x : List ℕ) → IsWrittenOf s count_line x → CountTells s x
+count-tells s x (c, p, S, P, e) =
+    let counted = are-counted c p P s S in
+    record {
+      vertices = length c.vertices;
+      edges = length c.edges;
+      facets = length p.facets;
+      volumes = length p.volumes;
+      is = e;
+      no_direction = counted.0;
+      one_direction = counted.1;
+      two_directions = counted.2;
+      three_directions = counted.3;
+    }
+
+text-same : (version : TextVersion) (c : Complex) (p : Parts) → text version c p ≡ text version (record { carriers = []; vertices = c.vertices; edges = c.edges; index = c.index }) p
+text-same One c p = refl
+text-same Two c p = refl
+
+-- to the vertices and edges of a complex that shows the set a point of the frame belongs exactly where the set holds, whatever the carriers
+shown-holds : (version : TextVersion) (t : Set) (c : Complex) (p : Parts) (y : Place) → ShowsSet t c → IsParts (complex_of c) p → InFrame y → Belongs (with_edges (map vertex_of c.vertices) (map edge_of c.edges)) y ↔ Holds t y
+shown-holds version t c p y S P inside =
+    let d : Complex = record { carriers = []; vertices = c.vertices; edges = c.edges; index = c.index } in
+    spelled-holds (λ s C p S inside. belongs-holds s C S (facet-at s C S) (facet-of s C S) p inside) version t c d p (text version c p) y S refl
+    (S.shows.edges, (p, same-parts c d p refl refl P, text-same version c p)) inside
+
+four_parts : (a b c d x : List ℕ) → a ++ b ++ c ++ d ++ x ≡ a ++ (b ++ (c ++ (d ++ x)))
+four_parts a b c d x = append_assoc (a ++ b ++ c) d x ∙ append_assoc (a ++ b) c (d ++ x) ∙ append_assoc a b (c ++ (d ++ x))
+
+-- the text after its first line
+abbrev after-first : TextVersion → Complex → Parts → List ℕ
+after-first version c p = vertices_text version c p ++ (flat_map edge_line c.edges ++ (flat_map facet_text p.facets ++ volumes_text version p))
+
+first-is : (version : TextVersion) (c : Complex) (p : Parts) → first_line version c p ≡ codes "nef3 " ++ version_word version ++ codes " " ++ count_line c p
+first-is One c p = refl
+first-is Two c p = refl
+
+text-begins : (version : TextVersion) (c : Complex) (p : Parts) → text version c p ≡ codes "nef3 " ++ version_word version ++ codes " " ++ count_line c p ++ after-first version c p
+text-begins version c p = four_parts (first_line version c p) (vertices_text version c p) (flat_map edge_line c.edges) (flat_map facet_text p.facets) (volumes_text version p) ∙ ap (λ z. z ++ after-first version c p) (first-is version c p)
+
+pub text-says : (version : TextVersion) (s : Set) (x : List ℕ) → IsText version s x → TextSays version s x
+text-says version s x (t, same, (c, p, S, P, e)) =
+    record {
+      first = (count_line c p, after-first version c p, count-same s t (count_line c p) same (count-tells t (count_line c p) (c, p, S, P, refl)), e ∙ text-begins version c p);
+      weights = subst (λ z. HasWeights (rows_of z)) (sym e) (weights-told version c p);
+      edges = (map edge_of c.edges, subst (λ (vs : List Vertex). Edges vs (map edge_of c.edges)) (sym vertices) S.shows.edges);
+      holds = λ es y E inside.
+          let w = edges-one (map vertex_of c.vertices) (map edge_of c.edges) es S.shows.edges (subst (λ (vs : List Vertex). Edges vs es) vertices E) in
+          let h = subst (λ (fs : List Edge). Belongs (with_edges (vertices_told x) fs) y ↔ Holds t y) w
+          (subst (λ (vs : List Vertex). Belongs (with_edges vs (map edge_of c.edges)) y ↔ Holds t y) (sym vertices) (shown-holds version t c p y S P inside)) in
+          let a = same-alike s t same y inside in
+          (λ b. a.1 (h.0 b), λ k. h.1 (a.0 k));
+    }
+  where
+    vertices : vertices_told x ≡ map vertex_of c.vertices
+    vertices = ap vertices_told e ∙ vertices-told version c p
+
+pub one-text : (version : TextVersion) (s t : Set) (x y : List ℕ) → IsText version s x → IsText version t y → (x ≡ y) ↔ SameSet s t
+one-text version s t x y (a, f, h) (b, g, k) =
+    let e = same-texts version a b x y h k in (
+      λ q. same-trans s a t f (same-trans a b t (e.0 q) (same-turned t b g)),
+      λ q. e.1 (same-trans a s b (same-turned s a f) (same-trans s t b q g)),
+    )

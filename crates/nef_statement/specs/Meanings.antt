@@ -1,0 +1,13 @@
+-- What the meanings of a script, which share nodes among its names, have in common.
+use Rattle.std.specs.Prelude.{◌≡◌, ℕ, List, [], Some}
+use Rattle.nef_space.specs.Local.{SameSet}
+use Rattle.nef_space.specs.Sets.{Set}
+use Rattle.nef_expr.specs.Nodes.{node_set, IsOrdered}
+use Rattle.nef_script.specs.Refusal.{names_of}
+use Rattle.nef_script.specs.Meaning.{Names, Sets, MeansLines}
+use Rattle.nef_script.specs.declared.script.Command.{Command}
+use Rattle.nef_statement.specs.Denotes.{set_named, denoted}
+
+-- in each of them the lines give each name the set of its node
+abbrev pub NodesDenote : Type 0
+NodesDenote = (lines : List (List ℕ)) (sets : Sets) (commands : List Command) → MeansLines lines sets commands → IsOrdered sets.nodes → (name : List ℕ) (k : ℕ) → Names (names_of lines) sets.bound name k → (s : Set) × (set_named (denoted [] lines) name ≡ Some s) × SameSet s (node_set sets.nodes k)

@@ -1,0 +1,49 @@
+-- What the lines of a script say. Text s x is to say that x is the text of the set s.
+use Rattle.std.specs.Prelude.{◌≡◌, ℕ, pos, ◌<ℤ◌, List, [], ◌∷◌, ◌++◌, Option, Some}
+use Rattle.nef_space.specs.Local.{HasLabel}
+use Rattle.nef_space.specs.Place.{Place}
+use Rattle.nef_space.specs.Sets.{Set}
+use Rattle.nef_space.specs.Vectors.{vector}
+use Rattle.nef_space.specs.declared.label.Label.{Label}
+use Rattle.nef_geo.specs.Shapes.{place_at}
+use Rattle.nef_lex.specs.Words.{words_of}
+use Rattle.nef_script.specs.Table.{verb_of}
+use Rattle.nef_script.specs.Tests.{number_or_zero}
+use Rattle.nef_script.specs.declared.table.Verb.{Verb}
+use Rattle.nef_script.specs.declared.table.Verb.TheVariants as verb
+use Rattle.nef_statement.specs.Output.{answer_of, framed, IsSameAnswer, IsJoinedAnswer, IsRayAnswer}
+use Rattle.nef_statement.specs.Written.{CountTells}
+use Rattle.nef_statement.specs.Denotes.{Bindings, set_named, bound_set, bound_after}
+
+-- P is so of the point (x/w, y/w, z/w), whose w is positive
+abbrev pub AtPoint : List ℕ → List ℕ → List ℕ → List ℕ → (Place → Type 0) → Type 0
+AtPoint x y z w P = (proper : pos 0 <ℤ number_or_zero w) × P (place_at (number_or_zero x) (number_or_zero y) (number_or_zero z) (number_or_zero w) proper)
+
+-- the answer to what the label of s is at p
+abbrev pub IsLabelAnswer : Set → Place → List ℕ → Type 0
+IsLabelAnswer s p said = (l : Label) × HasLabel s p l × (said ≡ answer_of l)
+
+-- P is so of the set of the name, which is bound
+abbrev pub OfName : Bindings → List ℕ → (Set → Type 0) → Type 0
+OfName sets name P = (s : Set) × (set_named sets name ≡ Some s) × P s
+
+-- what a command says, by the words after it: the answer to what it asks, and nothing where it binds a name to a set. It says so of the right number of words alone,
+-- whose operands are bound and whose points have a positive w
+abbrev pub IsSaid : (Set → List ℕ → Type 0) → Bindings → Option Verb → List (List ℕ) → List ℕ → Type 0
+IsSaid Text sets (Some verb.Has) (name ∷ x ∷ y ∷ z ∷ w ∷ []) said = OfName sets name (λ s. AtPoint x y z w (λ p. IsLabelAnswer s p said))
+IsSaid Text sets (Some verb.Joined) (name ∷ x ∷ y ∷ z ∷ w ∷ x2 ∷ y2 ∷ z2 ∷ w2 ∷ []) said = OfName sets name (λ s. AtPoint x y z w (λ p. AtPoint x2 y2 z2 w2 (λ q. IsJoinedAnswer s p q said)))
+IsSaid Text sets (Some verb.Ray) (name ∷ x ∷ y ∷ z ∷ w ∷ dx ∷ dy ∷ dz ∷ []) said = OfName sets name (λ s. AtPoint x y z w (λ p. IsRayAnswer s p (vector (number_or_zero dx) (number_or_zero dy) (number_or_zero dz)) said))
+IsSaid Text sets (Some verb.Same) (left ∷ right ∷ []) said = OfName sets left (λ s. OfName sets right (λ t. IsSameAnswer s t said))
+IsSaid Text sets (Some verb.Count) (name ∷ []) said = OfName sets name (λ s. CountTells s said)
+IsSaid Text sets (Some verb.Print) (name ∷ []) said = OfName sets name (λ s. (x : List ℕ) × Text s x × (said ≡ framed name x))
+IsSaid Text sets command args said = (s : Set) × (bound_set sets command args ≡ Some s) × (said ≡ [])
+
+-- what a line says, by its words: a line without words says nothing
+abbrev pub IsSaidBy : (Set → List ℕ → Type 0) → Bindings → List (List ℕ) → List ℕ → Type 0
+IsSaidBy Text sets [] said = said ≡ []
+IsSaidBy Text sets (word ∷ args) said = IsSaid Text sets (verb_of word) args said
+
+-- what lines say, one after the other
+abbrev pub AreSaid : (Set → List ℕ → Type 0) → Bindings → List (List ℕ) → List ℕ → Type 0
+AreSaid Text sets [] output = output ≡ []
+AreSaid Text sets (line ∷ lines) output = (said : List ℕ) × (rest : List ℕ) × IsSaidBy Text sets (words_of line) said × AreSaid Text (bound_after sets (words_of line)) lines rest × (output ≡ said ++ rest)

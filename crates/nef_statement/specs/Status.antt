@@ -1,0 +1,24 @@
+-- How a run ends.
+use Rattle.std.specs.Prelude.{◌≡◌, ℕ, ◌⊎◌}
+use Rattle.nef_statement.specs.declared.status.Status.{Status}
+use Rattle.nef_statement.specs.declared.status.Status.TheVariants.{Done, Refused, Words, ReadFault, WriteFault, OutOfMemory}
+
+-- the exit status
+abbrev pub status_code : Status → ℕ
+status_code Done = 0
+status_code (Refused line kind) = 1
+status_code Words = 2
+status_code ReadFault = 3
+status_code WriteFault = 4
+status_code OutOfMemory = 5
+
+-- it ends so, or memory was wanted and not found
+abbrev pub EndsAs : Status → Status → Type 0
+EndsAs wanted status = (status ≡ wanted) ⊎ (status ≡ OutOfMemory)
+
+-- it came to an end of its own: the script was worked to its end, or it or the words were refused
+abbrev pub EndsByItself : Status → Type 0
+EndsByItself Done = Unit {0}
+EndsByItself (Refused line kind) = Unit {0}
+EndsByItself Words = Unit {0}
+EndsByItself _ = ⊥

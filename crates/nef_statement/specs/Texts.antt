@@ -1,0 +1,23 @@
+-- The text of a set, and what is counted of it, by the complexes that show it.
+use Rattle.std.specs.Prelude.{◌≡◌, ℕ, List}
+use Rattle.nef_space.specs.Local.{SameSet}
+use Rattle.nef_space.specs.Sets.{Set}
+use Rattle.nef_complex.specs.declared.complex.Complex.{Complex}
+use Rattle.nef_complex.specs.Complexes.{ShowsSet, complex_of}
+use Rattle.nef_core.specs.declared.how.TextVersion.{TextVersion}
+use Rattle.nef_parts.specs.declared.parts.Parts.{Parts}
+use Rattle.nef_parts.specs.Numbers.{IsParts}
+use Rattle.nef_parts.specs.Text.{line, numbers, counts, text}
+
+-- the numbers of vertices, edges, facets and volumes
+abbrev pub count_line : Complex → Parts → List ℕ
+count_line c p = line (numbers (counts c p))
+
+-- what is written of a complex that shows s, with its parts. The set determines the complex but for its carriers, which nothing writes, so any complex will do:
+-- there is one such piece
+abbrev pub IsWrittenOf : Set → (Complex → Parts → List ℕ) → List ℕ → Type 0
+IsWrittenOf s written piece = (c : Complex) × (p : Parts) × ShowsSet s c × IsParts (complex_of c) p × (piece ≡ written c p)
+
+-- the bytes are the text of a complex that shows the set, by some expression for it
+abbrev pub IsText : TextVersion → Set → List ℕ → Type 0
+IsText version s x = (t : Set) × SameSet s t × IsWrittenOf t (text version) x

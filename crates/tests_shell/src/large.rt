@@ -1,0 +1,71 @@
+//! A large set: with more candidates, vertices and text than any number in the program from which on it works in another
+//! way.
+
+use crate::grids::grid;
+use crate::runs::ended;
+use nef_io::{MemSink, OpenGate, SureSource};
+use nef_shell::code;
+use std::alloc::Global;
+use std::sync::Wait;
+use std::test::Fail;
+use std::thread::Threads;
+
+// More bytes than the large set's text.
+const ROOM: usize = 4_194_304;
+
+// What is asked of 343 boxes, and the answers: of the complement, which has the same parts; of both together, which are the
+// frame; and of the boxes with y and z exchanged, which are the same.
+const QUESTIONS: &str =
+    "count G\nnot N G\ncount N\nor U G N\nfull F\nsame U F\nturn T G 8\nsame T G\n\
+    joined G 3 3 3 2 7 3 3 2\njoined G 0 0 0 1 0 0 1 2\nray G 3 3 3 2 1 0 0\nprint G\n";
+
+const ANSWERS: &str = "2752 4128 2064 345\n2752 4128 2064 345\nsame\nsame\napart\njoined\n\
+    after 4 3 3 2 not\npolyhedron G\n";
+
+// How many lines of the text begin so.
+fn lines_with(text: &str, start: &str) -> usize {
+    text.lines().filter(|line| line.starts_with(start)).count()
+}
+
+// Whether it is the text of 343 boxes: each has 8 vertices, 12 edges, 6 facets and the volume within, beside those of the
+// frame, its border and what is around the boxes.
+fn is_of_boxes(text: &str) -> bool {
+    text.ends_with("end\n")
+        && lines_with(text, "v ") == 8 + 8 * 343
+        && lines_with(text, "e ") == 12 + 12 * 343
+        && lines_with(text, "f ") == 6 + 6 * 343
+        && lines_with(text, "w ") == 2 + 343
+}
+
+// Whether a run with these words gives the answers and prints the boxes.
+fn is_worked<R: Threads + Wait + Sync>(rt: &R, alloc: Global, words: &str) -> Result<bool, Fail> {
+    let boxes = grid(alloc, 14)?;
+    let script = format!(in alloc; "{boxes}{QUESTIONS}")?;
+    let mut source = SureSource::new(alloc, script.as_bytes())?;
+    let mut sink = MemSink::new(alloc, ROOM, ROOM, &[])?;
+    let status = ended(rt, alloc, words, &mut source, &mut sink, &OpenGate)?;
+    let written = str::from_utf8(sink.taken())?;
+    let Some(text) = written.strip_prefix(ANSWERS) else {
+        return Ok(false);
+    };
+    Ok(code(&status) == 0 && is_of_boxes(text))
+}
+
+#[test]
+fn by_one_worker(rt: HostRuntime) -> Result<(), Fail> {
+    assert!(rt; is_worked(&rt, rt.alloc(), "--text 1")?);
+    Ok(())
+}
+
+#[test]
+fn by_most_workers(rt: HostRuntime) -> Result<(), Fail> {
+    assert!(rt; is_worked(&rt, rt.alloc(), "--workers 64 --text 2")?);
+    assert!(rt; is_worked(&rt, rt.alloc(), "--workers 64 --board free --text 1")?);
+    Ok(())
+}
+
+#[test]
+fn by_rounds(rt: HostRuntime) -> Result<(), Fail> {
+    assert!(rt; is_worked(&rt, rt.alloc(), "--ahead --workers 3 --text 2")?);
+    Ok(())
+}
