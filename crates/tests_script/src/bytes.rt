@@ -1,5 +1,7 @@
 //! Bytes from sources and into sinks, and reads and writes that fail.
 
+ghost use Rattle.std.specs.Prelude.{◌≡◌, ◌++◌, IfOk};
+
 use crate::same::{check, check_bytes};
 use nef_io::{
     Failed, FromReader, Gate, INPUT_LIMIT, IntoWriter, MemSink, MemSource, OpenGate, OutOfMemory,
@@ -75,16 +77,19 @@ fn from_reader(rt: HostRuntime) {
     check_script(&rt, rt.alloc(), &mut source);
 }
 
-fn written(alloc: Global) -> Result<Vec<u8>, Failed> {
+// What a list of bytes holds that two pieces were put into. It always tells that, so the clause can state it.
+fn held(alloc: Global, first: &[u8], second: &[u8]) -> Result<Vec<u8>, Failed>
+    ensures { IfOk result (λ v. v.items ≡ first.now ++ second.now) }
+{
     let mut sink = IntoWriter::new(Vec::new(alloc));
-    put_all(&mut sink, b"in\n")?;
-    put_all(&mut sink, b"not\n")?;
+    put_all(&mut sink, first)?;
+    put_all(&mut sink, second)?;
     Ok(sink.into_inner())
 }
 
 #[test]
 fn into_writer(rt: HostRuntime) -> Result<(), Fail> {
-    let bytes = written(rt.alloc())?;
+    let bytes = held(rt.alloc(), b"in\n", b"not\n")?;
     check_bytes(&rt, bytes.as_slice(), b"in\nnot\n", "two pieces");
     Ok(())
 }
