@@ -8,8 +8,6 @@ use Rattle.std.specs.declared.vec.Vec.{Vec}
 use Rattle.nef_statement.specs.declared.status.Status.TheVariants.{Done}
 use Rattle.nef_statement.specs.Status.{status_code}
 use Rattle.nef_statement.specs.Traffic.{Traffic}
-use Rattle.nef_statement.specs.Statement.{ProgramSays}
-use Rattle.nef_statement.specs.Texts.{IsText}
 use Rattle.nef_shell.specs.Ended.{RunEnds}
 
 -- these are all the words of the line, or why they can't be had

@@ -1,5 +1,5 @@
 -- The set of each name is that of its node.
-use Rattle.std.proofs.Common.{◌≡◌, ℕ, zero, suc, ◌+◌, ◌≤◌, nat_abs, Bool, true, false, cond, List, [], ◌∷◌, ◌++◌, length, map, Option, Some, None, slice_get, if◌then◌else◌, refl, sym, ap, ◌∙◌, subst, arith, inl, inr, append-nil}
+use Rattle.std.proofs.Common.{◌≡◌, ℕ, zero, suc, ◌+◌, ◌≤◌, nat_abs, Bool, true, false, cond, List, [], ◌∷◌, ◌++◌, length, map, Some, None, slice_get, if◌then◌else◌, refl, sym, ap, ◌∙◌, subst, arith, inl, inr, append-nil}
 use Rattle.std.specs.Prelude.{codes, option_map}
 use Rattle.std.specs.List.{position_from}
 use Rattle.std.specs.Str.{bytes_eq}
@@ -15,7 +15,7 @@ use Rattle.nef_expr.specs.declared.nodes.Node.TheVariants as node
 use Rattle.nef_expr.specs.Nodes.{node_set, set_of, sets_after, IsOrdered}
 use Rattle.nef_expr.proofs.Sets.{each-set}
 use Rattle.nef_expr.proofs.Turns.{node-turned}
-use Rattle.nef_script.specs.Table.{verb_of, binds}
+use Rattle.nef_script.specs.Table.{binds}
 use Rattle.nef_script.specs.Tests.{number_or_zero, on_verb}
 use Rattle.nef_script.specs.Refusal.{bound_name}
 use Rattle.nef_script.specs.Meaning.{Names, IsNode, Sets, IsBind, IsTurn, IsBinding, MeansCommand, MeansWords}

@@ -1,5 +1,5 @@
 -- What lines say is one.
-use Rattle.std.proofs.Common.{◌≡◌, ℕ, ℤ, pos, ◌<ℤ◌, zero, suc, sym, ap, ◌∙◌, subst, List, [], ◌∷◌, ◌++◌, take, Option, Some, append_assoc, inl, inr}
+use Rattle.std.proofs.Common.{◌≡◌, ℕ, ℤ, pos, ◌<ℤ◌, zero, suc, sym, ap, ◌∙◌, subst, List, [], ◌∷◌, ◌++◌, take, Option, Some, append_assoc}
 use Rattle.std.proofs.Props.{props}
 use Rattle.nef_space.specs.Place.{Place}
 use Rattle.nef_space.specs.Sets.{Set}

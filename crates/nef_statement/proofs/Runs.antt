@@ -1,12 +1,12 @@
 -- What two runs that are asked for the same have in common.
-use Rattle.std.proofs.Common.{◌≡◌, ℕ, ◌+◌, ◌<◌, ◌≤◌, arith, refl, sym, ap, ◌∙◌, subst, List, [], ◌++◌, length, take, Option, Some, None, ◌⊎◌, inl, inr, append-nil, length-append}
+use Rattle.std.proofs.Common.{◌≡◌, ℕ, ◌<◌, ◌≤◌, arith, refl, sym, ap, ◌∙◌, subst, List, [], ◌++◌, length, take, Option, Some, None, inl, inr, append-nil, length-append}
 use Rattle.std.specs.Prelude.{option_map, IsSome}
 use Rattle.std.specs.Io.KnownBytes.{Consumes, IsAtEnd}
 use Rattle.std.proofs.lemmas.Bool.{cases_lt}
 use Rattle.std.proofs.lemmas.List.{take_all, take-take}
 use Rattle.nef_space.specs.Sets.{Set}
 use Rattle.nef_core.specs.declared.how.TextVersion.{TextVersion}
-use Rattle.nef_io.specs.Bytes.{Rose, Grows, GrowsWithin}
+use Rattle.nef_io.specs.Bytes.{Grows, GrowsWithin}
 use Rattle.nef_lex.specs.Lines.{lines_of}
 use Rattle.nef_words.specs.declared.options.Options.{Options}
 use Rattle.nef_words.specs.Chosen.{options_of}

@@ -1,5 +1,5 @@
 -- A reader of a text is told the vertices of the complex.
-use Rattle.std.proofs.Common.{◌≡◌, ℕ, zero, suc, ◌-◌, ◌^◌, ◌<◌, ◌≤◌, nat_abs, ℤ, pos, ◌<ℤ◌, Bool, true, false, List, [], ◌∷◌, ◌++◌, map, Option, Some, None, option_to_list, option_map, slice_get, refl, sym, ap, ◌∙◌, subst, arith, append-nil, append_assoc, if◌then◌else◌}
+use Rattle.std.proofs.Common.{◌≡◌, ℕ, zero, suc, ◌-◌, ◌^◌, ◌<◌, ◌≤◌, nat_abs, ℤ, pos, ◌<ℤ◌, true, false, List, [], ◌∷◌, ◌++◌, map, Option, Some, None, option_to_list, option_map, slice_get, refl, sym, ap, ◌∙◌, subst, arith, append-nil, append_assoc, if◌then◌else◌}
 use Rattle.std.specs.Prelude.{codes}
 use Rattle.std.proofs.Props.{props}
 use Rattle.std.specs.Str.{bytes_eq}
