@@ -1,64 +1,72 @@
--- Points added to a list of points.
+-- Candidates added to a list.
 use Rattle.std.proofs.Common.{◌≡◌, ℕ, ◌+◌, ◌<◌, ◌≤◌, List, [], ◌∷◌, ◌++◌, length, get_or, arith, subst, inl, inr, ◌⊎◌}
 use Rattle.std.specs.List.{Contains}
 use Rattle.std.proofs.Math.Nat.{eq-or-lt_of_le}
 use Rattle.std.proofs.lemmas.List.Elements.{Contains-append_left, Contains-push, Contains-push_cases}
 use Rattle.nef_space.specs.Place.{Place, SamePlace}
 use Rattle.nef_geo.specs.Shapes.{place_of}
-use Rattle.nef_geo.specs.declared.point.Point.{Point}
+use Rattle.nef_cand.specs.declared.named.Named.{Named}
 use Rattle.law_sphere.specs.Maps.{At}
 use Rattle.law_sphere.proofs.Lists.{at-one}
 use Rattle.nef_smap.proofs.Lists.{at-within}
 use Rattle.nef_complex.proofs.Reading.{read-at}
-use Rattle.nef_cand.specs.Candidates.{IsListed}
+use Rattle.nef_cand.specs.Names.{IsAmong}
 use Rattle.nef_cand.specs.Points.{Adds}
 
-pub listed-more : (ps qs : List Point) → ((p : Point) → Contains ps p → Contains qs p) → (y : Place) → IsListed ps y → IsListed qs y
+pub listed-more : (ps qs : List Named) → ((p : Named) → Contains ps p → Contains qs p) → (y : Place) → IsAmong ps y → IsAmong qs y
 listed-more ps qs f y (p, h, s) = (p, f p h, s)
 
 -- nothing has P
-pub adds-none : (P : Place → Type 0) (ps : List Point) → ((y : Place) → P y → ⊥) → Adds P ps ps
-adds-none P ps n = record { kept = λ p h. h; added = λ p h. inl h; all = λ y h. absurd (n y h) }
+pub adds-none : (P : Place → Type 0) (N : Named → Type 0) (ps : List Named) → ((y : Place) → P y → ⊥) → Adds P N ps ps
+adds-none P N ps n = record { kept = λ p h. h; added = λ p h. inl h; all = λ y h. absurd (n y h) }
 
 -- one point has P
-pub adds-one : (P : Place → Type 0) (ps : List Point) (p : Point) → P (place_of p) → ((y : Place) → P y → SamePlace (place_of p) y) → Adds P ps (ps ++ p ∷ [])
-adds-one P ps p h one = record {
+pub adds-one : (P : Place → Type 0) (N : Named → Type 0) (ps : List Named) (p : Named) → P (place_of p.point) → N p → ((y : Place) → P y → SamePlace (place_of p.point) y) → Adds P N ps (ps ++ p ∷ [])
+adds-one P N ps p h g one = record {
   kept = λ q i. Contains-append_left ps (p ∷ []) q i;
   added = λ q i. by q (Contains-push_cases ps p q i);
   all = λ y i. (p, Contains-push ps p, one y i);
 }
   where
-    by : (q : Point) → Contains ps q ⊎ (p ≡ q) → Contains ps q ⊎ P (place_of q)
+    by : (q : Named) → Contains ps q ⊎ (p ≡ q) → Contains ps q ⊎ (P (place_of q.point) × N q)
     by q (inl i) = inl i
-    by q (inr e) = inr (subst (λ (r : Point). P (place_of r)) e h)
+    by q (inr e) = inr (subst (λ (r : Named). P (place_of r.point) × N r) e (h, g))
 
 -- the points with P are added and then those with Q
-module _ (P Q R : Place → Type 0) (ps qs rs : List Point) (f : Adds P ps qs) (g : Adds Q qs rs) where
-  pub adds-both : ((y : Place) → P y ⊎ Q y → R y) → ((y : Place) → R y → P y ⊎ Q y) → Adds R ps rs
+module _ (P Q R : Place → Type 0) (N : Named → Type 0) (ps qs rs : List Named) (f : Adds P N ps qs) (g : Adds Q N qs rs) where
+  pub adds-both : ((y : Place) → P y ⊎ Q y → R y) → ((y : Place) → R y → P y ⊎ Q y) → Adds R N ps rs
   adds-both to from = record {
     kept = λ p h. g.kept p (f.kept p h);
     added = λ p h. by p (g.added p h);
     all = λ y r. found y (from y r);
   }
     where
-      first : (p : Point) → Contains ps p ⊎ P (place_of p) → Contains ps p ⊎ R (place_of p)
+      first : (p : Named) → Contains ps p ⊎ (P (place_of p.point) × N p) → Contains ps p ⊎ (R (place_of p.point) × N p)
       first p (inl h) = inl h
-      first p (inr a) = inr (to (place_of p) (inl a))
+      first p (inr (a, n)) = inr (to (place_of p.point) (inl a), n)
 
-      by : (p : Point) → Contains qs p ⊎ Q (place_of p) → Contains ps p ⊎ R (place_of p)
+      by : (p : Named) → Contains qs p ⊎ (Q (place_of p.point) × N p) → Contains ps p ⊎ (R (place_of p.point) × N p)
       by p (inl h) = first p (f.added p h)
-      by p (inr b) = inr (to (place_of p) (inr b))
+      by p (inr (b, n)) = inr (to (place_of p.point) (inr b), n)
 
-      found : (y : Place) → P y ⊎ Q y → IsListed rs y
+      found : (y : Place) → P y ⊎ Q y → IsAmong rs y
       found y (inl a) = listed-more qs rs g.kept y (f.all y a)
       found y (inr b) = g.all y b
 
-pub adds-as : (P Q : Place → Type 0) (ps qs : List Point) → ((y : Place) → P y → Q y) → ((y : Place) → Q y → P y) → Adds P ps qs → Adds Q ps qs
-adds-as P Q ps qs f g a = record { kept = a.kept; added = λ p h. by p (a.added p h); all = λ y q. a.all y (g y q) }
+pub adds-as : (P Q : Place → Type 0) (N : Named → Type 0) (ps qs : List Named) → ((y : Place) → P y → Q y) → ((y : Place) → Q y → P y) → Adds P N ps qs → Adds Q N ps qs
+adds-as P Q N ps qs f g a = record { kept = a.kept; added = λ p h. by p (a.added p h); all = λ y q. a.all y (g y q) }
   where
-    by : (p : Point) → Contains ps p ⊎ P (place_of p) → Contains ps p ⊎ Q (place_of p)
+    by : (p : Named) → Contains ps p ⊎ (P (place_of p.point) × N p) → Contains ps p ⊎ (Q (place_of p.point) × N p)
     by p (inl h) = inl h
-    by p (inr a) = inr (f (place_of p) a)
+    by p (inr (a, n)) = inr (f (place_of p.point) a, n)
+
+-- what has N has M
+pub adds-with : (P : Place → Type 0) (N M : Named → Type 0) (ps qs : List Named) → ((p : Named) → N p → M p) → Adds P N ps qs → Adds P M ps qs
+adds-with P N M ps qs f a = record { kept = a.kept; added = λ p h. by p (a.added p h); all = a.all }
+  where
+    by : (p : Named) → Contains ps p ⊎ (P (place_of p.point) × N p) → Contains ps p ⊎ (P (place_of p.point) × M p)
+    by p (inl h) = inl h
+    by p (inr (a, n)) = inr (a, f p n)
 
 -- ---- one element after another
 -- one of the first i elements has P with y
@@ -68,9 +76,9 @@ AnyFirst {X} P xs i y = (k : ℕ) × (x : X) × (k < i) × At xs k x × P x y
 abbrev pub AnyAt : {X : Type 0} → (X → Place → Type 0) → List X → Place → Type 0
 AnyAt {X} P xs y = (k : ℕ) × (x : X) × At xs k x × P x y
 
-module _ {X : Type 0} (P : X → Place → Type 0) (xs : List X) where
-  pub any-next : (i : ℕ) (x : X) (ps qs rs : List Point) → At xs i x → Adds (AnyFirst P xs i) ps qs → Adds (P x) qs rs → Adds (AnyFirst P xs (i + 1)) ps rs
-  any-next i x ps qs rs here f g = adds-both (AnyFirst P xs i) (P x) (AnyFirst P xs (i + 1)) ps qs rs f g forth back
+module _ {X : Type 0} (P : X → Place → Type 0) (N : Named → Type 0) (xs : List X) where
+  pub any-next : (i : ℕ) (x : X) (ps qs rs : List Named) → At xs i x → Adds (AnyFirst P xs i) N ps qs → Adds (P x) N qs rs → Adds (AnyFirst P xs (i + 1)) N ps rs
+  any-next i x ps qs rs here f g = adds-both (AnyFirst P xs i) (P x) (AnyFirst P xs (i + 1)) N ps qs rs f g forth back
     where
       forth : (y : Place) → AnyFirst P xs i y ⊎ P x y → AnyFirst P xs (i + 1) y
       forth y (inl (k, z, h, a, r)) = (k, z, omega (arith, h), a, r)
@@ -83,9 +91,9 @@ module _ {X : Type 0} (P : X → Place → Type 0) (xs : List X) where
       back : (y : Place) → AnyFirst P xs (i + 1) y → AnyFirst P xs i y ⊎ P x y
       back y (k, z, h, a, r) = split y k z (eq-or-lt_of_le {n = k} {m = i} (omega (arith, h))) a r
 
-  pub any-more : (i : ℕ) (x : X) (ps qs rs : List Point) → i < length xs → x ≡ get_or xs i x → Adds (AnyFirst P xs i) ps qs → Adds (P x) qs rs → Adds (AnyFirst P xs (i + 1)) ps rs
+  pub any-more : (i : ℕ) (x : X) (ps qs rs : List Named) → i < length xs → x ≡ get_or xs i x → Adds (AnyFirst P xs i) N ps qs → Adds (P x) N qs rs → Adds (AnyFirst P xs (i + 1)) N ps rs
   any-more i x ps qs rs l e = any-next i x ps qs rs (read-at xs i x l e)
 
-  pub any-all : (i : ℕ) (ps qs : List Point) → length xs ≤ i → Adds (AnyFirst P xs i) ps qs → Adds (AnyAt P xs) ps qs
-  any-all i ps qs l f = adds-as (AnyFirst P xs i) (AnyAt P xs) ps qs
+  pub any-all : (i : ℕ) (ps qs : List Named) → length xs ≤ i → Adds (AnyFirst P xs i) N ps qs → Adds (AnyAt P xs) N ps qs
+  any-all i ps qs l f = adds-as (AnyFirst P xs i) (AnyAt P xs) N ps qs
       (λ y a. (a.0, a.1, a.3, a.4)) (λ y a. let h = at-within xs a.0 a.1 a.2 in (a.0, a.1, omega (arith, h), a.2, a.3)) f

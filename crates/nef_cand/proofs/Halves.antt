@@ -1,7 +1,6 @@
 -- The vertices of a half are vertices of the frame, or points where its plane crosses an edge of the frame.
-use Rattle.std.proofs.Common.{◌≡◌, ℕ, zero, suc, ◌+◌, ◌<◌, ℤ, pos, neg_ℤ, ◌+ℤ◌, ◌-ℤ◌, ◌*ℤ◌, Bool, true, false, List, [], ◌∷◌, arith, refl, ap, sym, subst, ◌∙◌, ◌⊎◌, inl, inr, ⊎_elim, ◌↔◌}
+use Rattle.std.proofs.Common.{◌≡◌, ℕ, zero, suc, ◌+◌, ◌<◌, ℤ, pos, neg_ℤ, ◌+ℤ◌, ◌-ℤ◌, ◌*ℤ◌, Bool, true, false, List, [], ◌∷◌, map, arith, refl, ap, sym, subst, ◌∙◌, ◌⊎◌, inl, inr, ⊎_elim, ◌↔◌}
 use Rattle.std.proofs.lemmas.Int.{ints}
-use Rattle.std.specs.List.{Contains}
 use Rattle.law_arithmetic.specs.Signs.{sign}
 use Rattle.law_arithmetic.proofs.Ring.{ring, Poly, at, num, neg, ◌⊕◌, ◌⊖◌, ◌⊗◌}
 use Rattle.law_arithmetic.proofs.Combination.{given, none, follows}
@@ -32,11 +31,12 @@ use Rattle.law_complex.proofs.Edges.{edge-points, edge-way}
 use Rattle.law_complex.proofs.Joining.{edges-complete}
 use Rattle.law_complex.proofs.Planes.{plane-turned, plane-point, plane-slope, plane-way}
 use Rattle.law_complex.proofs.Ways.{between-ends}
+use Rattle.nef_cand.specs.declared.named.Named.{Named}
+use Rattle.nef_cand.specs.Names.{named_point, IsOnceEach}
 use Rattle.nef_cand.specs.Candidates.{IsListed, IsVertexOf, IsCutBy, AreCutCandidates}
 use Rattle.nef_cand.specs.Points.{Adds, CutsOne}
 use Rattle.nef_cand.proofs.Adding.{adds-both, adds-as}
 use Rattle.nef_complex.proofs.Parted.{times-nought}
-use Rattle.nef_cand.proofs.Order.{ArePlacesInOrder}
 use Rattle.nef_cand.proofs.Complete.{listed-decided, added-exactly, vertex-of}
 
 -- ---- what is flat for a half
@@ -162,9 +162,9 @@ one-cuts : (C : Complex) (h : Plane) (y : Place) → CutsOne C (h ∷ []) y → 
 one-cuts C h y (zero, g, a, x) = subst (λ (r : Plane). IsCutBy C (form_of r) y) (sym a) x
 one-cuts C h y (suc i, g, a, x) = absurd a
 
-pub cut-all : (C : Complex) (h : Plane) (hs : List Plane) → hs ≡ h ∷ [] → (ps qs rs : List Point) → Adds (IsVertexOf C) [] ps → Adds (CutsOne C hs) ps qs
-    → ArePlacesInOrder rs → ((p : Point) → Contains qs p ↔ Contains rs p) → AreCutCandidates C (form_of h) rs
-cut-all C h hs one ps qs rs first second order same =
-    added-exactly (λ y. IsVertexOf C y ⊎ IsCutBy C (form_of h) y) qs rs
-    (adds-both (IsVertexOf C) (IsCutBy C (form_of h)) (λ y. IsVertexOf C y ⊎ IsCutBy C (form_of h) y) [] ps qs first
-    (adds-as (CutsOne C (h ∷ [])) (IsCutBy C (form_of h)) ps qs (one-cuts C h) (λ y x. (0, h, refl, x)) (subst (λ (r : List Plane). Adds (CutsOne C r) ps qs) one second)) (λ y x. x) (λ y x. x)) order same
+pub cut-all : (C : Complex) (h : Plane) (hs : List Plane) → hs ≡ h ∷ [] → (N : Named → Type 0) (ps qs rs : List Named) → Adds (IsVertexOf C) N [] ps → Adds (CutsOne C hs) N ps qs
+    → IsOnceEach qs rs → AreCutCandidates C (form_of h) (map named_point rs)
+cut-all C h hs one N ps qs rs first second once =
+    added-exactly (λ y. IsVertexOf C y ⊎ IsCutBy C (form_of h) y) N qs rs
+    (adds-both (IsVertexOf C) (IsCutBy C (form_of h)) (λ y. IsVertexOf C y ⊎ IsCutBy C (form_of h) y) N [] ps qs first
+    (adds-as (CutsOne C (h ∷ [])) (IsCutBy C (form_of h)) N ps qs (one-cuts C h) (λ y x. (0, h, refl, x)) (subst (λ (r : List Plane). Adds (CutsOne C r) N ps qs) one second)) (λ y x. x) (λ y x. x)) once

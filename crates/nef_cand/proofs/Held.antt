@@ -20,16 +20,23 @@ use Rattle.law_sphere.proofs.Lists.{at-one}
 use Rattle.nef_smap.proofs.Lists.{map-at, at-map}
 use Rattle.law_complex.specs.Complexes.{HasEnds}
 use Rattle.law_complex.specs.Complexes.{Vertex as PlainVertex, Edge as PlainEdge}
+use Rattle.law_complex.specs.Complexes.{Complex as PlainComplex}
 use Rattle.law_complex.specs.Shows.{SamePlane}
+use Rattle.law_complex.specs.Skeleton.{IsVertexPoint, IsEdgePoint}
 use Rattle.law_complex.proofs.Edges.{edge-points, edge-way}
 use Rattle.law_complex.proofs.Planes.{plane-turned, plane-point}
+use Rattle.law_complex.proofs.Ways.{same-itself}
 use Rattle.nef_complex.specs.declared.complex.Vertex.{Vertex}
 use Rattle.nef_complex.specs.declared.complex.Edge.{Edge}
 use Rattle.nef_complex.specs.declared.complex.Complex.{Complex}
 use Rattle.nef_complex.specs.Complexes.{vertex_of, edge_of, complex_of, ShowsSet}
 use Rattle.nef_complex.proofs.Ends.{through-both, listed_edge, ends, apart}
 use Rattle.nef_complex.proofs.Reading.{got-at}
+use Rattle.nef_cand.specs.declared.named.Named.{Named}
+use Rattle.nef_cand.specs.declared.named.Operand.{Operand}
+use Rattle.nef_cand.specs.declared.named.Name.TheVariants as name
 use Rattle.nef_cand.specs.Candidates.{IsVertexOf, IsCutBy}
+use Rattle.nef_cand.specs.Names.{IsNamedIn}
 use Rattle.nef_complex.specs.Index.{AreInOrder}
 use Rattle.nef_complex.specs.Planes.{HoldsBoth}
 use Rattle.nef_cand.specs.Points.{IsCrossing, CutsEdge, Adds}
@@ -91,17 +98,23 @@ module _ (s : Set) (c : Complex) (S : ShowsSet s c) (k : ℕ) (e : Edge) (a : At
         )
 
 -- ---- the cuts of an edge
+-- a point where a plane crosses the edge is named by it
+pub edge-named : (o : Operand) (c : Complex) (h : Plane) (k : ℕ) (e : Edge) (u v : Vertex) → At c.edges k e → At c.vertices e.low u → At c.vertices e.high v
+    → (p : Point) → IsCrossing (form_of h) (place_of u.point) (place_of v.point) (place_of p) → IsNamedIn o (complex_of c) (record { point = p; name = name.Edge o k })
+edge-named o c h k e u v a f g p x = λ D E same. subst (λ (C : PlainComplex). IsEdgePoint C k (place_of p)) (sym same)
+    (edge_of e, vertex_of u, vertex_of v, map-at edge_of c.edges k e a, record { low = map-at vertex_of c.vertices e.low u f; high = map-at vertex_of c.vertices e.high v g }, x.between)
+
 pub edge-cuts : (c : Complex) (h : Plane) (e : Edge) (u v : Vertex) → At c.vertices e.low u → At c.vertices e.high v
-    → (ps qs : List Point) → Adds (IsCrossing (form_of h) (place_of u.point) (place_of v.point)) ps qs → Adds (CutsEdge c h e) ps qs
-edge-cuts c h e u v a b ps qs = adds-as (IsCrossing (form_of h) (place_of u.point) (place_of v.point)) (CutsEdge c h e) ps qs (λ y x. (u, v, a, b, x)) back
+    → (N : Named → Type 0) (ps qs : List Named) → Adds (IsCrossing (form_of h) (place_of u.point) (place_of v.point)) N ps qs → Adds (CutsEdge c h e) N ps qs
+edge-cuts c h e u v a b N ps qs = adds-as (IsCrossing (form_of h) (place_of u.point) (place_of v.point)) (CutsEdge c h e) N ps qs (λ y x. (u, v, a, b, x)) back
   where
     back : (y : Place) → CutsEdge c h e y → IsCrossing (form_of h) (place_of u.point) (place_of v.point) y
     back y (r, t, f, g, x) =
         subst (λ (w : Vertex). IsCrossing (form_of h) (place_of w.point) (place_of v.point) y) (at-one c.vertices e.low r u f a)
         (subst (λ (w : Vertex). IsCrossing (form_of h) (place_of r.point) (place_of w.point) y) (at-one c.vertices e.high t v g b) x)
 
-pub cuts-all : (c : Complex) (h : Plane) (ps qs : List Point) → Adds (AnyAt (CutsEdge c h) c.edges) ps qs → Adds (IsCutBy (complex_of c) (form_of h)) ps qs
-cuts-all c h ps qs = adds-as (AnyAt (CutsEdge c h) c.edges) (IsCutBy (complex_of c) (form_of h)) ps qs forth back
+pub cuts-all : (c : Complex) (h : Plane) (N : Named → Type 0) (ps qs : List Named) → Adds (AnyAt (CutsEdge c h) c.edges) N ps qs → Adds (IsCutBy (complex_of c) (form_of h)) N ps qs
+cuts-all c h N ps qs = adds-as (AnyAt (CutsEdge c h) c.edges) (IsCutBy (complex_of c) (form_of h)) N ps qs forth back
   where
     forth : (y : Place) → AnyAt (CutsEdge c h) c.edges y → IsCutBy (complex_of c) (form_of h) y
     forth y (k, e, a, (u, v, f, g, x)) =
@@ -131,8 +144,11 @@ cuts-all c h ps qs = adds-as (AnyAt (CutsEdge c h) c.edges) (IsCutBy (complex_of
             )
 
 -- ---- the vertices
-pub vertices-all : (c : Complex) (ps qs : List Point) → Adds (AnyAt (λ (u : Vertex) (y : Place). SamePlace (place_of u.point) y) c.vertices) ps qs → Adds (IsVertexOf (complex_of c)) ps qs
-vertices-all c ps qs = adds-as (AnyAt (λ (u : Vertex) (y : Place). SamePlace (place_of u.point) y) c.vertices) (IsVertexOf (complex_of c)) ps qs
+pub vertex-named : (o : Operand) (c : Complex) (k : ℕ) (u : Vertex) → At c.vertices k u → IsNamedIn o (complex_of c) (record { point = u.point; name = name.Vertex o k })
+vertex-named o c k u a = λ D E same. subst (λ (C : PlainComplex). IsVertexPoint C k (place_of u.point)) (sym same) (vertex_of u, map-at vertex_of c.vertices k u a, same-itself (place_of u.point))
+
+pub vertices-all : (c : Complex) (N : Named → Type 0) (ps qs : List Named) → Adds (AnyAt (λ (u : Vertex) (y : Place). SamePlace (place_of u.point) y) c.vertices) N ps qs → Adds (IsVertexOf (complex_of c)) N ps qs
+vertices-all c N ps qs = adds-as (AnyAt (λ (u : Vertex) (y : Place). SamePlace (place_of u.point) y) c.vertices) (IsVertexOf (complex_of c)) N ps qs
     (λ y a. (a.0, (vertex_of a.1, map-at vertex_of c.vertices a.0 a.1 a.2, a.3)))
     (λ y a. let v = at-map vertex_of c.vertices a.0 a.1.0 a.1.1 in (a.0, v.0, v.1, subst (λ (r : PlainVertex). SamePlace r.point y) (sym v.2) a.1.2))
 

@@ -7,7 +7,7 @@ use Rattle.law_arithmetic.proofs.Order.{abs_plus, abs_times, mul_nonneg, mul_le_
 use Rattle.nef_space.specs.Limits.{half_side, point_limit}
 use Rattle.nef_space.specs.Place.{Place, Form, InClosedFrame}
 use Rattle.nef_space.specs.Sets.{Set}
-use Rattle.nef_geo.specs.declared.point.Point.{Point}
+use Rattle.nef_cand.specs.declared.named.Named.{Named}
 use Rattle.law_complex.specs.Shows.{Shows}
 use Rattle.law_complex.specs.Complexes.{Complex}
 use Rattle.nef_cand.specs.Candidates.{IsCutBy}
@@ -45,8 +45,8 @@ module _ (h : Form) (far : half_side * (nat_abs h.a + nat_abs h.b + nat_abs h.c)
       (λ s. let f = plus (h.a *ℤ p.x +ℤ h.b *ℤ p.y +ℤ h.c *ℤ p.z) h.d p.w (small p i) s in let g = plus (h.a *ℤ q.x +ℤ h.b *ℤ q.y +ℤ h.c *ℤ q.z) h.d q.w (small q k) s in
       ⊎_elim (λ m. let t = m.0 in absurd (omega (arith, ints, f, t))) (λ m. let t = m.1 in absurd (omega (arith, ints, g, t))) o)
 
-pub nothing-cut : (s : Set) (C : Complex) (h : Form) (ps : List Point) → Shows s C → MissesFrame h → Adds (IsCutBy C h) ps ps
-nothing-cut s C h ps S n = adds-none (IsCutBy C h) ps (λ y (k, e, v, w, x, H, m, o, off).
+pub nothing-cut : (s : Set) (C : Complex) (h : Form) (N : Named → Type 0) (ps : List Named) → Shows s C → MissesFrame h → Adds (IsCutBy C h) N ps ps
+nothing-cut s C h N ps S n = adds-none (IsCutBy C h) N ps (λ y (k, e, v, w, x, H, m, o, off).
     never-crosses h v.point w.point
     (n v.point w.point (framed s v.point 0 (omega arith) (S.vertices e.low v H.low)) (framed s w.point 0 (omega arith) (S.vertices e.high w H.high)))
     y (record { between = m; on = o; parts = off }))

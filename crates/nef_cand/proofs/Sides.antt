@@ -15,6 +15,7 @@ use Rattle.nef_complex.specs.declared.complex.Edge.{Edge}
 use Rattle.nef_complex.specs.declared.complex.Vertex.{Vertex}
 use Rattle.nef_smap.proofs.Lists.{map-at}
 use Rattle.nef_complex.proofs.Reading.{read-at}
+use Rattle.nef_cand.specs.declared.named.Named.{Named}
 use Rattle.nef_cand.specs.Points.{Adds, point_of, AreSides, CutsEdge}
 use Rattle.nef_cand.proofs.Adding.{adds-none}
 use Rattle.nef_cand.proofs.Crossing.{never-crosses}
@@ -46,7 +47,7 @@ sides-of h ps signs l H vs e = record {
 }
 
 -- an edge that the plane doesn't cross has no point to add
-pub no-cut : (c : Complex) (h : Plane) (e : Edge) (signs : List Sign) (a b : Sign) (ps : List Point) → AreSides (form_of h) c.vertices signs → At signs e.low a → At signs e.high b
-    → ((m n : _) → a ≡ sign_of m → b ≡ sign_of n → HasOppositeSigns m n → ⊥) → Adds (CutsEdge c h e) ps ps
-no-cut c h e signs a b ps S i k never = adds-none (CutsEdge c h e) ps (λ y (u, v, f, g, x).
+pub no-cut : (c : Complex) (h : Plane) (e : Edge) (signs : List Sign) (a b : Sign) (N : Named → Type 0) (ps : List Named) → AreSides (form_of h) c.vertices signs → At signs e.low a → At signs e.high b
+    → ((m n : _) → a ≡ sign_of m → b ≡ sign_of n → HasOppositeSigns m n → ⊥) → Adds (CutsEdge c h e) N ps ps
+no-cut c h e signs a b N ps S i k never = adds-none (CutsEdge c h e) N ps (λ y (u, v, f, g, x).
     never-crosses (form_of h) (place_of u.point) (place_of v.point) (never (form_at (form_of h) (place_of u.point)) (form_at (form_of h) (place_of v.point)) (S.each e.low u a f i) (S.each e.high v b g k)) y x)

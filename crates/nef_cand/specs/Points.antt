@@ -16,21 +16,23 @@ use Rattle.nef_complex.specs.declared.complex.Edge.{Edge}
 use Rattle.nef_complex.specs.declared.complex.Vertex.{Vertex}
 use Rattle.nef_complex.specs.Planes.{HoldsBoth}
 use Rattle.nef_cand.specs.declared.line.Line.{Line}
+use Rattle.nef_cand.specs.declared.named.Named.{Named}
+use Rattle.nef_cand.specs.Names.{named_point, IsAmong, AreNamed}
 use Rattle.nef_space.specs.Sets.{Set}
 use Rattle.law_complex.specs.Laws.{IsVertexOfBoth}
 use Rattle.nef_complex.specs.Complexes.{complex_of, ShowsSet}
 use Rattle.nef_cand.specs.Candidates.{IsListed, IsCutBy, AreCandidates, AreFramed}
 
--- qs are the points of ps and those with P
-pub record Adds (P : Place → Type 0) (ps qs : List Point) : Type 0 where
-  pub kept : (p : Point) → Contains ps p → Contains qs p
-  pub added : (p : Point) → Contains qs p → Contains ps p ⊎ P (place_of p)
-  pub all : (y : Place) → P y → IsListed qs y
+-- ms are ns and more, which have N and whose points are those with P
+pub record Adds (P : Place → Type 0) (N : Named → Type 0) (ns ms : List Named) : Type 0 where
+  pub kept : (n : Named) → Contains ns n → Contains ms n
+  pub added : (n : Named) → Contains ms n → Contains ns n ⊎ (P (place_of n.point) × N n)
+  pub all : (y : Place) → P y → IsAmong ms y
 
--- rs are the points of ps and those of qs
-pub record HasBoth (ps qs rs : List Point) : Type 0 where
-  pub kept : (p : Point) → Contains ps p ⊎ Contains qs p → Contains rs p
-  pub only : (p : Point) → Contains rs p → Contains ps p ⊎ Contains qs p
+-- zs are the elements of xs and those of ys
+pub record HasBoth {X : Type 0} (xs ys zs : List X) : Type 0 where
+  pub kept : (x : X) → Contains xs x ⊎ Contains ys x → Contains zs x
+  pub only : (x : X) → Contains zs x → Contains xs x ⊎ Contains ys x
 
 -- the planes of the line hold both points, and their normals aren't parallel
 pub record IsLineThrough (l : Line) (p q : Place) : Type 0 where
@@ -73,6 +75,11 @@ pub record ListsCandidates (a b : Complex) (ps : List Point) : Type 0 where
   pub exactly : AreCandidates (complex_of a) (complex_of b) ps
   pub framed : AreFramed ps
   pub complete : (s t : Set) (y : Place) → ShowsSet s a → ShowsSet t b → IsVertexOfBoth s t y → IsListed ps y
+
+-- these points are the candidates of the two complexes, and each lies where its name tells
+pub record ListsNamed (a b : Complex) (ns : List Named) : Type 0 where
+  pub lists : ListsCandidates a b (map named_point ns)
+  pub named : AreNamed (complex_of a) (complex_of b) ns
 
 -- at no two points of the closed frame has the form opposite signs
 abbrev pub MissesFrame : Form → Type 0

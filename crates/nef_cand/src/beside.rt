@@ -3,13 +3,16 @@
 ghost use Rattle.std.specs.Prelude.{◌≤◌, ◌↔◌, length, IfOk, IsTrue, []};
 ghost use Rattle.nef_space.specs.Sets.{Set};
 ghost use Rattle.nef_complex.specs.Complexes.{complex_of, ShowsSet};
-ghost use Rattle.nef_cand.specs.Points.{Adds, CutsOne, ListsCandidates};
+ghost use Rattle.nef_cand.specs.declared.named.Operand.TheVariants.{First, Second};
+ghost use Rattle.nef_cand.specs.Names.{IsNamedIn};
+ghost use Rattle.nef_cand.specs.Points.{Adds, CutsOne, ListsNamed};
 
 use crate::OutOfMemory;
-use crate::listing::{candidates, cuts, gathered};
+use crate::listing::{cuts, gathered, named_candidates};
 use crate::merging::merged;
+use crate::named::{Named, Operand};
 use nef_complex::Complex;
-use nef_geo::{Plane, Point};
+use nef_geo::Plane;
 use std::alloc::Global;
 use std::thread;
 use std::thread::Threads;
@@ -19,22 +22,23 @@ fn cuts_by_two<R: Threads + Sync>(
     rt: &R,
     alloc: Global,
     c: &Complex,
+    operand: Operand,
     planes: &[Plane],
-) -> Result<Vec<Point>, OutOfMemory>
+) -> Result<Vec<Named>, OutOfMemory>
     requires shows { (s : Set) × ShowsSet s c.now }
-    ensures cuts { IfOk result (λ v. Adds (CutsOne (complex_of c.now) planes.now) [] v.items) }
+    ensures cuts { IfOk result (λ v. Adds (CutsOne (complex_of c.now) planes.now) (IsNamedIn operand (complex_of c.now)) [] v.items) }
 {
     let (front, back) = planes.split_at(planes.len() / 2);
     let (first, second) = thread::join(
         rt,
-        || -> Result<Vec<Point>, OutOfMemory>
+        || -> Result<Vec<Named>, OutOfMemory>
             requires { (s : Set) × ShowsSet s c.now }
-            ensures { IfOk result (λ v. Adds (CutsOne (complex_of c.entry.now) front.entry.now) [] v.items) }
-        { cuts(alloc, c, front) },
-        || -> Result<Vec<Point>, OutOfMemory>
+            ensures { IfOk result (λ v. Adds (CutsOne (complex_of c.entry.now) front.entry.now) (IsNamedIn operand (complex_of c.entry.now)) [] v.items) }
+        { cuts(alloc, c, operand, front) },
+        || -> Result<Vec<Named>, OutOfMemory>
             requires { (s : Set) × ShowsSet s c.now }
-            ensures { IfOk result (λ v. Adds (CutsOne (complex_of c.entry.now) back.entry.now) [] v.items) }
-        { cuts(alloc, c, back) },
+            ensures { IfOk result (λ v. Adds (CutsOne (complex_of c.entry.now) back.entry.now) (IsNamedIn operand (complex_of c.entry.now)) [] v.items) }
+        { cuts(alloc, c, operand, back) },
     );
     let inside_front = first?;
     let inside_back = second?;
@@ -49,24 +53,24 @@ fn cuts_by_three<R: Threads + Sync>(
     planes: &[Plane],
     b: &Complex,
 ) -> (
-    Result<Vec<Point>, OutOfMemory>,
-    Result<Vec<Point>, OutOfMemory>,
+    Result<Vec<Named>, OutOfMemory>,
+    Result<Vec<Named>, OutOfMemory>,
 )
     requires first { (s : Set) × ShowsSet s a.now }
     requires second { (t : Set) × ShowsSet t b.now }
-    ensures inside_a { IfOk result.0 (λ v. Adds (CutsOne (complex_of a.now) planes.now) [] v.items) }
-    ensures inside_b { IfOk result.1 (λ v. Adds (CutsOne (complex_of b.now) a.now.carriers) [] v.items) }
+    ensures inside_a { IfOk result.0 (λ v. Adds (CutsOne (complex_of a.now) planes.now) (IsNamedIn First (complex_of a.now)) [] v.items) }
+    ensures inside_b { IfOk result.1 (λ v. Adds (CutsOne (complex_of b.now) a.now.carriers) (IsNamedIn Second (complex_of b.now)) [] v.items) }
 {
     thread::join(
         rt,
-        || -> Result<Vec<Point>, OutOfMemory>
+        || -> Result<Vec<Named>, OutOfMemory>
             requires { (s : Set) × ShowsSet s a.now }
-            ensures { IfOk result (λ v. Adds (CutsOne (complex_of a.entry.now) planes.entry.now) [] v.items) }
-        { cuts(alloc, a, planes) },
-        || -> Result<Vec<Point>, OutOfMemory>
+            ensures { IfOk result (λ v. Adds (CutsOne (complex_of a.entry.now) planes.entry.now) (IsNamedIn First (complex_of a.entry.now)) [] v.items) }
+        { cuts(alloc, a, Operand::First, planes) },
+        || -> Result<Vec<Named>, OutOfMemory>
             requires { (t : Set) × ShowsSet t b.now }
-            ensures { IfOk result (λ v. Adds (CutsOne (complex_of b.entry.now) a.entry.now.carriers) [] v.items) }
-        { cuts_by_two(rt, alloc, b, a.carriers.as_slice()) },
+            ensures { IfOk result (λ v. Adds (CutsOne (complex_of b.entry.now) a.entry.now.carriers) (IsNamedIn Second (complex_of b.entry.now)) [] v.items) }
+        { cuts_by_two(rt, alloc, b, Operand::Second, a.carriers.as_slice()) },
     )
 }
 
@@ -83,38 +87,38 @@ pub fn are_large(a: &Complex, b: &Complex) -> bool
     a.carriers.len() >= MANY_CARRIERS && b.carriers.len() >= MANY_CARRIERS
 }
 
-/// As `candidates`. Where there are four workers at least, and both sets are large, four threads list the points strictly
+/// As `named_candidates`. Where there are four workers at least, and both sets are large, four threads list the points strictly
 /// inside edges, each those on half of the carriers of one set; where a thread can't be made another does its part.
-pub fn candidates_beside<R: Threads + Sync>(
+pub fn named_candidates_beside<R: Threads + Sync>(
     rt: &R,
     alloc: Global,
     a: &Complex,
     b: &Complex,
     workers: u32,
-) -> Result<Vec<Point>, OutOfMemory>
+) -> Result<Vec<Named>, OutOfMemory>
     requires first { (s : Set) × ShowsSet s a.now }
     requires second { (t : Set) × ShowsSet t b.now }
-    ensures lists { IfOk result (λ v. ListsCandidates a.now b.now v.items) }
+    ensures lists { IfOk result (λ v. ListsNamed a.now b.now v.items) }
 {
     if workers < THREADS || !are_large(a, b) {
-        return candidates(alloc, a, b);
+        return named_candidates(alloc, a, b);
     }
     let (front, back) = b.carriers.as_slice().split_at(b.carriers.len() / 2);
     // The calling thread starts all others, since one that a new thread starts begins on the processor of its maker.
     let (first, (second, inside_b)) = thread::join(
         rt,
-        || -> Result<Vec<Point>, OutOfMemory>
+        || -> Result<Vec<Named>, OutOfMemory>
             requires { (s : Set) × ShowsSet s a.now }
-            ensures { IfOk result (λ v. Adds (CutsOne (complex_of a.entry.now) front.entry.now) [] v.items) }
-        { cuts(alloc, a, front) },
+            ensures { IfOk result (λ v. Adds (CutsOne (complex_of a.entry.now) front.entry.now) (IsNamedIn First (complex_of a.entry.now)) [] v.items) }
+        { cuts(alloc, a, Operand::First, front) },
         || -> (
-            Result<Vec<Point>, OutOfMemory>,
-            Result<Vec<Point>, OutOfMemory>,
+            Result<Vec<Named>, OutOfMemory>,
+            Result<Vec<Named>, OutOfMemory>,
         )
             requires first { (s : Set) × ShowsSet s a.now }
             requires second { (t : Set) × ShowsSet t b.now }
-            ensures inside_a { IfOk result.0 (λ v. Adds (CutsOne (complex_of a.entry.now) back.entry.now) [] v.items) }
-            ensures inside_b { IfOk result.1 (λ v. Adds (CutsOne (complex_of b.entry.now) a.entry.now.carriers) [] v.items) }
+            ensures inside_a { IfOk result.0 (λ v. Adds (CutsOne (complex_of a.entry.now) back.entry.now) (IsNamedIn First (complex_of a.entry.now)) [] v.items) }
+            ensures inside_b { IfOk result.1 (λ v. Adds (CutsOne (complex_of b.entry.now) a.entry.now.carriers) (IsNamedIn Second (complex_of b.entry.now)) [] v.items) }
         { cuts_by_three(rt, alloc, a, back, b) },
     );
     let inside_front = first?;

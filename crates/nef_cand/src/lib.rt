@@ -9,9 +9,11 @@ mod beside;
 mod line;
 mod listing;
 mod merging;
+mod named;
 mod points;
 
-pub use beside::{are_large, candidates_beside};
-pub use listing::{candidates, cut_candidates};
+pub use beside::{are_large, named_candidates_beside};
+pub use listing::{candidates, cut_candidates, named_candidates};
+pub use named::{Name, Named, Operand, named_points};
 pub use nef_complex::OutOfMemory;
 pub use points::vertex_points;

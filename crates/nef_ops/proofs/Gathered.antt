@@ -4,7 +4,7 @@ use Rattle.std.specs.List.{Contains}
 use Rattle.std.proofs.lemmas.List.{length-map}
 use Rattle.std.proofs.lemmas.Option.{slice_get-map}
 use Rattle.nef_space.specs.Local.{IsVertex}
-use Rattle.nef_space.specs.Place.{Place, Form, SamePlace, IsPlaceBelow}
+use Rattle.nef_space.specs.Place.{Place, Form, SamePlace, IsPlaceBelow, InClosedFrame}
 use Rattle.nef_space.specs.Sets.{Set}
 use Rattle.nef_geo.specs.Shapes.{form_of, place_of}
 use Rattle.nef_geo.specs.declared.plane.Plane.{Plane}
@@ -18,14 +18,16 @@ use Rattle.nef_combine.specs.Sets.{op_set}
 use Rattle.nef_smap.specs.declared.map.SphereMap.{SphereMap}
 use Rattle.nef_smap.specs.Maps.{map_of, IsLeastMap}
 use Rattle.nef_smap.proofs.Lists.{map-at, at-map, at-within, at-get, get-at}
-use Rattle.law_complex.specs.Complexes.{Vertex as PlainVertex}
+use Rattle.law_complex.specs.Complexes.{Vertex as PlainVertex, Complex as PlainComplex}
 use Rattle.law_complex.specs.Shows.{Carriers, SamePlane}
 use Rattle.nef_complex.specs.declared.complex.Vertex.{Vertex}
 use Rattle.nef_complex.specs.declared.complex.Complex.{Complex}
 use Rattle.nef_complex.specs.Complexes.{vertex_of, ShowsSet}
 use Rattle.law_complex.specs.Laws.{IsVertexOfBoth}
-use Rattle.nef_cand.specs.Candidates.{IsListed}
-use Rattle.nef_cand.specs.Points.{points_of}
+use Rattle.nef_cand.specs.declared.named.Named.{Named}
+use Rattle.nef_cand.specs.Candidates.{IsListed, AreFramed}
+use Rattle.nef_cand.specs.Names.{named_point, IsNamed, AreNamed}
+use Rattle.nef_cand.specs.Points.{points_of, ListsNamed}
 use Rattle.nef_result.specs.declared.candidate_map.CandidateMap.{CandidateMap}
 use Rattle.nef_result.specs.Results.{AreMapsOf, maps_at}
 use Rattle.nef_ops.specs.declared.op.UnaryOp.{UnaryOp}
@@ -57,6 +59,19 @@ maps-alike cs n e = length-map cs (λ (c : CandidateMap). c.map.value) ∙ e
 pub right-at : (s : Set) (ps : List Point) (i : ℕ) (q : Point) (m : SphereMap) → i < length ps → IsLeastMap m → Cone (map_of m) s (place_of (get_or ps i q)) → IsRight s ps i m
 right-at s ps i q m l L C = record { least = L; cone = λ p a. subst (λ (r : Point). Cone (map_of m) s (place_of r)) (at-one ps i (get_or ps i q) p (get-at ps i q l) a) C }
 
+pub right-named : (s : Set) (ns : List Named) (i : ℕ) (n : Named) (m : SphereMap) → i < length ns → IsLeastMap m → Cone (map_of m) s (place_of (get_or ns i n).point) → IsRight s (map named_point ns) i m
+right-named s ns i n m l L C = record {
+  least = L;
+  cone = λ p a. let u = at-map named_point ns i p a in subst (λ (r : Point). Cone (map_of m) s (place_of r)) (ap named_point (at-one ns i (get_or ns i n) u.0 (get-at ns i n l) u.1) ∙ u.2) C;
+}
+
+-- ---- a listed candidate
+pub named-framed : (ns : List Named) (i : ℕ) (n : Named) → i < length ns → AreFramed (map named_point ns) → InClosedFrame (place_of (get_or ns i n).point)
+named-framed ns i n l F = F (get_or ns i n).point (at-listed (map named_point ns) i (get_or ns i n).point (map-at named_point ns i (get_or ns i n) (get-at ns i n l)))
+
+pub named-at : (C D : PlainComplex) (ns : List Named) (i : ℕ) (n : Named) → i < length ns → AreNamed C D ns → IsNamed C D (get_or ns i n)
+named-at C D ns i n l N = N (get_or ns i n) (at-listed ns i (get_or ns i n) (get-at ns i n l))
+
 -- ---- right maps at points among which all vertices are
 pub right-maps : (s : Set) (hs : List Plane) (ps : List Point) (ms : List SphereMap) → Carriers s (map form_of hs) → length ms ≡ length ps
     → InOrder (λ (p q : Point). IsPlaceBelow (place_of p) (place_of q)) ps → ((i : ℕ) (m : SphereMap) → slice_get ms i ≡ Some m → IsRight s ps i m)
@@ -79,14 +94,21 @@ vertex-of_both Xor s t y v = inr (inr (inr v))
 abbrev pub AreInOrder : List Point → Type 0
 AreInOrder ps = InOrder (λ (p q : Point). IsPlaceBelow (place_of p) (place_of q)) ps
 
--- of a combination of two sets, by the candidates vs, listed as ps
-module _ (op : Op) (a b : Complex) (hs : List Plane) (vs ps : List Point) (ms : List SphereMap) (same : ps ≡ vs) (order : AreInOrder vs)
-    (complete : (s t : Set) (y : Place) → ShowsSet s a → ShowsSet t b → IsVertexOfBoth s t y → IsListed vs y)
-    (carried : (s t : Set) (o : Op) → ShowsSet s a → ShowsSet t b → Carriers (op_set o s t) (map form_of hs)) (alike : length ms ≡ length ps)
-    (right : (i : ℕ) (m : SphereMap) → slice_get ms i ≡ Some m → (s t : Set) → ShowsSet s a → ShowsSet t b → IsRight (op_set op s t) ps i m) where
-  pub both-maps : (s t : Set) → ShowsSet s a → ShowsSet t b → AreMapsOf (op_set op s t) hs ps ms
-  both-maps s t S T = right-maps (op_set op s t) hs ps ms (carried s t op S T) alike (subst AreInOrder (sym same) order) (λ i m e. right i m e s t S T)
-      (λ y v. subst (λ (qs : List Point). IsListed qs y) (sym same) (complete s t y S T (vertex-of_both op s t y v)))
+-- of a combination of two sets, by the candidates ns, lent as ks and js, and their points qs, lent as ps
+module _ (op : Op) (a b : Complex) (hs : List Plane) (ns ks js : List Named) (qs ps : List Point) (cs : List CandidateMap) (asked : ks ≡ ns) (worked : js ≡ ns) (made : qs ≡ map named_point ks) (lent : ps ≡ qs)
+    (L : ListsNamed a b ns) (carried : (s t : Set) (o : Op) → ShowsSet s a → ShowsSet t b → Carriers (op_set o s t) (map form_of hs)) (alike : length cs ≡ length js)
+    (right : (i : ℕ) (c : CandidateMap) → slice_get cs i ≡ Some c → (s t : Set) → ShowsSet s a → ShowsSet t b → IsRight (op_set op s t) (map named_point js) i c.map.value) where
+  same : map named_point ns ≡ ps
+  same = sym (lent ∙ made ∙ ap (map named_point) asked)
+
+  all-alike : length (maps_at cs) ≡ length ps
+  all-alike = maps-alike cs (length js) alike ∙ sym (length-map js named_point) ∙ ap length (ap (map named_point) worked ∙ same)
+
+  pub both-maps : (s t : Set) → ShowsSet s a → ShowsSet t b → AreMapsOf (op_set op s t) hs ps (maps_at cs)
+  both-maps s t S T = right-maps (op_set op s t) hs ps (maps_at cs) (carried s t op S T) all-alike (subst AreInOrder same L.lists.exactly.ordered)
+      (subst (λ (rs : List Point). (i : ℕ) (m : SphereMap) → slice_get (maps_at cs) i ≡ Some m → IsRight (op_set op s t) rs i m) (ap (map named_point) worked ∙ same)
+      (each-map (IsRight (op_set op s t) (map named_point js)) cs (λ i c e. right i c e s t S T)))
+      (λ y v. subst (λ (rs : List Point). IsListed rs y) same (L.lists.complete s t y S T (vertex-of_both op s t y v)))
 
 -- of a half
 pub half-maps : (f : Form) (closed : Bool) (h : Plane) (whole : Complex) (hs : List Plane) (vs ps : List Point) (ms : List SphereMap) → ShowsSet Set.full whole → SamePlane (form_of h) f → ps ≡ vs → AreInOrder vs

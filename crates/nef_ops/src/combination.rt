@@ -8,10 +8,9 @@ ghost use Rattle.nef_complex.specs.Complexes.{ShowsSet};
 use crate::OutOfMemory;
 use crate::finished::{Load, crew, finished};
 use crate::local::combined_map;
-use nef_cand::candidates_beside;
+use nef_cand::{Named, named_candidates_beside, named_points};
 use nef_complex::Complex;
 use nef_core::{How, Job};
-use nef_geo::Point;
 use nef_io::Gate;
 use nef_result::{CandidateMap, assemble, merge_carriers};
 use nef_star::Op;
@@ -25,29 +24,31 @@ struct BinaryJob<'a> {
     op: Op,
     first: &'a Complex,
     second: &'a Complex,
-    points: &'a [Point],
+    listed: &'a [Named],
 }
 
 impl<'a> Job for BinaryJob<'a> {
-    ghost use Rattle.std.specs.Prelude.{length};
+    ghost use Rattle.std.specs.Prelude.{length, map};
+    ghost use Rattle.nef_complex.specs.Complexes.{complex_of};
     ghost use Rattle.nef_cand.specs.Candidates.{AreFramed};
+    ghost use Rattle.nef_cand.specs.Names.{named_point, AreNamed};
     ghost use Rattle.nef_ops.specs.Rights.{IsRight};
 
     type Out = CandidateMap;
 
-    ghost count = { λ j. length j.points.now };
+    ghost count = { λ j. length j.listed.now };
 
-    ghost right = { λ j i m. (s t : Set) → ShowsSet s j.first.now → ShowsSet t j.second.now → IsRight (op_set j.op s t) j.points.now i m.map.value };
+    ghost right = { λ j i m. (s t : Set) → ShowsSet s j.first.now → ShowsSet t j.second.now → IsRight (op_set j.op s t) (map named_point j.listed.now) i m.map.value };
 
-    ghost workable = { λ j. ((s : Set) × ShowsSet s j.first.now) × ((t : Set) × ShowsSet t j.second.now) × AreFramed j.points.now };
+    ghost workable = { λ j. ((s : Set) × ShowsSet s j.first.now) × ((t : Set) × ShowsSet t j.second.now) × AreFramed (map named_point j.listed.now) × AreNamed (complex_of j.first.now) (complex_of j.second.now) j.listed.now };
 
     fn jobs(&self) -> u64 {
-        self.points.len() as u64
+        self.listed.len() as u64
     }
 
     fn work(&self, alloc: Global, job: u64) -> Result<CandidateMap, OutOfMemory> {
-        let point = &self.points[job as usize];
-        let map = combined_map(alloc, self.op, self.first, self.second, point)?;
+        let candidate = &self.listed[job as usize];
+        let map = combined_map(alloc, self.op, self.first, self.second, candidate)?;
         let found = CandidateMap::new(alloc, map)?;
         Ok(found)
     }
@@ -56,8 +57,8 @@ impl<'a> Job for BinaryJob<'a> {
 // A set with fewer carriers is small.
 const MANY_CARRIERS: usize = 24;
 
-// Most candidates of two sets are looked for in both. Where one set is small most lie far from it, so that one look tells
-// their maps.
+// Most candidates of two sets are looked for in one, and their maps are put together. Where one set is small most lie far
+// from it, so that one look tells their maps.
 fn load_of(a: &Complex, b: &Complex) -> Load {
     if a.carriers.len().min(b.carriers.len()) < MANY_CARRIERS {
         Load::Light
@@ -84,17 +85,17 @@ pub fn binary<R: Threads + Wait + Sync, G: Gate + Sync>(
     requires second { (t : Set) × ShowsSet t b.now }
     ensures shows { IfOk result (λ c. (s t : Set) → ShowsSet s a.now → ShowsSet t b.now → ShowsSet (op_set op s t) c) }
 {
-    let listed = candidates_beside(rt, alloc, a, b, how.workers)?;
-    let points = listed.as_slice();
+    let listed = named_candidates_beside(rt, alloc, a, b, how.workers)?;
+    let points = named_points(alloc, listed.as_slice())?;
     let job = BinaryJob {
         op,
         first: a,
         second: b,
-        points,
+        listed: listed.as_slice(),
     };
     let workers = crew(how, job.jobs(), load_of(a, b), gate.holds());
     let maps = finished(rt, alloc, &job, how.board, workers, gate)?;
     let carriers = merge_carriers(alloc, a, b)?;
-    let complex = assemble(rt, alloc, carriers, points, maps, workers)?;
+    let complex = assemble(rt, alloc, carriers, points.as_slice(), maps, workers)?;
     Ok(complex)
 }

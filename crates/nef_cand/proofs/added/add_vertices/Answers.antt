@@ -1,27 +1,31 @@
-use Rattle.std.proofs.Common.{◌≡◌, ◌<◌, ◌≤◌, List, length, get_or, subst, sym}
+use Rattle.std.proofs.Common.{arith, subst, sym}
 use Rattle.nef_space.specs.Place.{Place, SamePlace}
 use Rattle.nef_geo.specs.Shapes.{place_of}
 use Rattle.nef_complex.specs.declared.complex.Vertex.{Vertex}
+use Rattle.nef_complex.specs.Complexes.{complex_of}
+use Rattle.nef_complex.proofs.Reading.{got-at}
 use Rattle.law_complex.proofs.Ways.{same-itself}
+use Rattle.nef_cand.specs.Names.{IsNamedIn}
 use Rattle.nef_cand.specs.Points.{Adds}
-use Rattle.nef_cand.proofs.Adding.{any-more, any-all, adds-one}
-use Rattle.nef_cand.proofs.Held.{vertices-all}
+use Rattle.nef_cand.proofs.Adding.{any-next, any-all, adds-one}
+use Rattle.nef_cand.proofs.Held.{vertices-all, vertex-named}
 use Rattle.nef_cand.proofs.added.add_vertices.Goals as goal
 
-pub loop-vertex-preserved : goal.loop-vertex-preserved
-loop-vertex-preserved c =
-    let i = c.loop-vertex.vertex-index in let v = c.vertex-item.result in let all = c.as_slice-vertex-items.ensures.all in
+pub loop-number-preserved : goal.loop-number-preserved
+loop-number-preserved c =
+    let C = c.args.c.now in let o = c.args.operand in let i = c.loop-number.number in let v = c.at.result.now in
+    let N = IsNamedIn o (complex_of C) in let old = c.loop-number.listed.items in
+    let a = got-at C.vertices i v c.at.ensures.element in
     record {
-      added = any-more (λ (u : Vertex) (y : Place). SamePlace (place_of u.point) y) c.args.c.now.vertices i v c.args.points.now.items c.loop-vertex.points.items c.push.new.self.items
-          (subst (λ (vs : List Vertex). i < length vs) all c.loop-vertex-test.true) (subst (λ (vs : List Vertex). v ≡ get_or vs i v) all c.vertex-item.is) c.loop-vertex.invariant.added
-          (subst (Adds (λ y. SamePlace (place_of v.point) y) c.loop-vertex.points.items) (sym c.in_ok-push.ensures.items)
-          (adds-one (λ y. SamePlace (place_of v.point) y) c.loop-vertex.points.items v.point (same-itself (place_of v.point)) (λ y s. s)));
+      added = any-next (λ (u : Vertex) (y : Place). SamePlace (place_of u.point) y) N C.vertices i v c.args.listed.now.items old c.push.new.self.items a c.loop-number.invariant.added
+          (subst (Adds (λ y. SamePlace (place_of v.point) y) N old) (sym c.in_ok-push.ensures.items)
+          (adds-one (λ y. SamePlace (place_of v.point) y) N old _ (same-itself (place_of v.point)) (vertex-named o C i v a) (λ y s. s)));
     }
 
 pub returns : goal.returns
 returns c =
-    let i = c.loop-vertex.vertex-index in let all = c.as_slice-vertex-items.ensures.all in
+    let C = c.args.c.now in let i = c.loop-number.number in let N = IsNamedIn c.args.operand (complex_of C) in
     record {
-      added = vertices-all c.args.c.now c.args.points.now.items c.loop-vertex.points.items
-          (any-all (λ (u : Vertex) (y : Place). SamePlace (place_of u.point) y) c.args.c.now.vertices i c.args.points.now.items c.loop-vertex.points.items (subst (λ (vs : List Vertex). length vs ≤ i) all c.loop-vertex-test.false) c.loop-vertex.invariant.added);
+      added = vertices-all C N c.args.listed.now.items c.loop-number.listed.items
+          (any-all (λ (u : Vertex) (y : Place). SamePlace (place_of u.point) y) N C.vertices i c.args.listed.now.items c.loop-number.listed.items (let f = c.loop-number-test.false in let e = c.len-number-end.ensures.len in omega arith) c.loop-number.invariant.added);
     }

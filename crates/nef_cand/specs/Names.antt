@@ -1,0 +1,48 @@
+-- Candidates that are named by a vertex or an edge of one of two complexes.
+use Rattle.std.specs.Prelude.{◌≡◌, List}
+use Rattle.std.specs.List.{Contains}
+use Rattle.nef_space.specs.Place.{Place, SamePlace, IsPlaceBelow}
+use Rattle.nef_geo.specs.Shapes.{place_of}
+use Rattle.nef_geo.specs.declared.point.Point.{Point}
+use Rattle.law_sphere.specs.Least.{InOrder}
+use Rattle.law_complex.specs.Complexes.{Complex}
+use Rattle.law_complex.specs.Skeleton.{IsVertexPoint, IsEdgePoint}
+use Rattle.nef_cand.specs.declared.named.Operand.{Operand}
+use Rattle.nef_cand.specs.declared.named.Operand.TheVariants.{First, Second}
+use Rattle.nef_cand.specs.declared.named.Name.{Name}
+use Rattle.nef_cand.specs.declared.named.Name.TheVariants as name
+use Rattle.nef_cand.specs.declared.named.Named.{Named}
+
+abbrev pub named_point : Named → Point
+named_point n = n.point
+
+-- that of two complexes which the operand tells
+abbrev pub operand_of : Operand → Complex → Complex → Complex
+operand_of First C D = C
+operand_of Second C D = D
+
+-- y is the vertex, or lies strictly inside the edge, that the name tells
+abbrev pub IsNameAt : Complex → Complex → Place → Name → Type 0
+IsNameAt C D y (name.Vertex o k) = IsVertexPoint (operand_of o C D) k y
+IsNameAt C D y (name.Edge o k) = IsEdgePoint (operand_of o C D) k y
+
+-- the point lies where its name tells
+abbrev pub IsNamed : Complex → Complex → Named → Type 0
+IsNamed C D n = IsNameAt C D (place_of n.point) n.name
+
+-- the point lies where its name tells, in C, which is this operand
+abbrev pub IsNamedIn : Operand → Complex → Named → Type 0
+IsNamedIn o C n = (D E : Complex) → operand_of o D E ≡ C → IsNamed D E n
+
+abbrev pub AreNamed : Complex → Complex → List Named → Type 0
+AreNamed C D ns = (n : Named) → Contains ns n → IsNamed C D n
+
+-- one of the points is y
+abbrev pub IsAmong : List Named → Place → Type 0
+IsAmong ns y = (n : Named) × Contains ns n × SamePlace (place_of n.point) y
+
+-- ms are some of ns, in increasing order of their points: for each point one
+pub record IsOnceEach (ns ms : List Named) : Type 0 where
+  pub ordered : InOrder (λ (m n : Named). IsPlaceBelow (place_of m.point) (place_of n.point)) ms
+  pub among : (m : Named) → Contains ms m → Contains ns m
+  pub each : (n : Named) → Contains ns n → (m : Named) × Contains ms m × (m.point ≡ n.point)
