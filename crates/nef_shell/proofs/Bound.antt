@@ -1,15 +1,21 @@
 -- Bindings, and what they need.
-use Rattle.std.proofs.Common.{◌≡◌, ◌⊎◌, ◌∙◌, ℕ, zero, suc, ◌<◌, ap, refl, sym, subst, List, [], ◌∷◌, ◌++◌, length, Option, Some, None, IfSome, IsSomeAnd, slice_get, inl, inr}
-use Rattle.std.specs.Prelude.{option_and_then}
+use Rattle.std.proofs.Common.{◌≡◌, ◌⊎◌, ◌∙◌, ℕ, true, false, zero, suc, ◌<◌, ap, refl, sym, subst, List, [], ◌∷◌, ◌++◌, length, Option, Some, None, IfSome, IsSomeAnd, slice_get, inl, inr}
+use Rattle.std.specs.Prelude.{option_and_then, slice_index_or, slice_set, is_some}
+use Rattle.std.proofs.lemmas.Bool.{cases_eq}
+use Rattle.std.proofs.lemmas.Option.{slice_get_within, slice_get-get_or, get_or_from_slice_get}
 use Rattle.nef_complex.specs.declared.complex.Complex.{Complex}
 use Rattle.nef_complex.specs.Complexes.{ShowsSet}
+use Rattle.nef_core.proofs.Places.{get_set_here, get_set_other}
 use Rattle.nef_expr.specs.declared.nodes.Node.{Node}
 use Rattle.nef_expr.specs.Nodes.{node_set, sets_after}
 use Rattle.nef_sched.specs.Results.{kept, IsReady}
 use Rattle.nef_shell.specs.declared.bindings.Binding.{Binding}
 use Rattle.nef_shell.specs.declared.operation.Operation.{Operation}
-use Rattle.nef_shell.specs.Bindings.{IsBound, IsNeeded, IsBinding, AreBindings, first_need, second_need, needed_complex, Fits}
+use Rattle.nef_shell.specs.Bindings.{IsBound, IsNeeded, IsBinding, AreBindings, AreNumbered, first_need, second_need, needed_complex, Fits}
 use Rattle.nef_shell.specs.Operations.{set_by, first_operand, second_operand, HasTurn, IsLent, AreLent}
+
+inner : (m n : ℕ) → Some (Some m) ≡ Some (Some n) → m ≡ n
+inner m n e = cc
 
 kept-left : {X : Type 0} (xs ys : List X) (k : ℕ) (x : X) → slice_get xs k ≡ Some x → slice_get (xs ++ ys) k ≡ Some x
 kept-left [] ys k x e = let f : None ≡ Some x = e in cc
@@ -53,6 +59,52 @@ binding-by nodes bindings k op b within turn set here by first second = record {
   first = subst (λ z. IsNeeded bindings (length bindings) (first_operand z) b.needs.first) (sym by) first;
   second = subst (λ z. IsNeeded bindings (length bindings) (second_operand z) b.needs.second) (sym by) second;
 }
+
+-- no number stands anywhere before the first binding
+pub numbered-none : (numbers : List (Option ℕ)) → ((k n : ℕ) → slice_get numbers k ≡ Some (Some n) → ⊥) → AreNumbered [] numbers
+numbered-none numbers none = record {
+  bind = λ k n at. absurd (none k n at);
+  there = λ k (n, (b, at, is)). let f : None ≡ Some b = at in cc;
+}
+
+-- a binding is added, and its number put at its node's place
+pub numbered-more : (old : List Binding) (numbers : List (Option ℕ)) (b : Binding) (node : ℕ) → node < length numbers → b.node ≡ node → AreNumbered old numbers → AreNumbered (old ++ b ∷ []) (slice_set numbers node (Some (length old)))
+numbered-more old numbers b node within is numbered = record {
+  bind = λ k n at. elim (cases_eq k node) [
+    | inl same ↦
+        let here : slice_get (slice_set numbers node (Some (length old))) k ≡ Some (Some (length old)) = rw same (get_set_here numbers node (Some (length old)) within) in
+        let number : n ≡ length old = inner n (length old) (sym at ∙ here) in
+        (b, rw number (at-last old b), is ∙ sym same)
+    | inr other ↦
+        let (c, seen, binds) = numbered.bind k n (sym (get_set_other numbers node k (Some (length old)) other) ∙ at) in
+        (c, kept-left old (b ∷ []) n c seen, binds)
+  ];
+  there = λ k (n, (c, at, binds)). elim (cases_eq k node) [
+    | inl same ↦ (length old, rw same (get_set_here numbers node (Some (length old)) within))
+    | inr other ↦ elim (old-or-last old b n c at) [
+      | inl o ↦ let (m, seen) = numbered.there k (n, (c, o, binds)) in (m, get_set_other numbers node k (Some (length old)) other ∙ seen)
+      | inr l ↦ absurd (other (sym binds ∙ ap (λ (z : Binding). z.node) l.1 ∙ is))
+    ]
+  ];
+}
+
+-- a node that is bound has a place, where the number of a binding of the node stands
+pub numbered-within : (bindings : List Binding) (numbers : List (Option ℕ)) (k : ℕ) → AreNumbered bindings numbers → IsBound bindings k → k < length numbers
+numbered-within bindings numbers k numbered bound = let (n, at) = numbered.there k bound in slice_get_within numbers k (Some n) at
+
+pub numbered-need : (bindings : List Binding) (numbers : List (Option ℕ)) (k : ℕ) → AreNumbered bindings numbers → IsBound bindings k → IsNeeded bindings (length bindings) (Some k) (slice_index_or numbers k None)
+numbered-need bindings numbers k numbered bound =
+    let (n, at) = numbered.there k bound in
+    let (b, here, is) = numbered.bind k n at in
+    (n, get_or_from_slice_get numbers k (Some n) None at, slice_get_within bindings n b here, (b, here, is))
+
+-- a number that stands at a node's place is that of a binding of the node
+pub numbered-bound : (bindings : List Binding) (numbers : List (Option ℕ)) (k : ℕ) → k < length numbers → AreNumbered bindings numbers → is_some (slice_index_or numbers k None) ≡ true → IsBound bindings k
+numbered-bound bindings numbers k within numbered = go (slice_index_or numbers k None) (slice_get-get_or numbers k None within)
+  where
+    go : (o : Option ℕ) → slice_get numbers k ≡ Some o → is_some o ≡ true → IsBound bindings k
+    go None seen some = absurd (let f : false ≡ true = some in cc)
+    go (Some n) seen some = (n, numbered.bind k n seen)
 
 pub bound-last : (old : List Binding) (b : Binding) (k : ℕ) → b.node ≡ k → IsBound (old ++ b ∷ []) k
 bound-last old b k is = (length old, (b, at-last old b, is))

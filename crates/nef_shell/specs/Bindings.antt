@@ -10,7 +10,7 @@ use Rattle.nef_script.specs.declared.script.Command.{Command}
 use Rattle.nef_script.specs.Commands.{LooksAt, Binds}
 use Rattle.nef_shell.specs.declared.bindings.Binding.{Binding}
 use Rattle.nef_shell.specs.declared.operation.Operation.{Operation}
-use Rattle.nef_shell.specs.Operations.{set_by, first_operand, second_operand, HasOperand, HasTurn, AreShown, IsKept}
+use Rattle.nef_shell.specs.Operations.{set_by, first_operand, second_operand, HasOperand, HasTurn, AreShown, IsKept, IsThere}
 
 -- the binding with the number n binds node k
 abbrev pub IsBoundAt : List Binding → ℕ → ℕ → Type 0
@@ -39,6 +39,11 @@ AreBindings nodes bindings = (n : ℕ) (b : Binding) → slice_get bindings n �
 -- each node that a command binds is bound by a binding
 abbrev pub AreAllBound : List Command → List Binding → Type 0
 AreAllBound commands bindings = (i k : ℕ) (c : Command) → slice_get commands i ≡ Some c → Binds c k → IsBound bindings k
+
+-- at the place of each node that a binding binds stands the number of one that does, and at other places nothing
+pub record AreNumbered (bindings : List Binding) (numbers : List (Option ℕ)) : Type 0 where
+  pub bind : (k n : ℕ) → slice_get numbers k ≡ Some (Some n) → IsBoundAt bindings n k
+  pub there : (k : ℕ) → IsBound bindings k → IsThere numbers k
 
 -- the bindings that the n-th one needs
 abbrev pub first_need : List Binding → ℕ → Option ℕ

@@ -1,14 +1,15 @@
 //! The bindings of a script, in order, and what they need.
 
-ghost use Rattle.std.specs.Prelude.{◌≡◌, ◌<◌, ℕ, Some, None, IfOk, IfSome, OnOk, length, []};
+ghost use Rattle.std.specs.Prelude.{◌≡◌, ◌<◌, ℕ, IfOk, IfSome, OnOk, length, []};
 ghost use Rattle.nef_expr.specs.Nodes.{node_set, sets_after};
 ghost use Rattle.nef_script.specs.Commands.{LooksAt, Binds, TurnsRight};
 ghost use Rattle.nef_script.specs.Meaning.{IsWithin};
-ghost use Rattle.nef_shell.specs.Bindings.{IsBoundAt, IsBound, IsNeeded, AreBindings, AreAllBound};
+ghost use Rattle.nef_shell.specs.Bindings.{IsBound, IsNeeded, AreBindings, AreAllBound, AreNumbered};
 ghost use Rattle.nef_shell.specs.Commands.{AreWorkable};
 ghost use Rattle.nef_shell.specs.Operations.{set_by, first_operand, second_operand, HasOperand, HasTurn};
 
 use crate::operation::Operation;
+use crate::sets::empty_places;
 use crate::uses::bound;
 use nef_expr::Nodes;
 use nef_sched::Needs;
@@ -26,27 +27,27 @@ pub(crate) struct Binding {
     pub(crate) needs: Needs,
 }
 
-// The number of a binding of the node, if it is bound.
-fn number_of(bindings: &[Binding], node: usize) -> Option<usize>
-    ensures bound { (n : ℕ) → result ≡ Some n → IsBoundAt bindings.now n node }
-    ensures not { result ≡ None → ¬ (IsBound bindings.now node) }
-{
-    bindings.iter().position(|binding| binding.node == node)
-}
-
 // The number of a binding of the operand, if there is one, which is bound then.
-fn need_of(bindings: &[Binding], operand: Option<usize>) -> Option<usize>
+fn need_of(bindings: &[Binding], numbers: &[Option<usize>], operand: Option<usize>) -> Option<usize>
+    requires numbered { AreNumbered bindings.now numbers.now }
     requires bound { IfSome operand (IsBound bindings.now) }
     ensures needed { IsNeeded bindings.now (length bindings.now) operand result }
 {
+    let _bindings = bindings;
     match operand {
-        Some(node) => number_of(bindings, node),
+        Some(node) => numbers[node],
         None => None,
     }
 }
 
 // The binding of a node behind earlier ones, which bind its operands.
-fn binding_of(earlier: &[Binding], node: usize, operation: Operation) -> Binding
+fn binding_of(
+    earlier: &[Binding],
+    numbers: &[Option<usize>],
+    node: usize,
+    operation: Operation,
+) -> Binding
+    requires numbered { AreNumbered earlier.now numbers.now }
     requires operands { (k : ℕ) → HasOperand operation k → IsBound earlier.now k }
     ensures node { result.node ≡ node }
     ensures operation { result.operation ≡ operation }
@@ -55,8 +56,8 @@ fn binding_of(earlier: &[Binding], node: usize, operation: Operation) -> Binding
 {
     let (first, second) = operation.operands();
     let needs = Needs {
-        first: need_of(earlier, first),
-        second: need_of(earlier, second),
+        first: need_of(earlier, numbers, first),
+        second: need_of(earlier, numbers, second),
     };
     Binding {
         node,
@@ -65,9 +66,11 @@ fn binding_of(earlier: &[Binding], node: usize, operation: Operation) -> Binding
     }
 }
 
-// Adds the binding of the node by the operation that makes its set, unless it is bound.
+// Adds the binding of the node by the operation that makes its set, and its number at the node's place, unless it is
+// bound.
 fn add_binding(
     bindings: &mut Vec<Binding>,
+    numbers: &mut [Option<usize>],
     nodes: &Nodes,
     node: usize,
     operation: Operation,
@@ -77,21 +80,28 @@ fn add_binding(
     requires set { node_set nodes.now node ≡ set_by (sets_after [] nodes.now) operation }
     requires operands { (k : ℕ) → HasOperand operation k → IsBound bindings.old.items k }
     requires are { AreBindings nodes.now bindings.old.items }
+    requires count { length numbers.old ≡ length nodes.now }
+    requires numbered { AreNumbered bindings.old.items numbers.old }
     ensures are { OnOk result (AreBindings nodes.now bindings.new.items) }
+    ensures count { length numbers.new ≡ length numbers.old }
+    ensures numbered { OnOk result (AreNumbered bindings.new.items numbers.new) }
     ensures still { OnOk result ((k : ℕ) → IsBound bindings.old.items k → IsBound bindings.new.items k) }
     ensures bound { OnOk result (IsBound bindings.new.items node) }
 {
     let _nodes = nodes;
-    if number_of(bindings, node).is_none() {
-        let added = binding_of(bindings, node, operation);
+    if numbers[node].is_none() {
+        let number = bindings.len();
+        let added = binding_of(bindings, numbers, node, operation);
         bindings.push(added)?;
+        numbers[node] = Some(number);
     }
     Ok(())
 }
 
-// Adds the binding of the node that the command binds, if it binds one.
+// Adds the binding of the node that the command binds, if it binds one, and its number at the node's place.
 fn add_command(
     bindings: &mut Vec<Binding>,
+    numbers: &mut [Option<usize>],
     nodes: &Nodes,
     command: &Command,
 ) -> Result<(), AllocError>
@@ -99,12 +109,16 @@ fn add_command(
     requires turned { TurnsRight nodes.now command.now }
     requires operands { (k : ℕ) → LooksAt nodes.now command.now k → IsBound bindings.old.items k }
     requires are { AreBindings nodes.now bindings.old.items }
+    requires count { length numbers.old ≡ length nodes.now }
+    requires numbered { AreNumbered bindings.old.items numbers.old }
     ensures are { OnOk result (AreBindings nodes.now bindings.new.items) }
+    ensures count { length numbers.new ≡ length numbers.old }
+    ensures numbered { OnOk result (AreNumbered bindings.new.items numbers.new) }
     ensures still { OnOk result ((k : ℕ) → IsBound bindings.old.items k → IsBound bindings.new.items k) }
     ensures bound { OnOk result ((k : ℕ) → Binds command.now k → IsBound bindings.new.items k) }
 {
     match bound(nodes, command) {
-        Some((node, operation)) => add_binding(bindings, nodes, node, operation),
+        Some((node, operation)) => add_binding(bindings, numbers, nodes, node, operation),
         None => Ok(()),
     }
 }
@@ -117,9 +131,11 @@ pub(crate) fn bindings_of(alloc: Global, script: &Script) -> Result<Vec<Binding>
     ensures all { IfOk result (λ v. AreAllBound script.now.commands v.items) }
 {
     let nodes = script.nodes();
+    let mut places = empty_places(alloc, nodes.len())?;
+    let numbers = places.as_mut_slice();
     let mut bindings = Vec::new(alloc);
     for command in script.commands() {
-        add_command(&mut bindings, nodes, command)?;
+        add_command(&mut bindings, numbers, nodes, command)?;
     }
     Ok(bindings)
 }
