@@ -1,4 +1,3 @@
-use Rattle.std.proofs.Common.{rules}
 use Rattle.nef_geo.specs.Shapes.{vector_of, hit_place}
 use Rattle.nef_complex.proofs.Reading.{got-at}
 use Rattle.nef_ties.proofs.WayInward.{small-back}
