@@ -67,6 +67,18 @@ fn load_of(a: &Complex, b: &Complex) -> Load {
     }
 }
 
+// So many of the jobs pay for workers: where one set is small, no more than the sets have vertices. The other candidates are
+// cuts on the frame's edges, far from both sets, of which there are many where a set was made of many planes.
+fn paying(a: &Complex, b: &Complex, jobs: u64, load: Load) -> u64 {
+    match load {
+        Load::Heavy => jobs,
+        Load::Light => {
+            let vertices = a.vertices.len().saturating_add(b.vertices.len());
+            jobs.min(vertices as u64)
+        }
+    }
+}
+
 /// The complex of the combination of the sets of two complexes. One job for each candidate, in their order, is worked over
 /// the board that `how` names, by `how.workers` workers, from 1 to 64, or by fewer where the jobs don't pay for so many
 /// and the gate holds none back; the gate is told of each job before it begins. `OutOfMemory` says that memory was wanted
@@ -93,7 +105,8 @@ pub fn binary<R: Threads + Wait + Sync, G: Gate + Sync>(
         second: b,
         listed: listed.as_slice(),
     };
-    let workers = crew(how, job.jobs(), load_of(a, b), gate.holds());
+    let load = load_of(a, b);
+    let workers = crew(how, paying(a, b, job.jobs(), load), load, gate.holds());
     let maps = finished(rt, alloc, &job, how.board, workers, gate)?;
     let carriers = merge_carriers(alloc, a, b)?;
     let complex = assemble(rt, alloc, carriers, points.as_slice(), maps, workers)?;
