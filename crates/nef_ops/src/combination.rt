@@ -1,9 +1,10 @@
 //! Combinations of two sets.
 
-ghost use Rattle.std.specs.Prelude.{◌≤◌, IfOk};
+ghost use Rattle.std.specs.Prelude.{◌≡◌, ◌≤◌, IfOk, length};
 ghost use Rattle.nef_space.specs.Sets.{Set};
 ghost use Rattle.nef_combine.specs.Sets.{op_set};
 ghost use Rattle.nef_complex.specs.Complexes.{ShowsSet};
+ghost use Rattle.nef_ops.specs.Crews.{jobs_counted};
 
 use crate::OutOfMemory;
 use crate::finished::{Load, crew, finished};
@@ -69,7 +70,9 @@ fn load_of(a: &Complex, b: &Complex) -> Load {
 
 // So many of the jobs pay for workers: where one set is small, no more than the sets have vertices. The other candidates are
 // cuts on the frame's edges, far from both sets, of which there are many where a set was made of many planes.
-fn paying(a: &Complex, b: &Complex, jobs: u64, load: Load) -> u64 {
+fn paying(a: &Complex, b: &Complex, jobs: u64, load: Load) -> u64
+    ensures counted { result ≡ jobs_counted load jobs (length a.now.vertices) (length b.now.vertices) }
+{
     match load {
         Load::Heavy => jobs,
         Load::Light => {
