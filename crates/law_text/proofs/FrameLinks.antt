@@ -12,15 +12,15 @@ use Rattle.nef_classes.proofs.Chains.{chain-here, chain-link, chain-trans, chain
 use Rattle.law_complex.specs.Complexes.{Complex, Corner, Edge}
 use Rattle.law_complex.specs.Rays.{VertexSide, HasSideLabel}
 use Rattle.law_links.specs.Links.{AreAlong, LinkAlong, FacetLink, IsSideOf, LinkInSface, AreSidesAlong, pos_arcs, neg_arcs, LinkAlongEdge, VolumeLink}
-use Rattle.nef_frame.specs.Ends.{Ends, ends}
-use Rattle.nef_frame.proofs.Walls.{Axis, on_x, on_y, on_z}
-use Rattle.nef_frame.proofs.CornerVertices.{end_of, inward, inward_way}
-use Rattle.nef_frame.proofs.CornerCones.{axis_of}
-use Rattle.nef_frame.proofs.Octants.{depth, way, next, after, place, slot, upper, lower, arc, octant, each-svertex, each-item, arc-at, item-at, on-quarter, quarter-on}
-use Rattle.nef_frame.proofs.OctantShapes.{level-depth, depth-level, none-deep, one-deep}
-use Rattle.nef_frame.proofs.OctantCones.{around, deep-blend, inward-deep}
-use Rattle.nef_frame.proofs.Listed.{vertex_at, number, frame_vertices, frame-vertex}
-use Rattle.nef_frame.proofs.FrameEdges.{corner_by, edge_of, edge_slot, frame_edges, edge-there}
+use Rattle.nef_result.specs.Ends.{Ends, ends}
+use Rattle.nef_result.proofs.Walls.{Axis, on_x, on_y, on_z}
+use Rattle.nef_result.proofs.CornerVertices.{end_of, inward, inward_way}
+use Rattle.nef_result.proofs.CornerCones.{axis_of}
+use Rattle.nef_result.proofs.Octants.{depth, way, next, after, place, slot, upper, lower, arc, octant, each-svertex, each-item, arc-at, item-at, on-quarter, quarter-on}
+use Rattle.nef_result.proofs.OctantShapes.{level-depth, depth-level, none-deep, one-deep}
+use Rattle.nef_result.proofs.OctantCones.{around, deep-blend, inward-deep}
+use Rattle.nef_result.proofs.Listed.{vertex_at, number, frame_vertices, frame-vertex}
+use Rattle.nef_result.proofs.FrameEdges.{corner_by, edge_of, edge_slot, frame_edges, edge-there}
 
 abbrev pub frame_complex : Label → List Form → Complex
 frame_complex l hs = record { carriers = hs; vertices = frame_vertices l; edges = frame_edges }

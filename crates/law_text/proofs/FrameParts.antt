@@ -26,13 +26,13 @@ use Rattle.nef_parts.specs.Cycles.{NextCorner, IsCornerBelow, IsCycle, IsCycleBe
 use Rattle.nef_parts.specs.Numbers.{IsFacetOf, IsVolumeOf, IsFacetAt, IsFacet, IsParts, cycle_corners}
 use Rattle.nef_parts.specs.declared.parts.Facet.{Facet}
 use Rattle.nef_parts.specs.declared.parts.Parts.{Parts}
-use Rattle.nef_frame.specs.Ends.{end_at, Ends, ends}
-use Rattle.nef_frame.proofs.Walls.{Axis, on_x, on_y, on_z}
-use Rattle.nef_frame.proofs.CornerVertices.{end_of}
-use Rattle.nef_frame.proofs.CornerCones.{axis_of}
-use Rattle.nef_frame.proofs.Octants.{place, slot, upper, lower, arc, octant, each-svertex, each-item, arc-at, item-at}
-use Rattle.nef_frame.proofs.Listed.{corner_point, vertex_at, number, frame-vertex, each-vertex}
-use Rattle.nef_frame.proofs.FrameEdges.{corner_by, edge_of, edge_slot, edge-there}
+use Rattle.nef_result.specs.Ends.{end_at, Ends, ends}
+use Rattle.nef_result.proofs.Walls.{Axis, on_x, on_y, on_z}
+use Rattle.nef_result.proofs.CornerVertices.{end_of}
+use Rattle.nef_result.proofs.CornerCones.{axis_of}
+use Rattle.nef_result.proofs.Octants.{place, slot, upper, lower, arc, octant, each-svertex, each-item, arc-at, item-at}
+use Rattle.nef_result.proofs.Listed.{corner_point, vertex_at, number, frame-vertex, each-vertex}
+use Rattle.nef_result.proofs.FrameEdges.{corner_by, edge_of, edge_slot, edge-there}
 use Rattle.law_text.proofs.FrameLinks.{frame_complex, corner, inner, inner_side, has-inner, facet-chain, inner-label, volume-chain, axis-some}
 use Rattle.law_text.proofs.Numbering.{IsEarlier, numbers-one}
 use Rattle.law_text.proofs.OneCycles.{HasOneNext, cycles-one}

@@ -29,9 +29,9 @@ use Rattle.nef_parts.specs.Text.{Word, line, label_word, option_word, numbers, s
 use Rattle.nef_parts.specs.declared.parts.Cycle.{Cycle}
 use Rattle.nef_parts.specs.declared.parts.Facet.{Facet}
 use Rattle.nef_parts.specs.declared.parts.Parts.{Parts}
-use Rattle.nef_frame.proofs.Walls.{Axis, on_x, on_y, on_z, IsWhole, empty-whole, full-whole}
-use Rattle.nef_frame.proofs.Listed.{frame_vertices, AreOf, vertices-listed}
-use Rattle.nef_frame.proofs.FrameEdges.{frame_edges, frame-edges}
+use Rattle.nef_result.proofs.Walls.{Axis, on_x, on_y, on_z, IsWhole, empty-whole, full-whole}
+use Rattle.nef_result.proofs.Listed.{frame_vertices, AreOf, vertices-listed}
+use Rattle.nef_result.proofs.FrameEdges.{frame_edges, frame-edges}
 use Rattle.law_text.specs.Frame.{empty_text, with_in, EmptyText, FullText}
 use Rattle.law_text.proofs.FrameLinks.{frame_complex}
 use Rattle.law_text.proofs.FrameParts.{face, wall_plane, wall_cycle, above_number, beneath_number, IsWallFacet, facet-is, six-facets, volumes-are}

@@ -18,8 +18,8 @@ use Rattle.nef_smap.specs.declared.map.SphereMap.{SphereMap}
 use Rattle.nef_smap.specs.Maps.{map_of, IsLeastMap}
 use Rattle.nef_star.specs.declared.op.Op.{Op}
 use Rattle.nef_star.specs.Ops.{op_label}
-use Rattle.nef_combine.specs.Sets.{op_set}
-use Rattle.nef_combine.proofs.Cones.{label-by_op, germ-by_op}
+use Rattle.nef_stopo.specs.Sets.{op_set}
+use Rattle.nef_stopo.proofs.Cones.{label-by_op, germ-by_op}
 use Rattle.nef_ops.specs.declared.share.Share.{Share}
 use Rattle.nef_ops.specs.declared.share.Share.TheVariants.{Part}
 use Rattle.nef_ops.specs.declared.choice.Choice.TheVariants.{First, Second, NotFirst, NotSecond}

@@ -14,7 +14,7 @@ use Rattle.law_sphere.specs.Maps.{At}
 use Rattle.law_sphere.proofs.Lists.{at-one}
 use Rattle.nef_star.specs.declared.op.Op.{Op}
 use Rattle.nef_star.specs.declared.op.Op.TheVariants.{And, Or, Diff, Xor}
-use Rattle.nef_combine.specs.Sets.{op_set}
+use Rattle.nef_stopo.specs.Sets.{op_set}
 use Rattle.nef_smap.specs.declared.map.SphereMap.{SphereMap}
 use Rattle.nef_smap.specs.Maps.{map_of, IsLeastMap}
 use Rattle.nef_smap.proofs.Lists.{map-at, at-map, at-within, at-get, get-at}

@@ -5,7 +5,7 @@ use Rattle.law_sphere.specs.Least.{Cone}
 use Rattle.nef_smap.specs.declared.map.SphereMap.{SphereMap}
 use Rattle.nef_smap.specs.Maps.{map_of, IsLeastMap}
 use Rattle.nef_star.specs.declared.op.Op.{Op}
-use Rattle.nef_combine.specs.Sets.{op_set}
+use Rattle.nef_stopo.specs.Sets.{op_set}
 
 -- m is the least map of the combination of each two sets that the first two maps show
 pub record IsCombined (op : Op) (first second m : SphereMap) : Type 0 where

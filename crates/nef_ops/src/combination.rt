@@ -2,7 +2,7 @@
 
 ghost use Rattle.std.specs.Prelude.{◌≡◌, ◌≤◌, IfOk, length};
 ghost use Rattle.nef_space.specs.Sets.{Set};
-ghost use Rattle.nef_combine.specs.Sets.{op_set};
+ghost use Rattle.nef_stopo.specs.Sets.{op_set};
 ghost use Rattle.nef_complex.specs.Complexes.{ShowsSet};
 ghost use Rattle.nef_ops.specs.Crews.{jobs_counted};
 

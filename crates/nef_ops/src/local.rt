@@ -6,7 +6,7 @@ ghost use Rattle.nef_space.specs.Sets.{Set};
 ghost use Rattle.nef_geo.specs.Shapes.{place_of};
 ghost use Rattle.law_sphere.specs.Least.{Cone};
 ghost use Rattle.nef_smap.specs.Maps.{map_of, IsLeastMap};
-ghost use Rattle.nef_combine.specs.Sets.{op_set};
+ghost use Rattle.nef_stopo.specs.Sets.{op_set};
 ghost use Rattle.nef_complex.specs.Complexes.{complex_of, ShowsSet};
 ghost use Rattle.law_complex.specs.Complexes.{Complex as PlainComplex};
 ghost use Rattle.nef_cand.specs.Names.{operand_of, IsNameAt, IsNamed};

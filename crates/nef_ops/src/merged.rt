@@ -9,10 +9,9 @@ ghost use Rattle.nef_ops.specs.Combined.{IsCombined};
 use crate::OutOfMemory;
 use crate::choice::{Choice, choice_of};
 use crate::share::share_of;
-use nef_combine::combine;
 use nef_smap::SphereMap;
 use nef_star::Op;
-use nef_stopo::exchanged;
+use nef_stopo::{combine, exchanged};
 use nef_unique::same_map;
 use std::alloc::Global;
 

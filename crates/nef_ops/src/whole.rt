@@ -6,8 +6,8 @@ ghost use Rattle.nef_ops.specs.Nodes.{constant_set};
 
 use crate::OutOfMemory;
 use nef_complex::Complex;
-use nef_frame::frame;
 use nef_geo::Label;
+use nef_result::frame;
 use std::alloc::Global;
 
 /// The complex of the whole frame where `full` is true, and of the empty set otherwise. `OutOfMemory` says that memory

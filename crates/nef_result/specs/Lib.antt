@@ -1,2 +1,5 @@
 pub mod Results
 pub mod Halves
+pub mod Ends
+pub mod Planes
+pub mod Laws

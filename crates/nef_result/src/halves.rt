@@ -11,11 +11,10 @@ ghost use Rattle.nef_smap.specs.Maps.{map_of, IsLeastMap};
 ghost use Rattle.nef_result.specs.Halves.{inside_label, IsMapOfPlane};
 
 use crate::OutOfMemory;
-use nef_combine::combine;
 use nef_geo::{Dir, Label, Oriented, Plane, Point, Sign};
 use nef_smap::{SLoop, SphereMap, plane_map};
 use nef_star::Op;
-use nef_stopo::exchanged;
+use nef_stopo::{combine, exchanged};
 use std::alloc::Global;
 
 // The label of points of the frame that a set holds at, or doesn't.

@@ -1,14 +1,22 @@
-//! What the complex of a set is put together from: the planes, the points that may be vertices, and the maps there.
+//! What the complex of a set is put together from: the planes, the points that may be vertices, and the maps there. And the
+//! complexes of the empty set and of the whole frame: both have the frame's eight corners as vertices, and these alone. Each
+//! set has the corners among its vertices.
 #![tactic(auto)]
 
 mod assembling;
 mod candidate_map;
 mod carriers;
+mod corner;
 mod halves;
+mod laws;
 mod parting;
+mod sides;
+mod whole;
 
 pub use assembling::assemble;
 pub use candidate_map::CandidateMap;
 pub use carriers::{add_carrier, copy_carriers, merge_carriers};
 pub use halves::half_map;
+pub use laws::corner_laws;
 pub use std::alloc::AllocError as OutOfMemory;
+pub use whole::frame;

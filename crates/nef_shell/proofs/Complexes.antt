@@ -9,7 +9,7 @@ use Rattle.nef_complex.specs.declared.complex.Complex.{Complex}
 use Rattle.nef_complex.specs.Complexes.{ShowsSet}
 use Rattle.nef_expr.specs.declared.nodes.Node.{Node}
 use Rattle.nef_expr.specs.declared.nodes.Node.TheVariants as node
-use Rattle.nef_combine.specs.Sets.{op_set}
+use Rattle.nef_stopo.specs.Sets.{op_set}
 use Rattle.law_turns.specs.Turned.{turned_set}
 use Rattle.nef_star.specs.declared.op.Op.{Op}
 use Rattle.nef_ops.specs.Nodes.{unary_set}

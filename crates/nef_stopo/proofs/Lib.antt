@@ -5,3 +5,4 @@ pub mod Marking
 pub mod Remarked
 pub mod MapStars
 pub mod Relabelled
+pub mod Cones

@@ -1,3 +1,4 @@
 pub mod Labels
 pub mod Made
 pub mod Stars
+pub mod Sets

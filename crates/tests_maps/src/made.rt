@@ -7,11 +7,10 @@ ghost use Rattle.nef_geo.specs.Shapes.{vector_of};
 ghost use Rattle.nef_smap.specs.Maps.{IsLeastMap};
 
 use crate::words::{is_normal, label, normal, op};
-use nef_combine::combine;
 use nef_geo::Label;
 use nef_smap::{SLoop, SphereMap, face_map, plane_map};
 use nef_star::Op;
-use nef_stopo::{boundary, closure, complement, exchanged, interior};
+use nef_stopo::{boundary, closure, combine, complement, exchanged, interior};
 use std::alloc::Global;
 use std::test::Fail;
 

@@ -8,8 +8,8 @@ ghost use Rattle.nef_expr.specs.declared.nodes.Node.TheVariants as variant;
 
 use nef_complex::{Complex, OutOfMemory};
 use nef_expr::{Node, Nodes};
-use nef_frame::frame;
 use nef_geo::Label;
+use nef_result::frame;
 use nef_unique::{compare, same_vertices};
 use std::alloc::Global;
 use std::process::Abort;

@@ -1,5 +1,5 @@
 use Rattle.std.proofs.Common.{map, sym, subst}
-use Rattle.nef_combine.specs.Sets.{op_set}
+use Rattle.nef_stopo.specs.Sets.{op_set}
 use Rattle.nef_complex.specs.Complexes.{complex_of}
 use Rattle.nef_cand.specs.Names.{named_point}
 use Rattle.nef_ops.specs.Rights.{IsRight}

@@ -1,4 +1,4 @@
-use Rattle.nef_combine.specs.Sets.{op_set}
+use Rattle.nef_stopo.specs.Sets.{op_set}
 use Rattle.tests_places.proofs.sets.Maker.combined.Goals as goal
 
 pub returns : goal.returns

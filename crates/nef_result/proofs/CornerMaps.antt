@@ -1,0 +1,81 @@
+-- The maps at the sides and the corners of the frame, from what their makers promise.
+use Rattle.std.proofs.Common.{◌≡◌, ℕ, zero, suc, ◌+◌, ◌-◌, ◌<◌, ℤ, pos, ◌*ℤ◌, ◌<ℤ◌, arith, refl, sym, ◌∙◌, ap, ◌↔◌, Bool, true, false, List, [], ◌∷◌, ◌++◌, map, take, Some, w64, to_z, of_z}
+use Rattle.std.proofs.lemmas.Int.{ints}
+use Rattle.law_arithmetic.specs.Signs.{sign}
+use Rattle.nef_space.specs.Lists.{IsAt}
+use Rattle.nef_space.specs.Place.{Form, SamePlace}
+use Rattle.nef_space.specs.Vectors.{Vector, dot, IsDirection}
+use Rattle.nef_space.specs.declared.label.Label.{Label}
+use Rattle.nef_space.specs.declared.label.Label.TheVariants.{Out}
+use Rattle.nef_geo.specs.Shapes.{place_at, place_of, form_of}
+use Rattle.nef_geo.specs.Reading.{side_forms}
+use Rattle.nef_geo.specs.declared.plane.Plane.{Plane}
+use Rattle.nef_geo.specs.declared.point.Point.{Point}
+use Rattle.law_sphere.specs.Labelling.{ByOp}
+use Rattle.law_sphere.specs.Least.{by_side}
+use Rattle.law_sphere.specs.Maps.{MapLabel}
+use Rattle.nef_star.specs.Ops.{op_label}
+use Rattle.nef_star.specs.declared.op.Op.TheVariants.{And}
+use Rattle.nef_smap.specs.Maps.{map_of, IsSphereMap, IsLeastMap}
+use Rattle.nef_smap.specs.declared.map.SphereMap.{SphereMap}
+use Rattle.nef_result.specs.Ends.{x_axis, y_axis, z_axis, end_at, ends, IsCornerPlace, at_wall, IsWall, IsCornerOf}
+use Rattle.nef_result.specs.Planes.{sorted_sides}
+
+-- ---- a side
+pub wall-high : (n : Vector) (l : Label) (m : SphereMap) → IsSphereMap m → m.mark ≡ Out → ((d : Vector) → IsDirection d → MapLabel (map_of m) d (by_side Out Out l (sign (dot n d)))) → IsWall n true l m
+wall-high n l m h e f = record { map = h; mark = e; labels = f }
+
+pub wall-low : (n : Vector) (l : Label) (m : SphereMap) → IsSphereMap m → m.mark ≡ Out → ((d : Vector) → IsDirection d → MapLabel (map_of m) d (by_side l Out Out (sign (dot n d)))) → IsWall n false l m
+wall-low n l m h e f = record { map = h; mark = e; labels = f }
+
+-- ---- a corner
+-- the map is that of both
+abbrev pub IsBoth : SphereMap → SphereMap → SphereMap → Type 0
+IsBoth a b m = (d : Vector) (l : Label) → IsDirection d → MapLabel (map_of m) d l ↔ ByOp (map_of a) (map_of b) (op_label And) d l
+
+-- a number as the machine keeps it
+abbrev kept : ℤ → ℤ
+kept i = to_z w64 (of_z w64 i)
+
+kept-end : (x : Bool) → kept (end_at x) ≡ end_at x
+kept-end true = refl
+kept-end false = refl
+
+pub corner-place : (x y z : Bool) (i j k : ℤ) (p : Point) (h : pos 0 <ℤ pos 1) → i ≡ end_at x → j ≡ end_at y → k ≡ end_at z → SamePlace (place_at (kept i) (kept j) (kept k) (pos 1) h) (place_of p)
+    → IsCornerPlace (ends x y z) (place_of p)
+corner-place x y z i j k p h e f g s = record { along_x = one x i p.x _ e s.along_x; along_y = one y j p.y _ f s.along_y; along_z = one z k p.z _ g s.along_z }
+  where
+    one : (b : Bool) (i x w : ℤ) → i ≡ end_at b → kept i *ℤ w ≡ x *ℤ pos 1 → x ≡ end_at b *ℤ w
+    one b i x w q r = let u : x ≡ x *ℤ pos 1 = omega (arith, ints) in u ∙ sym r ∙ ap (λ z. z *ℤ w) (ap kept q ∙ kept-end b)
+
+pub corner-of : (l : Label) (x y z : Bool) (A B C M N : SphereMap) (p : Point) → IsWall x_axis x l A → IsWall y_axis y l B → IsWall z_axis z l C → M.mark ≡ op_label And A.mark B.mark → IsBoth A B M
+    → N.mark ≡ op_label And M.mark C.mark → IsBoth M C N → IsLeastMap N → IsCornerPlace (ends x y z) (place_of p) → IsCornerOf l (ends x y z) (record { point = p; map = N })
+corner-of l x y z A B C M N p a b c m f n g h i = record {
+  place = i;
+  mark = n ∙ ap (λ o. op_label And o C.mark) (m ∙ ap (λ o. op_label And o B.mark) a.mark);
+  map = h;
+  labels = λ d e. (g d (op_label And (op_label And (at_wall x l (sign (dot x_axis d))) (at_wall y l (sign (dot y_axis d)))) (at_wall z l (sign (dot z_axis d)))) e).1 (
+    op_label And (at_wall x l (sign (dot x_axis d))) (at_wall y l (sign (dot y_axis d))),
+    at_wall z l (sign (dot z_axis d)),
+    (f d (op_label And (at_wall x l (sign (dot x_axis d))) (at_wall y l (sign (dot y_axis d)))) e).1 (at_wall x l (sign (dot x_axis d)), at_wall y l (sign (dot y_axis d)), a.labels d e, b.labels d e, refl),
+    c.labels d e,
+    refl,
+  );
+}
+
+-- ---- the planes
+map-last : (hs : List Plane) (g : Plane) → map form_of (hs ++ g ∷ []) ≡ map form_of hs ++ form_of g ∷ []
+map-last [] g = refl
+map-last (h ∷ hs) g = ap (λ fs. form_of h ∷ fs) (map-last hs g)
+
+side-more : (k : ℕ) (g : Form) → k < 6 → IsAt side_forms (5 - k) g → take k sorted_sides ++ g ∷ [] ≡ take (k + 1) sorted_sides
+side-more zero g h a = let e : Some _ ≡ Some g = a in cc
+side-more (suc zero) g h a = let e : Some _ ≡ Some g = a in cc
+side-more (suc (suc zero)) g h a = let e : Some _ ≡ Some g = a in cc
+side-more (suc (suc (suc zero))) g h a = let e : Some _ ≡ Some g = a in cc
+side-more (suc (suc (suc (suc zero)))) g h a = let e : Some _ ≡ Some g = a in cc
+side-more (suc (suc (suc (suc (suc zero))))) g h a = let e : Some _ ≡ Some g = a in cc
+side-more (suc (suc (suc (suc (suc (suc k)))))) g h a = absurd (omega (arith, h))
+
+pub planes-more : (k : ℕ) (hs js : List Plane) (g : Plane) → k < 6 → map form_of hs ≡ take k sorted_sides → IsAt side_forms (5 - k) (form_of g) → js ≡ hs ++ g ∷ [] → map form_of js ≡ take (k + 1) sorted_sides
+planes-more k hs js g h e a j = ap (map form_of) j ∙ map-last hs g ∙ ap (λ fs. fs ++ form_of g ∷ []) e ∙ side-more k (form_of g) h a

@@ -1,0 +1,20 @@
+-- A complex that shows a set has a vertex at each corner of the frame.
+use Rattle.std.proofs.Common.{sym, subst}
+use Rattle.nef_space.specs.Place.{SamePlace}
+use Rattle.nef_geo.specs.Shapes.{place_of}
+use Rattle.law_complex.specs.Complexes.{Vertex as PlainVertex}
+use Rattle.nef_edges.proofs.Places.{at-some, map-at}
+use Rattle.nef_complex.specs.Complexes.{vertex_of}
+use Rattle.nef_result.specs.Laws.{CornersAreVertices, CornersAreShown}
+use Rattle.nef_result.proofs.CornerVertices.{corner-vertex}
+use Rattle.nef_result.proofs.Listed.{corner_point, corner-is, corner-same}
+
+pub corners-vertices : CornersAreVertices
+corners-vertices s k p c = corner-vertex s k p c
+
+pub corners-shown : CornersAreShown
+corners-shown s c k S =
+    let p = place_of (corner_point k) in
+    let v = S.shows.complete p (corner-vertex s k p (corner-is k)) in
+    let u = map-at vertex_of c.vertices v.0 v.1 v.2 in
+    (v.0, u.0, at-some c.vertices v.0 u.0 u.1, corner-same k (place_of u.0.point) (subst (λ (w : PlainVertex). SamePlace w.point p) (sym u.2) v.3))

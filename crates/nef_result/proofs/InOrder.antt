@@ -1,0 +1,166 @@
+-- The corners in order, and the planes of the frame in order.
+use Rattle.std.proofs.Common.{◌≡◌, ℕ, zero, suc, ℤ, pos, ◌*ℤ◌, ◌<ℤ◌, arith, refl, ◌⊎◌, inl, inr, Bool, true, false, subst, List, [], ◌∷◌, ◌++◌, Some, None}
+use Rattle.std.proofs.lemmas.Int.{ints}
+use Rattle.law_arithmetic.proofs.Ring.{ring, at, num, ◌⊖◌, ◌⊗◌}
+use Rattle.law_arithmetic.proofs.Order.{lt_by, mul_pos}
+use Rattle.nef_space.specs.Lists.{IsAt}
+use Rattle.nef_space.specs.Limits.{half_side}
+use Rattle.nef_space.specs.Numbers.{IsBelow}
+use Rattle.nef_space.specs.Place.{Place, form_numbers, IsPlaceBelow, SamePlace}
+use Rattle.nef_space.specs.declared.label.Label.{Label}
+use Rattle.nef_geo.specs.Shapes.{place_of}
+use Rattle.law_sphere.specs.Maps.{At}
+use Rattle.law_sphere.specs.Least.{InOrder}
+use Rattle.nef_complex.specs.Complexes.{AreSorted}
+use Rattle.nef_complex.specs.declared.complex.Vertex.{Vertex}
+use Rattle.nef_result.specs.Planes.{sorted_sides}
+use Rattle.nef_result.specs.Ends.{end_at, Ends, ends, all_ends, IsCornerPlace, IsCornerOf, AreCorners}
+
+-- ---- the order of two corners
+abbrev pub IsLow : Bool → Bool → Type 0
+IsLow a b = (a ≡ false) × (b ≡ true)
+
+abbrev pub IsEndsBelow : Ends → Ends → Type 0
+IsEndsBelow k j = IsLow k.x j.x ⊎ ((k.x ≡ j.x) × (IsLow k.y j.y ⊎ ((k.y ≡ j.y) × IsLow k.z j.z)))
+
+along-low : (a b : Bool) (x y w v : ℤ) → IsLow a b → pos 0 <ℤ w → pos 0 <ℤ v → x ≡ end_at a *ℤ w → y ≡ end_at b *ℤ v → (x *ℤ v) <ℤ (y *ℤ w)
+along-low a b x y w v (e, f) h i g j = rw (g, j, e, f) (lt_by (pos half_side ∷ w ∷ v ∷ []) ((num (pos 0) ⊖ at 0) ⊗ at 1 ⊗ at 2) (at 0 ⊗ at 2 ⊗ at 1) (num (pos 2) ⊗ at 0 ⊗ (at 1 ⊗ at 2)) tt
+    (let q = mul_pos w v h i in omega (arith, ints)))
+
+along-same : (a b : Bool) (x y w v : ℤ) → a ≡ b → x ≡ end_at a *ℤ w → y ≡ end_at b *ℤ v → x *ℤ v ≡ y *ℤ w
+along-same a b x y w v e g j = rw (g, j, e) (swap (end_at b) w v)
+  where
+    swap : (m w v : ℤ) → m *ℤ w *ℤ v ≡ m *ℤ v *ℤ w
+    swap m w v = ring (m ∷ w ∷ v ∷ []) (at 0 ⊗ at 1 ⊗ at 2) (at 0 ⊗ at 2 ⊗ at 1) tt
+
+pub same-corner : (k : Ends) (p q : Place) → IsCornerPlace k p → IsCornerPlace k q → SamePlace p q
+same-corner k p q c d = record {
+  along_x = along-same k.x k.x p.x q.x (pos p.w) (pos q.w) refl c.along_x d.along_x;
+  along_y = along-same k.y k.y p.y q.y (pos p.w) (pos q.w) refl c.along_y d.along_y;
+  along_z = along-same k.z k.z p.z q.z (pos p.w) (pos q.w) refl c.along_z d.along_z;
+}
+
+positive : (p : Place) → pos 0 <ℤ pos p.w
+positive p = let m = p.proper in omega (arith, ints)
+
+pub corner-below : (k j : Ends) (p q : Place) → IsEndsBelow k j → IsCornerPlace k p → IsCornerPlace j q → IsPlaceBelow p q
+corner-below k j p q (inl l) c d = inl (along-low k.x j.x p.x q.x (pos p.w) (pos q.w) l (positive p) (positive q) c.along_x d.along_x)
+corner-below k j p q (inr (e, inl l)) c d = inr (
+  along-same k.x j.x p.x q.x (pos p.w) (pos q.w) e c.along_x d.along_x,
+  inl (along-low k.y j.y p.y q.y (pos p.w) (pos q.w) l (positive p) (positive q) c.along_y d.along_y),
+)
+corner-below k j p q (inr (e, inr (f, l))) c d = inr (
+  along-same k.x j.x p.x q.x (pos p.w) (pos q.w) e c.along_x d.along_x,
+  inr (
+    along-same k.y j.y p.y q.y (pos p.w) (pos q.w) f c.along_y d.along_y,
+    inl (along-low k.z j.z p.z q.z (pos p.w) (pos q.w) l (positive p) (positive q) c.along_z d.along_z),
+  ),
+)
+
+-- ---- lists in order
+-- x is before each of the list
+abbrev IsBeforeAll : {A : Type 0} → (A → A → Type 0) → A → List A → Type 0
+IsBeforeAll B x [] = Unit {0}
+IsBeforeAll B x (y ∷ ys) = B x y × IsBeforeAll B x ys
+
+abbrev AreRising : {A : Type 0} → (A → A → Type 0) → List A → Type 0
+AreRising B [] = Unit {0}
+AreRising B (x ∷ xs) = IsBeforeAll B x xs × AreRising B xs
+
+before-at : {A : Type 0} (B : A → A → Type 0) (x : A) (ys : List A) → IsBeforeAll B x ys → (k : ℕ) (y : A) → At ys k y → B x y
+before-at B x [] r k y a = absurd a
+before-at B x (z ∷ zs) r zero y a = subst (B x) a r.0
+before-at B x (z ∷ zs) r (suc k) y a = before-at B x zs r.1 k y a
+
+in-order : {A : Type 0} (B : A → A → Type 0) (xs : List A) → AreRising B xs → InOrder B xs
+in-order B [] r i k x y l a b = absurd a
+in-order B (z ∷ zs) r zero zero x y l a b = absurd (omega (arith, l))
+in-order B (z ∷ zs) r zero (suc k) x y l a b = subst (λ u. B u y) a (before-at B z zs r.0 k y b)
+in-order B (z ∷ zs) r (suc i) zero x y l a b = absurd (omega (arith, l))
+in-order B (z ∷ zs) r (suc i) (suc k) x y l a b = in-order B zs r.1 i k x y (omega arith) a b
+
+pub ends-order : InOrder IsEndsBelow all_ends
+ends-order = in-order IsEndsBelow all_ends (
+  (inr (refl, inr (refl, (refl, refl))), (inr (refl, inl (refl, refl)), (inr (refl, inl (refl, refl)), (inl (refl, refl), (inl (refl, refl), (inl (refl, refl), (inl (refl, refl), tt))))))),
+  (
+    (inr (refl, inl (refl, refl)), (inr (refl, inl (refl, refl)), (inl (refl, refl), (inl (refl, refl), (inl (refl, refl), (inl (refl, refl), tt)))))),
+    (
+      (inr (refl, inr (refl, (refl, refl))), (inl (refl, refl), (inl (refl, refl), (inl (refl, refl), (inl (refl, refl), tt))))),
+      (
+        (inl (refl, refl), (inl (refl, refl), (inl (refl, refl), (inl (refl, refl), tt)))),
+        (
+          (inr (refl, inr (refl, (refl, refl))), (inr (refl, inl (refl, refl)), (inr (refl, inl (refl, refl)), tt))),
+          (
+            (inr (refl, inl (refl, refl)), (inr (refl, inl (refl, refl)), tt)),
+            (
+              (inr (refl, inr (refl, (refl, refl))), tt),
+              (
+                tt,
+                tt,
+              ),
+            ),
+          ),
+        ),
+      ),
+    ),
+  ),
+)
+
+pub sides-order : InOrder (λ g h. IsBelow (form_numbers g) (form_numbers h)) sorted_sides
+sides-order = in-order (λ g h. IsBelow (form_numbers g) (form_numbers h)) sorted_sides (
+  (inr (refl, inr (refl, inr (refl, inl (omega (arith, ints))))), (inr (refl, inl (omega (arith, ints))), (inr (refl, inl (omega (arith, ints))), (inl (omega (arith, ints)), (inl (omega (arith, ints)), tt))))),
+  (
+    (inr (refl, inl (omega (arith, ints))), (inr (refl, inl (omega (arith, ints))), (inl (omega (arith, ints)), (inl (omega (arith, ints)), tt)))),
+    (
+      (inr (refl, inr (refl, inr (refl, inl (omega (arith, ints))))), (inl (omega (arith, ints)), (inl (omega (arith, ints)), tt))),
+      (
+        (inl (omega (arith, ints)), (inl (omega (arith, ints)), tt)),
+        (
+          (inr (refl, inr (refl, inr (refl, inl (omega (arith, ints))))), tt),
+          (
+            tt,
+            tt,
+          ),
+        ),
+      ),
+    ),
+  ),
+)
+
+-- ---- the vertices at the corners
+-- vertex number n is at corner number n
+pub vertex-at : (l : Label) (ks : List Ends) (vs : List Vertex) → AreCorners l ks vs → (n : ℕ) (v : Vertex) → IsAt vs n v → (k : Ends) × At ks n k × IsCornerOf l k v
+vertex-at l [] [] c n v a = let e : None ≡ Some v = a in cc
+vertex-at l [] (u ∷ us) c n v a = absurd c
+vertex-at l (k ∷ ks) [] c n v a = absurd c
+vertex-at l (k ∷ ks) (u ∷ us) c zero v a = let e : Some u ≡ Some v = a in let f : u ≡ v = cc in (k, refl, subst (IsCornerOf l k) f c.0)
+vertex-at l (k ∷ ks) (u ∷ us) c (suc n) v a = vertex-at l ks us c.1 n v a
+
+-- and corner number n has vertex number n
+pub corner-at : (l : Label) (ks : List Ends) (vs : List Vertex) → AreCorners l ks vs → (n : ℕ) (k : Ends) → At ks n k → (v : Vertex) × At vs n v × IsCornerOf l k v
+corner-at l [] [] c n k a = absurd a
+corner-at l [] (u ∷ us) c n k a = absurd c
+corner-at l (j ∷ js) [] c n k a = absurd c
+corner-at l (j ∷ js) (u ∷ us) c zero k a = (u, refl, subst (λ i. IsCornerOf l i u) a c.0)
+corner-at l (j ∷ js) (u ∷ us) c (suc n) k a = corner-at l js us c.1 n k a
+
+pub listed : (x y z : Bool) → (n : ℕ) × At all_ends n (ends x y z)
+listed false false false = (0, refl)
+listed false false true = (1, refl)
+listed false true false = (2, refl)
+listed false true true = (3, refl)
+listed true false false = (4, refl)
+listed true false true = (5, refl)
+listed true true false = (6, refl)
+listed true true true = (7, refl)
+
+pub corners-sorted : (l : Label) (vs : List Vertex) → AreCorners l all_ends vs → AreSorted vs
+corners-sorted l vs c i n u v h a b =
+    let k = vertex-at l all_ends vs c i u a in let j = vertex-at l all_ends vs c n v b in
+    corner-below k.0 j.0 (place_of u.point) (place_of v.point) (ends-order i n k.0 j.0 h k.1 j.1) k.2.place j.2.place
+
+pub corners-more : (l : Label) (ks : List Ends) (vs : List Vertex) (k : Ends) (v : Vertex) → AreCorners l ks vs → IsCornerOf l k v → AreCorners l (ks ++ k ∷ []) (vs ++ v ∷ [])
+corners-more l [] [] k v c h = (h, tt)
+corners-more l [] (u ∷ us) k v c h = absurd c
+corners-more l (j ∷ js) [] k v c h = absurd c
+corners-more l (j ∷ js) (u ∷ us) k v c h = (c.0, corners-more l js us k v c.1 h)
