@@ -1,3 +1,9 @@
+pub mod Adding
+pub mod ItemCarriers
+pub mod EdgeTies
+pub mod TiedLinks
+pub mod AcrossLinks
+pub mod WayInward
 pub mod Lists
 pub mod CornerLists
 pub mod Numbering

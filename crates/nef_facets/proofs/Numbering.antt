@@ -12,7 +12,7 @@ use Rattle.nef_parts.specs.Numbers.{count_items, FacetNumbers}
 use Rattle.nef_classes.specs.declared.table.Cell.{Cell}
 use Rattle.nef_classes.specs.declared.table.Tie.{Tie}
 use Rattle.nef_classes.specs.Tables.{AreTiedWithin, AreTied, HasCounts, AreNumbers}
-use Rattle.nef_ties.specs.Ties.{cell_of}
+use Rattle.nef_facets.specs.Ties.{cell_of}
 use Rattle.nef_facets.proofs.Lists.{is-at_parts, is-at_second}
 
 abbrev corner_of_cell : Cell → Corner

@@ -5,7 +5,7 @@ use Rattle.law_complex.specs.Complexes.{Complex, Corner as PlainCorner}
 use Rattle.nef_complex.specs.declared.complex.Corner.{Corner}
 use Rattle.nef_complex.specs.Complexes.{corner_of}
 use Rattle.nef_parts.specs.Cycles.{IsCornerBelow}
-pub use Rattle.nef_ties.specs.Carriers.{HasItem}
+pub use Rattle.nef_facets.specs.Carriers.{HasItem}
 
 abbrev pub corner_from : PlainCorner → Corner
 corner_from k = record { vertex = k.vertex; item = k.item }

@@ -13,7 +13,7 @@ use Rattle.nef_complex.specs.Complexes.{corner_of}
 use Rattle.nef_parts.specs.Cycles.{Cycles}
 use Rattle.nef_parts.specs.Numbers.{IsFacetOf, FacetNumbers, cycle_corners}
 use Rattle.nef_parts.specs.declared.parts.Cycle.{Cycle}
-pub use Rattle.nef_ties.specs.Carriers.{IsPlaneAt}
+pub use Rattle.nef_facets.specs.Carriers.{IsPlaneAt}
 use Rattle.nef_facets.specs.declared.parts.FacetParts.{FacetParts}
 
 -- the label is the item's mark

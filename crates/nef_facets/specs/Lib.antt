@@ -1,3 +1,5 @@
+pub mod Carriers
+pub mod Ties
 pub mod Corners
 pub mod Facets
 pub mod Next

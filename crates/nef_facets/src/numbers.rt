@@ -7,13 +7,14 @@ ghost use Rattle.nef_complex.specs.Complexes.{complex_of, ShowsSet};
 ghost use Rattle.law_links.specs.Links.{FacetLink};
 ghost use Rattle.nef_parts.specs.Numbers.{count_items, FacetNumbers};
 ghost use Rattle.nef_classes.specs.Tables.{AreTied, AreTiedWithin};
-ghost use Rattle.nef_ties.specs.Ties.{cell_of};
+ghost use Rattle.nef_facets.specs.Ties.{cell_of};
 
 use crate::OutOfMemory;
+use crate::across::across_ties;
+use crate::along::along_ties;
 use nef_classes::{Tie, number_rows};
 use nef_complex::Complex;
 use nef_geo::List;
-use nef_ties::{across_ties, along_ties};
 use std::alloc::Global;
 
 // How many items each vertex has.

@@ -7,7 +7,7 @@ ghost use Rattle.nef_complex.specs.Complexes.{complex_of, ShowsSet};
 ghost use Rattle.law_links.specs.Links.{FacetLink};
 ghost use Rattle.nef_parts.specs.Numbers.{count_items};
 ghost use Rattle.nef_classes.specs.Tables.{AreTied, AreTiedWithin};
-ghost use Rattle.nef_ties.specs.Ties.{cell_of};
+ghost use Rattle.nef_facets.specs.Ties.{cell_of};
 ghost use Rattle.nef_facets.specs.Facets.{IsFacetParts};
 
 use crate::OutOfMemory;

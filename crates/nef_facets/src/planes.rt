@@ -4,13 +4,13 @@ ghost use Rattle.std.specs.Prelude.{◌≡◌, length, IfOk};
 ghost use Rattle.nef_space.specs.Sets.{Set};
 ghost use Rattle.nef_complex.specs.Complexes.{complex_of, corner_of, ShowsSet};
 ghost use Rattle.nef_facets.specs.Corners.{AreListed};
-ghost use Rattle.nef_ties.specs.Carriers.{HasItem};
+ghost use Rattle.nef_facets.specs.Carriers.{HasItem};
 ghost use Rattle.nef_facets.specs.Facets.{IsMarkAt, ArePlanesAt, AreMarksAt};
 
 use crate::OutOfMemory;
+use crate::carriers::plane_of;
 use nef_complex::{Complex, Corner};
 use nef_geo::{Label, List, Plane};
-use nef_ties::plane_of;
 use std::alloc::Global;
 
 /// The planes of the corners' items.

@@ -1,5 +1,5 @@
 -- The side above what the ray down first meets is that of the point; each place has its number of flat directions.
-use Rattle.std.proofs.Common.{◌≡◌, ℕ, pos, arith, refl, sym, Some, subst, slice_get}
+use Rattle.std.proofs.Common.{◌≡◌, ℕ, pos, arith, refl, sym, Option, Some, None, IfSome, subst, slice_get}
 use Rattle.std.proofs.lemmas.Int.{ints}
 use Rattle.nef_space.specs.Local.{FlatDim}
 use Rattle.nef_space.specs.Place.{Place as PlainPlace, SamePlace, InClosedFrame, IsAhead}
@@ -29,9 +29,7 @@ use Rattle.nef_complex.specs.declared.complex.Vertex.{Vertex}
 use Rattle.nef_complex.specs.Complexes.{vertex_of, edge_of, complex_of, corner_of, AreSorted, ShowsSet}
 use Rattle.nef_locate.specs.declared.place.Place.{Place}
 use Rattle.nef_locate.specs.declared.place.Place.TheVariants as place
-use Rattle.nef_locate.specs.declared.place.Spot.{Spot}
-use Rattle.nef_locate.specs.declared.place.Spot.TheVariants as spot
-use Rattle.nef_locate.specs.Places.{spot_place, IsPlaceIn, IsPlaceAt, IsFirstHit, place_dimension}
+use Rattle.nef_locate.specs.Places.{IsPlaceIn, IsPlaceAt, IsFirstHit, place_dimension}
 use Rattle.nef_locate.specs.Rays.{IsSkeletonAt, IsSideAbove}
 use Rattle.nef_locate.proofs.CarrierPoints.{closed-inside}
 use Rattle.nef_locate.proofs.Cones.{facet-at}
@@ -43,34 +41,37 @@ module _ (c : Complex) where
   abbrev C : PlainComplex
   C = complex_of c
 
-  pub above-vertex : (k j : ℕ) (u : Vertex) → slice_get c.vertices k ≡ Some u → SideSees (map_of u.map) j up → IsSideAbove (complex_of c) (spot.Vertex k) k j
+  pub above-vertex : (k j : ℕ) (u : Vertex) → slice_get c.vertices k ≡ Some u → SideSees (map_of u.map) j up → IsSideAbove (complex_of c) (place.Vertex k) k j
   above-vertex k j u r (o, l, i, sees) =
       let a = image-read vertex_of c.vertices k u r in
-      (o, l, (vertex_of u, a, i), λ y p. (at_vertex k, p, (vertex_of u, a, refl, sees)))
+      (o, l, (vertex_of u, a, i), λ y t p. (at_vertex k, p, (vertex_of u, a, refl, sees)))
 
   pub above-edge : (k j : ℕ) (e : Edge) (u : Vertex) → slice_get c.edges k ≡ Some e → slice_get c.vertices e.low ≡ Some u
       → (o : Side) × (l : Label) × IsSide (map_of u.map) j o l × BoundsSector (map_of u.map) e.low_svertex up o
-      → IsSideAbove (complex_of c) (spot.OnEdge k) e.low j
+      → IsSideAbove (complex_of c) (place.OnEdge k) e.low j
   above-edge k j e u q r (o, l, i, near) =
       let b = image-read edge_of c.edges k e q in
       let a = image-read vertex_of c.vertices e.low u r in
-      (o, l, (vertex_of u, a, i), λ y p. (on_edge k, p, (edge_of e, vertex_of u, b, a, refl, near)))
+      (o, l, (vertex_of u, a, i), λ y t p. (on_edge k, p, (edge_of e, vertex_of u, b, a, refl, near)))
 
   pub above-facet : (k : Corner) (j : ℕ) (u : Vertex) (x : Item) → slice_get c.vertices k.vertex ≡ Some u → At (items (map_of u.map)) k.item x → j ≡ number_of (map_of u.map) (pos_item k.item)
-      → IsSideAbove (complex_of c) (spot.InFacet k) k.vertex j
+      → IsSideAbove (complex_of c) (place.InFacet k) k.vertex j
   above-facet k j u x r i n =
       let a = image-read vertex_of c.vertices k.vertex u r in
       let s = subst (λ (m : ℕ). IsSide (map_of u.map) m (pos_item k.item) (item_pos x)) (sym n) (side-number (map_of u.map) (pos_item k.item) (item_pos x) (x, i, refl)) in
-      (pos_item k.item, item_pos x, (vertex_of u, a, s), λ y H. (in_facet H.beside, (H.vertex, H.item, H.is_beside, H.facet_point), (corner_of k, H, refl, refl)))
+      (pos_item k.item, item_pos x, (vertex_of u, a, s), λ y t H. (in_facet H.beside, (H.vertex, H.item, H.is_beside, H.facet_point), (corner_of k, H, refl, refl)))
+
+  pub above-volume : (i j : ℕ) → IsPlaceIn (complex_of c) (place.InVolume i j) → IsSideAbove (complex_of c) (place.InVolume i j) i j
+  above-volume i j (o, l, r) = (o, l, r, λ y t h. absurd (h.3.0 t))
 
 -- ---- volumes
-module _ (D : PlainComplex) (p : PlainPlace) (off : IsSkeletonPoint D p → ⊥) (floor : Spot) (F : IsFirstHit D p (opposite up) (spot_place floor)) where
+module _ (D : PlainComplex) (p : PlainPlace) (off : IsSkeletonPoint D p → ⊥) (floor : Place) (F : IsFirstHit D p (opposite up) floor) where
   pub volume-in : (i j : ℕ) → IsSideAbove D floor i j → IsPlaceIn D (place.InVolume i j)
   volume-in i j (o, l, s, f) = (o, l, s)
 
   pub volume-at : (i j : ℕ) → IsSideAbove D floor i j → IsPlaceAt D p (place.InVolume i j)
   volume-at i j (o, l, (v, b, s), f) =
-      let t = f F.place F.at in
+      let t = f F.place F.skeleton F.at in
       let down : RayDown D p (record { vertex = i; side = o }) = record {
         place = F.place;
         spot = t.0;
@@ -102,24 +103,29 @@ module _ (s : Set) (c : Complex) (S : ShowsSet s c) (p : PlainPlace) where
 
 -- ---- the skeleton
 -- the corner of a point is one of the complex, and the point one of the skeleton
-pub corner-at : (D : PlainComplex) (y : PlainPlace) (k : Corner) → HasCorner D y (corner_of k) → IsSkeletonAt D y (spot.InFacet k)
+pub corner-at : (D : PlainComplex) (y : PlainPlace) (k : Corner) → HasCorner D y (corner_of k) → IsSkeletonAt D y (place.InFacet k)
 corner-at D y k H = record { has = in-complex H.named.0 H.named.2; at = H; skeleton = (in_facet H.beside, (H.vertex, H.item, H.is_beside, H.facet_point)) }
   where
     in-complex : (m : PlaneMeet) → IsCornerAt D (item_plane H.vertex H.item) (opposite (plane_axis (item_normal H.item))) m (corner_of k) → IsPlaceIn D (place.InFacet k)
     in-complex (meets_vertex i) (v, x, e, a, n, o) = (v, x, a)
     in-complex (meets_edge i) (e, v, b, l, f, a, g, n, o) = (v, arc_item b, record { vertex = subst (λ (j : ℕ). At D.vertices j v) (sym f) a; item = at-arc v.map.arcs v.map.sloop k.item b g })
 
-pub vertex-at : (D : PlainComplex) (y : PlainPlace) (k : ℕ) → IsVertexPoint D k y → IsSkeletonAt D y (spot.Vertex k)
+pub vertex-at : (D : PlainComplex) (y : PlainPlace) (k : ℕ) → IsVertexPoint D k y → IsSkeletonAt D y (place.Vertex k)
 vertex-at D y k (v, a, e) = record { has = (v, a); at = (v, a, e); skeleton = (at_vertex k, (v, a, e)) }
 
-pub edge-at : (D : PlainComplex) (y : PlainPlace) (k : ℕ) → IsEdgePoint D k y → IsSkeletonAt D y (spot.OnEdge k)
+pub edge-at : (D : PlainComplex) (y : PlainPlace) (k : ℕ) → IsEdgePoint D k y → IsSkeletonAt D y (place.OnEdge k)
 edge-at D y k (e, v, w, a, H, b) = record { has = (e, a); at = (e, v, w, a, H, b); skeleton = (on_edge k, (e, v, w, a, H, b)) }
 
 -- what lies at a spot lies there with each equal point
-pub skeleton-same : (D : PlainComplex) (x y : PlainPlace) → SamePlace x y → (a : Spot) → IsSkeletonAt D x a → IsSkeletonAt D y a
-skeleton-same D x y e (spot.Vertex k) A = vertex-at D y k (vertex-same x y e D k A.at)
-skeleton-same D x y e (spot.OnEdge k) A = edge-at D y k (edge-same x y e D k A.at)
-skeleton-same D x y e (spot.InFacet k) A = corner-at D y k (corner-same D x y e (corner_of k) A.at)
+pub skeleton-same : (D : PlainComplex) (x y : PlainPlace) → SamePlace x y → (a : Place) → IsSkeletonAt D x a → IsSkeletonAt D y a
+skeleton-same D x y e (place.Vertex k) A = vertex-at D y k (vertex-same x y e D k A.at)
+skeleton-same D x y e (place.OnEdge k) A = edge-at D y k (edge-same x y e D k A.at)
+skeleton-same D x y e (place.InFacet k) A = corner-at D y k (corner-same D x y e (corner_of k) A.at)
+skeleton-same D x y e (place.InVolume i j) A = let h = A.at in absurd (h.3.0 A.skeleton)
+
+pub same-found : (D : PlainComplex) (x y : PlainPlace) → SamePlace x y → (found : Option Place) → IfSome found (IsSkeletonAt D x) → IfSome found (IsSkeletonAt D y)
+same-found D x y e None A = tt
+same-found D x y e (Some a) A = skeleton-same D x y e a A
 
 -- the vertices stand in order
 pub vertices-sorted : (s : Set) (c : Complex) → ShowsSet s c → AreSorted c.vertices

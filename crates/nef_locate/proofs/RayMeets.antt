@@ -1,8 +1,8 @@
 -- What a ray along an upright direction meets in one plane, and what it meets first.
-use Rattle.std.proofs.Common.{◌≡◌, ℕ, ◌<◌, ◌≤◌, List, length, neg_ℤ, arith, inl, inr, Option, Some, None, IfSome, [], ◌∷◌}
+use Rattle.std.proofs.Common.{◌≡◌, ℕ, ◌<◌, length, neg_ℤ, arith, inl, inr, Option, Some, None, IfSome, [], ◌∷◌, slice_get, subst}
 use Rattle.std.proofs.lemmas.Int.{ints}
 use Rattle.law_arithmetic.proofs.Ring.{ring, at, neg, ◌⊕◌, ◌⊗◌}
-use Rattle.nef_space.specs.Place.{Place as PlainPlace, Form, SamePlace, InClosedFrame, toward, IsAhead, IsBetween}
+use Rattle.nef_space.specs.Place.{Place as PlainPlace, SamePlace, toward, IsAhead, IsBetween}
 use Rattle.nef_space.specs.Sets.{Set}
 use Rattle.nef_space.specs.Vectors.{Vector, dot, opposite}
 use Rattle.nef_geo.specs.Hits.{IsUpright, IsCrossing}
@@ -12,36 +12,23 @@ use Rattle.nef_geo.specs.declared.plane.Plane.{Plane}
 use Rattle.law_forms.proofs.Between.{place-toward}
 use Rattle.law_forms.proofs.Directions.{direction-left, direction-right, self-pos}
 use Rattle.law_near.proofs.Between.{between-inner}
-use Rattle.law_sphere.specs.Maps.{At}
 use Rattle.law_sphere.proofs.Compare.{SameDirection-turned, SameDirection-trans}
 use Rattle.law_complex.specs.Complexes.{Complex as PlainComplex}
 use Rattle.law_complex.specs.Skeleton.{IsSkeletonPoint, meets_vertex, meets_edge}
 use Rattle.law_complex.proofs.FacetEdges.{ahead-back}
 use Rattle.nef_complex.proofs.Lines.{one-crossing}
 use Rattle.nef_plane.proofs.Found.{not-end}
-use Rattle.nef_plane.proofs.Framed.{dim-framed, vertex-framed, edge-framed}
 use Rattle.nef_plane.proofs.Nearest.{between-ahead}
 use Rattle.nef_complex.specs.declared.complex.Complex.{Complex}
-use Rattle.nef_complex.specs.declared.groups.Cluster.{Cluster}
-use Rattle.nef_complex.specs.declared.spans.Span.{Span}
 use Rattle.nef_complex.specs.Complexes.{complex_of, ShowsSet}
-use Rattle.nef_complex.specs.Index.{IsInCluster, AreSpanned, AreClusters}
-use Rattle.nef_complex.specs.Spans.{IsInSpan}
+use Rattle.nef_classes.proofs.ClassLists.{is-at_one}
 use Rattle.nef_smap.proofs.Lists.{at-within}
 use Rattle.nef_smap.proofs.SideLists.{get-from_at}
-use Rattle.nef_locate.specs.declared.ray.Met.{Met}
-use Rattle.nef_locate.specs.declared.ray.Beam.{Beam}
-use Rattle.nef_locate.specs.Places.{spot_place, IsFirstHit}
-use Rattle.nef_locate.specs.Rays.{IsMet, IsReachedMet, IsSooner, IsNotBefore, IsSkeletonIn, HasNoneOn, HasNoneOnCarrier}
-use Rattle.nef_locate.specs.Beams.{MeetsSooner}
+use Rattle.nef_locate.specs.declared.beam.Met.{Met}
+use Rattle.nef_locate.specs.Places.{IsFirstHit}
+use Rattle.nef_locate.specs.Rays.{IsMet, IsReachedMet, IsSooner, IsNotBefore, IsSkeletonIn, HasNoneOn, HasNoneOnCarrier, HasNotAt, HasNotAtCarrier}
 use Rattle.nef_locate.proofs.CarrierPoints.{skeleton-carrier, crossed}
-use Rattle.nef_locate.proofs.Reading.{HaveAll, all-numbers}
-use Rattle.nef_locate.proofs.Windows.{none-within}
 use Rattle.law_complex.proofs.EqualPoints.{ahead-from, vertex-same, edge-same, flat-same}
-
--- nothing that the carriers with the first n numbers hold of the skeleton lies before what is met
-abbrev pub HaveNoneOn : Complex → PlainPlace → Vector → List ℕ → ℕ → Option Met → Type 0
-HaveNoneOn c p d ns n best = (j k : ℕ) → j < n → At ns j k → HasNoneOnCarrier c p d best k
 
 -- ---- the order along a ray
 pub never-same : (y z : PlainPlace) (d : Vector) → IsAhead y d z → SamePlace y z → ⊥
@@ -60,20 +47,12 @@ pub reached-of : (D : PlainComplex) (p : PlainPlace) (d : Vector) (best : Option
 reached-of D p d None M = tt
 reached-of D p d (Some m) M = M.reached
 
--- what is met sooner than what was met sooner
-pub sooner-next : (b : Beam) (old best new : Option Met) → MeetsSooner b old best → MeetsSooner b best new → MeetsSooner b old new
-sooner-next b old best new F G = record { met = G.met; kept = λ y n. G.kept y (F.kept y n) }
+-- ---- what the carrier with this number holds
+pub on-carrier : (c : Complex) (p : PlainPlace) (d : Vector) (best : Option Met) (k : ℕ) (g : Plane) → slice_get c.carriers k ≡ Some g → HasNoneOn c p d best g → HasNoneOnCarrier c p d best k
+on-carrier c p d best k g e N h a = subst (HasNoneOn c p d best) (is-at_one c.carriers k g h e a) N
 
--- ---- a point of the skeleton lies in the closed frame
-pub skeleton-framed : (s : Set) (c : Complex) → ShowsSet s c → (h : Form) (y : PlainPlace) → IsSkeletonIn s (complex_of c) h y → InClosedFrame y
-skeleton-framed s c S h y (inl (meets_vertex k, x)) = vertex-framed s (complex_of c) S.shows k y x
-skeleton-framed s c S h y (inl (meets_edge k, x)) = edge-framed s (complex_of c) S.shows k y x.0
-skeleton-framed s c S h y (inr f) = dim-framed s y 2 (omega arith) f.0
-
--- ---- carriers whose span doesn't meet the window, within which all points ahead lie
-pub none-ahead : (c : Complex) (has : ℕ → Type 0) (span window : Span) → AreSpanned c.carriers c.vertices has span → ((y : PlainPlace) → IsInSpan span y → IsInSpan window y → ⊥) → (p : PlainPlace) (d : Vector)
-    → ((y : PlainPlace) → InClosedFrame y → IsAhead p d y → IsInSpan window y) → (best : Option Met) (k : ℕ) → has k → HasNoneOnCarrier c p d best k
-none-ahead c has span window A off p d ahead best k o h e s y S X I = absurd (none-within c has span window A off k o h e s y S (ahead y (skeleton-framed s c S (form_of h) y I) X.ahead) X.on I)
+pub at-carrier : (c : Complex) (y : PlainPlace) (k : ℕ) (g : Plane) → slice_get c.carriers k ≡ Some g → HasNotAt c y g → HasNotAtCarrier c y k
+at-carrier c y k g e N h a = subst (HasNotAt c y) (is-at_one c.carriers k g h e a) N
 
 -- ---- one plane
 module _ (p : PlainPlace) (d : Vector) (h : Plane) (hit : Hit) (X : IsCrossing p d (form_of h) (hit_place hit)) where
@@ -107,19 +86,15 @@ module _ (p : PlainPlace) (d : Vector) (h : Plane) (hit : Hit) (X : IsCrossing p
 module _ (s : Set) (c : Complex) (S : ShowsSet s c) (p : PlainPlace) (d : Vector) (u : IsUpright d) where
   -- nothing that the carriers hold of the skeleton lies before what is met
   abbrev AllMet : Option Met → Type 0
-  AllMet best = (k : ℕ) (h : Plane) → At c.carriers k h → HasNoneOn c p d best h
-
-  -- since each carrier stands in some group of some cluster
-  pub all-met : (clusters : List Cluster) → AreClusters c.carriers c.vertices clusters → (n : ℕ) → length clusters ≤ n → (best : Option Met) → HaveAll IsInCluster (HasNoneOnCarrier c p d best) clusters n → AllMet best
-  all-met clusters A n l best f k h a = all-numbers IsInCluster (HasNoneOnCarrier c p d best) clusters n l f k (A.all k (at-within c.carriers k h a)) h (get-from_at c.carriers k h a)
+  AllMet best = (k : ℕ) → k < length c.carriers → HasNoneOnCarrier c p d best k
 
   not-before : (best : Option Met) → AllMet best → (y : PlainPlace) → IsAhead p d y → IsSkeletonPoint (complex_of c) y → IsNotBefore p y best
-  not-before best A y w o = let k = skeleton-carrier s c S y o in A k.number k.plane k.listed s y S (crossed s c S p y d u w k) k.found
+  not-before best A y w o = let k = skeleton-carrier s c S y o in A k.number (at-within c.carriers k.number k.plane k.listed) k.plane (get-from_at c.carriers k.number k.plane k.listed) s y S (crossed s c S p y d u w k) k.found
 
   pub first-none : AllMet None → (y : PlainPlace) → IsAhead p d y → IsSkeletonPoint (complex_of c) y → ⊥
   first-none A = not-before None A
 
-  pub first-some : (m : Met) → IsMet (complex_of c) p d m → AllMet (Some m) → IsFirstHit (complex_of c) p d (spot_place m.spot)
+  pub first-some : (m : Met) → IsMet (complex_of c) p d m → AllMet (Some m) → IsFirstHit (complex_of c) p d m.place
   first-some m M A = record {
     place = hit_place m.at;
     ahead = M.ahead;

@@ -11,7 +11,6 @@ use Rattle.nef_geo.specs.Hits.{IsUpright}
 use Rattle.nef_space.specs.Sets.{Set}
 use Rattle.nef_geo.specs.Shapes.{form_of, place_of}
 use Rattle.nef_geo.specs.declared.plane.Plane.{Plane}
-use Rattle.law_sphere.specs.Maps.{At}
 use Rattle.nef_smap.proofs.Lists.{at-map}
 use Rattle.nef_smap.proofs.SideLists.{get-from_at}
 use Rattle.law_complex.specs.Complexes.{Vertex as PlainVertex}
@@ -25,7 +24,8 @@ use Rattle.nef_complex.specs.declared.spans.Span.{Span}
 use Rattle.nef_complex.specs.Complexes.{vertex_of, complex_of, ShowsSet}
 use Rattle.nef_complex.specs.Index.{IsSpanOn, AreSpans, AreSpanned}
 use Rattle.nef_complex.specs.Spans.{IsInSpan}
-use Rattle.nef_locate.specs.Rays.{IsSkeletonIn, HasNotAtCarrier}
+use Rattle.nef_plane.proofs.Framed.{dim-framed, vertex-framed, edge-framed}
+use Rattle.nef_locate.specs.Rays.{IsSkeletonIn, LiesOutside}
 
 weight : (p : Place) → pos 0 <ℤ pos p.w
 weight p = let m = p.proper in omega (arith, ints)
@@ -163,16 +163,19 @@ module _ (s : Set) (c : Complex) (S : ShowsSet s c) (h : Form) (span : Span) (B 
   pub spanned : (y : Place) → form_at h y ≡ pos 0 → IsSkeletonIn s (complex_of c) h y → IsInSpan span y
   spanned y on i = (spanned-along coordinate_x span.x (λ p j. j.0) y on i, spanned-along coordinate_y span.y (λ p j. j.1) y on i, spanned-along coordinate_z span.z (λ p j. j.2) y on i)
 
--- and what a carrier holds of it within the carrier's span
-pub carrier-spanned : (s : Set) (c : Complex) → ShowsSet s c → (spans : List Span) → AreSpans c.carriers c.vertices spans → (k : ℕ) (h : Plane) (span : Span) → At c.carriers k h → IsAt spans k span
-    → (y : Place) → form_at (form_of h) y ≡ pos 0 → IsSkeletonIn s (complex_of c) (form_of h) y → IsInSpan span y
-carrier-spanned s c S spans A k h span a b = spanned s c S (form_of h) span (A.each k h span (get-from_at c.carriers k h a) b)
+-- ---- a point of the skeleton lies in the closed frame
+pub skeleton-framed : (s : Set) (c : Complex) → ShowsSet s c → (h : Form) (y : Place) → IsSkeletonIn s (complex_of c) h y → InClosedFrame y
+skeleton-framed s c S h y (inl (meets_vertex k, x)) = vertex-framed s (complex_of c) S.shows k y x
+skeleton-framed s c S h y (inl (meets_edge k, x)) = edge-framed s (complex_of c) S.shows k y x.0
+skeleton-framed s c S h y (inr f) = dim-framed s y 2 (omega arith) f.0
 
--- ---- some carriers whose span doesn't meet the window
-module _ (c : Complex) (has : ℕ → Type 0) (span window : Span) (A : AreSpanned c.carriers c.vertices has span) (off : (y : Place) → IsInSpan span y → IsInSpan window y → ⊥) where
-  -- hold nothing of the skeleton within the window
-  pub none-within : (k : ℕ) → has k → (h : Plane) → IsAt c.carriers k h → (s : Set) (y : Place) → ShowsSet s c → IsInSpan window y → form_at (form_of h) y ≡ pos 0 → IsSkeletonIn s (complex_of c) (form_of h) y → ⊥
-  none-within k o h e s y S w on i = off y (spanned s c S (form_of h) span (A.each k h o e) y on i) w
+-- ---- carriers whose span doesn't meet the window
+module _ (c : Complex) (span window : Span) (off : (y : Place) → IsInSpan span y → IsInSpan window y → ⊥) where
+  outside : (h : Plane) → IsSpanOn c.vertices (form_of h) span → (s : Set) (y : Place) → ShowsSet s c → form_at (form_of h) y ≡ pos 0 → IsSkeletonIn s (complex_of c) (form_of h) y → InClosedFrame y × (IsInSpan window y → ⊥)
+  outside h B s y S on i = (skeleton-framed s c S (form_of h) y i, off y (spanned s c S (form_of h) span B y on i))
 
-  pub none-at : (y : Place) → IsInSpan window y → (k : ℕ) → has k → HasNotAtCarrier c y k
-  none-at y w k o h e s S on i = none-within k o h e s y S w on i
+  pub carrier-outside : (spans : List Span) → AreSpans c.carriers c.vertices spans → (k : ℕ) → IsAt spans k span → LiesOutside c window k
+  carrier-outside spans A k b h a = outside h (A.each k h span a b)
+
+  pub all-outside : (has : ℕ → Type 0) → AreSpanned c.carriers c.vertices has span → (k : ℕ) → has k → LiesOutside c window k
+  all-outside has A k o h a = outside h (A.each k h o a)

@@ -3,6 +3,4 @@ pub mod Rays
 pub mod Ends
 pub mod Halves
 pub mod Facets
-pub mod Beams
-pub mod Probes
 pub mod Orders

@@ -12,14 +12,6 @@ use Rattle.law_complex.specs.Rays.{HasVolumeSide}
 use Rattle.nef_complex.specs.Complexes.{corner_of}
 use Rattle.nef_locate.specs.declared.place.Place.{Place}
 use Rattle.nef_locate.specs.declared.place.Place.TheVariants as place
-use Rattle.nef_locate.specs.declared.place.Spot.{Spot}
-use Rattle.nef_locate.specs.declared.place.Spot.TheVariants as spot
-
--- the place of the points at the spot
-abbrev pub spot_place : Spot → Place
-spot_place (spot.Vertex k) = place.Vertex k
-spot_place (spot.OnEdge k) = place.OnEdge k
-spot_place (spot.InFacet k) = place.InFacet k
 
 -- side number j of vertex i is this side, with this label
 abbrev pub IsSideOf : Complex → ℕ → ℕ → Side → Label → Type 0

@@ -1,7 +1,7 @@
 -- What a ray meets of the skeleton, carrier by carrier.
 use Rattle.std.specs.Prelude.{◌≡◌, ℕ, pos, ◌⊎◌, Option, Some, None}
 use Rattle.nef_space.specs.Lists.{IsAt}
-use Rattle.nef_space.specs.Place.{Place as PlainPlace, Form, form_at, IsAhead, IsBetween}
+use Rattle.nef_space.specs.Place.{Place as PlainPlace, Form, form_at, InClosedFrame, IsAhead, IsBetween}
 use Rattle.nef_space.specs.Sets.{Set}
 use Rattle.nef_space.specs.Vectors.{Vector}
 use Rattle.nef_space.specs.declared.label.Label.{Label}
@@ -13,17 +13,19 @@ use Rattle.law_sphere.specs.Maps.{Side}
 use Rattle.law_complex.specs.Complexes.{Complex}
 use Rattle.law_complex.specs.Laws.{IsFlatIn}
 use Rattle.law_complex.specs.Rays.{IsAbove}
-use Rattle.law_complex.specs.Skeleton.{Spot as PlainSpot, IsSpot, IsSkeletonPoint, PlaneMeet, Meets}
+use Rattle.law_complex.specs.Skeleton.{Spot, IsSpot, IsSkeletonPoint, PlaneMeet, Meets}
 use Rattle.nef_complex.specs.declared.complex.Complex.{Complex as ProgramComplex}
+use Rattle.nef_complex.specs.declared.spans.Span.{Span}
 use Rattle.nef_complex.specs.Complexes.{complex_of, ShowsSet}
-use Rattle.nef_locate.specs.declared.place.Spot.{Spot}
-use Rattle.nef_locate.specs.declared.ray.Met.{Met}
-use Rattle.nef_locate.specs.Places.{spot_place, IsPlaceIn, IsPlaceAt, IsSideOf}
+use Rattle.nef_complex.specs.Spans.{IsInSpan}
+use Rattle.nef_locate.specs.declared.place.Place.{Place}
+use Rattle.nef_locate.specs.declared.beam.Met.{Met}
+use Rattle.nef_locate.specs.Places.{IsPlaceIn, IsPlaceAt, IsSideOf}
 
 -- y is a skeleton point, and lies there
-pub record IsSkeletonAt (C : Complex) (y : PlainPlace) (a : Spot) : Type 0 where
-  pub has : IsPlaceIn C (spot_place a)
-  pub at : IsPlaceAt C y (spot_place a)
+pub record IsSkeletonAt (C : Complex) (y : PlainPlace) (a : Place) : Type 0 where
+  pub has : IsPlaceIn C a
+  pub at : IsPlaceAt C y a
   pub skeleton : IsSkeletonPoint C y
 
 -- y is a vertex, or lies on an edge in the plane, or in a facet of the plane
@@ -38,7 +40,7 @@ IsReachedMet p d m = IsReached p d m.at.num m.at.den m.at.den_sign (hit_place m.
 pub record IsMet (C : Complex) (p : PlainPlace) (d : Vector) (m : Met) : Type 0 where
   pub reached : IsReachedMet p d m
   pub ahead : IsAhead p d (hit_place m.at)
-  pub on : IsSkeletonAt C (hit_place m.at) m.spot
+  pub on : IsSkeletonAt C (hit_place m.at) m.place
 
 -- something is met, and y doesn't lie before it
 abbrev pub IsNotBefore : PlainPlace → PlainPlace → Option Met → Type 0
@@ -61,11 +63,15 @@ HasNotAt c y h = (s : Set) → ShowsSet s c → form_at (form_of h) y ≡ pos 0 
 abbrev pub HasNotAtCarrier : ProgramComplex → PlainPlace → ℕ → Type 0
 HasNotAtCarrier c y k = (h : Plane) → IsAt c.carriers k h → HasNotAt c y h
 
+-- what the carrier with this number holds of the skeleton lies in the closed frame, and not within the window
+abbrev pub LiesOutside : ProgramComplex → Span → ℕ → Type 0
+LiesOutside c w k = (h : Plane) → IsAt c.carriers k h → (s : Set) (y : PlainPlace) → ShowsSet s c → form_at (form_of h) y ≡ pos 0 → IsSkeletonIn s (complex_of c) (form_of h) y → InClosedFrame y × (IsInSpan w y → ⊥)
+
 -- the hit lies before what is met, if something is
 abbrev pub IsSooner : Vector → Hit → Option Met → Type 0
 IsSooner d q None = Unit {0}
 IsSooner d q (Some m) = IsAhead (hit_place q) d (hit_place m.at)
 
 -- side number j of vertex i lies above each skeleton point at the floor
-abbrev pub IsSideAbove : Complex → Spot → ℕ → ℕ → Type 0
-IsSideAbove C floor i j = (o : Side) × (l : Label) × IsSideOf C i j o l × ((y : PlainPlace) → IsPlaceAt C y (spot_place floor) → (t : PlainSpot) × IsSpot C t y × IsAbove C y t (record { vertex = i; side = o }))
+abbrev pub IsSideAbove : Complex → Place → ℕ → ℕ → Type 0
+IsSideAbove C floor i j = (o : Side) × (l : Label) × IsSideOf C i j o l × ((y : PlainPlace) → IsSkeletonPoint C y → IsPlaceAt C y floor → (t : Spot) × IsSpot C t y × IsAbove C y t (record { vertex = i; side = o }))

@@ -9,11 +9,11 @@ ghost use Rattle.law_sphere.specs.Sectors.{BoundsSector};
 ghost use Rattle.nef_smap.specs.Maps.{map_of, arc_of, IsSphereMap};
 ghost use Rattle.nef_smap.specs.Sides.{IsSide};
 ghost use Rattle.nef_complex.specs.Complexes.{complex_of, ShowsSet};
-ghost use Rattle.nef_locate.specs.Places.{IsPlaceIn, spot_place};
+ghost use Rattle.nef_locate.specs.Places.{IsPlaceIn};
 ghost use Rattle.nef_locate.specs.Ends.{end_of, IsLast};
 ghost use Rattle.nef_locate.specs.Rays.{IsSideAbove};
 
-use crate::place::{Spot, VertexSide};
+use crate::place::{Place, VertexSide};
 use nef_complex::Complex;
 use nef_geo::{Sign, triple, up};
 use nef_smap::{SArc, SphereMap};
@@ -89,27 +89,27 @@ fn side_near(map: &SphereMap, svertex: usize) -> usize
     }
 }
 
-/// The side of a vertex above the points of the skeleton that lie at this spot: at a vertex one that sees the upward
-/// direction, on an edge that of the lower end which bounds the sector in which this direction lies, and in a facet the
-/// upper one of its corner's item.
-pub fn side_above(c: &Complex, floor: &Spot) -> VertexSide
+/// The side of a vertex above the points that lie at this place: at a vertex one that sees the upward direction, on an edge
+/// that of the lower end which bounds the sector in which this direction lies, in a facet the upper one of its corner's
+/// item, and in a volume the side that names it.
+pub fn side_above(c: &Complex, floor: &Place) -> VertexSide
     requires shows { (s : Set) × ShowsSet s c.now }
-    requires place { IsPlaceIn (complex_of c.now) (spot_place floor.now) }
+    requires place { IsPlaceIn (complex_of c.now) floor.now }
     ensures above { IsSideAbove (complex_of c.now) floor.now result.vertex result.side }
 {
     match *floor {
-        Spot::Vertex(number) => VertexSide {
+        Place::Vertex(number) => VertexSide {
             vertex: number,
             side: c.vertices.at(number).map.face_toward(&up()),
         },
-        Spot::OnEdge(number) => {
+        Place::OnEdge(number) => {
             let edge = c.edges.at(number);
             VertexSide {
                 vertex: edge.low,
                 side: side_near(&c.vertices.at(edge.low).map, edge.low_svertex),
             }
         }
-        Spot::InFacet(corner) => VertexSide {
+        Place::InFacet(corner) => VertexSide {
             vertex: corner.vertex,
             side: c
                 .vertices
@@ -117,5 +117,6 @@ pub fn side_above(c: &Complex, floor: &Spot) -> VertexSide
                 .map
                 .item_side(corner.item, true),
         },
+        Place::InVolume { vertex, side } => VertexSide { vertex, side },
     }
 }

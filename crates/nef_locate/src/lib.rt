@@ -5,6 +5,8 @@
 #![tactic(auto)]
 
 mod above;
+mod beam;
+mod carrier;
 mod edge;
 mod facet;
 mod hit;
@@ -15,16 +17,15 @@ mod order;
 mod place;
 mod plane;
 mod point;
-mod ray;
-mod spot;
+mod walk;
 mod window;
 
 pub use above::side_above;
+pub use beam::first_hit;
 pub use facet::{corner_toward, in_facet};
 pub use label::place_label;
 pub use local::local_map;
 pub use maps::place_map;
-pub use place::{Place, Spot, VertexSide};
+pub use place::{Place, VertexSide};
 pub use point::locate;
-pub use ray::{first_hit, first_spot};
 pub use std::alloc::AllocError as OutOfMemory;

@@ -6,22 +6,16 @@ ghost use Rattle.nef_locate.specs.Places.{IsPlaneOf};
 
 use nef_smap::{SLoop, SphereMap};
 
-// The plane of the item with this number, with its labels. The arcs come first, then the sloop.
-pub(crate) fn plane_of(map: &SphereMap, item: usize) -> SLoop
-    requires within { (x : Item) × At (items (map_of map.now)) item x }
-    ensures plane { (x : Item) → At (items (map_of map.now)) item x → IsPlaneOf x (sloop_of result) }
+// The plane of the item with this number, with its labels.
+pub(crate) fn plane_of(map: &SphereMap, number: usize) -> SLoop
+    requires within { (x : Item) × At (items (map_of map.now)) number x }
+    ensures plane { (x : Item) → At (items (map_of map.now)) number x → IsPlaneOf x (sloop_of result) }
 {
-    if item < map.arcs.len() {
-        let arc = map.arcs.at(item);
-        return SLoop {
-            normal: arc.normal,
-            mark: arc.mark,
-            pos: arc.pos,
-            neg: arc.neg,
-        };
-    }
-    match map.sloop {
-        Some(circle) => circle,
-        None => unreachable!(),
+    let item = map.item_at(number);
+    SLoop {
+        normal: *item.normal(),
+        mark: item.mark(),
+        pos: item.label(true),
+        neg: item.label(false),
     }
 }

@@ -1,115 +1,71 @@
 //! Where a point lies in a complex.
 
-ghost use Rattle.std.specs.Prelude.{◌≡◌, ℕ, ◌<◌, ◌≤◌, length, pos, ◌↔◌, IsTrue, IsNone, IfSome};
-ghost use Rattle.std.specs.Option.{MatchOption};
-ghost use Rattle.nef_space.specs.Lists.{IsAt};
+ghost use Rattle.std.specs.Prelude.{◌≡◌, IsNone, IfSome};
 ghost use Rattle.nef_space.specs.Local.{FlatDim};
-ghost use Rattle.nef_space.specs.Place.{InClosedFrame, form_at};
+ghost use Rattle.nef_space.specs.Place.{Form, InClosedFrame};
 ghost use Rattle.nef_space.specs.Sets.{Set};
-ghost use Rattle.nef_geo.specs.Shapes.{form_of, place_of, hit_place};
-ghost use Rattle.law_complex.specs.Skeleton.{IsEdgePoint, IsSkeletonPoint};
-ghost use Rattle.nef_complex.specs.declared.groups.Group.{Group as GroupValue};
+ghost use Rattle.nef_geo.specs.Hits.{IsPlaceAtMost};
+ghost use Rattle.nef_geo.specs.Shapes.{place_of, hit_place};
+ghost use Rattle.nef_geo.specs.Widths.{upright_limit, upright_weight_limit};
+ghost use Rattle.law_complex.specs.Skeleton.{IsSkeletonPoint};
 ghost use Rattle.nef_complex.specs.Complexes.{complex_of, ShowsSet, AreBelow, AreAbove};
-ghost use Rattle.nef_complex.specs.Index.{AreWithin, IsInGroup, IsInCluster, AreSpanned};
+ghost use Rattle.nef_complex.specs.Spans.{IsInSpan};
+ghost use Rattle.nef_locate.specs.Orders.{PartsOn};
 ghost use Rattle.nef_locate.specs.Places.{IsPlaceIn, IsPlaceAt, place_dimension};
-ghost use Rattle.nef_locate.specs.Rays.{IsSkeletonAt, HasNotAt};
-ghost use Rattle.nef_locate.specs.Probes.{IsProbe, IsFoundAt, IsOffCarrier};
+ghost use Rattle.nef_locate.specs.Rays.{IsSkeletonAt, HasNotAtCarrier};
 
 use crate::above::side_above;
-use crate::place::{Place, Spot};
-use crate::ray::first_spot;
-use crate::spot::spot_beside_vertices;
-use crate::window::may_hold;
-use nef_complex::{Cluster, Complex, Group, Span, carrier_clusters, carrier_spans, find_vertex};
-use nef_geo::{Hit, Plane, Point, Sign, hit_at, hit_side, up};
+use crate::beam::first_hit;
+use crate::carrier::place_beside_vertices;
+use crate::place::Place;
+use crate::walk::{Search, search_carriers};
+use nef_complex::{Complex, Span, find_vertex};
+use nef_geo::{Hit, Point, Sign, hit_at, hit_side, up};
 
-// A point that is asked where it lies in a complex, and a window within which it lies. It is no vertex: so many vertices
-// come before it, and the others after it.
+// A point of the closed frame that is asked where it lies, and a window within which it lies. It is no vertex: so many
+// vertices come before it, and the others after it.
 #[derive(Clone, Copy)]
-struct Probe<'a> {
-    complex: &'a Complex,
+struct Probe {
     at: Hit,
     before: usize,
     window: Span,
+    ghost framed: { InClosedFrame (hit_place at) },
+    ghost numbers: { IsPlaceAtMost upright_limit upright_weight_limit (hit_place at) },
+    ghost inside: { IsInSpan window (hit_place at) },
 }
 
-impl Probe<'_> {
-    // The edge or the facet of the carrier with this number on which the point lies, one of the carrier's.
-    fn spot_on(&self, number: usize, h: &Plane) -> Option<Spot>
-        requires probe { IsProbe self.now }
-        requires number { IsAt self.now.complex.now.carriers number h.now }
-        requires on { form_at (form_of h.now) (hit_place self.now.at) ≡ pos 0 }
-        ensures at { IsFoundAt self.now result }
-        ensures none { IsNone result → HasNotAt self.now.complex.now (hit_place self.now.at) h.now }
-    {
-        spot_beside_vertices(self.complex, number, h, &self.at, self.before)
+impl Search for Probe {
+    type Found = Place;
+
+    ghost within = { λ x. x.window };
+
+    ghost right = { λ x c f. ((h : Form) → PartsOn c.vertices h (hit_place x.at) x.before) × IfSome f (IsSkeletonAt (complex_of c) (hit_place x.at)) };
+
+    ghost passed = { λ x c f k. IsNone f → HasNotAtCarrier c (hit_place x.at) k };
+
+    fn window(&self) -> &Span {
+        &self.window
     }
 
-    // The same of any point.
-    fn spot_in(&self, number: usize, h: &Plane) -> Option<Spot>
-        requires probe { IsProbe self.now }
-        requires number { IsAt self.now.complex.now.carriers number h.now }
-        ensures at { IsFoundAt self.now result }
-        ensures none { IsNone result → HasNotAt self.now.complex.now (hit_place self.now.at) h.now }
-    {
-        if hit_side(h, &self.at) == Sign::Zero {
-            self.spot_on(number, h)
-        } else {
-            None
+    fn is_over(&self, found: &Option<Place>) -> bool {
+        found.is_some()
+    }
+
+    fn ask(&self, c: &Complex, number: usize, found: &mut Option<Place>) {
+        let h = c.carriers.at(number);
+        if hit_side(h, &self.at) != Sign::Zero {
+            return;
+        }
+        if let Some(place) = place_beside_vertices(c, number, h, &self.at, self.before) {
+            *found = Some(place);
         }
     }
 
-    // The same, without a look at the carrier where its span, within which all lies that it holds of the skeleton, holds
-    // nothing of the window.
-    fn spot_in_carrier(&self, number: usize) -> Option<Spot>
-        requires probe { IsProbe self.now }
-        requires number { number < length self.now.complex.now.carriers }
-        ensures at { IsFoundAt self.now result }
-        ensures none { IsNone result → IsOffCarrier self.now number }
-    {
-        let span = &carrier_spans(self.complex)[number];
-        if may_hold(span, &self.window) {
-            self.spot_in(number, self.complex.carriers.at(number))
-        } else {
-            None
-        }
-    }
-
-    // The same of all carriers in the group.
-    fn spot_in_group(&self, group: &Group) -> Option<Spot>
-        requires probe { IsProbe self.now }
-        requires within { AreWithin self.now.complex.now.carriers group.now.carriers }
-        ensures at { IsFoundAt self.now result }
-        ensures none { IsNone result → (k : ℕ) → IsInGroup group.now k → IsOffCarrier self.now k }
-    {
-        for number in group.carriers.as_slice() {
-            if let Some(spot) = self.spot_in_carrier(*number) {
-                return Some(spot);
-            }
-        }
-        None
-    }
-
-    // The same of all carriers in the cluster's groups.
-    fn spot_in_cluster(&self, cluster: &Cluster) -> Option<Spot>
-        requires probe { IsProbe self.now }
-        requires groups { (i : ℕ) (g : GroupValue) → IsAt cluster.now.groups i g → AreSpanned self.now.complex.now.carriers self.now.complex.now.vertices (IsInGroup g) g.span }
-        ensures at { IsFoundAt self.now result }
-        ensures none { IsNone result → (k : ℕ) → IsInCluster cluster.now k → IsOffCarrier self.now k }
-    {
-        for group in cluster.groups.as_slice() {
-            if may_hold(&group.span, &self.window)
-                && let Some(spot) = self.spot_in_group(group)
-            {
-                return Some(spot);
-            }
-        }
-        None
-    }
+    ghost apart = { λ x c f k o e h a s S on i. (o h a s (hit_place x.at) S on i).1 x.inside };
 }
 
 // Where a point of the skeleton lies that is no vertex. So many vertices come before it, and the others after it.
-fn off_vertices(c: &Complex, p: &Point, before: usize) -> Option<Spot>
+fn off_vertices(c: &Complex, p: &Point, before: usize) -> Option<Place>
     requires shows { (s : Set) × ShowsSet s c.now }
     requires framed { InClosedFrame (place_of p.now) }
     requires before { AreBelow c.now.vertices before p.now }
@@ -117,34 +73,23 @@ fn off_vertices(c: &Complex, p: &Point, before: usize) -> Option<Spot>
     ensures at { IfSome result (IsSkeletonAt (complex_of c.now) (place_of p.now)) }
     ensures none { IsNone result → IsSkeletonPoint (complex_of c.now) (place_of p.now) → ⊥ }
 {
-    let hit = hit_at(p);
-    let window = Span::of(p);
     let probe = Probe {
-        complex: c,
-        at: hit,
+        at: hit_at(p),
         before,
-        window,
+        window: Span::of(p),
     };
-    let clusters = carrier_clusters(c);
-    for cluster in clusters {
-        if may_hold(&cluster.span, &window)
-            && let Some(spot) = probe.spot_in_cluster(cluster)
-        {
-            return Some(spot);
-        }
-    }
-    None
+    search_carriers(&probe, c)
 }
 
 // Where a point of the skeleton lies.
-fn on_skeleton(c: &Complex, p: &Point) -> Option<Spot>
+fn on_skeleton(c: &Complex, p: &Point) -> Option<Place>
     requires shows { (s : Set) × ShowsSet s c.now }
     requires framed { InClosedFrame (place_of p.now) }
     ensures at { IfSome result (IsSkeletonAt (complex_of c.now) (place_of p.now)) }
     ensures none { IsNone result → IsSkeletonPoint (complex_of c.now) (place_of p.now) → ⊥ }
 {
     match find_vertex(c, p) {
-        Ok(number) => Some(Spot::Vertex(number)),
+        Ok(number) => Some(Place::Vertex(number)),
         Err(before) => off_vertices(c, p, before),
     }
 }
@@ -158,7 +103,7 @@ fn in_volume(c: &Complex, p: &Point) -> Place
     ensures at { IsPlaceAt (complex_of c.now) (place_of p.now) result }
     ensures volume { place_dimension result ≡ 3 }
 {
-    match first_spot(c, p, &up().back()) {
+    match first_hit(c, p, &up().back()) {
         Some(floor) => {
             let above = side_above(c, &floor);
             Place::InVolume {
@@ -181,7 +126,7 @@ pub fn locate(c: &Complex, p: &Point) -> Place
     ensures dimension { (s : Set) → ShowsSet s c.now → FlatDim s (place_of p.now) (place_dimension result) }
 {
     match on_skeleton(c, p) {
-        Some(spot) => spot.place(),
+        Some(place) => place,
         None => in_volume(c, p),
     }
 }

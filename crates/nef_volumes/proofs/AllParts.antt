@@ -19,7 +19,7 @@ use Rattle.nef_parts.specs.declared.parts.Parts.{Parts}
 use Rattle.nef_parts.specs.declared.parts.Shell.{Shell}
 use Rattle.nef_facets.specs.Facets.{IsFacetParts}
 use Rattle.nef_volumes.specs.Labels.{AreVolumeLabels}
-use Rattle.nef_ties.specs.Carriers.{HasItem}
+use Rattle.nef_facets.specs.Carriers.{HasItem}
 use Rattle.nef_volumes.specs.Parts.{IsFirstCorner, HasFirst, AreFacetsOf}
 use Rattle.nef_volumes.proofs.Components.{numbered-item}
 use Rattle.nef_volumes.proofs.FacetSides.{chain-pos, chain-neg}

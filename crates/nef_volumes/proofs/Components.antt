@@ -28,7 +28,7 @@ use Rattle.nef_conn.proofs.Steps.{joined-items_linked}
 use Rattle.nef_parts.specs.Numbers.{IsFacetOf, IsVolumeOf, FacetNumbers, IsParts}
 use Rattle.nef_parts.specs.declared.parts.Parts.{Parts}
 use Rattle.nef_volumes.specs.Joins.{FacetsAreComponents, VolumesAreComponents, AreCounted}
-use Rattle.nef_ties.specs.Carriers.{HasItem}
+use Rattle.nef_facets.specs.Carriers.{HasItem}
 use Rattle.nef_volumes.proofs.SideLabels.{upright}
 use Rattle.nef_volumes.proofs.VolumeLabels.{numbered-side}
 

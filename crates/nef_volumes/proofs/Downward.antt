@@ -31,8 +31,8 @@ use Rattle.nef_complex.specs.declared.complex.Vertex.{Vertex as ProgramVertex}
 use Rattle.nef_classes.specs.declared.table.Cell.{Cell}
 use Rattle.law_links.specs.Links.{LinkDown}
 use Rattle.law_links.proofs.EdgeEnds.{dot-opposite}
-use Rattle.nef_locate.specs.declared.place.Spot.{Spot}
-use Rattle.nef_locate.specs.Places.{IsPlaceAt, IsFirstHit, spot_place}
+use Rattle.nef_locate.specs.declared.place.Place.{Place as LocatedPlace}
+use Rattle.nef_locate.specs.Places.{IsPlaceAt, IsFirstHit}
 use Rattle.nef_locate.specs.Rays.{IsSideAbove}
 use Rattle.nef_volumes.specs.Ties.{side_cell, IsCellOf, IsBelow, IsFloorCell, IsTieDown}
 use Rattle.nef_volumes.proofs.SideCells.{cell-numbered}
@@ -80,10 +80,10 @@ module _ (s : Set) (c : Complex) (S : ShowsSet s c) (i : ℕ) (u : ProgramVertex
   vertex-framed = framed s (place_of u.point) (S.shows.vertices i (vertex_of u) (vertex-there c i u e))
 
   -- ---- the side above the point where the ray ends
-  module _ (floor : Spot) (F : IsFirstHit (complex_of c) (place_of u.point) (opposite up) (spot_place floor)) where
-    ray-of : (x : VertexSide) (l : Label) → HasSideLabel (complex_of c) x l → ((y : Place) → IsPlaceAt (complex_of c) y (spot_place floor) → (t : SkeletonSpot) × IsSpot (complex_of c) t y × IsAbove (complex_of c) y t x) → RayDown (complex_of c) (place_of u.point) x
+  module _ (floor : LocatedPlace) (F : IsFirstHit (complex_of c) (place_of u.point) (opposite up) floor) where
+    ray-of : (x : VertexSide) (l : Label) → HasSideLabel (complex_of c) x l → ((y : Place) → IsSkeletonPoint (complex_of c) y → IsPlaceAt (complex_of c) y floor → (t : SkeletonSpot) × IsSpot (complex_of c) t y × IsAbove (complex_of c) y t x) → RayDown (complex_of c) (place_of u.point) x
     ray-of x l h f =
-        let r = f F.place F.at in
+        let r = f F.place F.skeleton F.at in
         record { place = F.place; spot = r.0; ahead = F.ahead; is_spot = r.1; first = F.first; above = r.2; label = l; has = h }
 
     pub above-within : (j k : ℕ) → IsSideAbove (complex_of c) floor j k → j < length c.vertices

@@ -18,7 +18,7 @@ use Rattle.nef_parts.specs.Numbers.{IsVolumeOf, VolumeNumbers}
 use Rattle.nef_parts.specs.declared.parts.Cycle.{Cycle}
 use Rattle.nef_parts.specs.declared.parts.Facet.{Facet}
 use Rattle.nef_volumes.specs.Ties.{side_at}
-use Rattle.nef_ties.specs.Carriers.{HasItem}
+use Rattle.nef_facets.specs.Carriers.{HasItem}
 use Rattle.nef_volumes.specs.Parts.{side_beside, IsBeside, AreFacetsOf}
 use Rattle.nef_volumes.proofs.ReadVertex.{vertex-there, vertex-read, vertex-within}
 

@@ -15,14 +15,14 @@ use Rattle.law_complex.specs.Complexes.{Vertex, Complex}
 use Rattle.nef_complex.specs.Complexes.{vertex_of, complex_of}
 use Rattle.nef_complex.specs.declared.complex.Complex.{Complex as ProgramComplex}
 use Rattle.nef_complex.specs.declared.complex.Vertex.{Vertex as ProgramVertex}
-use Rattle.nef_ties.proofs.Adding.{adds-one, adds-none}
+use Rattle.nef_facets.proofs.Adding.{adds-one, adds-none}
 use Rattle.nef_volumes.proofs.ReadVertex.{vertex-there, vertex-read}
 use Rattle.law_complex.specs.Rays.{VertexSide, HasSideLabel}
 use Rattle.nef_classes.specs.Tables.{AreTied}
 use Rattle.nef_classes.specs.declared.table.Cell.{Cell}
 use Rattle.nef_classes.specs.declared.table.Tie.{Tie}
 use Rattle.law_links.specs.Links.{LinkOutside}
-use Rattle.nef_ties.specs.Ties.{Adds, Any}
+use Rattle.nef_facets.specs.Ties.{Adds, Any}
 use Rattle.nef_volumes.specs.Ties.{outside_cell, side_cell, IsCellOf, IsEndOf, AreTiedSides, AreTiesWithOutside, AreTiedOutside, IsTieOutside}
 use Rattle.nef_volumes.proofs.SideCells.{tie-chain, cell-is, cell-numbered}
 

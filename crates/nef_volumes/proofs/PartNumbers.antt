@@ -11,7 +11,7 @@ use Rattle.nef_locate.specs.declared.place.Place.TheVariants as place
 use Rattle.nef_parts.specs.Numbers.{IsParts}
 use Rattle.nef_parts.specs.declared.parts.Parts.{Parts}
 use Rattle.nef_volumes.specs.Joins.{HasFacet, IsNumberAt, HasSideNumber, IsPartAt}
-use Rattle.nef_ties.specs.Carriers.{HasItem}
+use Rattle.nef_facets.specs.Carriers.{HasItem}
 use Rattle.nef_volumes.specs.declared.connected.Part.TheVariants.{Volume}
 use Rattle.nef_volumes.proofs.Components.{item-numbered}
 

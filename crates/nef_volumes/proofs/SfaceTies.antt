@@ -22,11 +22,11 @@ use Rattle.nef_classes.specs.Tables.{AreTied}
 use Rattle.nef_classes.specs.declared.table.Cell.{Cell}
 use Rattle.nef_classes.specs.declared.table.Tie.{Tie}
 use Rattle.law_links.specs.Links.{LinkInSface}
-use Rattle.nef_ties.specs.Ties.{Adds, Any}
+use Rattle.nef_facets.specs.Ties.{Adds, Any}
 use Rattle.nef_volumes.specs.Ties.{side_cell, IsCellOf, AreTiedSides, AreTiesOf}
 use Rattle.nef_volumes.specs.Ties.{tie_within, IsFirstPlace, IsTieNumbered, AreInOneSface, IsTieInSface, AddsInSfaces}
 use Rattle.law_sphere.proofs.Lists.{at-one}
-use Rattle.nef_ties.proofs.Adding.{adds-one, adds-none}
+use Rattle.nef_facets.proofs.Adding.{adds-one, adds-none}
 use Rattle.nef_volumes.proofs.SideCells.{tie-chain, more-tied, cell-is, cell-numbered}
 
 -- ---- chains of numbers and of sides

@@ -15,7 +15,7 @@ use Rattle.nef_parts.specs.Shells.{SfaceNumbers, Shells}
 use Rattle.nef_parts.specs.declared.parts.Cycle.{Cycle}
 use Rattle.nef_parts.specs.declared.parts.Facet.{Facet}
 use Rattle.nef_parts.specs.declared.parts.Shell.{Shell}
-use Rattle.nef_ties.specs.Carriers.{HasItem}
+use Rattle.nef_facets.specs.Carriers.{HasItem}
 use Rattle.nef_volumes.specs.Ties.{side_at, AreItemTies, AreTiesDown}
 use Rattle.nef_volumes.specs.Labels.{AreVolumeLabels}
 

@@ -10,7 +10,7 @@ use Rattle.nef_smap.specs.SideNumbers.{number_of}
 use Rattle.law_complex.specs.Complexes.{Vertex, Edge, Complex, Corner}
 use Rattle.law_complex.specs.Rays.{VertexSide, HasSideLabel, RayDown}
 use Rattle.nef_classes.specs.Tables.{AreTied}
-use Rattle.nef_ties.specs.Ties.{cell_of}
+use Rattle.nef_facets.specs.Ties.{cell_of}
 use Rattle.nef_classes.specs.declared.table.Cell.{Cell}
 use Rattle.nef_classes.specs.declared.table.Tie.{Tie}
 use Rattle.law_links.specs.Links.{IsSideOf, LinkAlong, LinkAcross, LinkDown, VolumeLink}

@@ -9,7 +9,7 @@ ghost use Rattle.nef_parts.specs.Numbers.{IsVolumeOf, VolumeNumbers, IsParts};
 ghost use Rattle.nef_facets.specs.Facets.{IsFacetParts};
 ghost use Rattle.nef_volumes.specs.Joins.{FacetsAreComponents, VolumesAreComponents, AreCounted};
 ghost use Rattle.nef_parts.specs.Shells.{SfaceNumbers};
-ghost use Rattle.nef_ties.specs.Carriers.{HasItem};
+ghost use Rattle.nef_facets.specs.Carriers.{HasItem};
 ghost use Rattle.nef_volumes.specs.Ties.{AreItemTies, AreTiesDown};
 ghost use Rattle.nef_volumes.specs.Parts.{side_beside, HasFirst, IsBeside, AreFacetsOf, AreVolumesOf, ArePieces};
 

@@ -16,7 +16,7 @@ use crate::outside::is_outside;
 use nef_classes::{Cell, Tie};
 use nef_complex::Complex;
 use nef_geo::up;
-use nef_locate::{first_spot, side_above};
+use nef_locate::{first_hit, side_above};
 use nef_smap::SphereMap;
 use std::alloc::Global;
 
@@ -34,7 +34,7 @@ fn floor_cell(c: &Complex, vertex: usize) -> Option<Cell>
     requires within { vertex < length c.now.vertices }
     ensures below { MatchOption result ((x : VertexSide) → IsBelow (complex_of c.now) vertex x → ⊥) (IsFloorCell (complex_of c.now) vertex) }
 {
-    let floor = first_spot(c, &c.vertices.at(vertex).point, &up().back())?;
+    let floor = first_hit(c, &c.vertices.at(vertex).point, &up().back())?;
     let above = side_above(c, &floor);
     Some(cell(c, above.vertex, above.side))
 }

@@ -7,7 +7,7 @@ ghost use Rattle.nef_smap.specs.Maps.{map_of};
 ghost use Rattle.nef_smap.specs.Sides.{IsSide, sides_of};
 ghost use Rattle.nef_complex.specs.Complexes.{complex_of};
 ghost use Rattle.law_links.specs.Links.{LinkOutside};
-ghost use Rattle.nef_ties.specs.Ties.{Adds, Any};
+ghost use Rattle.nef_facets.specs.Ties.{Adds, Any};
 ghost use Rattle.nef_volumes.specs.Ties.{AreTiesWithOutside, AreTiedOutside, IsTieOutside};
 
 use crate::OutOfMemory;

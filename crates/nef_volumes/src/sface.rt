@@ -6,7 +6,7 @@ ghost use Rattle.nef_space.specs.Sets.{Set};
 ghost use Rattle.nef_complex.specs.Complexes.{complex_of, ShowsSet};
 ghost use Rattle.law_links.specs.Links.{LinkInSface};
 ghost use Rattle.nef_parts.specs.Shells.{SfaceNumbers};
-ghost use Rattle.nef_ties.specs.Ties.{Adds, Any};
+ghost use Rattle.nef_facets.specs.Ties.{Adds, Any};
 ghost use Rattle.nef_volumes.specs.Ties.{AreTiesOf, HasSfaces, IsFirstPlace, IsTieNumbered, AddsInSfaces};
 
 use crate::OutOfMemory;

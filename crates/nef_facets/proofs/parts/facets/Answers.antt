@@ -5,7 +5,7 @@ use Rattle.law_links.specs.Links.{FacetLink}
 use Rattle.nef_parts.specs.Numbers.{count_items}
 use Rattle.nef_classes.specs.declared.table.Tie.{Tie}
 use Rattle.nef_classes.specs.Tables.{AreTied, AreTiedWithin}
-use Rattle.nef_ties.specs.Ties.{cell_of}
+use Rattle.nef_facets.specs.Ties.{cell_of}
 use Rattle.nef_facets.proofs.parts.facets.Goals as goal
 
 pub facets_of_ties-requires-clause-within : goal.facets_of_ties-requires-clause-within

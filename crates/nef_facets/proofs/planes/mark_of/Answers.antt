@@ -3,7 +3,7 @@ use Rattle.law_sphere.specs.Maps.{item_mark}
 use Rattle.nef_smap.specs.Items.{item_of}
 use Rattle.nef_edges.proofs.Places.{some-at}
 use Rattle.nef_complex.specs.Complexes.{corner_of}
-use Rattle.nef_ties.proofs.ItemCarriers.{vertex-within, item-within, of-item}
+use Rattle.nef_facets.proofs.ItemCarriers.{vertex-within, item-within, of-item}
 use Rattle.nef_facets.proofs.planes.mark_of.Goals as goal
 
 pub at-requires : goal.at-requires

@@ -1,43 +1,20 @@
-use Rattle.std.proofs.Common.{refl, arith, is_some, ap, subst}
-use mir.Val.{bool_byte}
-use Rattle.law_sphere.specs.Maps.{Item, items, arc_item, sloop_item}
+use Rattle.std.proofs.Common.{sym, subst}
+use Rattle.law_sphere.specs.Maps.{Item, items}
 use Rattle.law_sphere.proofs.Lists.{at-one}
+use Rattle.nef_smap.specs.Items.{item_of}
+use Rattle.nef_smap.specs.Maps.{map_of, sloop_of}
 use Rattle.nef_smap.specs.declared.map.SLoop.{SLoop}
-use Rattle.nef_smap.specs.Maps.{map_of, arc_of, sloop_of}
 use Rattle.nef_smap.proofs.Lists.{at-within}
-use Rattle.nef_smap.proofs.MapLists.{length-items, item-arc, item-sloop}
 use Rattle.nef_locate.specs.Places.{IsPlaneOf}
 use Rattle.nef_locate.proofs.plane.plane_of.Goals as goal
 
-pub returns-then-item-len : goal.returns-then-item-len
-returns-then-item-len c =
-    let m = c.args.map.now in
-    let a = c.at-arc.result.now in
-    let l : SLoop = record { normal = a.normal; mark = a.mark; pos = a.pos; neg = a.neg } in
-    record {
-      plane = λ x h.
-          let e = at-one (items (map_of m)) c.args.item (arc_item (arc_of a)) x (item-arc m.arcs m.sloop c.args.item a c.at-arc.ensures.element) h in
-          subst (λ (r : Item). IsPlaneOf r (sloop_of l)) e (record { normal = refl; pos = refl; mark = refl; neg = refl });
-    }
-
-pub unreachable-requires : goal.unreachable-requires
-unreachable-requires c =
-    let e = length-items c.args.map.now.arcs c.args.map.now.sloop in
-    let f = ap (λ o. bool_byte (is_some o)) c.in-None.is in
-    let w = c.requires.within in
-    let h = at-within (items (map_of c.args.map.now)) c.args.item w.0 w.1 in
-    omega arith
+pub item_at-item-requires : goal.item_at-item-requires
+item_at-item-requires c = let w = c.requires.within in record { within = at-within (items (map_of c.args.map.now)) c.args.number w.0 w.1 }
 
 pub returns : goal.returns
 returns c =
-    let m = c.args.map.now in
-    let l = c.in-Some.circle in
-    let e = length-items c.args.map.now.arcs c.args.map.now.sloop in
-    let f = ap (λ o. bool_byte (is_some o)) c.in-Some.is in
-    let w = c.requires.within in
-    let n = at-within (items (map_of m)) c.args.item w.0 w.1 in
+    let l : SLoop = record { normal = c.normal.result.now; mark = c.mark.result; pos = c.label.result; neg = c.label-2.result } in
     record {
-      plane = λ x h.
-          let g = at-one (items (map_of m)) c.args.item (sloop_item (sloop_of l)) x (item-sloop m.arcs m.sloop c.args.item l (omega arith) c.in-Some.is) h in
-          subst (λ (r : Item). IsPlaneOf r (sloop_of l)) g (record { normal = refl; pos = refl; mark = refl; neg = refl });
+      plane = λ x h. subst (λ (r : Item). IsPlaneOf r (sloop_of l)) (at-one (items (map_of c.args.map.now)) c.args.number (item_of c.item_at-item.result) x c.item_at-item.ensures.item h)
+          (record { normal = sym c.normal.ensures.normal; pos = sym c.label.ensures.label; mark = sym c.mark.ensures.mark; neg = sym c.label-2.ensures.label });
     }

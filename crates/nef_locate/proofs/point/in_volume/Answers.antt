@@ -3,23 +3,23 @@ use Rattle.nef_space.specs.Place.{IsAhead}
 use Rattle.nef_space.specs.Vectors.{Vector, opposite}
 use Rattle.nef_geo.specs.Shapes.{place_of}
 use Rattle.nef_complex.specs.Complexes.{complex_of}
-use Rattle.nef_locate.specs.Places.{spot_place, IsFirstHit}
+use Rattle.nef_locate.specs.Places.{IsFirstHit}
 use Rattle.nef_locate.proofs.Located.{volume-in, volume-at, some-below}
 use Rattle.nef_locate.proofs.point.in_volume.Goals as goal
 
-pub first_spot-requires-clause-upright : goal.first_spot-requires-clause-upright
-first_spot-requires-clause-upright c = inr (c.back.ensures.back ∙ ap opposite c.up.ensures.up)
+pub first_hit-requires-clause-upright : goal.first_hit-requires-clause-upright
+first_hit-requires-clause-upright c = inr (c.back.ensures.back ∙ ap opposite c.up.ensures.up)
 
 pub returns-clause-place : goal.returns-clause-place
 returns-clause-place c =
     let C = complex_of c.args.c.now in let p = place_of c.args.p.now in let a = c.side_above-above.result in
-    let F = subst (λ (d : Vector). IsFirstHit C p d (spot_place c.in-Some.floor)) (c.back.ensures.back ∙ ap opposite c.up.ensures.up) c.in-Some.ensures.some in
+    let F = subst (λ (d : Vector). IsFirstHit C p d c.in-Some.floor) (c.back.ensures.back ∙ ap opposite c.up.ensures.up) c.in-Some.ensures.some in
     volume-in C p c.requires.off c.in-Some.floor F a.vertex a.side c.side_above-above.ensures.above
 
 pub returns-clause-at : goal.returns-clause-at
 returns-clause-at c =
     let C = complex_of c.args.c.now in let p = place_of c.args.p.now in let a = c.side_above-above.result in
-    let F = subst (λ (d : Vector). IsFirstHit C p d (spot_place c.in-Some.floor)) (c.back.ensures.back ∙ ap opposite c.up.ensures.up) c.in-Some.ensures.some in
+    let F = subst (λ (d : Vector). IsFirstHit C p d c.in-Some.floor) (c.back.ensures.back ∙ ap opposite c.up.ensures.up) c.in-Some.ensures.some in
     volume-at C p c.requires.off c.in-Some.floor F a.vertex a.side c.side_above-above.ensures.above
 
 pub unreachable-requires : goal.unreachable-requires

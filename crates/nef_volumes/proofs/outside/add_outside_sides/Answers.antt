@@ -2,8 +2,8 @@ use Rattle.std.proofs.Common.{List, arith, sym, ap, ◌∙◌, subst}
 use Rattle.nef_arc.proofs.SignNumbers.{not_true}
 use Rattle.nef_classes.specs.declared.table.Tie.{Tie}
 use Rattle.nef_complex.specs.Complexes.{complex_of}
-use Rattle.nef_ties.specs.Ties.{Adds}
-use Rattle.nef_ties.proofs.Adding.{any-start, any-next, any-all}
+use Rattle.nef_facets.specs.Ties.{Adds}
+use Rattle.nef_facets.proofs.Adding.{any-start, any-next, any-all}
 use Rattle.nef_volumes.specs.Ties.{IsTieOutside}
 use Rattle.nef_volumes.proofs.OutsideTies.{outside-added, outside-none, outside-below}
 use Rattle.nef_volumes.proofs.outside.add_outside_sides.Goals as goal

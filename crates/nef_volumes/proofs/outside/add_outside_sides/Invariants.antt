@@ -1,6 +1,6 @@
 use Rattle.nef_complex.specs.Complexes.{complex_of}
-use Rattle.nef_ties.specs.Ties.{Adds}
-use Rattle.nef_ties.proofs.Adding.{AnyBelow}
+use Rattle.nef_facets.specs.Ties.{Adds}
+use Rattle.nef_facets.proofs.Adding.{AnyBelow}
 use Rattle.nef_volumes.specs.Ties.{IsTieOutside}
 use Rattle.nef_volumes.proofs.outside.add_outside_sides.Given as goal
 

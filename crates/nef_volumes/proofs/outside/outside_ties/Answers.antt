@@ -1,8 +1,8 @@
 use Rattle.std.proofs.Common.{List, [], arith, sym, subst}
 use Rattle.nef_classes.specs.declared.table.Tie.{Tie}
 use Rattle.nef_complex.specs.Complexes.{complex_of}
-use Rattle.nef_ties.specs.Ties.{Adds, Any}
-use Rattle.nef_ties.proofs.Adding.{AnyBelow, any-start, any-next, any-all}
+use Rattle.nef_facets.specs.Ties.{Adds, Any}
+use Rattle.nef_facets.proofs.Adding.{AnyBelow, any-start, any-next, any-all}
 use Rattle.nef_volumes.specs.Ties.{IsTieOutside}
 use Rattle.nef_volumes.proofs.OutsideTies.{outside-tied, outside-all}
 use Rattle.nef_volumes.proofs.ReadVertex.{vertex-within}

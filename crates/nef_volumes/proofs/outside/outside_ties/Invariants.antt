@@ -1,7 +1,7 @@
 use Rattle.std.proofs.Common.{[]}
 use Rattle.nef_complex.specs.Complexes.{complex_of}
-use Rattle.nef_ties.specs.Ties.{Adds, Any}
-use Rattle.nef_ties.proofs.Adding.{AnyBelow}
+use Rattle.nef_facets.specs.Ties.{Adds, Any}
+use Rattle.nef_facets.proofs.Adding.{AnyBelow}
 use Rattle.nef_volumes.specs.Ties.{IsTieOutside}
 use Rattle.nef_volumes.proofs.outside.outside_ties.Given as goal
 

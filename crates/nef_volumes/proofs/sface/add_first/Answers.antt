@@ -1,7 +1,7 @@
 use Rattle.std.proofs.Common.{List, get_or, sym, subst}
 use Rattle.nef_classes.specs.declared.table.Tie.{Tie}
 use Rattle.nef_classes.proofs.ClassLists.{is-at_get}
-use Rattle.nef_ties.specs.Ties.{Adds, Any}
+use Rattle.nef_facets.specs.Ties.{Adds, Any}
 use Rattle.nef_volumes.specs.Ties.{IsTieNumbered}
 use Rattle.nef_volumes.proofs.SfaceTies.{numbered-added, numbered-none}
 use Rattle.nef_volumes.proofs.sface.add_first.Goals as goal

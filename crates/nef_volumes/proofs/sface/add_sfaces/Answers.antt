@@ -1,6 +1,6 @@
 use Rattle.std.proofs.Common.{arith}
-use Rattle.nef_ties.specs.Ties.{Any}
-use Rattle.nef_ties.proofs.Adding.{any-start, any-next, any-all}
+use Rattle.nef_facets.specs.Ties.{Any}
+use Rattle.nef_facets.proofs.Adding.{any-start, any-next, any-all}
 use Rattle.nef_complex.specs.Complexes.{complex_of}
 use Rattle.nef_volumes.specs.Ties.{IsTieNumbered}
 use Rattle.nef_volumes.proofs.SfaceTies.{numbered-sface, numbered-below}

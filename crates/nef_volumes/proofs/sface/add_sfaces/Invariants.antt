@@ -1,5 +1,5 @@
-use Rattle.nef_ties.specs.Ties.{Adds, Any}
-use Rattle.nef_ties.proofs.Adding.{AnyBelow}
+use Rattle.nef_facets.specs.Ties.{Adds, Any}
+use Rattle.nef_facets.proofs.Adding.{AnyBelow}
 use Rattle.nef_volumes.specs.Ties.{IsTieNumbered}
 use Rattle.nef_volumes.proofs.sface.add_sfaces.Given as goal
 

@@ -1,6 +1,6 @@
 use Rattle.nef_geo.specs.Shapes.{vector_of, hit_place}
 use Rattle.nef_complex.proofs.Reading.{got-at}
-use Rattle.nef_ties.proofs.WayInward.{small-back}
+use Rattle.nef_facets.proofs.WayInward.{small-back}
 use Rattle.tests_places.proofs.Directions.{no-svertex_at}
 use Rattle.tests_places.proofs.rays.met_against.Goals as goal
 

@@ -1,0 +1,77 @@
+-- Each item lies in a carrier, and the items of the program's vertices.
+use Rattle.std.proofs.Common.{◌≡◌, ℕ, ◌<◌, pos, List, map, length, ap, sym, ◌∙◌, subst}
+use Rattle.nef_space.specs.Lists.{IsAt}
+use Rattle.nef_space.specs.Place.{Place, Form, form_at, normal_of}
+use Rattle.nef_space.specs.Sets.{Set}
+use Rattle.nef_space.specs.Vectors.{Vector, IsNormal, SameDirection}
+use Rattle.law_sphere.specs.Maps.{At, Item, items, item_normal}
+use Rattle.law_complex.specs.Complexes.{Vertex as PlainVertex, Corner as PlainCorner, IsCorner}
+use Rattle.nef_complex.specs.declared.complex.Vertex.{Vertex}
+use Rattle.nef_complex.specs.declared.complex.Complex.{Complex}
+use Rattle.nef_complex.specs.Complexes.{vertex_of, complex_of}
+use Rattle.nef_complex.specs.Index.{AreHolders}
+use Rattle.nef_complex.proofs.Carried.{carried}
+use Rattle.nef_edges.proofs.Places.{at-map, map-at, at-within, some-at, at-some as got-some}
+use Rattle.nef_geo.specs.Shapes.{form_of, place_of}
+use Rattle.nef_geo.specs.declared.plane.Plane.{Plane}
+use Rattle.nef_smap.specs.Maps.{map_of}
+use Rattle.law_sphere.proofs.Lists.{at-one}
+use Rattle.nef_smap.proofs.SideLists.{at-some}
+use Rattle.nef_facets.specs.Carriers.{HasItem}
+use Rattle.law_complex.specs.Shows.{Shows}
+
+-- the plane holds the point and has the normal
+abbrev pub HoldsWith : Form → Place → Vector → Type 0
+HoldsWith h p n = (form_at h p ≡ pos 0) × SameDirection (normal_of h) n
+
+-- the program's carriers are in normal form, so one of them is the plane of an item
+pub none-carried : (s : Set) (c : Complex) (k : PlainCorner) (u : Vertex) (x : Item) (n : Vector) → Shows s (complex_of c) → HasItem (complex_of c) k → At c.vertices k.vertex u → At (items (map_of u.map)) k.item x → item_normal x ≡ n
+    → ((i : ℕ) (f : Form) → At (map form_of c.carriers) i f → HoldsWith f (place_of u.point) n → ⊥) → ⊥
+none-carried s c k u x n S h a b e none =
+    let K = carried s (complex_of c) k (vertex_of u) x S (record { vertex = at-map vertex_of c.vertices k.vertex u a; item = b }) in
+    let g = map-at form_of c.carriers K.number K.plane K.listed in
+    let normal : IsNormal (normal_of K.plane) = subst (λ (f : Form). IsNormal (normal_of f)) g.2 g.0.normal in
+    none K.number K.plane K.listed (K.through, subst (λ (m : Vector). SameDirection (normal_of K.plane) m) e (K.normal normal))
+
+-- the carrier with this number holds the point and has the normal
+abbrev pub CarriesWith : Complex → Place → Vector → ℕ → Type 0
+CarriesWith c p n k = (h : Plane) × IsAt c.carriers k h × HoldsWith (form_of h) p n
+
+-- where none of the carriers that hold the point has the normal, none of all does
+pub none-held : (c : Complex) (p : Place) (n : Vector) (ns : List ℕ) → AreHolders c.carriers p p ns → ((j k : ℕ) → At ns j k → CarriesWith c p n k → ⊥)
+    → (i : ℕ) (f : Form) → At (map form_of c.carriers) i f → HoldsWith f p n → ⊥
+none-held c p n ns H none i f a q =
+    let g = map-at form_of c.carriers i f a in
+    let w = subst (λ (h : Form). HoldsWith h p n) (sym g.2) q in
+    let here = got-some c.carriers i g.0 g.1 in
+    let r = H.all i (g.0, here, (w.0, w.0)) in
+    none r.0 i (some-at ns r.0 i r.1) (g.0, here, w)
+
+-- ---- the program's vertices and items
+module _ (c : Complex) (k : PlainCorner) (h : HasItem (complex_of c) k) where
+  pub vertex-within : k.vertex < length c.vertices
+  vertex-within = let r = map-at vertex_of c.vertices k.vertex h.0 h.2.vertex in at-within c.vertices k.vertex r.0 r.1
+
+  module _ (u : Vertex) (a : At c.vertices k.vertex u) where
+    plain : At (complex_of c).vertices k.vertex (vertex_of u)
+    plain = let r = map-at vertex_of c.vertices k.vertex h.0 h.2.vertex in subst (λ (w : PlainVertex). At (complex_of c).vertices k.vertex w) (sym r.2 ∙ ap vertex_of (at-one c.vertices k.vertex r.0 u r.1 a)) h.2.vertex
+
+    pub item-within : k.item < length (items (map_of u.map))
+    item-within =
+        let e = at-one (complex_of c).vertices k.vertex h.0 (vertex_of u) h.2.vertex plain in
+        at-within (items (map_of u.map)) k.item h.1 (subst (λ (w : PlainVertex). At (items w.map) k.item h.1) e h.2.item)
+
+    -- what holds of the item at this corner holds of all items at it
+    pub of-item : (P : PlainVertex → Item → Type 0) (x : Item) → At (items (map_of u.map)) k.item x → P (vertex_of u) x → (v : PlainVertex) (y : Item) → IsCorner (complex_of c) k v y → P v y
+    of-item P x b p v y j =
+        let e = at-one (complex_of c).vertices k.vertex (vertex_of u) v plain j.vertex in
+        let f = at-one (items (map_of u.map)) k.item x y b (subst (λ (w : PlainVertex). At (items w.map) k.item y) (sym e) j.item) in
+        subst (λ (w : PlainVertex). P w y) e (subst (λ (r : Item). P (vertex_of u) r) f p)
+
+-- an item of the vertex is one at its corner
+pub corner-at : (c : Complex) (k : PlainCorner) (u : Vertex) → At c.vertices k.vertex u → (x : Item) → At (items (map_of u.map)) k.item x → IsCorner (complex_of c) k (vertex_of u) x
+corner-at c k u a x b = record { vertex = at-map vertex_of c.vertices k.vertex u a; item = b }
+
+-- each number below the count of a vertex's items is that of one
+pub has-item : (c : Complex) (i j : ℕ) (u : Vertex) → At c.vertices i u → j < length (items (map_of u.map)) → HasItem (complex_of c) (record { vertex = i; item = j })
+has-item c i j u a l = let r = at-some (items (map_of u.map)) j l in (vertex_of u, r.0, record { vertex = at-map vertex_of c.vertices i u a; item = r.1 })

@@ -1,0 +1,89 @@
+-- The corner that the way inward from an item names.
+use Rattle.std.proofs.Common.{◌≡◌, ℕ, zero, suc, ◌<◌, ◌≤◌, ◌+◌, ◌^◌, ℤ, pos, neg_ℤ, nat_abs, List, [], ◌∷◌, length, map, Option, Some, None, MatchOption, slice_get, arith, refl, sym, subst}
+use Rattle.std.proofs.lemmas.Int.{ints}
+use Rattle.nef_space.specs.Place.{Place, Form, normal_of, slope}
+use Rattle.nef_space.specs.Sets.{Set}
+use Rattle.nef_space.specs.Vectors.{Vector, opposite, IsAtMost, SameDirection, plane_dir}
+use Rattle.nef_geo.specs.Shapes.{form_of}
+use Rattle.nef_geo.specs.Widths.{ray_limit, plane_dir_limit}
+use Rattle.nef_geo.specs.declared.plane.Plane.{Plane}
+use Rattle.law_sphere.specs.Maps.{At, Item, items, item_normal, OnItem}
+use Rattle.law_sphere.proofs.Lists.{at-one}
+use Rattle.nef_smap.proofs.ArcEnds.{at-map}
+use Rattle.nef_smap.specs.Maps.{map_of}
+use Rattle.nef_smap.proofs.MapLists.{at-within}
+use Rattle.law_complex.specs.Complexes.{Vertex, Complex, Corner, IsCorner}
+use Rattle.law_complex.specs.Shows.{Shows}
+use Rattle.law_complex.specs.Skeleton.{PlaneMeet, IsFirstInPlane, IsCornerAt}
+use Rattle.nef_complex.specs.declared.complex.Complex.{Complex as ProgramComplex}
+use Rattle.nef_complex.specs.declared.complex.Corner.{Corner as ProgramCorner}
+use Rattle.nef_complex.specs.declared.complex.Vertex.{Vertex as ProgramVertex}
+use Rattle.nef_complex.specs.Complexes.{complex_of, corner_of, vertex_of, ShowsSet}
+use Rattle.nef_classes.specs.declared.table.Cell.{Cell}
+use Rattle.nef_classes.specs.declared.table.Tie.{Tie}
+use Rattle.law_links.specs.Links.{LinkAcross}
+use Rattle.nef_plane.specs.Meets.{HasNoSvertex, FromVertex}
+use Rattle.nef_locate.proofs.Marks.{image-within}
+use Rattle.nef_locate.proofs.SamePlanes.{level-back}
+use Rattle.nef_facets.specs.Carriers.{IsPlaneAt, IsPlaneThrough}
+use Rattle.nef_facets.specs.Ties.{IsNamedFrom, IsLinkedFrom, corner_at, IsTieAcross, Any}
+use Rattle.nef_conn.proofs.OneNamed.{one-met}
+use Rattle.nef_facets.proofs.AcrossLinks.{linked, unlinked, no-svertex}
+
+-- ---- the corner at what is first met
+module _ (s : Set) (C : Complex) (S : Shows s C) (h : Form) (y : Place) (d b : Vector) (back : b ≡ opposite d) (m : PlaneMeet) (I : IsFirstInPlane C h y d m) where
+  pub named-met : (o : Option ProgramCorner) → MatchOption o ((k : Corner) → IsCornerAt C h b m k → ⊥) (λ k. IsCornerAt C h b m (corner_of k)) → IsNamedFrom C h y d o
+  named-met None f = λ k (n, J, c). f k (subst (λ (v : Vector). IsCornerAt C h v m k) (sym back) (one-met s C S h (opposite d) k y d m n I J c))
+  named-met (Some k) c = (m, I, subst (λ (v : Vector). IsCornerAt C h v m (corner_of k)) back c)
+
+pub vertex-some : (vs : List ProgramVertex) (k : ℕ) → k < length vs → (v : Vertex) × At (map vertex_of vs) k v
+vertex-some [] k l = absurd (omega (arith, l))
+vertex-some (v ∷ vs) zero l = (vertex_of v, refl)
+vertex-some (v ∷ vs) (suc k) l = vertex-some vs k (omega (arith, l))
+
+-- ---- the item of a corner
+module _ (s : Set) (c : ProgramComplex) (S : ShowsSet s c) (k : Corner) (v : Vertex) (x : Item) (corner : IsCorner (complex_of c) k v x) (h : Plane) (P : IsPlaneAt (complex_of c) h k) (f d : Vector)
+    (dir : SameDirection (plane_dir (normal_of (form_of h))) f) (level : slope (form_of h) f ≡ pos 0) (back : d ≡ opposite f) where
+  abbrev C : Complex
+  C = complex_of c
+
+  through : IsPlaneThrough h v.point (item_normal x)
+  through = P v x corner
+
+  pub level-inward : slope (form_of h) d ≡ pos 0
+  level-inward = subst (λ (m : Vector). slope (form_of h) m ≡ pos 0) (sym back) (level-back (normal_of (form_of h)) f level)
+
+  pub not-on : (OnItem v.map x d → ⊥) → (l : Corner) → LinkAcross C k l → ⊥
+  not-on g l L = g (unlinked C k v x corner (form_of h) through.0 through.1 f d dir back l L).0
+
+  module _ (on : OnItem v.map x d) where
+    pub none-along : FromVertex C k.vertex (λ p. HasNoSvertex C p d)
+    none-along u a =
+        let e = at-one C.vertices k.vertex v u corner.vertex a in
+        no-svertex s C S.shows k u x (record { vertex = a; item = subst (λ (w : Vertex). At (items w.map) k.item x) e corner.item }) d (subst (λ (w : Vertex). OnItem w.map x d) e on)
+
+    pub linked-from : (r : Option ProgramCorner) → FromVertex C k.vertex (λ p. IsNamedFrom C (form_of h) p d r) → IsLinkedFrom C k r
+    linked-from r f' = by r (f' v corner.vertex)
+      where
+        by : (r : Option ProgramCorner) → IsNamedFrom C (form_of h) v.point d r → IsLinkedFrom C k r
+        by None g = λ l L. g l (unlinked C k v x corner (form_of h) through.0 through.1 f d dir back l L).1
+        by (Some l) g = linked C k v x corner (form_of h) through.0 through.1 f d dir back (corner_of l) on g
+
+-- ---- sizes
+pub small-back : (f d : Vector) → d ≡ opposite f → IsAtMost plane_dir_limit f → IsAtMost ray_limit d
+small-back f d e a = subst (IsAtMost ray_limit) (sym e) (record { of_x = less f.x a.of_x; of_y = less f.y a.of_y; of_z = less f.z a.of_z })
+  where
+    less : (x : ℤ) → nat_abs x ≤ 2 ^ 35 + 2 ^ 11 → nat_abs (neg_ℤ x) ≤ 2 ^ 36
+    less x h = omega (arith, ints, h)
+
+-- ---- the numbers of what is linked
+pub item-below : (c : ProgramComplex) (i : ℕ) (v : ProgramVertex) → slice_get c.vertices i ≡ Some v → (j : ℕ) (t : Tie) → IsTieAcross (complex_of c) i j t → j < length (items (map_of v.map))
+item-below c i v e j t (f, L) =
+    let M = subst (λ (x : Cell). LinkAcross (complex_of c) (corner_at x) (corner_at t.second)) f L in
+    let listed = at-map vertex_of c.vertices i v e in
+    at-within (items (map_of v.map)) j M.item (subst (λ (u : Vertex). At (items u.map) j M.item) (at-one (complex_of c).vertices i M.vertex (vertex_of v) M.corner.vertex listed) M.corner.item)
+
+pub vertex-below : (c : ProgramComplex) (i : ℕ) (t : Tie) → Any (IsTieAcross (complex_of c) i) t → i < length c.vertices
+vertex-below c i t (j, (f, L)) =
+    let M = subst (λ (x : Cell). LinkAcross (complex_of c) (corner_at x) (corner_at t.second)) f L in
+    image-within vertex_of c.vertices i M.vertex M.corner.vertex

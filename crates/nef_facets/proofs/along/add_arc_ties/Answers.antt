@@ -1,0 +1,40 @@
+use Rattle.std.proofs.Common.{List, sym, ap, ◌∙◌, subst}
+use Rattle.nef_arc.proofs.SignNumbers.{not_true}
+use Rattle.nef_smap.specs.Maps.{map_of, arc_of}
+use Rattle.nef_smap.proofs.ArcEnds.{at-map}
+use Rattle.nef_smap.proofs.Found.{read}
+use Rattle.nef_complex.specs.Complexes.{edge_of}
+use Rattle.nef_classes.specs.declared.table.Tie.{Tie}
+use Rattle.nef_facets.specs.Ties.{IsTieFromArc, Adds}
+use Rattle.nef_facets.proofs.Adding.{any-next, any-all}
+use Rattle.nef_facets.proofs.EdgeTies.{image-below, arc-added, arc-none}
+use Rattle.nef_facets.proofs.along.add_arc_ties.Goals as goal
+use Rattle.nef_facets.proofs.along.add_arc_ties.Goals.{then-go_along+in_ok-push, else-go_along}
+
+pub loop-number-preserved : goal.loop-number-preserved
+loop-number-preserved c =
+    let e = edge_of c.args.edge.now in
+    let i = c.args.item in
+    let a = arc_of c.args.low.now in
+    let M = map_of c.args.high.now in
+    let j = c.loop-number.number in
+    let b = c.arc-item.result in
+    let now = c.loop-number.ties.items in
+    let listed = at-map arc_of c.args.high.now.arcs j b (read c.args.high.now.arcs c.as_slice-arc-items.result.now j b c.as_slice-arc-items.ensures.all c.loop-number-test.true c.arc-item.is) in
+    record {
+      added = any-next (IsTieFromArc e i a M) j c.args.ties.now.items now c.if-go_along.ties.items c.loop-number.invariant.added
+          (elim c.if-go_along.branch [
+            | then-go_along+in_ok-push w ↦ subst (λ (ts : List Tie). Adds (IsTieFromArc e i a M j) now ts) (sym (ap (λ v. v.items) w.ties-is ∙ w.in_ok-push.ensures.items))
+                (arc-added e i a M j (arc_of b) listed (c.go_along.ensures.along.0 w.if-go_along.true) now)
+            | else-go_along w ↦ subst (λ (ts : List Tie). Adds (IsTieFromArc e i a M j) now ts) (sym (ap (λ v. v.items) w.ties-is))
+                (arc-none e i a M j (arc_of b) listed (λ s. not_true (sym w.if-go_along.false ∙ c.go_along.ensures.along.1 s)) now)
+          ]);
+    }
+
+pub returns : goal.returns
+returns c =
+    let j = c.loop-number.number in
+    record {
+      added = any-all (IsTieFromArc (edge_of c.args.edge.now) c.args.item (arc_of c.args.low.now) (map_of c.args.high.now)) j c.args.ties.now.items c.loop-number.ties.items
+          (λ k t p. image-below arc_of c.args.high.now.arcs c.as_slice-arc-items.result.now c.as_slice-arc-items.ensures.all j c.loop-number-test.false k p.0 p.1) c.loop-number.invariant.added;
+    }

@@ -1,0 +1,31 @@
+use Rattle.std.proofs.Common.{Option, IfSome, subst}
+use Rattle.nef_geo.specs.Shapes.{vector_of, place_of}
+use Rattle.nef_complex.specs.Complexes.{complex_of}
+use Rattle.nef_locate.specs.declared.beam.Met.{Met}
+use Rattle.nef_locate.specs.Rays.{IsMet, IsNotBefore}
+use Rattle.nef_locate.proofs.RayMeets.{first-some, first-none}
+use Rattle.nef_locate.proofs.beam.first_hit.Goals as goal
+
+pub invariant_of-beam : goal.invariant_of-beam
+invariant_of-beam c = record { ahead = λ q f a. c.ray_window.ensures.ahead q c.requires.framed f a }
+
+pub search_carriers-requires-clause-right : goal.search_carriers-requires-clause-right
+search_carriers-requires-clause-right c = (c.requires.upright, tt)
+
+pub returns-in-Some-clause-place : goal.returns-in-Some-clause-place
+returns-in-Some-clause-place c =
+    let M = subst (λ (o : Option Met). IfSome o (IsMet (complex_of c.args.c.now) (place_of c.args.p.now) (vector_of c.args.d.now))) c.in-Some.is c.search_carriers.ensures.right.1 in
+    let on = M.on in
+    on.has
+
+pub returns-in-Some-clause-some : goal.returns-in-Some-clause-some
+returns-in-Some-clause-some c =
+    let C = c.args.c.now in let p = place_of c.args.p.now in let d = vector_of c.args.d.now in let S = c.requires.shows in
+    first-some S.0 C S.1 p d c.requires.upright c.in-Some.met
+    (subst (λ (o : Option Met). IfSome o (IsMet (complex_of C) p d)) c.in-Some.is c.search_carriers.ensures.right.1)
+    (λ k l h a s y T X I. subst (IsNotBefore p y) c.in-Some.is (c.search_carriers.ensures.passed k l h a s y T X I))
+
+pub returns-in-None-clause-none : goal.returns-in-None-clause-none
+returns-in-None-clause-none c _ =
+    let C = c.args.c.now in let p = place_of c.args.p.now in let d = vector_of c.args.d.now in let S = c.requires.shows in
+    first-none S.0 C S.1 p d c.requires.upright (λ k l h a s y T X I. subst (IsNotBefore p y) c.in-None.is (c.search_carriers.ensures.passed k l h a s y T X I))

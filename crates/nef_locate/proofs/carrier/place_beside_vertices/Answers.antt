@@ -1,0 +1,32 @@
+use Rattle.std.proofs.Common.{⊎_elim, refl}
+use Rattle.nef_geo.specs.Shapes.{form_of, hit_place}
+use Rattle.nef_classes.proofs.ClassLists.{is-at_within}
+use Rattle.nef_complex.specs.Complexes.{complex_of}
+use Rattle.nef_locate.proofs.EdgeOrder.{parts-off}
+use Rattle.nef_locate.proofs.Listed.{unmet}
+use Rattle.nef_locate.proofs.Located.{corner-at, edge-at}
+use Rattle.nef_locate.proofs.carrier.place_beside_vertices.Goals as goal
+
+pub carrier_items-requires : goal.carrier_items-requires
+carrier_items-requires c = record { shows = c.requires.shows; within = is-at_within c.args.c.now.carriers c.args.number c.args.h.now c.requires.number }
+
+pub edge_among-requires-clause-parts : goal.edge_among-requires-clause-parts
+edge_among-requires-clause-parts c = (form_of c.args.h.now, c.carrier_items.ensures.edges c.args.h.now c.requires.number, c.requires.parts)
+
+pub returns-in_err-corner-clause-none : goal.returns-in_err-corner-clause-none
+returns-in_err-corner-clause-none c = λ e s S.
+    let C = c.args.c.now in let h = form_of c.args.h.now in let q = hit_place c.args.q.now in
+    ⊎_elim
+    (λ m. unmet C h q c.carrier_items.result.edges.now (c.carrier_items.ensures.edges c.args.h.now c.requires.number) (parts-off C h q c.args.next c.requires.on c.requires.parts) c.in_default.ensures.edge m.0 m.1)
+    (c.in_err-corner.ensures.none refl s S)
+
+pub returns-clause-at : goal.returns-clause-at
+returns-clause-at c = corner-at (complex_of c.args.c.now) (hit_place c.args.q.now) c.in_ok-corner.corner c.in_ok-corner.ensures.corner
+
+pub returns-in-Some-clause-at : goal.returns-in-Some-clause-at
+returns-in-Some-clause-at c = edge-at (complex_of c.args.c.now) (hit_place c.args.q.now) c.in-Some.edge c.in-Some.ensures.edge
+
+pub in_facet-requires-clause-off : goal.in_facet-requires-clause-off
+in_facet-requires-clause-off c =
+    let C = c.args.c.now in let h = form_of c.args.h.now in let q = hit_place c.args.q.now in
+    unmet C h q c.carrier_items.result.edges.now (c.carrier_items.ensures.edges c.args.h.now c.requires.number) (parts-off C h q c.args.next c.requires.on c.requires.parts) c.in_default.ensures.edge

@@ -1,0 +1,32 @@
+use Rattle.std.proofs.Common.{List, IsTrue, get_or, arith, rules}
+use Rattle.nef_geo.specs.Shapes.{form_of, hit_place}
+use Rattle.nef_classes.proofs.ClassLists.{is-at_get, is-at_within}
+use Rattle.nef_complex.specs.declared.spans.Span.{Span}
+use Rattle.nef_complex.specs.Complexes.{complex_of}
+use Rattle.nef_locate.proofs.Located.{vertex-at}
+use Rattle.nef_locate.proofs.Windows.{no_span, skeleton-framed, spanned}
+use Rattle.nef_locate.proofs.carrier.place_on.Goals as goal
+
+pub returns-then-not-is_framed-clause-none : goal.returns-then-not-is_framed-clause-none
+returns-then-not-is_framed-clause-none c =
+    let off : IsTrue c.is_framed.result → ⊥ = search rules in
+    λ e s S i. off (c.is_framed.ensures.framed.1 (skeleton-framed s c.args.c.now S (form_of c.args.h.now) (hit_place c.args.q.now) i))
+
+pub returns-then-not-is_in_span-clause-none : goal.returns-then-not-is_in_span-clause-none
+returns-then-not-is_in_span-clause-none c =
+    let off : IsTrue c.is_in_span.result → ⊥ = search rules in
+    let A = c.carrier_spans.ensures.spans in let n = c.args.number in let spans : List Span = c.carrier_spans.result.now in
+    let m = A.as_many in let l = is-at_within c.args.c.now.carriers n c.args.h.now c.requires.number in
+    λ e s S i. off (c.is_in_span.ensures.spanned.1 (spanned s c.args.c.now S (form_of c.args.h.now) (get_or spans n no_span) (A.each n c.args.h.now (get_or spans n no_span) c.requires.number (is-at_get spans n no_span (omega (arith, m, l)))) (hit_place c.args.q.now) c.requires.on i))
+
+pub carrier_items-requires : goal.carrier_items-requires
+carrier_items-requires c = record { shows = c.requires.shows; within = is-at_within c.args.c.now.carriers c.args.number c.args.h.now c.requires.number }
+
+pub find_among-requires-clause-listed : goal.find_among-requires-clause-listed
+find_among-requires-clause-listed c = (form_of c.args.h.now, c.carrier_items.ensures.vertices c.args.h.now c.requires.number)
+
+pub returns-in-Ok-clause-at : goal.returns-in-Ok-clause-at
+returns-in-Ok-clause-at c = vertex-at (complex_of c.args.c.now) (hit_place c.args.q.now) c.in-Ok.vertex c.in-Ok.ensures.found
+
+pub place_beside_vertices-requires-clause-parts : goal.place_beside_vertices-requires-clause-parts
+place_beside_vertices-requires-clause-parts c = c.in-Err.ensures.parts (form_of c.args.h.now) (c.carrier_items.ensures.vertices c.args.h.now c.requires.number)
