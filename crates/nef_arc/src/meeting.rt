@@ -11,7 +11,7 @@ ghost use Rattle.nef_arc.specs.declared.common.Crossing.TheVariants.{Two};
 use crate::arc::Arc;
 use crate::common::Crossing;
 use crate::passing::strictly_on;
-use nef_geo::{Dir, cross};
+use nef_geo::{Dir, common_perpendicular};
 
 fn on_both(a: &Arc, b: &Arc, d: &Dir) -> bool
     ensures on { IsTrue result ↔ IsOnBoth a.now b.now (vector_of d.now) }
@@ -40,9 +40,7 @@ pub fn crossing(a: &Arc, b: &Arc) -> Crossing
     requires second_small { IsAtMost normal_limit (normal_vector b.now) }
     ensures crossing { IsCrossing a.now b.now result }
 {
-    let Some(ahead) = cross(&a.normal, &b.normal) else {
-        unreachable!()
-    };
+    let ahead = common_perpendicular(&a.normal, &b.normal);
     let behind = ahead.back();
     match (on_both(a, b, &ahead), on_both(a, b, &behind)) {
         (false, false) => Crossing::Nowhere,

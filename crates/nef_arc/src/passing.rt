@@ -2,33 +2,24 @@
 
 ghost use Rattle.std.specs.Prelude.{ℤ, ◌≡◌, pos, ◌<ℤ◌, ◌↔◌, IsTrue};
 ghost use Rattle.nef_geo.specs.Shapes.{vector_of};
-ghost use Rattle.nef_geo.specs.Signs.{sign_of};
 ghost use Rattle.nef_arc.specs.Arcs.{IsOn, IsEnd, OnWay, IsPastSource, IsBeforeTarget, IsPassed};
+ghost use Rattle.nef_geo.specs.Signs.{sign_of};
 
 use crate::arc::Arc;
 use nef_geo::{Dir, Sign, dot, triple};
-
-fn is_plus(sign: Sign) -> bool
-    ensures plus { (x : ℤ) → sign ≡ sign_of x → IsTrue result ↔ pos 0 <ℤ x }
-{
-    match sign {
-        Sign::Plus => true,
-        _ => false,
-    }
-}
 
 // Whether the direction is less than half a circle ahead of the source.
 fn is_past_source(arc: &Arc, d: &Dir) -> bool
     ensures past { IsTrue result ↔ IsPastSource arc.now (vector_of d.now) }
 {
-    is_plus(triple(&arc.normal, &arc.source, d))
+    triple(&arc.normal, &arc.source, d).is_plus()
 }
 
 // Whether the target is less than half a circle ahead of the direction.
 fn is_before_target(arc: &Arc, d: &Dir) -> bool
     ensures before { IsTrue result ↔ IsBeforeTarget arc.now (vector_of d.now) }
 {
-    is_plus(triple(&arc.normal, d, &arc.target))
+    triple(&arc.normal, d, &arc.target).is_plus()
 }
 
 // Whether a direction on the arc's circle is passed that is neither end, where the ends differ, by the turn from the

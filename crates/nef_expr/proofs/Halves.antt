@@ -1,5 +1,5 @@
 -- A turned plane is read as it is given.
-use Rattle.std.proofs.Common.{◌≡◌, ℕ, ◌≤◌, ℤ, pos, ◌-ℤ◌, ◌*ℤ◌, neg_ℤ, nat_abs, Bool, true, false, cond, [], ◌∷◌, arith, ap, sym, Result, Err, ◌↔◌, ◌∙◌, subst, w64, to_z, of_z}
+use Rattle.std.proofs.Common.{◌≡◌, ℕ, ◌≤◌, ℤ, pos, ◌-ℤ◌, ◌*ℤ◌, neg_ℤ, nat_abs, Bool, true, false, cond, [], ◌∷◌, arith, ap, sym, ◌∙◌, subst, w64, to_z, of_z}
 use Rattle.std.proofs.lemmas.Int.{ints, unsigned_abs-mul}
 use Rattle.std.proofs.Math.Nat.{dvd-mul_right}
 use Rattle.std.specs.Int.{◌∣◌}
@@ -7,13 +7,11 @@ use Rattle.law_arithmetic.proofs.Ring.{ring, at, num, ◌⊗◌}
 use Rattle.nef_space.specs.Limits.{normal_limit, offset_limit, point_limit}
 use Rattle.nef_space.specs.Numbers.{IsLowest}
 use Rattle.nef_space.specs.Place.{Form, form, form_numbers, normal_of}
-use Rattle.nef_space.specs.Vectors.{Vector, vector, IsDirection, IsAtMost, IsZero}
+use Rattle.nef_space.specs.Vectors.{Vector, vector, IsDirection, IsAtMost}
 use Rattle.nef_geo.specs.Reading.{IsInRange, IsPositiveMultiple}
 use Rattle.nef_geo.specs.Shapes.{form_of, given_form, turned_form as opposite_form}
 use Rattle.nef_geo.specs.declared.plane.Oriented.{Oriented}
 use Rattle.nef_geo.specs.declared.plane.Plane.{Plane}
-use Rattle.nef_geo.specs.declared.reading.PlaneFault.{PlaneFault}
-use Rattle.nef_geo.specs.declared.reading.PlaneFault.TheVariants.{OutOfRange, ZeroNormal}
 use Rattle.nef_geo.proofs.Products.{kept}
 use Rattle.nef_case.specs.Turns.{Triple, turned}
 use Rattle.nef_case.proofs.TurnLemmas.{same_triple}
@@ -123,8 +121,3 @@ module _ (t : ℕ) (o : Oriented) where
 
   pub half-read : (p : Oriented) → IsPositiveMultiple (turned_plane t h) (given_form p) → given_form p ≡ turned_plane t h
   half-read p m = lowest-read (turned_plane t h) (given_form p) m (lowest_form-turned t false h (given-lowest o.plane o.flipped))
-
--- reading such numbers finds no fault
-pub no-fault : (r : Result Oriented PlaneFault) (f : PlaneFault) (h : Form) → r ≡ Err f → ((r ≡ Err OutOfRange) ↔ (IsInRange h → ⊥)) → ((r ≡ Err ZeroNormal) ↔ (IsInRange h × IsZero (normal_of h))) → IsInRange h → IsDirection (normal_of h) → ⊥
-no-fault r OutOfRange h e p q i d = p.0 e i
-no-fault r ZeroNormal h e p q i d = d (q.0 e).1

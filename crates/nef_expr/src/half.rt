@@ -1,14 +1,14 @@
 //! Turned half-spaces.
 
 ghost use Rattle.std.specs.Prelude.{◌≡◌, ◌<◌, ◌≤◌, nat_abs};
-ghost use Rattle.nef_space.specs.Limits.{normal_limit};
 ghost use Rattle.nef_space.specs.Place.{form};
 ghost use Rattle.nef_geo.specs.Shapes.{given_form};
 ghost use Rattle.nef_case.specs.Turns.{IsEntry, named_by, turned};
 ghost use Rattle.law_turns.specs.Turned.{turned_plane};
+ghost use Rattle.nef_space.specs.Limits.{normal_limit};
 
 use nef_case::{turn_row, turned_coordinates};
-use nef_geo::{Oriented, Plane};
+use nef_geo::Oriented;
 
 // The numbers of the plane as it was given, up to a positive factor.
 fn given(oriented: &Oriented) -> (i64, i64, i64, i64)
@@ -30,8 +30,5 @@ pub(crate) fn turned_half(oriented: &Oriented, t: usize) -> Oriented
     let (a, b, c, d) = given(oriented);
     let row = turn_row(t);
     let (x, y, z) = turned_coordinates(&row, a, b, c);
-    match Plane::read(x, y, z, d) {
-        Ok(image) => image,
-        Err(_) => unreachable!(),
-    }
+    Oriented::of(x, y, z, d)
 }

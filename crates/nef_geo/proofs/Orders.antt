@@ -3,6 +3,7 @@ use Rattle.std.proofs.Common.{◌≡◌, ◌≤◌, ℤ, pos, ◌*ℤ◌, ◌<�
 use Rattle.std.proofs.Common.{Ordering, Less, Equal, Greater}
 use Rattle.std.specs.Cmp.{IsTotalOrder, int_ranks}
 use Rattle.std.specs.Ordering.{MatchOrdering, int_cmp, ordering_then}
+use Rattle.std.proofs.lemmas.Int.{ints}
 use Rattle.std.proofs.lemmas.Cmp.{int_ranked, int_cmp_total, on_total, then_total}
 use Rattle.nef_space.specs.Limits.{point_limit, weight_limit}
 use Rattle.nef_space.specs.Numbers.{IsBelow}
@@ -38,6 +39,26 @@ order-from_last p q Equal ex ey h = record { along_x = ex; along_y = ey; along_z
 order-from_last p q Greater ex ey h = inr (sym ex, inr (sym ey, inl h))
 
 -- ---- lists of numbers
+pub below-one_way : (xs ys : List ℤ) → IsBelow xs ys → IsBelow ys xs → ⊥
+below-one_way [] ys h k = h
+below-one_way (x ∷ xs) [] h k = h
+below-one_way (x ∷ xs) (y ∷ ys) (inl h) (inl k) = omega (arith, ints, h, k)
+below-one_way (x ∷ xs) (y ∷ ys) (inl h) (inr (e, k)) = omega (arith, ints, h, e)
+below-one_way (x ∷ xs) (y ∷ ys) (inr (e, h)) (inl k) = omega (arith, ints, e, k)
+below-one_way (x ∷ xs) (y ∷ ys) (inr (e, h)) (inr (f, k)) = below-one_way xs ys h k
+
+pub never-below : (xs : List ℤ) → IsBelow xs xs → ⊥
+never-below xs h = below-one_way xs xs h h
+
+pub below-trans : (xs ys zs : List ℤ) → IsBelow xs ys → IsBelow ys zs → IsBelow xs zs
+below-trans [] ys zs h k = absurd h
+below-trans (x ∷ xs) [] zs h k = absurd h
+below-trans (x ∷ xs) (y ∷ ys) [] h k = absurd k
+below-trans (x ∷ xs) (y ∷ ys) (z ∷ zs) (inl p) (inl q) = inl (omega (arith, ints, p, q))
+below-trans (x ∷ xs) (y ∷ ys) (z ∷ zs) (inl p) (inr (e, q)) = inl (omega (arith, ints, p, e))
+below-trans (x ∷ xs) (y ∷ ys) (z ∷ zs) (inr (e, p)) (inl q) = inl (omega (arith, ints, e, q))
+below-trans (x ∷ xs) (y ∷ ys) (z ∷ zs) (inr (e, p)) (inr (f, q)) = inr (e ∙ f, below-trans xs ys zs p q)
+
 then-cons : (x y : ℤ) (xs ys : List ℤ) (k o : Ordering) → MatchOrdering k (x <ℤ y) (x ≡ y) (y <ℤ x) → MatchOrdering o (IsBelow xs ys) (xs ≡ ys) (IsBelow ys xs)
     → MatchOrdering (ordering_then k o) (IsBelow (x ∷ xs) (y ∷ ys)) (x ∷ xs ≡ y ∷ ys) (IsBelow (y ∷ ys) (x ∷ xs))
 then-cons x y xs ys Less o h k = inl h

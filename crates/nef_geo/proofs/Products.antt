@@ -1,15 +1,16 @@
 -- Products of vectors, their sizes, and how the machine computes them.
-use Rattle.std.proofs.Common.{◌≡◌, ℕ, ◌+◌, ◌*◌, ◌^◌, ◌≤◌, ℤ, ◌+ℤ◌, ◌*ℤ◌, nat_abs, List, [], ◌∷◌, w64, to_z, of_z, arith, refl, ap, ◌∙◌}
+use Rattle.std.proofs.Common.{◌≡◌, ℕ, ◌+◌, ◌*◌, ◌^◌, ◌≤◌, ℤ, neg_ℤ, ◌+ℤ◌, ◌-ℤ◌, ◌*ℤ◌, nat_abs, List, [], ◌∷◌, w64, to_z, of_z, arith, refl, ap, ◌∙◌}
+use Rattle.std.proofs.lemmas.Int.{ints}
 use mir.Syntax.{Width, w128}
-use Rattle.nef_space.specs.Limits.{point_limit, normal_limit, direction_limit}
-use Rattle.nef_space.specs.Vectors.{Vector, vector, dot, cross, IsAtMost}
+use Rattle.nef_space.specs.Limits.{point_limit, normal_limit, svertex_limit, direction_limit}
+use Rattle.nef_space.specs.Vectors.{Vector, vector, opposite, dot, cross, IsAtMost}
 use Rattle.nef_space.specs.Place.{normal_of}
 use Rattle.nef_geo.specs.declared.dir.Dir.{Dir}
 use Rattle.nef_geo.specs.declared.plane.Plane.{Plane}
 use Rattle.nef_geo.specs.Shapes.{form_of, vector_of}
 use Rattle.law_arithmetic.proofs.Machine.{Code, load, wrap, ◌⊞◌, ◌⊟◌, ◌⊠◌, Limited, exact_of}
 use Rattle.law_arithmetic.proofs.Order.{abs_plus, abs_times, abs_minors}
-use Rattle.law_arithmetic.proofs.Ring.{at, ◌⊕◌, ◌⊗◌, ring}
+use Rattle.law_arithmetic.proofs.Ring.{at, neg, ◌⊕◌, ◌⊖◌, ◌⊗◌, ring}
 
 -- ---- two vectors as six variables
 abbrev pub bounds : ℕ → ℕ → List ℕ
@@ -75,6 +76,15 @@ cross_size m n a b h k = record {
 pub dot_comm : (a b : Vector) → dot a b ≡ dot b a
 dot_comm a b = ring (numbers a b) (at 0 ⊗ at 3 ⊕ at 1 ⊗ at 4 ⊕ at 2 ⊗ at 5) (at 3 ⊗ at 0 ⊕ at 4 ⊗ at 1 ⊕ at 5 ⊗ at 2) tt
 
+pub cross-opposite : (a e : Vector) → cross (opposite a) e ≡ opposite (cross a e)
+cross-opposite a e = same_vector _ _ _ _ _ _ (one a.y e.z a.z e.y) (one a.z e.x a.x e.z) (one a.x e.y a.y e.x)
+  where
+    one : (p q r s : ℤ) → neg_ℤ p *ℤ q -ℤ neg_ℤ r *ℤ s ≡ neg_ℤ (p *ℤ q -ℤ r *ℤ s)
+    one p q r s = ring (p ∷ q ∷ r ∷ s ∷ []) (neg (at 0) ⊗ at 1 ⊖ neg (at 2) ⊗ at 3) (neg (at 0 ⊗ at 1 ⊖ at 2 ⊗ at 3)) tt
+
+pub opposite-twice : (v : Vector) → opposite (opposite v) ≡ v
+opposite-twice v = same_vector _ _ _ _ _ _ (omega (arith, ints)) (omega (arith, ints)) (omega (arith, ints))
+
 pub dir_within : (d : Dir) → IsAtMost direction_limit (vector_of d)
 dir_within d = record { of_x = d.x_small; of_y = d.y_small; of_z = d.z_small }
 
@@ -88,3 +98,16 @@ dot_kept a b h k = rw (kept a.x h.of_x, kept a.y h.of_y, kept a.z h.of_z, kept b
 
 pub cross_is : (a b v w r : Vector) → v ≡ a → w ≡ b → r ≡ cross v w → r ≡ cross a b
 cross_is a b v w r p q e = e ∙ ap (λ (u : Vector). cross u w) p ∙ ap (cross a) q
+
+-- the numbers that are passed on are the cross product's
+pub passed : (a b p q : Vector) (x y z : ℤ) → p ≡ a → q ≡ b → vector x y z ≡ cross p q → IsAtMost svertex_limit (vector x y z) → vector (to_z w64 (of_z w64 x)) (to_z w64 (of_z w64 y)) (to_z w64 (of_z w64 z)) ≡ cross a b
+passed a b p q x y z ep eq e s =
+    same_vector _ _ _ _ _ _ (kept x (omega (arith, s.of_x))) (kept y (omega (arith, s.of_y))) (kept z (omega (arith, s.of_z)))
+    ∙ e ∙ ap (λ (v : Vector). cross v q) ep ∙ ap (cross a) eq
+
+pub passed_small : (v : Vector) → IsAtMost svertex_limit v → IsAtMost svertex_limit (vector (to_z w64 (of_z w64 v.x)) (to_z w64 (of_z w64 v.y)) (to_z w64 (of_z w64 v.z)))
+passed_small v s = record {
+  of_x = rw (kept v.x (omega (arith, s.of_x))) s.of_x;
+  of_y = rw (kept v.y (omega (arith, s.of_y))) s.of_y;
+  of_z = rw (kept v.z (omega (arith, s.of_z))) s.of_z;
+}

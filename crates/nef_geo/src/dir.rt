@@ -8,6 +8,7 @@ ghost use Rattle.nef_space.specs.Vectors.{vector, IsDirection};
 use crate::gcd::lowest_terms;
 use crate::product::dot;
 use crate::sign::Sign;
+use crate::vectors::is_normal;
 
 /// The direction `(x, y, z)`. The three numbers aren't all zero, have no common divisor but 1, and are
 /// at most `2^37` in size.
@@ -31,15 +32,18 @@ fn are_equal(a: &Dir, b: &Dir) -> bool
 
 impl Dir {
     ghost use Rattle.std.specs.Prelude.{ℕ, pos, IsNone, IfSome};
-    ghost use Rattle.nef_space.specs.Vectors.{opposite, dot, IsAtMost, IsZero, SameDirection};
+    ghost use Rattle.nef_space.specs.Vectors.{opposite, dot, IsAtMost, IsNormal, IsZero, SameDirection};
     ghost use Rattle.nef_geo.specs.Meet.{IsStretched};
     ghost use Rattle.nef_geo.specs.Shapes.{vector_of};
 
-    // The direction of numbers that aren't all zero.
-    pub(crate) fn reduced(x: i64, y: i64, z: i64) -> Dir
+    /// The direction of three numbers, of at most `2^37` in size, that aren't all zero: they are its own times a positive
+    /// number.
+    pub fn reduced(x: i64, y: i64, z: i64) -> Dir
         requires small { IsAtMost direction_limit (vector x y z) }
         requires some { IsDirection (vector x y z) }
         ensures stretched { IsStretched (vector x y z) (vector_of result) }
+        ensures same { SameDirection (vector x y z) (vector_of result) }
+        ensures size { (k : ℕ) → IsAtMost k (vector x y z) → IsAtMost k (vector_of result) }
     {
         let lowest = lowest_terms(x, y, z, 0);
         Dir {
@@ -80,6 +84,13 @@ impl Dir {
         ensures direction { IsTrue result ↔ SameDirection (vector_of self.now) (vector_of other.now) }
     {
         are_equal(self, other)
+    }
+
+    /// Whether the first of its numbers that isn't zero is positive: along it lie later points.
+    pub fn is_normal(&self) -> bool
+        ensures normal { IsTrue result ↔ IsNormal (vector_of self.now) }
+    {
+        is_normal(self.x, self.y, self.z)
     }
 
     /// Whether the two are perpendicular.

@@ -1,4 +1,4 @@
-//! The orders of points and of planes.
+//! The orders of points, of directions and of hits.
 
 ghost use Rattle.std.specs.Prelude.{◌≡◌, ◌≤◌, ◌*ℤ◌, ◌<ℤ◌, nat_abs};
 ghost use Rattle.std.specs.Ordering.{int_cmp, MatchOrdering};
@@ -11,7 +11,6 @@ ghost use Rattle.nef_geo.specs.Widths.{far_product_limit};
 
 use crate::dir::Dir;
 use crate::hit::{FarHit, Hit};
-use crate::plane::Plane;
 use crate::point::Point;
 use std::cmp::Ordering;
 
@@ -47,13 +46,6 @@ pub fn dir_cmp(a: &Dir, b: &Dir) -> Ordering
     ensures order { MatchOrdering result (IsBelow (triple_of (vector_of a.now)) (triple_of (vector_of b.now))) (a.now ≡ b.now) (IsBelow (triple_of (vector_of b.now)) (triple_of (vector_of a.now))) }
 {
     a.cmp(b)
-}
-
-/// Compares two planes by their four numbers.
-pub fn plane_cmp(g: &Plane, h: &Plane) -> Ordering
-    ensures order { MatchOrdering result (IsBelow (form_numbers (form_of g.now)) (form_numbers (form_of h.now))) (g.now ≡ h.now) (IsBelow (form_numbers (form_of h.now)) (form_numbers (form_of g.now))) }
-{
-    g.cmp(h)
 }
 
 /// Compares the steps of two hits from one start along one direction: on the ray, which is nearer.

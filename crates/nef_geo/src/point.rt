@@ -29,8 +29,14 @@ fn is_below(n: i64, limit: u64) -> bool
     n.unsigned_abs() < limit
 }
 
+pub(crate) fn is_at_most(n: i64, limit: u64) -> bool
+    ensures small { IsTrue result ↔ (nat_abs n ≤ limit) }
+{
+    n.unsigned_abs() <= limit
+}
+
 impl Point {
-    ghost use Rattle.nef_space.specs.Place.{SamePlace, InFrame};
+    ghost use Rattle.nef_space.specs.Place.{SamePlace, InFrame, InClosedFrame};
     ghost use Rattle.nef_geo.specs.Shapes.{place_at, place_of};
 
     /// The point `(x/w, y/w, z/w)`.
@@ -57,6 +63,14 @@ impl Point {
     {
         let limit = HALF_SIDE.unsigned_abs() * self.w.unsigned_abs();
         is_below(self.x, limit) && is_below(self.y, limit) && is_below(self.z, limit)
+    }
+
+    /// Whether the point lies in the closed frame, `|x|, |y|, |z| <= 2048`.
+    pub fn in_closed_frame(&self) -> bool
+        ensures in_closed_frame { IsTrue result ↔ InClosedFrame (place_of self.now) }
+    {
+        let limit = HALF_SIDE.unsigned_abs() * self.w.unsigned_abs();
+        is_at_most(self.x, limit) && is_at_most(self.y, limit) && is_at_most(self.z, limit)
     }
 
     /// The first number.

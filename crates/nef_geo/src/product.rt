@@ -14,7 +14,8 @@ use crate::plane::Plane;
 use crate::sign::Sign;
 use crate::vectors::{Triple, Wide, cross_narrow, cross_wide, dot_wide};
 
-fn wide(d: &Dir) -> Wide
+/// The direction's numbers.
+pub fn wide(d: &Dir) -> Wide
     ensures wide { wide_vector result ≡ vector_of d.now }
 {
     Wide {
@@ -99,4 +100,16 @@ pub fn cross(a: &Dir, b: &Dir) -> Option<Dir>
 {
     let product = cross_narrow(&narrow(a), &narrow(b));
     Dir::of(product.x, product.y, product.z)
+}
+
+/// The direction of the cross product of two that aren't parallel, for entries of at most `2^11` in size.
+pub fn common_perpendicular(a: &Dir, b: &Dir) -> Dir
+    requires a_small { IsAtMost normal_limit (vector_of a.now) }
+    requires b_small { IsAtMost normal_limit (vector_of b.now) }
+    requires apart { IsParallel (vector_of a.now) (vector_of b.now) → ⊥ }
+    ensures cross { SameDirection (cross (vector_of a.now) (vector_of b.now)) (vector_of result) }
+    ensures small { IsAtMost svertex_limit (vector_of result) }
+{
+    let product = cross_narrow(&narrow(a), &narrow(b));
+    Dir::reduced(product.x, product.y, product.z)
 }

@@ -1,16 +1,18 @@
 //! Planes read from four numbers, and the planes of the frame.
 
 ghost use Rattle.std.specs.Prelude.{◌≡◌, ◌↔◌, ◌<◌, ◌≤◌, pos, IfOk, IsTrue, Some, nat_abs};
-ghost use Rattle.nef_space.specs.Limits.{normal_limit, offset_limit};
 ghost use Rattle.nef_space.specs.Lists.{IsAt};
 ghost use Rattle.nef_space.specs.Place.{Place, form, form_at};
 ghost use Rattle.nef_space.specs.Vectors.{vector, opposite, IsZero, IsDirection, IsNormal};
 ghost use Rattle.nef_geo.specs.Shapes.{form_of, given_form};
 ghost use Rattle.nef_geo.specs.Signs.{sign_of};
 ghost use Rattle.nef_geo.specs.Reading.{IsInRange, IsPositiveMultiple, side_forms};
+ghost use Rattle.nef_space.specs.Limits.{normal_limit, offset_limit};
 
 use crate::gcd::lowest_terms;
 use crate::plane::{Oriented, Plane};
+use crate::point::is_at_most;
+use crate::vectors::is_normal;
 use nef_space::{HALF_SIDE, NORMAL_LIMIT, OFFSET_LIMIT};
 
 /// Why four numbers are no plane.
@@ -22,12 +24,6 @@ pub enum PlaneFault {
     ZeroNormal,
 }
 
-fn is_at_most(n: i64, limit: u64) -> bool
-    ensures small { IsTrue result ↔ (nat_abs n ≤ limit) }
-{
-    n.unsigned_abs() <= limit
-}
-
 fn is_in_range(a: i64, b: i64, c: i64, d: i64) -> bool
     ensures in_range { IsTrue result ↔ IsInRange (form a b c d) }
 {
@@ -35,19 +31,6 @@ fn is_in_range(a: i64, b: i64, c: i64, d: i64) -> bool
         && is_at_most(b, NORMAL_LIMIT)
         && is_at_most(c, NORMAL_LIMIT)
         && is_at_most(d, OFFSET_LIMIT)
-}
-
-// Whether the first nonzero number is there and is positive.
-fn is_normal(a: i64, b: i64, c: i64) -> bool
-    ensures normal { IsTrue result ↔ IsNormal (vector a b c) }
-{
-    if a != 0 {
-        a > 0
-    } else if b != 0 {
-        b > 0
-    } else {
-        c > 0
-    }
 }
 
 // The plane of numbers whose first nonzero one is positive.
@@ -65,21 +48,25 @@ fn reduced(a: i64, b: i64, c: i64, d: i64) -> Plane
     }
 }
 
-fn oriented(a: i64, b: i64, c: i64, d: i64) -> Oriented
-    requires in_range { IsInRange (form a b c d) }
-    requires some { IsDirection (vector a b c) }
-    ensures multiple { IsPositiveMultiple (form a b c d) (given_form result) }
-    ensures flipped { IsTrue result.flipped ↔ IsNormal (opposite (vector a b c)) }
-{
-    if is_normal(a, b, c) {
-        Oriented {
-            plane: reduced(a, b, c, d),
-            flipped: false,
-        }
-    } else {
-        Oriented {
-            plane: reduced(-a, -b, -c, -d),
-            flipped: true,
+impl Oriented {
+    /// The plane where `a x + b y + c z + d = 0`, with the side on which the given numbers are positive. No number is past
+    /// its limit, and a, b and c aren't all zero.
+    pub fn of(a: i64, b: i64, c: i64, d: i64) -> Oriented
+        requires in_range { IsInRange (form a b c d) }
+        requires some { IsDirection (vector a b c) }
+        ensures multiple { IsPositiveMultiple (form a b c d) (given_form result) }
+        ensures flipped { IsTrue result.flipped ↔ IsNormal (opposite (vector a b c)) }
+    {
+        if is_normal(a, b, c) {
+            Oriented {
+                plane: reduced(a, b, c, d),
+                flipped: false,
+            }
+        } else {
+            Oriented {
+                plane: reduced(-a, -b, -c, -d),
+                flipped: true,
+            }
         }
     }
 }
@@ -101,7 +88,7 @@ impl Plane {
         if a == 0 && b == 0 && c == 0 {
             return Err(PlaneFault::ZeroNormal);
         }
-        Ok(oriented(a, b, c, d))
+        Ok(Oriented::of(a, b, c, d))
     }
 
     /// The k-th plane of the frame, for k below 6: x = -2048, x = 2048, and the same for y and z.

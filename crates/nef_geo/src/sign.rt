@@ -1,7 +1,8 @@
 //! Signs of whole numbers.
 
-ghost use Rattle.std.specs.Prelude.{◌≡◌, ℤ, neg_ℤ};
+ghost use Rattle.std.specs.Prelude.{◌≡◌, ◌↔◌, ℤ, pos, neg_ℤ, ◌*ℤ◌, ◌<ℤ◌, IsTrue};
 ghost use Rattle.nef_geo.specs.Signs.{sign_number, sign_of};
+ghost use Rattle.nef_geo.specs.Steps.{HasOppositeSigns};
 
 /// The sign of a whole number.
 #[derive(Debug, Clone, Copy, PartialEq, Eq)]
@@ -33,6 +34,28 @@ impl Sign {
             Sign::Minus => Sign::Plus,
             Sign::Zero => Sign::Zero,
             Sign::Plus => Sign::Minus,
+        }
+    }
+
+    /// Whether it is that of a positive number.
+    pub fn is_plus(self) -> bool
+        ensures plus { (n : ℤ) → self ≡ sign_of n → IsTrue result ↔ pos 0 <ℤ n }
+    {
+        match self {
+            Sign::Plus => true,
+            _ => false,
+        }
+    }
+
+    /// Whether one of the two is that of a negative number and the other that of a positive one.
+    pub fn is_opposite_to(self, other: Sign) -> bool
+        ensures opposite { (m n : ℤ) → self ≡ sign_of m → other ≡ sign_of n → IsTrue result ↔ HasOppositeSigns m n }
+        ensures product { (m n : ℤ) → self ≡ sign_of m → other ≡ sign_of n → IsTrue result ↔ (m *ℤ n) <ℤ pos 0 }
+    {
+        match (self, other) {
+            (Sign::Plus, Sign::Minus) => true,
+            (Sign::Minus, Sign::Plus) => true,
+            _ => false,
         }
     }
 

@@ -1,9 +1,9 @@
-//! The stated directions: upward, along the coordinate axes, and two in each plane.
+//! The stated directions: upward, along the coordinate axes, and for each plane its normal and two in it.
 
 ghost use Rattle.std.specs.Prelude.{◌≡◌, ℕ, ◌≤◌, pos, ◌<ℤ◌};
 ghost use Rattle.nef_space.specs.Limits.{normal_limit};
 ghost use Rattle.nef_space.specs.Place.{normal_of, slope};
-ghost use Rattle.nef_space.specs.Vectors.{vector, up, plane_axis, plane_dir, IsAtMost, IsDirection, IsParallel, SameDirection};
+ghost use Rattle.nef_space.specs.Vectors.{vector, up, plane_axis, plane_dir, IsAtMost, IsDirection, IsParallel, SameDirection, IsNormal};
 ghost use Rattle.nef_geo.specs.Hits.{IsPlaneDirSized};
 ghost use Rattle.nef_geo.specs.Shapes.{form_of, vector_of};
 ghost use Rattle.nef_geo.specs.Triples.{triple_vector};
@@ -30,7 +30,7 @@ pub fn up() -> Dir
 
 /// The direction along the first coordinate axis.
 pub fn axis_x() -> Dir
-    ensures same { SameDirection (vector (pos 1) (pos 0) (pos 0)) (vector_of result) }
+    ensures axis { vector_of result ≡ vector (pos 1) (pos 0) (pos 0) }
     ensures small { IsAtMost 1 (vector_of result) }
 {
     Dir { x: 1, y: 0, z: 0 }
@@ -38,7 +38,7 @@ pub fn axis_x() -> Dir
 
 /// The direction along the second coordinate axis.
 pub fn axis_y() -> Dir
-    ensures same { SameDirection (vector (pos 0) (pos 1) (pos 0)) (vector_of result) }
+    ensures axis { vector_of result ≡ vector (pos 0) (pos 1) (pos 0) }
     ensures small { IsAtMost 1 (vector_of result) }
 {
     Dir { x: 0, y: 1, z: 0 }
@@ -46,7 +46,7 @@ pub fn axis_y() -> Dir
 
 /// The direction along the third coordinate axis.
 pub fn axis_z() -> Dir
-    ensures same { SameDirection (vector (pos 0) (pos 0) (pos 1)) (vector_of result) }
+    ensures axis { vector_of result ≡ vector (pos 0) (pos 0) (pos 1) }
     ensures small { IsAtMost 1 (vector_of result) }
 {
     Dir { x: 0, y: 0, z: 1 }
@@ -88,6 +88,15 @@ fn beside(h: &Plane) -> Triple
             z: h.a,
         }
     }
+}
+
+/// The direction of the plane's normal.
+pub fn plane_normal(h: &Plane) -> Dir
+    ensures normal { SameDirection (normal_of (form_of h.now)) (vector_of result) }
+    ensures upward { IsNormal (vector_of result) }
+    ensures small { IsAtMost normal_limit (vector_of result) }
+{
+    Dir::reduced(h.a, h.b, h.c)
 }
 
 /// A direction in the plane: for the normal (a, b, c) it is (0, c, -b), or (-c, 0, a) where b and c

@@ -31,8 +31,7 @@ use Rattle.law_sphere.proofs.Walk.{cross-direction_right}
 use Rattle.law_build.specs.Raw.{Of}
 use Rattle.law_build.proofs.BuiltAxes.{vector-below_not, number-order}
 use Rattle.law_build.proofs.BuiltLabels.{labels-build}
-use Rattle.nef_star.proofs.OtherEnds.{twice}
-use Rattle.nef_star.proofs.MirrorStars.{cross-opposite}
+use Rattle.nef_geo.proofs.Products.{cross-opposite, opposite-twice}
 use Rattle.nef_edges.proofs.Rays.{to_opposite, from_opposite, normal-kept}
 use Rattle.nef_locate.specs.Halves.{two_ends}
 use Rattle.nef_locate.proofs.FlatLabels.{are-labelling, is-label, off-smooth, off-plane, off-axis, self-opposite, flat-opposite, label-moved, straight-moved}
@@ -327,7 +326,7 @@ module _ (V : Map) (k : ℕ) (u : MapVertex) (N : Map) (A : IsAlong V k u N) (ow
     found-low q (inl e) s ends = absurd (not-back q.arc.normal n (ray-normal q) normal s)
     found-low q (inr e) s ends =
         let r = H.all q in
-        let t : SameDirection q.arc.normal n = subst (λ (d : Vector). SameDirection d n) (twice q.arc.normal) (subst (SameDirection (opposite (opposite q.arc.normal))) (twice n) (same-opposites (opposite q.arc.normal) (opposite n) s)) in
+        let t : SameDirection q.arc.normal n = subst (λ (d : Vector). SameDirection d n) (opposite-twice q.arc.normal) (subst (SameDirection (opposite (opposite q.arc.normal))) (opposite-twice n) (same-opposites (opposite q.arc.normal) (opposite n) s)) in
         (r.0, r.1, r.2, (ends r.1 r.3).0, let I = r.3 in subst (SameDirection n) (sym I.normal) (SameDirection-turned q.arc.normal n t))
 
     arc-high : StraightAfter F n a m b w → Found 1
@@ -351,7 +350,7 @@ module _ (V : Map) (k : ℕ) (u : MapVertex) (N : Map) (A : IsAlong V k u N) (ow
         let st = subst (StraightAt F n a m b) e (straight-moved N A.along_valid w A.flat n (blend i (opposite w) 1 f) a m b (pos i) level
         (subst IsDirection (backward f w i) (along-off f w (neg_ℤ (pos i)) hf lf)) (subst IsDirection (sym e) hf) (after i (omega arith))) in
         -- w x f is the opposite of n
-        let t = subst (λ (d : Vector). SameDirection d (opposite n)) (ap opposite (cross-opposite w f) ∙ twice (cross w f)) (same-opposites (cross (opposite w) f) n (turned-twice (opposite w) n back hn lb)) in
+        let t = subst (λ (d : Vector). SameDirection d (opposite n)) (ap opposite (cross-opposite w f) ∙ opposite-twice (cross w f)) (same-opposites (cross (opposite w) f) n (turned-twice (opposite w) n back hn lb)) in
         let r = arc-there V k u N A n f a m b hn level (dir-direction (opposite n) (cross w f) (SameDirection-turned (cross w f) (opposite n) t)) proper st in
         found-low r.0 r.0.end (SameDirection-trans (ray_left r.0) (cross w f) (opposite n) r.1 t) (λ h I. I.ends)
 

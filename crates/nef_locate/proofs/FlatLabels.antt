@@ -22,8 +22,7 @@ use Rattle.law_sphere.proofs.Walk.{cross-direction_left}
 use Rattle.law_build.specs.Raw.{Of, IsLabelling}
 use Rattle.law_build.proofs.BuiltLabels.{straight-from}
 use Rattle.law_build.proofs.Chosen.{chosen, chosen-is, chosen-labelling, map-labels}
-use Rattle.nef_star.proofs.OtherEnds.{twice}
-use Rattle.nef_star.proofs.MirrorStars.{cross-opposite}
+use Rattle.nef_geo.proofs.Products.{cross-opposite, opposite-twice}
 use Rattle.nef_edges.proofs.Rays.{from_opposite}
 
 -- opposite directions lie on opposite sides, so both sides have the label
@@ -40,10 +39,10 @@ dot-back : (n u : Vector) → dot n (opposite u) ≡ neg_ℤ (dot n u)
 dot-back n u = ring (n.x ∷ n.y ∷ n.z ∷ u.x ∷ u.y ∷ u.z ∷ []) (at 0 ⊗ neg (at 3) ⊕ at 1 ⊗ neg (at 4) ⊕ at 2 ⊗ neg (at 5)) (neg (at 0 ⊗ at 3 ⊕ at 1 ⊗ at 4 ⊕ at 2 ⊗ at 5)) tt
 
 pub self-opposite : (d : Vector) → IsDirection d → IsOpposite d (opposite d)
-self-opposite d h = from_opposite d (opposite d) (subst (SameDirection d) (sym (twice d)) (dir-self d h))
+self-opposite d h = from_opposite d (opposite d) (subst (SameDirection d) (sym (opposite-twice d)) (dir-self d h))
 
 pub off-axis : (w e : Vector) → IsDirection (cross (opposite w) e) → IsDirection (cross w e)
-off-axis w e f = subst IsDirection (ap opposite (cross-opposite w e) ∙ twice (cross w e)) (direction-opposite (cross (opposite w) e) f)
+off-axis w e f = subst IsDirection (ap opposite (cross-opposite w e) ∙ opposite-twice (cross w e)) (direction-opposite (cross (opposite w) e) f)
 
 module _ (N : Map) (V : Valid N) where
   abbrev pub labels_of : Vector → Label

@@ -2,13 +2,11 @@
 use Rattle.std.proofs.Common.{◌≡◌, ◌≢◌, ℤ, pos, ◌<ℤ◌, arith, ap, sym, ◌∙◌, subst}
 use Rattle.std.proofs.lemmas.Int.{ints}
 use Rattle.law_arithmetic.proofs.Order.{minus, nought, plus, sign, plus-is, minus-is, nought-is}
-use Rattle.nef_space.specs.Vectors.{Vector, vector, IsDirection, IsZero, cross, triple, dot, up, opposite, SameDirection}
+use Rattle.nef_space.specs.Vectors.{Vector, vector, IsZero, cross, triple, dot, up, opposite}
 use Rattle.law_near.proofs.FlatDecided.{triple-dot}
-use Rattle.law_forms.proofs.Far.{same-nought}
 use Rattle.nef_geo.specs.Signs.{sign_of}
 use Rattle.nef_geo.specs.declared.sign.Sign.{Sign as GeoSign}
 use Rattle.nef_geo.specs.declared.sign.Sign.TheVariants.{Minus, Zero, Plus}
-use Rattle.law_sphere.proofs.Labels.{dir-signs}
 use Rattle.nef_smap.proofs.CloseSigns.{geo-of, geo-one}
 use Rattle.nef_smap.proofs.Stands.{dot-opposite}
 
@@ -28,24 +26,22 @@ pub back-along : (d a b : Vector) → b ≡ opposite a → dot d a <ℤ pos 0 �
 back-along d a b e h = let q = dot-opposite d a in subst (λ (r : Vector). pos 0 <ℤ dot d r) (sym e) (omega (arith, ints))
 
 -- ---- the axes
-abbrev x_axis : Vector
+abbrev pub x_axis : Vector
 x_axis = vector (pos 1) (pos 0) (pos 0)
 
-abbrev y_axis : Vector
+abbrev pub y_axis : Vector
 y_axis = vector (pos 0) (pos 1) (pos 0)
 
-abbrev z_axis : Vector
+abbrev pub z_axis : Vector
 z_axis = vector (pos 0) (pos 0) (pos 1)
 
-axis-nought : (e a d : Vector) → IsDirection e → SameDirection e a → dot d a ≡ pos 0 → dot d e ≡ pos 0
-axis-nought e a d h w z = same-nought (dot d a) (dot d e) (sym (dir-signs e a d h w)) z
-
 -- a form that is nought along all axes is nought
-pub axes-nought : (d x y z : Vector) → SameDirection x_axis x → SameDirection y_axis y → SameDirection z_axis z → dot d x ≡ pos 0 → dot d y ≡ pos 0 → dot d z ≡ pos 0 → IsZero d
+pub axes-nought : (d x y z : Vector) → x ≡ x_axis → y ≡ y_axis → z ≡ z_axis → dot d x ≡ pos 0 → dot d y ≡ pos 0 → dot d z ≡ pos 0 → IsZero d
 axes-nought d x y z a b c p q r =
-    let i = axis-nought x_axis x d (λ h. let e = h.0 in omega (arith, ints)) a p in
-    let j = axis-nought y_axis y d (λ h. let e = h.1 in omega (arith, ints)) b q in
-    let k = axis-nought z_axis z d (λ h. let e = h.2 in omega (arith, ints)) c r in
+    let along = λ (v e : Vector) (f : v ≡ e) (h : dot d v ≡ pos 0). subst (λ (w : Vector). dot d w ≡ pos 0) f h in
+    let i : dot d x_axis ≡ pos 0 = along x x_axis a p in
+    let j : dot d y_axis ≡ pos 0 = along y y_axis b q in
+    let k : dot d z_axis ≡ pos 0 = along z z_axis c r in
     (omega (arith, ints), omega (arith, ints), omega (arith, ints))
 
 -- the triple product with the upward direction

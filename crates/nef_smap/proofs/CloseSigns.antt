@@ -18,6 +18,7 @@ use Rattle.nef_smap.specs.declared.map.SVertex.{SVertex}
 use Rattle.nef_smap.specs.Maps.{svertex_of}
 use Rattle.nef_smap.proofs.Rise.{rise_form-value}
 use Rattle.nef_smap.proofs.Stands.{first-last, dot-opposite}
+use Rattle.law_sphere.proofs.Vectors.{triple-middle as turn-form}
 
 pub geo-of : (z : ℤ) → sign_of z ≡ geo_sign (sign z)
 geo-of (pos zero) = refl
@@ -42,12 +43,6 @@ level-sign m w z = ap (first_sign (sign (dot m (vector_of w.at)))) (by w.lean (v
     by Down a = let e = dot-opposite m up in let f : dot m (opposite up) ≡ pos 0 = omega (arith, ints) in ap (λ s. first_sign s (sign (dot m a))) (ap sign f)
     by Up a = ap (λ s. first_sign s (sign (dot m a))) (ap sign z)
     by Along a = ap (first_sign (sign (dot m a))) (ap sign z) ∙ first-last (sign (dot m a))
-
--- the turn as a form
-pub turn-form : (s d u : Vector) → triple s d u ≡ dot (cross u s) d
-turn-form s d u = ring (s.x ∷ s.y ∷ s.z ∷ d.x ∷ d.y ∷ d.z ∷ u.x ∷ u.y ∷ u.z ∷ [])
-    (at 0 ⊗ (at 4 ⊗ at 8 ⊖ at 5 ⊗ at 7) ⊕ at 1 ⊗ (at 5 ⊗ at 6 ⊖ at 3 ⊗ at 8) ⊕ at 2 ⊗ (at 3 ⊗ at 7 ⊖ at 4 ⊗ at 6))
-    ((at 7 ⊗ at 2 ⊖ at 8 ⊗ at 1) ⊗ at 3 ⊕ (at 8 ⊗ at 0 ⊖ at 6 ⊗ at 2) ⊗ at 4 ⊕ (at 6 ⊗ at 1 ⊖ at 7 ⊗ at 0) ⊗ at 5) tt
 
 -- and where two planes meet over d
 pub meeting-form : (u d n m : Vector) → dot (cross u d) (cross n m) ≡ dot (rise_form u n m) d

@@ -6,15 +6,15 @@ use Rattle.law_arithmetic.proofs.Ring.{ring, at, num, ◌⊕◌, ◌⊖◌, ◌�
 use Rattle.law_arithmetic.proofs.Combination.{follows, given, none}
 use Rattle.law_arithmetic.proofs.Order.{mul_pos}
 use Rattle.nef_space.specs.Limits.{normal_limit, svertex_limit}
-use Rattle.nef_space.specs.Vectors.{Vector, vector, IsDirection, IsZero, IsAtMost, cross, triple, dot, up, opposite, SameDirection}
-use Rattle.law_near.proofs.FlatDecided.{cross-turned, triple-dot}
-use Rattle.law_forms.proofs.Directions.{self-pos, dot-zero, direction-left, direction-right}
+use Rattle.nef_space.specs.Vectors.{Vector, IsDirection, IsZero, IsAtMost, cross, triple, dot, up, opposite, SameDirection}
+use Rattle.law_near.proofs.FlatDecided.{triple-dot}
+use Rattle.law_forms.proofs.Directions.{self-pos, dot-zero, direction-left}
 use Rattle.law_forms.proofs.Far.{same-nought}
 use Rattle.nef_geo.specs.Shapes.{vector_of}
 use Rattle.law_sphere.specs.Maps.{At, MapVertex, Item, arc_item, items, item_normal}
 use Rattle.law_sphere.proofs.Vectors.{same-plus}
 use Rattle.law_sphere.proofs.Lists.{at-one}
-use Rattle.law_sphere.proofs.Parallel.{apart, parallel-trans}
+use Rattle.law_sphere.proofs.Parallel.{apart}
 use Rattle.law_sphere.proofs.Shot.{dir-at}
 use Rattle.law_sphere.proofs.Labels.{dir-signs}
 use Rattle.law_sphere.proofs.Arcs.{at-arc}
@@ -22,6 +22,7 @@ use Rattle.nef_smap.specs.declared.map.SArc.{SArc}
 use Rattle.nef_smap.specs.declared.map.SVertex.{SVertex}
 use Rattle.nef_smap.specs.declared.map.SphereMap.{SphereMap}
 use Rattle.nef_smap.specs.Maps.{svertex_of, arc_of, map_of, IsSphereMap}
+use Rattle.nef_smap.proofs.Axes.{x_axis, y_axis}
 use Rattle.nef_smap.proofs.CloseSigns.{dir-from_get}
 use Rattle.nef_smap.proofs.MapLists.{at-within}
 use Rattle.nef_smap.proofs.Sound.{along-turn}
@@ -58,10 +59,10 @@ pub cross-level : (n x d : Vector) → SameDirection (cross n x) d → dot n d �
 cross-level n x d w = same-nought (dot n (cross n x)) (dot n d) (dir-signs (cross n x) d n (direction-left (cross n x) d w) w)
     (ring (n.x ∷ n.y ∷ n.z ∷ x.x ∷ x.y ∷ x.z ∷ []) (at 0 ⊗ (at 1 ⊗ at 5 ⊖ at 2 ⊗ at 4) ⊕ at 1 ⊗ (at 2 ⊗ at 3 ⊖ at 0 ⊗ at 5) ⊕ at 2 ⊗ (at 0 ⊗ at 4 ⊖ at 1 ⊗ at 3)) (num (pos 0)) tt)
 
-pub plane-some : (n x y : Vector) → IsDirection n → SameDirection (vector (pos 1) (pos 0) (pos 0)) x → SameDirection (vector (pos 0) (pos 1) (pos 0)) y → IsZero (cross n x) → IsZero (cross n y) → ⊥
+pub plane-some : (n x y : Vector) → IsDirection n → x ≡ x_axis → y ≡ y_axis → IsZero (cross n x) → IsZero (cross n y) → ⊥
 plane-some n x y h a b p q =
-    let i = parallel-trans n x (vector (pos 1) (pos 0) (pos 0)) (direction-right (vector (pos 1) (pos 0) (pos 0)) x a) p (cross-turned (vector (pos 1) (pos 0) (pos 0)) x a.parallel) in
-    let j = parallel-trans n y (vector (pos 0) (pos 1) (pos 0)) (direction-right (vector (pos 0) (pos 1) (pos 0)) y b) q (cross-turned (vector (pos 0) (pos 1) (pos 0)) y b.parallel) in
+    let i : IsZero (cross n x_axis) = subst (λ (v : Vector). IsZero (cross n v)) a p in
+    let j : IsZero (cross n y_axis) = subst (λ (v : Vector). IsZero (cross n v)) b q in
     let e = i.1 in let f = i.2 in let g = j.2 in
     h (omega (arith, ints), omega (arith, ints), omega (arith, ints))
 

@@ -10,7 +10,8 @@ use Rattle.law_sphere.proofs.Vectors.{dot-comb}
 use Rattle.nef_smap.specs.declared.linear.Values.{Values}
 use Rattle.nef_smap.specs.declared.path.SpherePath.{SpherePath}
 use Rattle.nef_smap.specs.Linear.{linear_at, turn_value}
-use Rattle.nef_smap.specs.WideVectors.{wide_vector, start_at, end_at, AreValues}
+use Rattle.nef_geo.specs.Triples.{wide_vector}
+use Rattle.nef_smap.specs.WideVectors.{start_at, end_at, AreValues}
 use Rattle.nef_smap.specs.Paths.{meet_of}
 use Rattle.nef_smap.proofs.FirstMet.{meet-is}
 

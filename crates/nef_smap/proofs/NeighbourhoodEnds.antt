@@ -8,11 +8,7 @@ use Rattle.nef_star.specs.Rounds.{End}
 use Rattle.nef_star.specs.declared.star.Ray.{Ray}
 use Rattle.nef_smap.specs.declared.map.SArc.{SArc}
 use Rattle.nef_smap.specs.Stars.{IsArcEnd, AreArcEnds}
-
-get-within : {X : Type 0} (xs : List X) (k : ℕ) (x : X) → IsAt xs k x → k < length xs
-get-within [] k x h = cc
-get-within (y ∷ ys) zero x h = omega arith
-get-within (y ∷ ys) (suc k) x h = let r = get-within ys k x h in omega arith
+use Rattle.nef_classes.proofs.ClassLists.{is-at_within as get-within}
 
 -- the list has the end
 abbrev pub Has : List End → End → Type 0

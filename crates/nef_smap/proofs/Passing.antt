@@ -1,7 +1,7 @@
 -- Whether the way up from a direction passes an arc, by on which sides of its meridian the ends of the arc lie.
 use Rattle.std.proofs.Common.{◌≡◌, pos, ◌-ℤ◌, ◌*ℤ◌, ◌<ℤ◌, arith, ap, sym, inl, inr, ⊎_elim, [], ◌∷◌, subst}
 use Rattle.std.proofs.lemmas.Int.{ints}
-use Rattle.law_arithmetic.proofs.Ring.{ring, at, num, ◌⊕◌, ◌⊖◌, ◌⊗◌}
+use Rattle.law_arithmetic.proofs.Ring.{at, num, ◌⊕◌, ◌⊖◌, ◌⊗◌}
 use Rattle.law_arithmetic.proofs.Combination.{follows, given, none}
 use Rattle.law_arithmetic.proofs.Order.{Sign, minus, plus, sign, sign-plus, sign-minus, plus-is, minus-is, by_order, mul_pos, mul_neg}
 use Rattle.nef_space.specs.Vectors.{Vector, IsDirection, cross, triple, dot, SameDirection, IsOpposite}
@@ -11,7 +11,7 @@ use Rattle.law_forms.proofs.Directions.{self-pos, dot-zero}
 use Rattle.law_cyclic.specs.Arcs.{IsStrictlyOn}
 use Rattle.law_sphere.proofs.Parallel.{parallel-in_plane}
 use Rattle.law_sphere.proofs.Shot.{product-off}
-use Rattle.law_sphere.proofs.Around.{Beside, same_way, other_way, beside}
+use Rattle.law_sphere.proofs.Around.{Beside, same_way, other_way, beside, triple-turned as turned}
 use Rattle.nef_smap.specs.Above.{rise}
 use Rattle.nef_smap.specs.Close.{ArcPasses}
 use Rattle.nef_smap.proofs.Rise.{rise-level}
@@ -34,11 +34,6 @@ source-turn n s d u p =
     (nx ⊗ (sy ⊗ rz ⊖ sz ⊗ ry) ⊕ ny ⊗ (sz ⊗ rx ⊖ sx ⊗ rz) ⊕ nz ⊗ (sx ⊗ ry ⊖ sy ⊗ rx))
     ((nx ⊗ nx ⊕ ny ⊗ ny ⊕ nz ⊗ nz) ⊗ ((uy ⊗ sz ⊖ uz ⊗ sy) ⊗ dx ⊕ (uz ⊗ sx ⊖ ux ⊗ sz) ⊗ dy ⊕ (ux ⊗ sy ⊖ uy ⊗ sx) ⊗ dz))
     (given (o ⊖ (nx ⊗ (dy ⊗ uz ⊖ dz ⊗ uy) ⊕ ny ⊗ (dz ⊗ ux ⊖ dx ⊗ uz) ⊕ nz ⊗ (dx ⊗ uy ⊖ dy ⊗ ux))) (nx ⊗ sx ⊕ ny ⊗ sy ⊕ nz ⊗ sz) o p none) tt
-
-turned : (n a b : Vector) → triple n a b ≡ pos 0 -ℤ triple n b a
-turned n a b = ring (n.x ∷ n.y ∷ n.z ∷ a.x ∷ a.y ∷ a.z ∷ b.x ∷ b.y ∷ b.z ∷ [])
-    (at 0 ⊗ (at 4 ⊗ at 8 ⊖ at 5 ⊗ at 7) ⊕ at 1 ⊗ (at 5 ⊗ at 6 ⊖ at 3 ⊗ at 8) ⊕ at 2 ⊗ (at 3 ⊗ at 7 ⊖ at 4 ⊗ at 6))
-    (num (pos 0) ⊖ (at 0 ⊗ (at 7 ⊗ at 5 ⊖ at 8 ⊗ at 4) ⊕ at 1 ⊗ (at 8 ⊗ at 3 ⊖ at 6 ⊗ at 5) ⊕ at 2 ⊗ (at 6 ⊗ at 4 ⊖ at 7 ⊗ at 3))) tt
 
 -- E says that the ends are the same
 module _ (n s t d u : Vector) (hn : IsDirection n) (hs : IsDirection s) (ht : IsDirection t) (ls : dot n s ≡ pos 0) (lt : dot n t ≡ pos 0) (hy : IsDirection (rise u n d))

@@ -14,10 +14,10 @@ use Rattle.law_build.specs.Raw.{IsWellFormed, RayBelow, sector_count as plain_co
 use Rattle.nef_star.specs.declared.star.Ray.{Ray}
 use Rattle.nef_star.specs.declared.star.Star.{Star}
 use Rattle.nef_star.specs.Stars.{ray_of, star_of, left_of, left_at, sector_count, IsRayBelow, IsRay, IsStar}
-use Rattle.nef_star.proofs.Turns.{self-same}
 use Rattle.nef_star.proofs.Labelled.{each_has_one_label}
 use Rattle.nef_smap.proofs.Lists.{at-map, at-within, at-get}
 use Rattle.nef_smap.proofs.Primitive.{dir-primitive}
+use Rattle.nef_geo.proofs.Directions.{SameDirection-itself as self-same}
 
 -- ---- the order of directions
 pub below-vectors : (u v : Vector) → IsBelow (triple_of u) (triple_of v) → VectorBelow u v

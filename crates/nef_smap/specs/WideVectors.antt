@@ -1,12 +1,9 @@
--- Triples of machine numbers as vectors, the ends of a way, and the values of a form at them.
+-- The ends of a way, and the values of a form at them.
 use Rattle.std.specs.Prelude.{◌≡◌, ℕ, ◌^◌}
-use Rattle.nef_space.specs.Vectors.{Vector, vector, dot, blend, IsAtMost}
+use Rattle.nef_space.specs.Vectors.{Vector, dot, blend, IsAtMost}
+use Rattle.nef_geo.specs.Triples.{wide_vector}
 use Rattle.nef_smap.specs.declared.linear.Values.{Values}
-use Rattle.nef_smap.specs.declared.path.WideVector.{WideVector}
 use Rattle.nef_smap.specs.declared.path.SpherePath.{SpherePath}
-
-abbrev pub wide_vector : WideVector → Vector
-wide_vector v = vector v.x v.y v.z
 
 abbrev pub start_at : SpherePath → ℕ → Vector
 start_at w j = blend j (wide_vector w.start) 1 (wide_vector w.upward)

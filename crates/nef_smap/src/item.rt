@@ -1,7 +1,8 @@
 //! Arcs and the sloop, which together are the items of a sphere map.
 
 ghost use Rattle.std.specs.Prelude.{◌≡◌, ◌<◌, ◌^◌, ◌↔◌, ℕ, length, cond, IsTrue, MatchOption};
-ghost use Rattle.nef_space.specs.Vectors.{Vector, SameDirection};
+ghost use Rattle.nef_space.specs.Limits.{normal_limit, svertex_limit};
+ghost use Rattle.nef_space.specs.Vectors.{Vector, SameDirection, IsAtMost};
 ghost use Rattle.law_cyclic.specs.Arcs.{IsOnCircle};
 ghost use Rattle.nef_arc.specs.Arcs.{normal_vector, IsOn};
 ghost use Rattle.law_sphere.specs.Maps.{At, Item as PlainItem, items, item_normal, item_pos, item_mark, item_neg, arc_item, OnItem};
@@ -11,7 +12,7 @@ ghost use Rattle.nef_smap.specs.Items.{item_of, IsItemThrough};
 
 use crate::map::{SArc, SLoop, SphereMap};
 use nef_arc::{Arc, strictly_on};
-use nef_geo::{Dir, Label};
+use nef_geo::{Dir, Label, axis_x, axis_y, common_perpendicular, cross};
 
 /// An arc or the sloop.
 #[derive(Debug, Clone, Copy, PartialEq, Eq)]
@@ -61,6 +62,18 @@ impl SLoop {
     {
         self.normal.is_perpendicular(d)
     }
+}
+
+/// A direction on the great circle of the normal, whose entries are at most `2^11` in size.
+pub fn on_circle(normal: &Dir) -> Dir
+    requires small { IsAtMost normal_limit (vector_of normal.now) }
+    ensures on { IsOnCircle (vector_of normal.now) (vector_of result) }
+    ensures small { IsAtMost svertex_limit (vector_of result) }
+{
+    if let Some(d) = cross(normal, &axis_x()) {
+        return d;
+    }
+    common_perpendicular(normal, &axis_y())
 }
 
 // Whether the item with this number has the normal and holds the direction.

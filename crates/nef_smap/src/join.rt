@@ -13,22 +13,25 @@ ghost use Rattle.nef_smap.specs.Links.{met_number};
 ghost use Rattle.nef_smap.specs.JoinLinks.{JoinsBelow, JoinsAround, JoinsArc, JoinsSloop};
 
 use crate::above::{Close, Lean, above};
+use crate::item::on_circle;
 use crate::map::{SLoop, SphereMap};
 use crate::side::sides;
 use nef_classes::Link;
-use nef_geo::{Dir, Sign, axis_x, axis_y, axis_z, cross, dot, triple, up};
+use nef_geo::{Dir, Sign, axis_x, axis_y, axis_z, common_perpendicular, dot, triple, up};
 
-// The axis or its opposite, whichever has a positive product with d; none where the product is zero.
-fn turned_along(axis: Dir, d: &Dir) -> Option<Dir>
-    requires small { IsAtMost 1 (vector_of axis) }
-    ensures along { MatchOption result (dot (vector_of d.now) (vector_of axis) ≡ pos 0) (λ a. pos 0 <ℤ dot (vector_of d.now) (vector_of a)) }
-    ensures small { IfSome result (λ a. IsAtMost 1 (vector_of a)) }
+// A coordinate axis that isn't at right angles to d.
+fn slanted_axis(d: &Dir) -> Dir
+    ensures off { dot (vector_of d.now) (vector_of result) ≡ pos 0 → ⊥ }
+    ensures small { IsAtMost 1 (vector_of result) }
 {
-    match dot(d, &axis) {
-        Sign::Plus => Some(axis),
-        Sign::Minus => Some(axis.back()),
-        Sign::Zero => None,
+    let (x, y) = (d.x(), d.y());
+    if x != 0 {
+        return axis_x();
     }
+    if y != 0 {
+        return axis_y();
+    }
+    axis_z()
 }
 
 // A direction along a coordinate axis whose product with d is positive.
@@ -36,15 +39,11 @@ fn axis_along(d: &Dir) -> Dir
     ensures along { pos 0 <ℤ dot (vector_of d.now) (vector_of result) }
     ensures small { IsAtMost 1 (vector_of result) }
 {
-    if let Some(x) = turned_along(axis_x(), d) {
-        return x;
-    }
-    if let Some(y) = turned_along(axis_y(), d) {
-        return y;
-    }
-    match turned_along(axis_z(), d) {
-        Some(z) => z,
-        None => unreachable!(),
+    let axis = slanted_axis(d);
+    if dot(d, &axis).is_plus() {
+        axis
+    } else {
+        axis.back()
     }
 }
 
@@ -130,9 +129,7 @@ pub(crate) fn join_arc(map: &SphereMap, number: usize) -> Link
 {
     let arc = map.arcs.at(number);
     let at = map.svertices.at(arc.source).dir;
-    let Some(aside) = cross(&arc.normal, &axis_along(&at)) else {
-        unreachable!()
-    };
+    let aside = common_perpendicular(&arc.normal, &axis_along(&at));
     let way = Close {
         at,
         aside,
@@ -144,28 +141,13 @@ pub(crate) fn join_arc(map: &SphereMap, number: usize) -> Link
     }
 }
 
-// A direction in the plane of the normal.
-fn in_plane(normal: &Dir) -> Dir
-    requires small { IsAtMost normal_limit (vector_of normal.now) }
-    ensures level { dot (vector_of normal.now) (vector_of result) ≡ pos 0 }
-    ensures small { IsAtMost svertex_limit (vector_of result) }
-{
-    if let Some(d) = cross(normal, &axis_x()) {
-        return d;
-    }
-    match cross(normal, &axis_y()) {
-        Some(d) => d,
-        None => unreachable!(),
-    }
-}
-
 // Joins the side above the sloop, the last of the items, with what lies over one of its directions.
 pub(crate) fn join_sloop(map: &SphereMap, circle: &SLoop) -> Link
     requires map { IsSphereMap map.now }
     requires circle { map.now.sloop ≡ Some circle.now }
     ensures joins { JoinsSloop (map_of map.now) (length map.now.arcs) result }
 {
-    let at = in_plane(&circle.normal);
+    let at = on_circle(&circle.normal);
     let way = Close {
         at,
         aside: beside(&at),

@@ -22,7 +22,7 @@ mod simple;
 mod stars;
 
 pub use duplicate::copy;
-pub use item::Item;
+pub use item::{Item, on_circle};
 pub use locate::{at, label_at};
 pub use map::{RawStars, SArc, SLoop, SPlace, SVertex, SphereMap};
 pub use sface::sfaces;

@@ -37,26 +37,6 @@ impl Linear {
     }
 }
 
-// Whether one of two numbers with these signs is positive and the other negative.
-pub(crate) fn are_opposite(a: Sign, b: Sign) -> bool
-    ensures opposite { (x y : ℤ) → a ≡ sign_of x → b ≡ sign_of y → IsTrue result ↔ (x *ℤ y) <ℤ pos 0 }
-{
-    match (a, b) {
-        (Sign::Plus, Sign::Minus) => true,
-        (Sign::Minus, Sign::Plus) => true,
-        _ => false,
-    }
-}
-
-pub(crate) fn is_plus(sign: Sign) -> bool
-    ensures plus { (x : ℤ) → sign ≡ sign_of x → IsTrue result ↔ pos 0 <ℤ x }
-{
-    match sign {
-        Sign::Plus => true,
-        _ => false,
-    }
-}
-
 // `a b - c d`, for a and c of at most 2^50 in size and b and d of at most 2^74.
 fn minor(a: i128, b: i128, c: i128, d: i128) -> i128
     requires a_small { nat_abs a ≤ 2 ^ 50 }

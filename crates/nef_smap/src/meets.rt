@@ -9,18 +9,19 @@ ghost use Rattle.nef_geo.specs.Signs.{sign_of};
 ghost use Rattle.nef_smap.specs.Maps.{arc_of, map_of, IsSphereMap};
 ghost use Rattle.nef_smap.specs.Items.{item_of};
 ghost use Rattle.nef_smap.specs.Linear.{linear_at, turn_value, AreAtMost, IsLarge};
-ghost use Rattle.nef_smap.specs.WideVectors.{wide_vector, IsWithin, AreValues};
+ghost use Rattle.nef_geo.specs.Triples.{wide_vector};
+ghost use Rattle.nef_smap.specs.WideVectors.{IsWithin, AreValues};
 ghost use Rattle.nef_smap.specs.Paths.{met_at, IsMet, OnFairPaths, MeetsFirst};
 
 use crate::item::Item;
-use crate::linear::{Values, are_opposite, sign_at_meet};
+use crate::linear::{Values, sign_at_meet};
 use crate::map::{SArc, SphereMap};
-use crate::path::{SpherePath, WideVector, cross, values, widened};
+use crate::path::{SpherePath, values};
 use nef_case::between;
-use nef_geo::{Sign, dot, triple};
+use nef_geo::{Sign, Wide, cross_wide, dot, triple, wide};
 
 // The sign of the form g where the way meets a plane whose form has the values n.
-fn sign_where_met(way: &SpherePath, n: &Values, g: &WideVector) -> Sign
+fn sign_where_met(way: &SpherePath, n: &Values, g: &Wide) -> Sign
     requires way { IsWithin way.now }
     requires n_small { AreAtMost (2 ^ 50) n.now }
     requires g_small { IsAtMost (2 ^ 35) (wide_vector g.now) }
@@ -40,9 +41,9 @@ fn is_met_on_arc(map: &SphereMap, way: &SpherePath, arc: &SArc, n: &Values) -> b
 {
     let source = &map.svertices.at(arc.source).dir;
     let target = &map.svertices.at(arc.target).dir;
-    let (normal, from, to) = (widened(&arc.normal), widened(source), widened(target));
-    let past_source = sign_where_met(way, n, &cross(&normal, &from));
-    let past_target = sign_where_met(way, n, &cross(&normal, &to));
+    let (normal, from, to) = (wide(&arc.normal), wide(source), wide(target));
+    let past_source = sign_where_met(way, n, &cross_wide(&normal, &from));
+    let past_target = sign_where_met(way, n, &cross_wide(&normal, &to));
     between(&[
         triple(&arc.normal, source, target).number(),
         dot(source, target).number(),
@@ -58,7 +59,7 @@ pub(crate) fn item_values(way: &SpherePath, item: &Item) -> Values
     ensures values { AreValues way.now (item_normal (item_of item.now)) result }
     ensures small { AreAtMost (2 ^ 50) result }
 {
-    values(way, &widened(item.normal()))
+    values(way, &wide(item.normal()))
 }
 
 // Whether the way meets the item, which has the values n.
@@ -70,7 +71,7 @@ fn is_met(map: &SphereMap, way: &SpherePath, item: &Item, n: &Values) -> bool
     requires small { AreAtMost (2 ^ 50) n.now }
     ensures met { OnFairPaths (map_of map.now) way.now (λ a b. IsTrue result ↔ IsMet (map_of map.now) a b (item_of item.now)) }
 {
-    if !are_opposite(n.start.sign(), n.end.sign()) {
+    if !n.start.sign().is_opposite_to(n.end.sign()) {
         return false;
     }
     match item {
@@ -85,7 +86,8 @@ fn is_before(n: &Values, first: &Values) -> bool
     requires first_small { AreAtMost (2 ^ 50) first.now }
     ensures before { (j k : ℕ) → IsLarge j k → IsTrue result ↔ pos 0 <ℤ (linear_at first.now.start j *ℤ (linear_at n.now.start j *ℤ turn_value n.now first.now j k)) }
 {
-    are_opposite(first.start.sign().opposite(), sign_at_meet(n, first))
+    let turned = first.start.sign().opposite();
+    turned.is_opposite_to(sign_at_meet(n, first))
 }
 
 // The number of the item that the way meets first. It leads to the first item.

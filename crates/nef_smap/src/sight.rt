@@ -6,7 +6,6 @@ ghost use Rattle.nef_geo.specs.Shapes.{vector_of};
 ghost use Rattle.nef_smap.specs.Maps.{map_of, IsSphereMap};
 ghost use Rattle.nef_smap.specs.Sides.{SideSees};
 
-use crate::linear::is_plus;
 use crate::map::{SLoop, SphereMap};
 use crate::meets::{first_met, item_values};
 use crate::path::way_to;
@@ -24,7 +23,7 @@ fn side_on_way(map: &SphereMap, d: &Dir) -> usize
     let way = way_to(d, &map.svertices.at(arc.source).dir, &arc.normal);
     let first = first_met(map, &way);
     let start = item_values(&way, &map.item_at(first)).start.sign();
-    map.item_side(first, is_plus(start))
+    map.item_side(first, start.is_plus())
 }
 
 // On a map with a sloop and no arc: the side of the sloop toward d.
@@ -35,7 +34,7 @@ fn side_of_circle(map: &SphereMap, d: &Dir, circle: &SLoop) -> usize
     requires circle { map.now.sloop ≡ Some circle.now }
     ensures side { SideSees (map_of map.now) result (vector_of d.now) }
 {
-    map.item_side(0, is_plus(dot(&circle.normal, d)))
+    map.item_side(0, dot(&circle.normal, d).is_plus())
 }
 
 impl SphereMap {

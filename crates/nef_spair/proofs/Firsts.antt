@@ -12,9 +12,10 @@ use Rattle.law_sphere.specs.Stars.{Star as PlainStar}
 use Rattle.law_build.specs.From.{IsFirstAfter}
 use Rattle.nef_star.specs.declared.star.Star.{Star}
 use Rattle.nef_star.specs.Stars.{star_of}
-use Rattle.nef_star.proofs.Turns.{four, self-same}
+use Rattle.nef_star.proofs.Turns.{four}
 use Rattle.nef_star.proofs.Labelled.{strictly, passes}
 use Rattle.nef_smap.proofs.Lists.{at-map, map-at, at-within}
+use Rattle.nef_geo.proofs.Directions.{SameDirection-itself as self-same}
 
 -- the axis of the star with this number
 abbrev pub IsAxisOf : List Star → ℕ → Dir → Type 0

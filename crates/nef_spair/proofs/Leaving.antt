@@ -16,13 +16,14 @@ use Rattle.law_build.specs.From.{IsArcFrom, IsFirstAfter}
 use Rattle.nef_star.specs.declared.star.Ray.{Ray}
 use Rattle.nef_star.specs.declared.star.Star.{Star}
 use Rattle.nef_star.specs.Stars.{ray_of, star_of, left_of, left_at, IsRay, IsTurned}
-use Rattle.nef_star.proofs.Turns.{self-same, three_ways}
+use Rattle.nef_star.proofs.Turns.{three_ways}
 use Rattle.nef_star.proofs.Counted.{count-some}
 use Rattle.nef_smap.specs.declared.map.SArc.{SArc}
 use Rattle.nef_smap.specs.Maps.{arc_of}
 use Rattle.nef_smap.proofs.Lists.{map-at, at-within, get-at}
 use Rattle.nef_spair.specs.Arcs.{IsEarlier, IsAlong, IsTwin, AreApart, AreArcs}
 use Rattle.nef_spair.proofs.Places.{at-before, at-last, at-more, all-at}
+use Rattle.nef_geo.proofs.Directions.{SameDirection-itself as self-same}
 
 -- ---- one arc
 pub as-many-sectors : (t : Star) → IsTurned t → (k : ℕ) (r : Ray) → At t.rays.items k r → length t.sectors.items ≡ length t.rays.items

@@ -10,8 +10,8 @@ use Rattle.law_sphere.specs.Stars.{Star as PlainStar}
 use Rattle.law_build.specs.From.{IsFirstAfter}
 use Rattle.nef_star.specs.declared.star.Star.{Star}
 use Rattle.nef_star.specs.Stars.{star_of}
-use Rattle.nef_star.proofs.Turns.{self-same}
 use Rattle.nef_spair.specs.Arcs.{AreTwoEnds}
+use Rattle.nef_geo.proofs.Directions.{SameDirection-itself as self-same}
 
 -- two elements of a list of two
 pub two-of : (kept : List Star) (a b : Star) → length kept ≡ 2 → a ≡ get_or kept 0 a → b ≡ get_or kept 1 b → kept ≡ a ∷ b ∷ []

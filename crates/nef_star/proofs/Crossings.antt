@@ -6,14 +6,13 @@ use Rattle.std.proofs.lemmas.List.Elements.{All-cons, All-nil}
 use Rattle.law_arithmetic.specs.Signs.{Sign, minus, nought, plus, sign}
 use Rattle.law_arithmetic.proofs.Order.{by_order, mul_pos, plus-is, minus-is, nought-is}
 use Rattle.law_arithmetic.proofs.Ring.{ring, at, num, neg, ◌⊕◌, ◌⊖◌, ◌⊗◌}
-use Rattle.law_arithmetic.proofs.Combination.{follows, given, none}
 use Rattle.nef_space.specs.Limits.{normal_limit, svertex_limit}
 use Rattle.nef_space.specs.Vectors.{Vector, dot, cross, triple, opposite, IsDirection, IsParallel, IsAtMost, IsNormal, SameDirection}
 use Rattle.nef_space.specs.declared.label.Label.{Label}
 use Rattle.nef_geo.specs.Shapes.{vector_of}
 use Rattle.nef_geo.specs.declared.dir.Dir.{Dir}
 use Rattle.law_cyclic.specs.Arcs.{IsOnCircle, Passes}
-use Rattle.law_cyclic.proofs.Planar.{dot_poly, triple_poly, numbers, dot_comm, triple-back, parallel-sym, self_positive, turn_from_parallel, parallel_from_turn}
+use Rattle.law_cyclic.proofs.Planar.{triple_poly, numbers, dot_comm, triple-back, parallel-sym, self_positive, turn_from_parallel, parallel_from_turn}
 use Rattle.law_cyclic.proofs.Directions.{level_cross_first, same_or_opposite}
 use Rattle.law_sphere.specs.Least.{by_side}
 use Rattle.law_sphere.specs.Stars.{StarLabel}
@@ -25,12 +24,13 @@ use Rattle.nef_star.specs.Ops.{op_label}
 use Rattle.nef_star.specs.Turning.{IsTurning, Gives, on_ray, in_sector}
 use Rattle.nef_star.specs.Stars.{star_of, left_at, mark_at, sector_at, sector_count, IsRay, IsTurned, IsKept, LeftGives}
 use Rattle.nef_star.specs.Lines.{IsLine, side_of, past_of, before_of, IsCrossed, IsFourRays}
-use Rattle.nef_star.proofs.Turns.{self-same}
 use Rattle.nef_star.proofs.Labelled.{to-star, each_has_one_label}
 use Rattle.nef_star.proofs.Counted.{renamed}
 use Rattle.nef_star.proofs.Needed.{true_or_false}
 use Rattle.nef_star.proofs.Straight.{plane-turning}
 use Rattle.nef_star.proofs.Alternating.{four-turning, both-gives}
+use Rattle.nef_geo.proofs.Directions.{SameDirection-itself as self-same}
+use Rattle.law_sphere.proofs.SectorSees.{turn-from_left as turn-to}
 
 -- ---- turns
 neg-second : (a u v : Vector) → triple a u (opposite v) ≡ neg_ℤ (triple a u v)
@@ -54,13 +54,6 @@ half a u v w o p z q = record {
   more_than_half = λ h. absurd (omega (arith, ints, h, z));
   just_half = λ h. p;
 }
-
--- how far e is above the line, told about the axis
-turn-to : (a n e : Vector) → dot n a ≡ pos 0 → triple a n (cross a e) ≡ dot a a *ℤ dot n e
-turn-to a n e level =
-    let x = at 1 ⊗ at 8 ⊖ at 2 ⊗ at 7 in let y = at 2 ⊗ at 6 ⊖ at 0 ⊗ at 8 in let z = at 0 ⊗ at 7 ⊖ at 1 ⊗ at 6 in
-    follows (numbers a n e a) (at 0 ⊗ (at 4 ⊗ z ⊖ at 5 ⊗ y) ⊕ at 1 ⊗ (at 5 ⊗ x ⊖ at 3 ⊗ z) ⊕ at 2 ⊗ (at 3 ⊗ y ⊖ at 4 ⊗ x)) (dot_poly 0 0 ⊗ dot_poly 3 6)
-    (given (num (pos 0) ⊖ dot_poly 0 6) (dot_poly 3 0) (num (pos 0)) level none) tt
 
 -- ---- a line
 abbrev ahead_ray : Line → Ray

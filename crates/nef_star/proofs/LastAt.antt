@@ -1,5 +1,5 @@
 -- The last ray of a star at or before another.
-use Rattle.std.proofs.Common.{◌≡◌, ℕ, ◌+◌, ◌<◌, ◌≤◌, length, arith, sym, subst, inl, inr}
+use Rattle.std.proofs.Common.{◌≡◌, ℕ, zero, suc, ◌+◌, ◌<◌, ◌≤◌, length, arith, sym, subst, inl, inr}
 use Rattle.std.proofs.Math.Nat.{eq-or-lt_of_le}
 use Rattle.nef_space.specs.Vectors.{Vector, SameDirection}
 use Rattle.nef_geo.specs.Shapes.{vector_of}
@@ -8,7 +8,8 @@ use Rattle.nef_geo.proofs.Unique.{same_directions_equal}
 use Rattle.law_cyclic.specs.Arcs.{IsOnCircle}
 use Rattle.nef_star.specs.declared.star.Star.{Star}
 use Rattle.nef_star.specs.Stars.{left_at, IsTurned, LeftUnder}
-use Rattle.nef_star.proofs.Turns.{self-same, some_place}
+use Rattle.nef_star.proofs.Turns.{some_place}
+use Rattle.nef_geo.proofs.Directions.{SameDirection-itself as self-same}
 
 -- ---- the place of a ray
 pub same-as : (v : Vector) (d e : Dir) → vector_of d ≡ v → d ≡ e → SameDirection v (vector_of e)
@@ -17,14 +18,18 @@ same-as v d e h s = subst (λ (w : Vector). SameDirection w (vector_of e)) h (su
 pub as-same : (v : Vector) (d e : Dir) → vector_of d ≡ v → SameDirection v (vector_of e) → d ≡ e
 as-same v d e h s = same_directions_equal d e (subst (λ (w : Vector). SameDirection w (vector_of e)) (sym h) s)
 
--- d is under none of the first k rays
+-- d is under none of the first k rays after the first one
 abbrev pub NoneUnder : Star → Vector → ℕ → Type 0
-NoneUnder t d k = (i : ℕ) → i < k → LeftUnder t d i → ⊥
+NoneUnder t d k = (i : ℕ) → 0 < i → i < k → LeftUnder t d i → ⊥
 
 pub none-more : (t : Star) (d : Vector) (k : ℕ) → NoneUnder t d k → (LeftUnder t d k → ⊥) → NoneUnder t d (k + 1)
-none-more t d k h n i l u = elim (eq-or-lt_of_le {n = i} {m = k} (omega (arith, l))) [ inl e ↦ n (subst (LeftUnder t d) e u) | inr p ↦ h i p u ]
+none-more t d k h n i s l u = elim (eq-or-lt_of_le {n = i} {m = k} (omega (arith, l))) [ inl e ↦ n (subst (LeftUnder t d) e u) | inr p ↦ h i s p u ]
 
-pub none-under : (t : Star) → IsTurned t → 0 < length t.rays.items → (d : Vector) → IsOnCircle (vector_of t.axis) d → (k : ℕ) → length t.rays.items ≤ k → NoneUnder t d k → ⊥
-none-under t T h d o k l n =
+pub first-under : (t : Star) → IsTurned t → 0 < length t.rays.items → (d : Vector) → IsOnCircle (vector_of t.axis) d → (k : ℕ) → length t.rays.items ≤ k → NoneUnder t d k → LeftUnder t d 0
+first-under t T h d o k l none =
     let p = some_place (vector_of t.axis) t.axis.some (length t.rays.items) (left_at t.rays.items) T.counterclockwise d h o in
-    let i = p.1 in n p.0 (omega (arith, i, l)) p.2
+    first p.0 p.1 p.2
+  where
+    first : (i : ℕ) → i < length t.rays.items → LeftUnder t d i → LeftUnder t d 0
+    first zero w u = u
+    first (suc i) w u = absurd (none (suc i) (omega arith) (omega (arith, w, l)) u)

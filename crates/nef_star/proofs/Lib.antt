@@ -19,5 +19,3 @@ pub mod Alternating
 pub mod Crossings
 pub mod RoundStars
 pub mod TwoWays
-pub mod OtherEnds
-pub mod MirrorStars

@@ -10,17 +10,10 @@ use Rattle.nef_star.specs.declared.star.Star.{Star}
 use Rattle.nef_star.specs.Turning.{IsNext}
 use Rattle.nef_star.specs.Stars.{ray_of, star_of, mark_at, sector_at, IsRayBelow, IsTurned, IsKept, IsCountedFrom, IsNeedless, AreNeeded, IsPassed}
 use Rattle.nef_star.proofs.Labelled.{at-ray, at-sector}
-use Rattle.nef_star.proofs.Rotated.{Moved, moved-value, lt-or-le}
+use Rattle.nef_star.proofs.Rotated.{Moved, moved-value, lt-or-le, moved-from as unmoved}
 use Rattle.nef_star.proofs.RayOrder.{LeastOf}
 use Rattle.nef_star.proofs.Counted.{rotated-list, counted-length, marks, sectors}
 use Rattle.std.proofs.lemmas.List.{length-map}
-
-unmoved : (n m k : ℕ) → m < n → k < n → (i : ℕ) × (i < n) × Moved n m i k
-unmoved n m k h l = by (lt-or-le (k + m) n)
-  where
-    by : (k + m < n) ⊎ (n ≤ k + m) → (i : ℕ) × (i < n) × Moved n m i k
-    by (inl p) = (k + m, p, inl refl)
-    by (inr p) = (k + m - n, omega (arith, p, h, l), inr (omega (arith, p)))
 
 unmoved-next : (n m i j i' j' : ℕ) → m < n → i < n → j < n → Moved n m i i' → Moved n m j j' → IsNext n i' j' → IsNext n i j
 unmoved-next n m i j i' j' h k l (inl e) (inl f) (inl (x, y)) = inl (omega (arith, e, f, x), l)

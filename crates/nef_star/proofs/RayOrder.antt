@@ -1,28 +1,14 @@
 -- The order of rays.
-use Rattle.std.proofs.Common.{◌≡◌, ℕ, zero, suc, ◌+◌, ◌<◌, ℤ, List, [], ◌∷◌, length, get_or, Bool, true, false, arith, refl, sym, subst, ◌∙◌, inl, inr, ◌⊎◌}
+use Rattle.std.proofs.Common.{◌≡◌, ℕ, zero, suc, ◌+◌, ◌<◌, List, [], ◌∷◌, length, get_or, Bool, true, false, arith, refl, sym, subst, ◌∙◌, inl, inr, ◌⊎◌}
 use Rattle.std.proofs.Math.Nat.{eq-or-lt_of_le}
-use Rattle.std.proofs.lemmas.Int.{ints}
 use lib.Dec.{T}
 use Rattle.nef_space.specs.Numbers.{IsBelow}
 use Rattle.nef_space.specs.Vectors.{triple_of}
 use Rattle.nef_geo.specs.Shapes.{vector_of}
 use Rattle.nef_geo.specs.declared.dir.Dir.{Dir}
+use Rattle.nef_geo.proofs.Orders.{never-below, below-trans}
 use Rattle.nef_star.specs.declared.star.Ray.{Ray}
 use Rattle.nef_star.specs.Stars.{IsRayBelow}
-
-below-trans : (xs ys zs : List ℤ) → IsBelow xs ys → IsBelow ys zs → IsBelow xs zs
-below-trans [] ys zs h k = absurd h
-below-trans (x ∷ xs) [] zs h k = absurd h
-below-trans (x ∷ xs) (y ∷ ys) [] h k = absurd k
-below-trans (x ∷ xs) (y ∷ ys) (z ∷ zs) (inl p) (inl q) = inl (omega (arith, ints, p, q))
-below-trans (x ∷ xs) (y ∷ ys) (z ∷ zs) (inl p) (inr (e, q)) = inl (omega (arith, ints, p, e))
-below-trans (x ∷ xs) (y ∷ ys) (z ∷ zs) (inr (e, p)) (inl q) = inl (omega (arith, ints, e, q))
-below-trans (x ∷ xs) (y ∷ ys) (z ∷ zs) (inr (e, p)) (inr (f, q)) = inr (e ∙ f, below-trans xs ys zs p q)
-
-below-self : (xs : List ℤ) → IsBelow xs xs → ⊥
-below-self [] h = h
-below-self (x ∷ xs) (inl p) = omega (arith, ints, p)
-below-self (x ∷ xs) (inr (e, p)) = below-self xs p
 
 pub true_not_false : (b : Bool) → b ≡ true → b ≡ false → ⊥
 true_not_false b e f = subst T (sym e ∙ f) tt
@@ -34,7 +20,7 @@ ray-below-trans p q r (inr (e, h, h')) (inl k) = inl (subst (λ (d : Dir). IsBel
 ray-below-trans p q r (inr (e, a, b)) (inr (f, c, d)) = absurd (true_not_false q.ahead c b)
 
 pub ray-below-self : (r : Ray) → IsRayBelow r r → ⊥
-ray-below-self r (inl h) = below-self (triple_of (vector_of r.normal)) h
+ray-below-self r (inl h) = never-below (triple_of (vector_of r.normal)) h
 ray-below-self r (inr (e, a, b)) = true_not_false r.ahead a b
 
 pub one-value : {X : Type 0} (xs : List X) (k : ℕ) (d e : X) → k < length xs → get_or xs k d ≡ get_or xs k e

@@ -18,11 +18,11 @@ use Rattle.nef_star.specs.Rounds.{End, AreApart, IsRound, IsEndAt, HasWays, IsEn
 use Rattle.nef_star.specs.Stars.{left_of, left_at, mark_of, mark_at, sector_at, IsRay, IsTurned, IsKept, IsCut, IsCountedFrom, HasLeft}
 use Rattle.nef_star.proofs.Rotated.{moved-from, moved-value, moved}
 use Rattle.nef_star.proofs.LastAt.{as-same}
-use Rattle.nef_star.proofs.Turns.{self-same}
 use Rattle.nef_star.proofs.Counted.{lefts, marks, sectors, counted-length, count-some}
 use Rattle.nef_star.proofs.Joined.{changed-turned, changed-count, same-lefts, set-here, set-other, nat-is}
 use Rattle.nef_star.proofs.Labelled.{sectors-fill}
 use Rattle.nef_star.proofs.Pushed.{at-item}
+use Rattle.nef_geo.proofs.Directions.{SameDirection-itself as self-same}
 
 -- ---- the ways
 -- the star goes just the ways of the first k ends
@@ -237,16 +237,21 @@ module _ (ends : List End) (t : Star) (T : IsTurned t) (some : 0 < length t.rays
 
 -- ---- searching the end of a way
 abbrev pub NoneBefore : List End → ℕ → Vector → Type 0
-NoneBefore ends k v = (i : ℕ) (e : End) → i < k → IsAt ends i e → left_of e.0 ≡ v → ⊥
+NoneBefore ends k v = (i : ℕ) (e : End) → 0 < i → i < k → IsAt ends i e → left_of e.0 ≡ v → ⊥
 
 pub none-next : (ends : List End) (k : ℕ) (v : Vector) (e : End) → IsAt ends k e → (left_of e.0 ≡ v → ⊥) → NoneBefore ends k v → NoneBefore ends (k + 1) v
-none-next ends k v e a n none i f h b z = elim (eq-or-lt_of_le {n = i} {m = k} (omega (arith, h))) [
+none-next ends k v e a n none i f s h b z = elim (eq-or-lt_of_le {n = i} {m = k} (omega (arith, h))) [
   | inl q ↦ (let same : Some e ≡ Some f = sym a ∙ ap (slice_get ends) (sym q) ∙ b in (let g : e ≡ f = cc in n (ap (λ (x : End). left_of x.0) g ∙ z)))
-  | inr p ↦ none i f p b z
+  | inr p ↦ none i f s p b z
 ]
 
-pub none-all : (ends : List End) (k : ℕ) (v : Vector) → length ends ≤ k → NoneBefore ends k v → (i : ℕ) × (e : End) × IsAt ends i e × (left_of e.0 ≡ v) → ⊥
-none-all ends k v h none (i, e, a, z) = none i e (let l = slice_get_within ends i e a in omega (arith, h, l)) a z
+-- where none of the later ones goes it, the first does
+pub first-goes : (ends : List End) (k : ℕ) (v : Vector) (x : End) → length ends ≤ k → NoneBefore ends k v → IsAt ends 0 x → (i : ℕ) × (e : End) × IsAt ends i e × (left_of e.0 ≡ v) → left_of x.0 ≡ v
+first-goes ends k v x h none b (i, e, a, z) = first i a
+  where
+    first : (i : ℕ) → IsAt ends i e → left_of x.0 ≡ v
+    first zero a = let same : Some x ≡ Some e = sym b ∙ a in (let g : x ≡ e = cc in ap (λ (y : End). left_of y.0) g ∙ z)
+    first (suc i) a = absurd (none (suc i) e (omega arith) (let l = slice_get_within ends (suc i) e a in omega (arith, h, l)) a z)
 
 -- ---- all together
 pub finished : (ends : List End) (t s u : Star) → HasWays ends (length ends) t → IsEnded ends (length t.rays.items) t s → IsTurned u → IsKept s u

@@ -9,7 +9,6 @@ use Rattle.nef_space.specs.Numbers.{IsBelow}
 use Rattle.nef_space.specs.Vectors.{Vector, dot, opposite, triple_of, IsDirection, IsAtMost, IsNormal, SameDirection}
 use Rattle.nef_geo.specs.Shapes.{vector_of}
 use Rattle.nef_geo.specs.declared.dir.Dir.{Dir}
-use Rattle.nef_geo.proofs.Unique.{same_directions_equal}
 use Rattle.law_cyclic.specs.Arcs.{IsOnCircle}
 use Rattle.law_cyclic.proofs.Planar.{dot_comm, self_positive}
 use Rattle.law_cyclic.proofs.Directions.{dot-opposite}
@@ -18,9 +17,10 @@ use Rattle.nef_star.specs.declared.star.Ray.{Ray}
 use Rattle.nef_star.specs.declared.star.Star.{Star}
 use Rattle.nef_star.specs.Stars.{ray_of, star_of, left_of, left_at, sector_count, IsRayBelow, AreStraight, IsRay, IsStar}
 use Rattle.nef_star.specs.Turning.{IsTurning}
-use Rattle.nef_star.proofs.Turns.{self-same}
 use Rattle.nef_star.proofs.RayOrder.{ray-below-self, true_not_false}
 use Rattle.nef_star.proofs.Pushed.{left-on_circle}
+use Rattle.nef_star.proofs.RoundStars.{same-dirs as dir_equal}
+use Rattle.nef_geo.proofs.Directions.{SameDirection-itself as self-same}
 
 pub two_items : {X : Type 0} (xs : List X) (q r : X) → length xs ≡ 2 → q ≡ get_or xs 0 q → r ≡ get_or xs 1 r → xs ≡ q ∷ r ∷ []
 two_items [] q r n e f = absurd (omega (arith, n))
@@ -33,9 +33,6 @@ some_two [] n = absurd (omega (arith, n))
 some_two (x ∷ []) n = absurd (omega (arith, n))
 some_two (x ∷ y ∷ []) n = (x, y, refl)
 some_two (x ∷ y ∷ z ∷ xs) n = absurd (omega (arith, n))
-
-dir_equal : (a b : Dir) → vector_of a ≡ vector_of b → a ≡ b
-dir_equal a b e = same_directions_equal a b (subst (λ (v : Vector). SameDirection (vector_of a) v) e (self-same (vector_of a) a.some))
 
 -- one ray goes ahead and the other back
 abbrev Turned : Ray → Ray → Type 0

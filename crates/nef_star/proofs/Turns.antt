@@ -1,5 +1,5 @@
 -- Directions in counterclockwise order about an axis: each direction is under one of them, and has one label.
-use Rattle.std.proofs.Common.{◌≡◌, ℕ, zero, suc, ◌-◌, ◌<◌, ◌≤◌, ℤ, pos, ◌<ℤ◌, ◌*ℤ◌, ◌-ℤ◌, arith, refl, sym, ap, subst, ◌∙◌, inl, inr, ◌⊎◌}
+use Rattle.std.proofs.Common.{◌≡◌, ℕ, zero, suc, ◌-◌, ◌<◌, ◌≤◌, ℤ, pos, ◌<ℤ◌, arith, refl, sym, ap, subst, ◌∙◌, inl, inr, ◌⊎◌}
 use Rattle.std.proofs.lemmas.Int.{ints}
 use Rattle.std.proofs.Math.Nat.{eq-or-lt_of_le}
 use Rattle.nef_space.specs.Vectors.{Vector, dot, cross, triple, IsDirection, IsParallel, SameDirection}
@@ -13,17 +13,9 @@ use Rattle.law_near.proofs.Decided.{Decided}
 use Rattle.law_forms.proofs.Directions.{zero-decided}
 use Rattle.law_sphere.proofs.Vectors.{positive-or}
 use Rattle.nef_star.specs.Turning.{IsTurning, IsNext, Gives, on_ray, in_sector as of_sector, in_only_sector, IsUnder}
+use Rattle.nef_geo.proofs.Directions.{SameDirection-itself as self-same}
 
 -- ---- directions about an axis
-pub self-same : (d : Vector) → IsDirection d → SameDirection d d
-self-same d h = record { parallel = parallel d; forward = self_positive d h }
-  where
-    level : (x y : ℤ) → x *ℤ y -ℤ y *ℤ x ≡ pos 0
-    level x y = omega (arith, ints)
-
-    parallel : (d : Vector) → IsParallel d d
-    parallel d = (level d.y d.z, level d.z d.x, level d.x d.y)
-
 pub same-self : (a d : Vector) → IsOnCircle a d → SameDirection d d
 same-self a d h = self-same d h.direction
 

@@ -4,4 +4,3 @@ pub mod Stars
 pub mod Laws
 pub mod Rounds
 pub mod Lines
-pub mod Mirrors

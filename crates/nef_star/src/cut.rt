@@ -58,12 +58,12 @@ pub(crate) fn place_of(star: &Star, left: &Dir) -> usize
     ensures within { result < length star.now.rays.items }
     ensures under { LeftUnder star.now (vector_of left.now) result }
 {
-    for k in 0..star.rays.len() {
+    for k in 1..star.rays.len() {
         if is_under(star, k, left) {
             return k;
         }
     }
-    unreachable!()
+    0
 }
 
 // The ray with another mark.

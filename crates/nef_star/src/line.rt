@@ -4,16 +4,16 @@ ghost use Rattle.std.specs.Prelude.{ℤ, ◌≡◌, ◌↔◌, pos, ◌<ℤ◌, 
 ghost use Rattle.nef_space.specs.Limits.{svertex_limit};
 ghost use Rattle.nef_space.specs.Vectors.{IsAtMost, IsParallel, triple};
 ghost use Rattle.nef_geo.specs.Shapes.{vector_of};
-ghost use Rattle.nef_geo.specs.Signs.{sign_of};
 ghost use Rattle.nef_star.specs.Ops.{op_label};
 ghost use Rattle.nef_star.specs.Stars.{IsTurned, IsStar};
 ghost use Rattle.nef_star.specs.Lines.{IsLine, IsCrossed, IsFourRays};
+ghost use Rattle.nef_geo.specs.Signs.{sign_of};
 
 use crate::OutOfMemory;
 use crate::needless::begin_with_least;
 use crate::op::Op;
 use crate::star::{Ray, Star};
-use nef_geo::{Dir, Label, Sign, triple};
+use nef_geo::{Dir, Label, triple};
 use std::alloc::Global;
 
 /// A great circle near one of its directions: the label on it, and those on the side to which the normal points and on
@@ -26,20 +26,11 @@ pub struct Line {
     pub neg: Label,
 }
 
-fn is_plus(sign: Sign) -> bool
-    ensures plus { (x : ℤ) → sign ≡ sign_of x → IsTrue result ↔ pos 0 <ℤ x }
-{
-    match sign {
-        Sign::Plus => true,
-        _ => false,
-    }
-}
-
 // Whether the second line leaves the axis less than half a turn after the first, both ahead.
 fn is_turned_left(axis: &Dir, x: &Line, y: &Line) -> bool
     ensures left { IsTrue result ↔ pos 0 <ℤ triple (vector_of axis.now) (vector_of x.now.normal) (vector_of y.now.normal) }
 {
-    is_plus(triple(axis, &x.normal, &y.normal))
+    triple(axis, &x.normal, &y.normal).is_plus()
 }
 
 // The four rays of two lines that cross, from the first line's that goes ahead on. The second line's next ray goes ahead

@@ -55,12 +55,13 @@ fn end_with(ends: &[(Ray, Label)], left: &Dir) -> (Ray, Label)
     ensures listed { (i : ℕ) × IsAt ends.now i result }
     ensures left { left_of result.0 ≡ vector_of left.now }
 {
-    for end in ends {
+    for k in 1..ends.len() {
+        let end = ends[k];
         if end.0.left().is_same(left) {
-            return *end;
+            return end;
         }
     }
-    unreachable!()
+    ends[0]
 }
 
 // Gives ray `k` the mark of its end, and the sector after it the end's label.

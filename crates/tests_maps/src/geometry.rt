@@ -5,7 +5,7 @@ ghost use Rattle.std.specs.Prelude.{◌↔◌, ◌≤◌, nat_abs, IsTrue};
 use crate::words::{direction, is_at_most, numbers, way, way_text};
 use nef_geo::{
     Dir, List, Plane, Point, Sign, cross, dir_cmp, dir_side, dot, hit_at, hit_side, lex_cmp, meet,
-    plane_axis, plane_cmp, plane_dir, quad, side, triple,
+    plane_axis, plane_dir, quad, side, triple,
 };
 use std::alloc::Global;
 use std::process::Abort;
@@ -185,7 +185,7 @@ fn of_two(alloc: Global, verb: &str, a: &str, b: &str) -> Result<String, Fail> {
         "given_side" => return given_side(alloc, a, &point(alloc, b)?),
         "order" => way(alloc, a)?.cmp(&way(alloc, b)?),
         "way_order" => dir_cmp(&way(alloc, a)?, &way(alloc, b)?),
-        "plane_order" => plane_cmp(&plane(alloc, a)?, &plane(alloc, b)?),
+        "plane_order" => plane(alloc, a)?.cmp(&plane(alloc, b)?),
         "point_order" => lex_cmp(&point(alloc, a)?, &point(alloc, b)?),
         _ => {
             let sign = sign_of_two(alloc, verb, a, b)?;

@@ -1,17 +1,11 @@
-use Rattle.std.proofs.Common.{◌≡◌, ℕ, ℤ, arith, refl, sym, ap, ◌∙◌, subst, to_z, of_z, w64, ◌↔◌, IsNone, IfSome, Option, Some, None}
+use Rattle.std.proofs.Common.{ℕ, refl, sym, ◌∙◌, subst, ◌↔◌, IsNone, IfSome, Option, Some, None}
 use Rattle.nef_space.specs.Limits.{svertex_limit}
-use Rattle.nef_space.specs.Vectors.{Vector, vector, cross, IsAtMost, IsZero, SameDirection}
+use Rattle.nef_space.specs.Vectors.{Vector, cross, IsAtMost, IsZero, SameDirection}
 use Rattle.nef_geo.specs.declared.dir.Dir.{Dir}
 use Rattle.nef_geo.specs.Shapes.{vector_of}
 use Rattle.nef_geo.specs.Triples.{triple_vector}
-use Rattle.nef_geo.proofs.Products.{kept, same_vector}
+use Rattle.nef_geo.proofs.Products.{passed}
 use Rattle.nef_geo.proofs.product.cross.Goals as goal
-
--- the numbers that are passed on are the cross product's
-passed : (a b p q : Vector) (x y z : ℤ) → p ≡ a → q ≡ b → vector x y z ≡ cross p q → IsAtMost svertex_limit (vector x y z) → vector (to_z w64 (of_z w64 x)) (to_z w64 (of_z w64 y)) (to_z w64 (of_z w64 z)) ≡ cross a b
-passed a b p q x y z ep eq e s =
-    same_vector _ _ _ _ _ _ (kept x (omega (arith, s.of_x))) (kept y (omega (arith, s.of_y))) (kept z (omega (arith, s.of_z)))
-    ∙ e ∙ ap (λ (v : Vector). cross v q) ep ∙ ap (cross a) eq
 
 small_some : (r : Option Dir) (v : Vector) → IsAtMost svertex_limit v → IfSome r (λ d. (k : ℕ) → IsAtMost k v → IsAtMost k (vector_of d)) → IfSome r (λ d. IsAtMost svertex_limit (vector_of d))
 small_some None v s h = h

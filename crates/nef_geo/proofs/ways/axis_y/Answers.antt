@@ -1,10 +1,9 @@
-use Rattle.std.proofs.Common.{◌≡◌, pos, lit≤}
+use Rattle.std.proofs.Common.{◌≡◌, pos, refl, lit≤}
 use native.Mathlib.Nat.{dvd-one}
-use Rattle.nef_geo.proofs.Directions.{SameDirection-itself}
 use Rattle.nef_geo.proofs.ways.axis_y.Goals as goal
 
 pub invariant_of-result : goal.invariant_of-result
 invariant_of-result c = record { x_small = lit≤ tt; y_small = lit≤ tt; z_small = lit≤ tt; some = λ z. (let e : pos 1 ≡ pos 0 = z.1 in cc); lowest = λ k d. (dvd-one).0 d.1.0 }
 
 pub returns : goal.returns
-returns c = record { same = SameDirection-itself _ (λ z. (let e : pos 1 ≡ pos 0 = z.1 in cc)); small = record { of_x = lit≤ tt; of_y = lit≤ tt; of_z = lit≤ tt } }
+returns c = record { axis = refl; small = record { of_x = lit≤ tt; of_y = lit≤ tt; of_z = lit≤ tt } }

@@ -22,6 +22,6 @@ returns-clause-off c =
     let d = vector_of c.args.d.now in
     let x : c.triple.result ≡ Zero = search rules in
     let y : c.triple-2.result ≡ Zero = search rules in
-    λ z. c.requires.apart (axes-nought (cross up d) (vector_of c.axis_x-x.result) (vector_of c.axis_y-y.result) (vector_of c.axis_z.result) c.axis_x-x.ensures.same c.axis_y-y.ensures.same c.axis_z.ensures.same
+    λ z. c.requires.apart (axes-nought (cross up d) (vector_of c.axis_x-x.result) (vector_of c.axis_y-y.result) (vector_of c.axis_z.result) c.axis_x-x.ensures.axis c.axis_y-y.ensures.axis c.axis_z.ensures.axis
     (zero-of c.triple.result (dot (cross up d) (vector_of c.axis_x-x.result)) (up-triple c.triple.result (vector_of c.up-up.result) d (vector_of c.axis_x-x.result) c.triple.ensures.triple c.up-up.ensures.up) x)
     (zero-of c.triple-2.result (dot (cross up d) (vector_of c.axis_y-y.result)) (up-triple c.triple-2.result (vector_of c.up-up.result) d (vector_of c.axis_y-y.result) c.triple-2.ensures.triple c.up-up.ensures.up) y) z)

@@ -1,4 +1,4 @@
-use Rattle.std.proofs.Common.{pos, ◌<ℤ◌, refl, sym, subst}
+use Rattle.std.proofs.Common.{pos, ◌<ℤ◌, sym, subst}
 use Rattle.nef_space.specs.Vectors.{Vector, triple, up}
 use Rattle.nef_geo.specs.Shapes.{vector_of}
 use Rattle.law_sphere.specs.Maps.{arc_item, items}
@@ -16,16 +16,16 @@ at-requires c =
     let e = ends-within m c.requires.map c.args.number c.at-arc.result.now (arc-item_listed m c.requires.map c.args.number c.at-arc.result.now c.at-arc.ensures.element) in
     record { within = e.0 }
 
-pub cross-requires-clause-a_small : goal.cross-requires-clause-a_small
-cross-requires-clause-a_small c =
+pub common_perpendicular-aside-requires-clause-a_small : goal.common_perpendicular-aside-requires-clause-a_small
+common_perpendicular-aside-requires-clause-a_small c =
     let m = c.args.map.now in
     normal-small m c.requires.map c.args.number (arc_item (arc_of c.at-arc.result.now)) (arc-item_listed m c.requires.map c.args.number c.at-arc.result.now c.at-arc.ensures.element)
 
-pub unreachable-requires : goal.unreachable-requires
-unreachable-requires c =
+pub common_perpendicular-aside-requires-clause-apart : goal.common_perpendicular-aside-requires-clause-apart
+common_perpendicular-aside-requires-clause-apart c =
     let m = c.args.map.now in
     let l = source-level m c.requires.map c.args.number c.at-arc.result.now c.at-arc.ensures.element c.at.result.now c.at.ensures.element in
-    along-some (vector_of c.at-arc.result.now.normal) (vector_of c.at.result.now.dir) (vector_of c.axis_along.result) c.at-arc.result.now.normal.some l c.axis_along.ensures.along (c.in_default.ensures.none.0 refl)
+    along-some (vector_of c.at-arc.result.now.normal) (vector_of c.at.result.now.dir) (vector_of c.axis_along.result) c.at-arc.result.now.normal.some l c.axis_along.ensures.along
 
 pub item_side-requires : goal.item_side-requires
 item_side-requires c =
@@ -40,8 +40,8 @@ above-requires-clause-off c =
     let s = vector_of c.at.result.now.dir in
     let a = arc-item_listed m c.requires.map c.args.number r c.at-arc.ensures.element in
     let l = source-level m c.requires.map c.args.number r c.at-arc.ensures.element c.at.result.now c.at.ensures.element in
-    along-off n s (vector_of c.in-Some.aside) up l (cross-level n (vector_of c.axis_along.result) (vector_of c.in-Some.aside) c.in-Some.ensures.cross)
-    (along-forward n s (vector_of c.axis_along.result) r.normal.some l c.axis_along.ensures.along (vector_of c.in-Some.aside) c.in-Some.ensures.cross)
+    along-off n s (vector_of c.common_perpendicular-aside.result) up l (cross-level n (vector_of c.axis_along.result) (vector_of c.common_perpendicular-aside.result) c.common_perpendicular-aside.ensures.cross)
+    (along-forward n s (vector_of c.axis_along.result) r.normal.some l c.axis_along.ensures.along (vector_of c.common_perpendicular-aside.result) c.common_perpendicular-aside.ensures.cross)
     (map-ahead m c.requires.map c.args.number (arc_item (arc_of r)) a)
 
 pub above-requires-clause-at_small : goal.above-requires-clause-at_small
@@ -56,7 +56,7 @@ returns c =
     let s = vector_of c.at.result.now.dir in
     let w = dir-from_get m.svertices r.source c.at.result.now c.at.ensures.element in
     let l = source-level m c.requires.map c.args.number r c.at-arc.ensures.element c.at.result.now c.at.ensures.element in
-    let y = vector_of c.in-Some.aside in
+    let y = vector_of c.common_perpendicular-aside.result in
     record {
       joins = (
         arc_of r,
@@ -64,8 +64,8 @@ returns c =
         (
           record {
             along = y;
-            level = cross-level n (vector_of c.axis_along.result) y c.in-Some.ensures.cross;
-            forward = subst (λ (x : Vector). pos 0 <ℤ triple n x y) (sym w) (along-forward n s (vector_of c.axis_along.result) r.normal.some l c.axis_along.ensures.along y c.in-Some.ensures.cross);
+            level = cross-level n (vector_of c.axis_along.result) y c.common_perpendicular-aside.ensures.cross;
+            forward = subst (λ (x : Vector). pos 0 <ℤ triple n x y) (sym w) (along-forward n s (vector_of c.axis_along.result) r.normal.some l c.axis_along.ensures.along y c.common_perpendicular-aside.ensures.cross);
             first = c.above.result;
             is_first = subst (λ (x : Vector). FirstNear M up x y up c.above.result) (sym w) c.above.ensures.first;
           },

@@ -7,8 +7,8 @@ use Rattle.nef_smap.proofs.MapLists.{at-within, item-sloop}
 use Rattle.nef_smap.proofs.Joining.{normal-small, plane-across}
 use Rattle.nef_smap.proofs.join.join_sloop.Goals as goal
 
-pub in_plane-at-requires : goal.in_plane-at-requires
-in_plane-at-requires c =
+pub on_circle-at-requires : goal.on_circle-at-requires
+on_circle-at-requires c =
     let m = c.args.map.now in
     record { small = normal-small m c.requires.map (length m.arcs) (sloop_item (sloop_of c.args.circle.now)) (item-sloop m.arcs m.sloop (length m.arcs) c.args.circle.now refl c.requires.circle) }
 
@@ -17,7 +17,7 @@ beside-requires c =
     let m = c.args.map.now in
     record {
       apart = plane-across m c.requires.map (length m.arcs) (sloop_item (sloop_of c.args.circle.now)) (item-sloop m.arcs m.sloop (length m.arcs) c.args.circle.now refl c.requires.circle)
-          (vector_of c.in_plane-at.result) c.in_plane-at.result.some c.in_plane-at.ensures.level;
+          (vector_of c.on_circle-at.result) c.on_circle-at.result.some c.on_circle-at.ensures.on.level;
     }
 
 pub item_side-requires : goal.item_side-requires
@@ -37,8 +37,8 @@ returns c =
         l,
         (
           record {
-            point = vector_of c.in_plane-at.result;
-            on = record { direction = c.in_plane-at.result.some; level = c.in_plane-at.ensures.level };
+            point = vector_of c.on_circle-at.result;
+            on = c.on_circle-at.ensures.on;
             aside = vector_of c.beside.result;
             off = c.beside.ensures.off;
             first = c.above.result;

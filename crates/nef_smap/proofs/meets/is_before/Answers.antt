@@ -8,7 +8,7 @@ returns c = record {
   before = λ j k large.
       let n = c.args.n.now in
       let f = c.args.first.now in
-      let o = c.are_opposite.ensures.opposite _ _ (c.opposite.ensures.opposite _ (c.sign.ensures.sign j large.first)) (c.sign_at_meet.ensures.sign j k large) in
+      let o = c.is_opposite_to.ensures.product _ _ (c.opposite-turned.ensures.opposite _ (c.sign.ensures.sign j large.first)) (c.sign_at_meet.ensures.sign j k large) in
       let t = turned-less (linear_at f.start j) (linear_at n.start j *ℤ turn_value n f j k) in
       (λ h. t.0 (o.0 h), λ h. o.1 (t.1 h));
 }

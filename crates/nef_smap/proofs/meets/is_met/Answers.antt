@@ -15,14 +15,14 @@ use Rattle.nef_smap.proofs.MeetSigns.{parted-by}
 use Rattle.nef_smap.proofs.MeetTests.{met-direction}
 use Rattle.nef_smap.proofs.meets.is_met.Goals as goal
 
-pub returns-then-not-are_opposite : goal.returns-then-not-are_opposite
-returns-then-not-are_opposite c = record {
+pub returns-then-not-is_opposite_to : goal.returns-then-not-is_opposite_to
+returns-then-not-is_opposite_to c = record {
   met = λ j k large fair. (
     λ h. absurd (not_true h),
     λ m.
-        let o = c.are_opposite.ensures.opposite _ _ (c.sign.ensures.sign j large.first) (c.sign-2.ensures.sign k (let f = large.first in let s = large.second in omega arith)) in
+        let o = c.is_opposite_to.ensures.product _ _ (c.sign.ensures.sign j large.first) (c.sign-2.ensures.sign k (let f = large.first in let s = large.second in omega arith)) in
         let t = o.1 (subst (λ (x : ℤ). x <ℤ pos 0) (sym (parted-by c.args.way.now (item_normal (item_of c.args.item.now)) c.args.n.now j k c.requires.values)) m.parted) in
-        absurd (not_true (sym c.if-not-are_opposite.true ∙ t)),
+        absurd (not_true (sym c.if-not-is_opposite_to.true ∙ t)),
   );
 }
 
@@ -38,8 +38,8 @@ returns-in-Arc c = record {
       let w = c.args.way.now in
       let a = start_at w j in
       let b = end_at w k in
-      let o = c.are_opposite.ensures.opposite _ _ (c.sign.ensures.sign j large.first) (c.sign-2.ensures.sign k (let f = large.first in let s = large.second in omega arith)) in
-      let parted = subst (λ (x : ℤ). x <ℤ pos 0) (parted-by w (item_normal (item_of c.args.item.now)) c.args.n.now j k c.requires.values) (o.0 c.if-not-are_opposite.false) in
+      let o = c.is_opposite_to.ensures.product _ _ (c.sign.ensures.sign j large.first) (c.sign-2.ensures.sign k (let f = large.first in let s = large.second in omega arith)) in
+      let parted = subst (λ (x : ℤ). x <ℤ pos 0) (parted-by w (item_normal (item_of c.args.item.now)) c.args.n.now j k c.requires.values) (o.0 c.if-not-is_opposite_to.false) in
       let some = met-direction m a b fair c.requires.item.0 (item_of c.args.item.now) c.requires.item.1 in
       let P : Item → Type 0 = λ (it : Item). (dot (item_normal (item_of it)) a *ℤ dot (item_normal (item_of it)) b) <ℤ pos 0 in
       let D : Item → Type 0 = λ (it : Item). IsDirection (meet_of (item_normal (item_of it)) a b) in
@@ -55,8 +55,8 @@ returns-in-Loop c = record {
       let w = c.args.way.now in
       let a = start_at w j in
       let b = end_at w k in
-      let o = c.are_opposite.ensures.opposite _ _ (c.sign.ensures.sign j large.first) (c.sign-2.ensures.sign k (let f = large.first in let s = large.second in omega arith)) in
-      let parted = subst (λ (x : ℤ). x <ℤ pos 0) (parted-by w (item_normal (item_of c.args.item.now)) c.args.n.now j k c.requires.values) (o.0 c.if-not-are_opposite.false) in
+      let o = c.is_opposite_to.ensures.product _ _ (c.sign.ensures.sign j large.first) (c.sign-2.ensures.sign k (let f = large.first in let s = large.second in omega arith)) in
+      let parted = subst (λ (x : ℤ). x <ℤ pos 0) (parted-by w (item_normal (item_of c.args.item.now)) c.args.n.now j k c.requires.values) (o.0 c.if-not-is_opposite_to.false) in
       let some = met-direction m a b fair c.requires.item.0 (item_of c.args.item.now) c.requires.item.1 in
       let P : Item → Type 0 = λ (it : Item). (dot (item_normal (item_of it)) a *ℤ dot (item_normal (item_of it)) b) <ℤ pos 0 in
       let D : Item → Type 0 = λ (it : Item). IsDirection (meet_of (item_normal (item_of it)) a b) in

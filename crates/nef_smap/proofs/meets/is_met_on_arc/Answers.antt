@@ -1,6 +1,6 @@
-use Rattle.std.proofs.Common.{◌^◌, arith, ap, sym, ◌∙◌, subst, ◌↔◌}
+use Rattle.std.proofs.Common.{◌*◌, ◌^◌, lit≤, arith, ap, sym, ◌∙◌, subst, ◌↔◌}
 use Rattle.std.specs.Bool.{IsTrue}
-use Rattle.nef_space.specs.Limits.{normal_limit, svertex_limit}
+use Rattle.nef_space.specs.Limits.{normal_limit, svertex_limit, direction_limit}
 use Rattle.nef_space.specs.Vectors.{Vector, dot, IsAtMost}
 use Rattle.law_cyclic.specs.Arcs.{IsStrictlyOn}
 use Rattle.law_cyclic.proofs.Directions.{classes_are_arcs}
@@ -8,7 +8,7 @@ use Rattle.law_near.proofs.FlatDecided.{triple-dot}
 use Rattle.nef_arc.proofs.SignNumbers.{read_sign, five_signs, between_read, test_of, true_of}
 use Rattle.nef_geo.specs.Shapes.{vector_of}
 use Rattle.nef_geo.specs.Signs.{sign_of}
-use Rattle.nef_geo.proofs.Products.{IsAtMost-weaken, cross_is}
+use Rattle.nef_geo.proofs.Products.{IsAtMost-weaken, cross_is, dir_within}
 use Rattle.law_sphere.specs.Maps.{dir_of}
 use Rattle.law_sphere.proofs.Direct.{slid-level}
 use Rattle.nef_smap.specs.Maps.{map_of}
@@ -24,22 +24,36 @@ at-requires c = record { within = source-within c.args.map.now c.requires.map c.
 pub at-requires-2 : goal.at-requires-2
 at-requires-2 c = record { within = target-within c.args.map.now c.requires.map c.requires.arc.0 c.args.arc.now c.requires.arc.1 }
 
-pub cross-requires-clause-left : goal.cross-requires-clause-left
-cross-requires-clause-left c = subst (IsAtMost normal_limit) (sym c.widened-normal.ensures.wide) (normal-small c.args.map.now c.requires.map c.requires.arc.0 c.args.arc.now c.requires.arc.1)
+pub cross_wide-requires : goal.cross_wide-requires
+cross_wide-requires c = record {
+  left = subst (IsAtMost direction_limit) (sym c.wide-normal.ensures.wide) (dir_within c.args.arc.now.normal);
+  right = subst (IsAtMost direction_limit) (sym c.wide-from.ensures.wide) (dir_within c.at.result.now.dir);
+}
 
-pub cross-requires-clause-right : goal.cross-requires-clause-right
-cross-requires-clause-right c = let e = source-end c.args.map.now c.requires.map c.requires.arc.0 c.args.arc.now c.requires.arc.1 c.at.result.now c.at.ensures.element in subst (IsAtMost svertex_limit) (sym c.widened-from.ensures.wide) e.small
+pub cross_wide-requires-2 : goal.cross_wide-requires-2
+cross_wide-requires-2 c = record {
+  left = subst (IsAtMost direction_limit) (sym c.wide-normal.ensures.wide) (dir_within c.args.arc.now.normal);
+  right = subst (IsAtMost direction_limit) (sym c.wide-to.ensures.wide) (dir_within c.at-2.result.now.dir);
+}
 
-pub cross-requires-2-clause-left : goal.cross-requires-2-clause-left
-cross-requires-2-clause-left c = subst (IsAtMost normal_limit) (sym c.widened-normal.ensures.wide) (normal-small c.args.map.now c.requires.map c.requires.arc.0 c.args.arc.now c.requires.arc.1)
+pub sign_where_met-past_source-requires-clause-g_small : goal.sign_where_met-past_source-requires-clause-g_small
+sign_where_met-past_source-requires-clause-g_small c =
+    let m = c.args.map.now in let a = c.args.arc.now in
+    let e = source-end m c.requires.map c.requires.arc.0 a c.requires.arc.1 c.at.result.now c.at.ensures.element in
+    IsAtMost-weaken (2 * (normal_limit * svertex_limit)) (2 ^ 35) _ (lit≤ tt)
+    (c.cross_wide.ensures.small normal_limit svertex_limit (subst (IsAtMost normal_limit) (sym c.wide-normal.ensures.wide) (normal-small m c.requires.map c.requires.arc.0 a c.requires.arc.1)) (subst (IsAtMost svertex_limit) (sym c.wide-from.ensures.wide) e.small))
 
-pub cross-requires-2-clause-right : goal.cross-requires-2-clause-right
-cross-requires-2-clause-right c = let e = target-end c.args.map.now c.requires.map c.requires.arc.0 c.args.arc.now c.requires.arc.1 c.at-2.result.now c.at-2.ensures.element in subst (IsAtMost svertex_limit) (sym c.widened-to.ensures.wide) e.small
+pub sign_where_met-past_target-requires-clause-g_small : goal.sign_where_met-past_target-requires-clause-g_small
+sign_where_met-past_target-requires-clause-g_small c =
+    let m = c.args.map.now in let a = c.args.arc.now in
+    let e = target-end m c.requires.map c.requires.arc.0 a c.requires.arc.1 c.at-2.result.now c.at-2.ensures.element in
+    IsAtMost-weaken (2 * (normal_limit * svertex_limit)) (2 ^ 35) _ (lit≤ tt)
+    (c.cross_wide-2.ensures.small normal_limit svertex_limit (subst (IsAtMost normal_limit) (sym c.wide-normal.ensures.wide) (normal-small m c.requires.map c.requires.arc.0 a c.requires.arc.1)) (subst (IsAtMost svertex_limit) (sym c.wide-to.ensures.wide) e.small))
 
 pub sign_where_met-requires-clause-g_small : goal.sign_where_met-requires-clause-g_small
 sign_where_met-requires-clause-g_small c =
     let e = source-end c.args.map.now c.requires.map c.requires.arc.0 c.args.arc.now c.requires.arc.1 c.at.result.now c.at.ensures.element in
-    subst (IsAtMost (2 ^ 35)) (sym c.widened-from.ensures.wide) (IsAtMost-weaken svertex_limit (2 ^ 35) _ (omega arith) e.small)
+    subst (IsAtMost (2 ^ 35)) (sym c.wide-from.ensures.wide) (IsAtMost-weaken svertex_limit (2 ^ 35) _ (omega arith) e.small)
 
 pub between-requires : goal.between-requires
 between-requires c = record {
@@ -65,10 +79,10 @@ returns c = record {
       let hn = normal-direction m c.requires.map c.requires.arc.0 a c.requires.arc.1 in
       let law = classes_are_arcs n from to p hn s.on t.on (record { direction = some; level = slid-level n (start_at c.args.way.now j) (end_at c.args.way.now k) }) in
       let x = c.sign_where_met-past_source.ensures.sign n j k c.requires.values large
-      ∙ ap sign_of (ap (λ (v : Vector). dot v p) (cross_is n from _ _ _ c.widened-normal.ensures.wide c.widened-from.ensures.wide c.cross.ensures.cross) ∙ sym (triple-dot n from p)) in
-      let y = c.sign_where_met.ensures.sign n j k c.requires.values large ∙ ap sign_of (ap (λ (v : Vector). dot v p) c.widened-from.ensures.wide) in
+      ∙ ap sign_of (ap (λ (v : Vector). dot v p) (cross_is n from _ _ _ c.wide-normal.ensures.wide c.wide-from.ensures.wide c.cross_wide.ensures.cross) ∙ sym (triple-dot n from p)) in
+      let y = c.sign_where_met.ensures.sign n j k c.requires.values large ∙ ap sign_of (ap (λ (v : Vector). dot v p) c.wide-from.ensures.wide) in
       let z = c.opposite.ensures.opposite _ (c.sign_where_met-past_target.ensures.sign n j k c.requires.values large
-      ∙ ap sign_of (ap (λ (v : Vector). dot v p) (cross_is n to _ _ _ c.widened-normal.ensures.wide c.widened-to.ensures.wide c.cross-2.ensures.cross))) ∙ ap sign_of (turn-target n to p) in
+      ∙ ap sign_of (ap (λ (v : Vector). dot v p) (cross_is n to _ _ _ c.wide-normal.ensures.wide c.wide-to.ensures.wide c.cross_wide-2.ensures.cross))) ∙ ap sign_of (turn-target n to p) in
       let answer = between_read c.between.result _ _ _ _ _ _ _ _ _ _
       (read_sign c.number.result c.triple.result _ c.number.type_inv c.number.ensures.number c.triple.ensures.triple)
       (read_sign c.number-2.result c.dot.result _ c.number-2.type_inv c.number-2.ensures.number c.dot.ensures.dot)

@@ -8,7 +8,7 @@ use Rattle.law_sphere.proofs.Generic.{amount}
 use Rattle.law_sphere.proofs.Lists.{at-one}
 use Rattle.nef_smap.specs.Items.{item_of}
 use Rattle.nef_smap.specs.Maps.{map_of, arc_of}
-use Rattle.nef_smap.specs.WideVectors.{wide_vector}
+use Rattle.nef_geo.specs.Triples.{wide_vector}
 use Rattle.nef_smap.proofs.ArcEnds.{at-map, source-within, source-end, normal-small}
 use Rattle.nef_smap.proofs.MapLists.{length-items, at-within}
 use Rattle.nef_smap.proofs.MeetSigns.{start-value}

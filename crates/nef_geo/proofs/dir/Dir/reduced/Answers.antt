@@ -3,7 +3,7 @@ use Rattle.nef_space.specs.Limits.{direction_limit}
 use Rattle.nef_space.specs.Vectors.{vector}
 use Rattle.nef_geo.specs.Meet.{IsStretched}
 use Rattle.nef_geo.proofs.Divisors.{IsReduced-kept, part_small, lowest_three}
-use Rattle.nef_geo.proofs.Directions.{IsDirection-part}
+use Rattle.nef_geo.proofs.Directions.{IsDirection-part, SameDirection-stretched, IsAtMost-part}
 use Rattle.nef_geo.proofs.dir.Dir.reduced.Goals as goal
 
 pub invariant_of-result : goal.invariant_of-result
@@ -30,4 +30,7 @@ returns c =
     let fz : FitsSigned w64 c.lowest_terms-lowest.result.z = search rules in let fw : FitsSigned w64 c.lowest_terms-lowest.result.w = search rules in
     let f0 : FitsSigned w64 (pos 0) = search rules in
     let h = IsReduced-kept c.args.x c.args.y c.args.z (pos 0) r.x r.y r.z r.w c.ranges.x c.ranges.y c.ranges.z f0 fx fy fz fw c.lowest_terms-lowest.ensures.reduced in
-    record { stretched = record { factor = h.factor; positive = h.positive; x_is = h.x_is; y_is = h.y_is; z_is = h.z_is } }
+    let a = vector c.args.x c.args.y c.args.z in
+    let s : IsStretched a (vector (to_z w64 (of_z w64 r.x)) (to_z w64 (of_z w64 r.y)) (to_z w64 (of_z w64 r.z))) =
+    record { factor = h.factor; positive = h.positive; x_is = h.x_is; y_is = h.y_is; z_is = h.z_is } in
+    record { stretched = s; same = SameDirection-stretched a _ s (IsDirection-part a _ s c.requires.some); size = λ k l. IsAtMost-part k a _ s l }

@@ -12,8 +12,8 @@ returns-clause-out_of_range c =
     let i : IsInRange (form c.args.a c.args.b c.args.c c.args.d) = rw (to_z-of_z w64 c.args.a c.ranges.a, to_z-of_z w64 c.args.b c.ranges.b, to_z-of_z w64 c.args.c c.ranges.c, to_z-of_z w64 c.args.d c.ranges.d) at (c.is_in_range.ensures.in_range.0 yes) in
     (λ e. absurd (cc), λ not. absurd (not i))
 
-pub oriented-requires-clause-in_range : goal.oriented-requires-clause-in_range
-oriented-requires-clause-in_range c = c.is_in_range.ensures.in_range.0 c.if-not-is_in_range.false
+pub of-requires-clause-in_range : goal.of-requires-clause-in_range
+of-requires-clause-in_range c = c.is_in_range.ensures.in_range.0 c.if-not-is_in_range.false
 
 pub returns-clause-zero_normal : goal.returns-clause-zero_normal
 returns-clause-zero_normal c = (
@@ -24,12 +24,12 @@ returns-clause-zero_normal c = (
 )
 
 pub returns-clause-multiple : goal.returns-clause-multiple
-returns-clause-multiple c = rw (to_z-of_z w64 c.args.a c.ranges.a, to_z-of_z w64 c.args.b c.ranges.b, to_z-of_z w64 c.args.c c.ranges.c, to_z-of_z w64 c.args.d c.ranges.d) at c.oriented.ensures.multiple
+returns-clause-multiple c = rw (to_z-of_z w64 c.args.a c.ranges.a, to_z-of_z w64 c.args.b c.ranges.b, to_z-of_z w64 c.args.c c.ranges.c, to_z-of_z w64 c.args.d c.ranges.d) at c.of.ensures.multiple
 
 pub returns-clause-flipped : goal.returns-clause-flipped
-returns-clause-flipped c = rw (to_z-of_z w64 c.args.a c.ranges.a, to_z-of_z w64 c.args.b c.ranges.b, to_z-of_z w64 c.args.c c.ranges.c) at c.oriented.ensures.flipped
+returns-clause-flipped c = rw (to_z-of_z w64 c.args.a c.ranges.a, to_z-of_z w64 c.args.b c.ranges.b, to_z-of_z w64 c.args.c c.ranges.c) at c.of.ensures.flipped
 
 pub returns-clause-sides : goal.returns-clause-sides
 returns-clause-sides c =
-    sign_of-multiple (form c.args.a c.args.b c.args.c c.args.d) (given_form c.oriented.result)
-    (rw (to_z-of_z w64 c.args.a c.ranges.a, to_z-of_z w64 c.args.b c.ranges.b, to_z-of_z w64 c.args.c c.ranges.c, to_z-of_z w64 c.args.d c.ranges.d) at c.oriented.ensures.multiple)
+    sign_of-multiple (form c.args.a c.args.b c.args.c c.args.d) (given_form c.of.result)
+    (rw (to_z-of_z w64 c.args.a c.ranges.a, to_z-of_z w64 c.args.b c.ranges.b, to_z-of_z w64 c.args.c c.ranges.c, to_z-of_z w64 c.args.d c.ranges.d) at c.of.ensures.multiple)

@@ -5,7 +5,7 @@ use Rattle.nef_space.specs.Place.{form}
 use Rattle.nef_space.specs.Vectors.{vector, IsNormal}
 use Rattle.nef_geo.specs.Shapes.{form_of}
 use Rattle.nef_geo.proofs.Normals.{IsNormal-opposite, IsNormal-not_both, IsPositiveMultiple-turned, negated}
-use Rattle.nef_geo.proofs.reading.oriented.Goals as goal
+use Rattle.nef_geo.proofs.plane.Oriented.of.Goals as goal
 
 wider : (n : ℤ) → nat_abs n ≤ normal_limit → nat_abs n ≤ offset_limit
 wider n h = omega (arith, h)

@@ -1,0 +1,36 @@
+use Rattle.std.proofs.Common.{◌≡◌, pos, ◌<ℤ◌, arith, sym, subst, to_z, of_z, w64, lit≤}
+use Rattle.std.proofs.lemmas.Int.{ints}
+use Rattle.nef_space.specs.Limits.{normal_limit, direction_limit}
+use Rattle.nef_space.specs.Place.{normal_of}
+use Rattle.nef_space.specs.Vectors.{Vector, vector, IsAtMost, IsDirection, IsNormal, SameDirection}
+use Rattle.nef_geo.specs.Meet.{IsStretched}
+use Rattle.nef_geo.specs.Shapes.{form_of, vector_of}
+use Rattle.nef_geo.specs.declared.plane.Plane.{Plane}
+use Rattle.nef_geo.proofs.Normals.{IsNormal-parts}
+use Rattle.nef_geo.proofs.Products.{kept, same_vector, normal_within, IsAtMost-weaken}
+use Rattle.nef_geo.proofs.ways.plane_normal.Goals as goal
+
+-- the numbers of a normal that pass through the machine's type
+passed : (h : Plane) → vector (to_z w64 (of_z w64 h.a)) (to_z w64 (of_z w64 h.b)) (to_z w64 (of_z w64 h.c)) ≡ normal_of (form_of h)
+passed h = let s = normal_within h in same_vector _ _ _ _ _ _ (kept h.a (omega (arith, s.of_x))) (kept h.b (omega (arith, s.of_y))) (kept h.c (omega (arith, s.of_z)))
+
+direction : (n : Vector) → IsNormal n → IsDirection n
+direction n h z = let l : pos 0 <ℤ n.z = h.third z.0 z.1 in let e : n.z ≡ pos 0 = z.2 in omega (arith, ints)
+
+pub reduced-requires : goal.reduced-requires
+reduced-requires c =
+    let h = c.args.h.now in
+    record {
+      small = subst (IsAtMost direction_limit) (sym (passed h)) (IsAtMost-weaken normal_limit direction_limit (normal_of (form_of h)) (lit≤ tt) (normal_within h));
+      some = subst IsDirection (sym (passed h)) (direction (normal_of (form_of h)) h.normal);
+    }
+
+pub returns : goal.returns
+returns c =
+    let h = c.args.h.now in let r = c.reduced.result in
+    let s : IsStretched (normal_of (form_of h)) (vector_of r) = subst (λ (v : Vector). IsStretched v (vector_of r)) (passed h) c.reduced.ensures.stretched in
+    record {
+      normal = subst (λ (v : Vector). SameDirection v (vector_of r)) (passed h) c.reduced.ensures.same;
+      upward = IsNormal-parts s.factor h.a h.b h.c r.x r.y r.z s.positive s.x_is s.y_is s.z_is h.normal;
+      small = c.reduced.ensures.size normal_limit (subst (IsAtMost normal_limit) (sym (passed h)) (normal_within h));
+    }
