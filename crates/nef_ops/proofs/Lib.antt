@@ -4,3 +4,6 @@ pub mod Gathered
 pub mod ByShare
 pub mod PlaceShares
 pub mod Lacking
+pub mod Convex
+pub mod MissedFrame
+pub mod FarLabels

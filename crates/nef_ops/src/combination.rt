@@ -9,6 +9,7 @@ ghost use Rattle.nef_ops.specs.Crews.{jobs_counted};
 use crate::OutOfMemory;
 use crate::finished::{Load, crew, finished};
 use crate::local::combined_map;
+use crate::regions::Regions;
 use nef_cand::{Named, named_candidates_beside, named_points};
 use nef_complex::Complex;
 use nef_core::{How, Job};
@@ -25,6 +26,8 @@ struct BinaryJob<'a> {
     op: Op,
     first: &'a Complex,
     second: &'a Complex,
+    far_first: &'a Regions,
+    far_second: &'a Regions,
     listed: &'a [Named],
 }
 
@@ -33,6 +36,7 @@ impl<'a> Job for BinaryJob<'a> {
     ghost use Rattle.nef_complex.specs.Complexes.{complex_of};
     ghost use Rattle.nef_cand.specs.Candidates.{AreFramed};
     ghost use Rattle.nef_cand.specs.Names.{named_point, AreNamed};
+    ghost use Rattle.nef_ops.specs.Far.{AreTold};
     ghost use Rattle.nef_ops.specs.Rights.{IsRight};
 
     type Out = CandidateMap;
@@ -41,7 +45,7 @@ impl<'a> Job for BinaryJob<'a> {
 
     ghost right = { λ j i m. (s t : Set) → ShowsSet s j.first.now → ShowsSet t j.second.now → IsRight (op_set j.op s t) (map named_point j.listed.now) i m.map.value };
 
-    ghost workable = { λ j. ((s : Set) × ShowsSet s j.first.now) × ((t : Set) × ShowsSet t j.second.now) × AreFramed (map named_point j.listed.now) × AreNamed (complex_of j.first.now) (complex_of j.second.now) j.listed.now };
+    ghost workable = { λ j. ((s : Set) × ShowsSet s j.first.now) × ((t : Set) × ShowsSet t j.second.now) × AreFramed (map named_point j.listed.now) × AreNamed (complex_of j.first.now) (complex_of j.second.now) j.listed.now × AreTold j.first.now j.far_first.now × AreTold j.second.now j.far_second.now };
 
     fn jobs(&self) -> u64 {
         self.listed.len() as u64
@@ -49,7 +53,15 @@ impl<'a> Job for BinaryJob<'a> {
 
     fn work(&self, alloc: Global, job: u64) -> Result<CandidateMap, OutOfMemory> {
         let candidate = &self.listed[job as usize];
-        let map = combined_map(alloc, self.op, self.first, self.second, candidate)?;
+        let map = combined_map(
+            alloc,
+            self.op,
+            self.first,
+            self.second,
+            self.far_first,
+            self.far_second,
+            candidate,
+        )?;
         let found = CandidateMap::new(alloc, map)?;
         Ok(found)
     }
@@ -102,16 +114,21 @@ pub fn binary<R: Threads + Wait + Sync, G: Gate + Sync>(
 {
     let listed = named_candidates_beside(rt, alloc, a, b, how.workers)?;
     let points = named_points(alloc, listed.as_slice())?;
+    let asked = points.as_slice();
+    let far_first = Regions::of(a, asked);
+    let far_second = Regions::of(b, asked);
     let job = BinaryJob {
         op,
         first: a,
         second: b,
+        far_first: &far_first,
+        far_second: &far_second,
         listed: listed.as_slice(),
     };
     let load = load_of(a, b);
     let workers = crew(how, paying(a, b, job.jobs(), load), load, gate.holds());
     let maps = finished(rt, alloc, &job, how.board, workers, gate)?;
     let carriers = merge_carriers(alloc, a, b)?;
-    let complex = assemble(rt, alloc, carriers, points.as_slice(), maps, workers)?;
+    let complex = assemble(rt, alloc, carriers, asked, maps, workers)?;
     Ok(complex)
 }

@@ -9,13 +9,17 @@
 mod choice;
 mod combination;
 mod comparison;
+mod core_span;
+mod finding;
 mod finished;
 mod half_space;
 mod local;
 mod merged;
 mod op;
 mod place_share;
+mod regions;
 mod share;
+mod side;
 mod topology;
 mod whole;
 

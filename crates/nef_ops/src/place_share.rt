@@ -57,8 +57,8 @@ fn facet_share(c: &Complex, corner: &Corner) -> Share
     }
 }
 
-// What a set holds of the frame close to a point where all directions have this label.
-fn face_share(label: Label) -> Share
+/// What a set holds of the frame close to a point where all directions have this label.
+pub(crate) fn face_share(label: Label) -> Share
     ensures share { InShare result label }
 {
     match label {

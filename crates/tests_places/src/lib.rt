@@ -33,6 +33,8 @@ mod prisms;
 #[cfg(test)]
 mod rays;
 #[cfg(test)]
+mod regions;
+#[cfg(test)]
 mod results;
 #[cfg(test)]
 mod rows;

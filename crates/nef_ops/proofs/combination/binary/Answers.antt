@@ -10,7 +10,7 @@ use Rattle.nef_ops.proofs.combination.binary.Goals as goal
 pub finished-requires-clause-workable : goal.finished-requires-clause-workable
 finished-requires-clause-workable g c = λ κs within.
     let same = sym c.as_slice-2.ensures.value in let lists = c.in_ok-listed.ensures.lists in
-    (c.requires.first, c.requires.second, subst (λ (ns : List Named). AreFramed (map named_point ns)) same lists.lists.framed, subst (AreNamed (complex_of c.args.a.now) (complex_of c.args.b.now)) same lists.named)
+    (c.requires.first, c.requires.second, subst (λ (ns : List Named). AreFramed (map named_point ns)) same lists.lists.framed, subst (AreNamed (complex_of c.args.a.now) (complex_of c.args.b.now)) same lists.named, c.of-far_first.ensures.told, c.of-far_second.ensures.told)
 
 pub assemble-requires : goal.assemble-requires
 assemble-requires g c =
@@ -20,8 +20,8 @@ assemble-requires g c =
       c.type_bounds.sync-R,
       (
         op_set op S.0 T.0,
-        both-maps op c.args.a.now c.args.b.now c.in_ok-carriers.carriers c.in_ok-listed.listed.items c.as_slice.result.now c.as_slice-2.result.now c.in_ok-points.points.items c.as_slice-3.result.now c.in_ok-maps.maps.items
-            c.as_slice.ensures.value c.as_slice-2.ensures.value c.in_ok-points.ensures.points c.as_slice-3.ensures.value c.in_ok-listed.ensures.lists c.in_ok-carriers.ensures.carriers alike c.in_ok-maps.ensures.right S.0 T.0 S.1 T.1,
+        both-maps op c.args.a.now c.args.b.now c.in_ok-carriers.carriers c.in_ok-listed.listed.items c.as_slice.result.now c.as_slice-2.result.now c.in_ok-points.points.items c.as_slice-asked.result.now c.in_ok-maps.maps.items
+            c.as_slice.ensures.value c.as_slice-2.ensures.value c.in_ok-points.ensures.points c.as_slice-asked.ensures.value c.in_ok-listed.ensures.lists c.in_ok-carriers.ensures.carriers alike c.in_ok-maps.ensures.right S.0 T.0 S.1 T.1,
       ),
     )
 
@@ -32,6 +32,6 @@ returns g c =
     let alike : length c.in_ok-maps.maps.items ≡ length c.as_slice-2.result.now = omega arith in
     record {
       shows = λ s t S T. c.in_ok-complex.ensures.shows (op_set op s t)
-          (both-maps op c.args.a.now c.args.b.now c.in_ok-carriers.carriers c.in_ok-listed.listed.items c.as_slice.result.now c.as_slice-2.result.now c.in_ok-points.points.items c.as_slice-3.result.now c.in_ok-maps.maps.items
-          c.as_slice.ensures.value c.as_slice-2.ensures.value c.in_ok-points.ensures.points c.as_slice-3.ensures.value c.in_ok-listed.ensures.lists c.in_ok-carriers.ensures.carriers alike c.in_ok-maps.ensures.right s t S T);
+          (both-maps op c.args.a.now c.args.b.now c.in_ok-carriers.carriers c.in_ok-listed.listed.items c.as_slice.result.now c.as_slice-2.result.now c.in_ok-points.points.items c.as_slice-asked.result.now c.in_ok-maps.maps.items
+          c.as_slice.ensures.value c.as_slice-2.ensures.value c.in_ok-points.ensures.points c.as_slice-asked.ensures.value c.in_ok-listed.ensures.lists c.in_ok-carriers.ensures.carriers alike c.in_ok-maps.ensures.right s t S T);
     }

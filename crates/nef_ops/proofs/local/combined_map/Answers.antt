@@ -7,7 +7,7 @@ use Rattle.nef_ops.proofs.local.combined_map.Goals as goal
 pub returns-in-First-clause-cone : goal.returns-in-First-clause-cone
 returns-in-First-clause-cone c =
     let p = place_of c.args.candidate.now.point in
-    IfOk-weaker c.place_map.result _ _ (λ m shows s t S T.
-    shown-first c.args.op c.share_at.result _ (map_of m) s t p
-    (c.share_at.ensures.share s p S c.first_place-first.ensures.at) (share-part t p)
-    (shows s p S c.first_place-first.ensures.at) c.in-First.ensures.leads) c.place_map.ensures.cone
+    IfOk-weaker c.found_map.result _ _ (λ m shows s t S T.
+    shown-first c.args.op c.found_share.result _ (map_of m) s t p
+    (c.found_share.ensures.share s p S c.first_finding-first.ensures.found) (share-part t p)
+    (shows s p S c.first_finding-first.ensures.found) c.in-First.ensures.leads) c.found_map.ensures.cone

@@ -1,0 +1,117 @@
+-- The points past one side of a span of the skeleton, within the open frame, are convex; so between two of them there is nothing of the skeleton, and the set looks the same at both.
+use Rattle.std.proofs.Common.{◌≡◌, ℕ, zero, suc, ◌+◌, ◌<◌, List, [], ◌∷◌, ℤ, pos, ◌+ℤ◌, ◌*ℤ◌, ◌<ℤ◌, ◌≤ℤ◌, length, arith, sym, subst, ⊎_elim}
+use Rattle.std.proofs.lemmas.Int.{ints}
+use Rattle.nef_space.specs.Lists.{IsAt}
+use Rattle.nef_space.specs.Local.{HasLabel, FlatDim}
+use Rattle.nef_space.specs.Place.{Place, IsBetween}
+use Rattle.nef_space.specs.Sets.{Set}
+use Rattle.nef_space.specs.declared.label.Label.{Label}
+use Rattle.nef_geo.specs.Shapes.{form_of, place_of}
+use Rattle.nef_geo.specs.declared.plane.Plane.{Plane}
+use Rattle.law_forms.specs.Homogeneous.{IsMixed, of_place}
+use Rattle.law_near.specs.Laws.{SameGerms}
+use Rattle.law_near.proofs.Between.{mixed-of}
+use Rattle.law_near.proofs.Even.{even-germs, labels-by_germs}
+use Rattle.law_sphere.specs.Maps.{At}
+use Rattle.law_complex.specs.Spans.{coordinate_of}
+use Rattle.law_complex.proofs.FacetWays.{even-by}
+use Rattle.nef_classes.proofs.ClassLists.{less-or-last, is-at_one, is-at_within}
+use Rattle.nef_smap.proofs.SideLists.{get-from_at}
+use Rattle.nef_complex.specs.Complexes.{ShowsSet}
+use Rattle.nef_complex.specs.Index.{IsSpanOn}
+use Rattle.nef_complex.specs.Spans.{IsInSpan, IsNarrower}
+use Rattle.nef_complex.specs.declared.complex.Complex.{Complex}
+use Rattle.nef_complex.specs.declared.spans.Span.{Span}
+use Rattle.nef_complex.proofs.Spanning.{span-wider}
+use Rattle.nef_locate.proofs.CarrierPoints.{skeleton-carrier}
+use Rattle.nef_locate.proofs.VolumeLabels.{volume-flat}
+use Rattle.nef_locate.proofs.Windows.{spanned}
+use Rattle.nef_ops.specs.declared.side.Axis.{Axis}
+use Rattle.nef_ops.specs.declared.side.Axis.TheVariants.{X, Y, Z}
+use Rattle.nef_ops.specs.declared.side.Way.{Way}
+use Rattle.nef_ops.specs.declared.side.Way.TheVariants.{Below, Above}
+use Rattle.nef_ops.specs.declared.side.Side.{Side}
+use Rattle.nef_ops.specs.Far.{MeetsFrame, HoldsSkeleton, axis_coordinate, IsPastEnd, IsPast, IsFar, IsClear, IsUniform}
+use Rattle.nef_ops.proofs.Convex.{below-mixed, above-mixed, frame-between}
+
+-- ---- the skeleton
+-- the span holds the vertices on the first n carriers that meet the open frame
+abbrev pub HoldsCarriers : Complex → ℕ → Span → Type 0
+HoldsCarriers c n core = (k : ℕ) (h : Plane) → k < n → IsAt c.carriers k h → MeetsFrame (form_of h) → IsSpanOn c.vertices (form_of h) core
+
+-- those of one more
+pub carriers-more : (c : Complex) (n : ℕ) (h : Plane) (core span wide : Span) → IsAt c.carriers n h → IsSpanOn c.vertices (form_of h) span → IsNarrower core wide → IsNarrower span wide → HoldsCarriers c n core → HoldsCarriers c (n + 1) wide
+carriers-more c n h core span wide here on old new held k g l at meets =
+    ⊎_elim (λ o i v a p. span-wider core wide (place_of v.point) old (held k g o at meets i v a p))
+    (λ e i v a p.
+    let same : h ≡ g = is-at_one c.carriers n h g here (subst (λ (j : ℕ). IsAt c.carriers j g) e at) in
+    span-wider span wide (place_of v.point) new (subst (λ (f : Plane). IsSpanOn c.vertices (form_of f) span) same on i v a p))
+    (less-or-last k n l)
+
+-- or no more, where it misses the frame
+pub carriers-same : (c : Complex) (n : ℕ) (h : Plane) (core : Span) → IsAt c.carriers n h → (MeetsFrame (form_of h) → ⊥) → HoldsCarriers c n core → HoldsCarriers c (n + 1) core
+carriers-same c n h core here misses held k g l at meets =
+    ⊎_elim (λ o. held k g o at meets)
+    (λ e. absurd (misses (subst (λ (f : Plane). MeetsFrame (form_of f)) (sym (is-at_one c.carriers n h g here (subst (λ (j : ℕ). IsAt c.carriers j g) e at))) meets)))
+    (less-or-last k n l)
+
+-- those on all carriers hold the skeleton within the open frame
+pub skeleton-held : (c : Complex) (core : Span) → HoldsCarriers c (length c.carriers) core → HoldsSkeleton c core
+skeleton-held c core held s y S i o =
+    let k = skeleton-carrier s c S y o in
+    let at = get-from_at c.carriers k.number k.plane k.listed in
+    spanned s c S (form_of k.plane) core (held k.number k.plane (is-at_within c.carriers k.number k.plane at) at (y, i, k.on)) y k.on k.found
+
+under : (n e w : ℤ) → n <ℤ (e *ℤ w) → (e *ℤ w) ≤ℤ n → ⊥
+under n e w l m = omega (arith, ints)
+
+over : (n e w : ℤ) → (e *ℤ w) <ℤ n → n ≤ℤ (e *ℤ w) → ⊥
+over n e w l m = omega (arith, ints)
+
+-- so past its sides there is nothing of it
+module _ (c : Complex) (core : Span) (H : HoldsSkeleton c core) where
+  pub clear-low : (axis : Axis) (e : ℤ) → ((p : Place) → IsInSpan core p → (e *ℤ pos p.w) ≤ℤ coordinate_of (axis_coordinate axis) p) → IsClear c (record { axis = axis; way = Below; end = e })
+  clear-low axis e part s y S f o = under (coordinate_of (axis_coordinate axis) y) e (pos y.w) f.1 (part y (H s y S f.0 o))
+
+  pub clear-high : (axis : Axis) (e : ℤ) → ((p : Place) → IsInSpan core p → coordinate_of (axis_coordinate axis) p ≤ℤ (e *ℤ pos p.w)) → IsClear c (record { axis = axis; way = Above; end = e })
+  clear-high axis e part s y S f o = over (coordinate_of (axis_coordinate axis) y) e (pos y.w) f.1 (part y (H s y S f.0 o))
+
+-- ---- between two points
+end-between : (way : Way) (e : ℤ) (k i j : ℕ) (c a b w u v : ℤ) → 0 < k → 0 < i → 0 < j → pos k *ℤ c ≡ pos i *ℤ a +ℤ pos j *ℤ b → pos k *ℤ w ≡ pos i *ℤ u +ℤ pos j *ℤ v
+    → IsPastEnd way e a u → IsPastEnd way e b v → IsPastEnd way e c w
+end-between Below e k i j c a b w u v sk si sj f g l m = below-mixed k i j c a b w u v e sk si sj f g l m
+end-between Above e k i j c a b w u v sk si sj f g l m = above-mixed k i j c a b w u v e sk si sj f g l m
+
+axis-sum : (axis : Axis) (p r q : Place) (m : IsMixed (of_place p) (of_place r) (of_place q))
+    → pos m.k *ℤ coordinate_of (axis_coordinate axis) r ≡ pos m.i *ℤ coordinate_of (axis_coordinate axis) p +ℤ pos m.j *ℤ coordinate_of (axis_coordinate axis) q
+axis-sum X p r q m = let s = m.sum in s.is_x
+axis-sum Y p r q m = let s = m.sum in s.is_y
+axis-sum Z p r q m = let s = m.sum in s.is_z
+
+far-between : (side : Side) (p r q : Place) → IsBetween p r q → IsFar side p → IsFar side q → IsFar side r
+far-between side p r q b f g =
+    let m = mixed-of p r q b in
+    let s = m.sum in
+    let at = coordinate_of (axis_coordinate side.axis) in (
+      frame-between p r q b f.0 g.0,
+      end-between side.way side.end m.k m.i m.j (at r) (at p) (at q) (pos r.w) (pos p.w) (pos q.w) m.some_k m.some_i m.some_j (axis-sum side.axis p r q m) s.is_w f.1 g.1,
+    )
+
+-- ---- past a side
+module _ (s : Set) (c : Complex) (S : ShowsSet s c) (side : Side) (clear : IsClear c side) where
+  far-flat : (p : Place) → IsFar side p → FlatDim s p 3
+  far-flat p f = volume-flat s c S p (clear s p S f)
+
+  far-alike : (p q : Place) → IsFar side p → IsFar side q → SameGerms s p q
+  far-alike p q f g = even-germs s 3 p q (even-by s 3 p q (far-flat p f) (λ r b. far-flat r (far-between side p r q b f g)) (far-flat q g))
+
+  pub far-uniform : (p q : Place) (l : Label) → IsFar side p → HasLabel s p l → IsFar side q → IsUniform s q l
+  far-uniform p q l f h g = ((labels-by_germs s p q (far-alike p q f g) l).0 h, far-flat q g)
+
+-- ---- listed regions
+pub each-none : {X : Type 0} (P : X → Type 0) (k : ℕ) (y : X) → At [] k y → P y
+each-none P k y a = absurd a
+
+pub each-more : {X : Type 0} (P : X → Type 0) (x : X) (xs : List X) → P x → ((k : ℕ) (y : X) → At xs k y → P y) → (k : ℕ) (y : X) → At (x ∷ xs) k y → P y
+each-more P x xs here rest zero y a = subst P a here
+each-more P x xs here rest (suc k) y a = rest k y a

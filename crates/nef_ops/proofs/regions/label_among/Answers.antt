@@ -1,0 +1,34 @@
+use Rattle.std.proofs.Common.{ℕ, ◌+◌, ◌<◌, List, IsNone, arith, sym, refl}
+use Rattle.nef_space.specs.Lists.{IsAt}
+use Rattle.nef_space.specs.Place.{Place}
+use Rattle.nef_geo.specs.Shapes.{place_of}
+use Rattle.nef_classes.proofs.ClassLists.{is-at_get, is-at_is}
+use Rattle.nef_smap.proofs.Lists.{at-within}
+use Rattle.nef_smap.proofs.SideLists.{at-from_get}
+use Rattle.law_sphere.specs.Maps.{At}
+use Rattle.nef_ops.specs.declared.regions.Region.{Region}
+use Rattle.nef_ops.specs.Far.{IsFar}
+use Rattle.nef_ops.proofs.Lacking.{all-more}
+use Rattle.nef_ops.proofs.regions.label_among.Goals as goal
+
+-- the region has no label where the point lies in it
+abbrev IsUntold : Place → Region → Type 0
+IsUntold p r = IsFar r.side p → IsNone r.label
+
+one-more : (rs : List Region) (p : Place) (n : ℕ) (x : Region) → IsAt rs n x → IsUntold p x → ((k : ℕ) (r : Region) → k < n → At rs k r → IsUntold p r) → (k : ℕ) (r : Region) → k < n + 1 → At rs k r → IsUntold p r
+one-more rs p n x here untold before = all-more (IsUntold p) rs n x (sym (is-at_is rs n x x here)) untold before
+
+pub returns-in-Some-clause-told : goal.returns-in-Some-clause-told
+returns-in-Some-clause-told c C told =
+    let rs : List Region = c.args.regions.now in
+    let n = c.loop-region.region-index in
+    c.in-Some.ensures.told C (told n _ (at-from_get rs n _ (is-at_get rs n _ c.loop-region-test.true)))
+
+pub loop-region-preserved : goal.loop-region-preserved
+loop-region-preserved c =
+    let rs : List Region = c.args.regions.now in
+    let n = c.loop-region.region-index in
+    one-more rs (place_of c.args.point.now) n _ (is-at_get rs n _ c.loop-region-test.true) (c.in_default.ensures.none refl) c.loop-region.invariant
+
+pub returns-clause-none : goal.returns-clause-none
+returns-clause-none c none k r a f = c.loop-region.invariant k r (let l = at-within c.args.regions.now k r a in let t = c.loop-region-test.false in omega (arith, l, t)) a f

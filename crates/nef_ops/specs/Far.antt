@@ -1,0 +1,66 @@
+-- Past the sides of a span of its skeleton a set has one label in each region of the open frame.
+use Rattle.std.specs.Prelude.{◌≡◌, ℕ, ℤ, pos, ◌*ℤ◌, ◌<ℤ◌, IfSome}
+use Rattle.nef_space.specs.Local.{HasLabel, FlatDim}
+use Rattle.nef_space.specs.Place.{Place, Form, form_at, InFrame}
+use Rattle.nef_space.specs.Sets.{Set}
+use Rattle.nef_space.specs.declared.label.Label.{Label}
+use Rattle.law_sphere.specs.Maps.{At}
+use Rattle.law_complex.specs.Skeleton.{IsSkeletonPoint}
+use Rattle.law_complex.specs.Spans.{Coordinate, coordinate_of, coordinate_x, coordinate_y, coordinate_z}
+use Rattle.nef_complex.specs.declared.complex.Complex.{Complex}
+use Rattle.nef_complex.specs.declared.spans.Span.{Span}
+use Rattle.nef_complex.specs.Complexes.{complex_of, ShowsSet}
+use Rattle.nef_complex.specs.Spans.{IsInSpan}
+use Rattle.nef_ops.specs.declared.side.Axis.{Axis}
+use Rattle.nef_ops.specs.declared.side.Axis.TheVariants.{X, Y, Z}
+use Rattle.nef_ops.specs.declared.side.Way.{Way}
+use Rattle.nef_ops.specs.declared.side.Way.TheVariants.{Below, Above}
+use Rattle.nef_ops.specs.declared.side.Side.{Side}
+use Rattle.nef_ops.specs.declared.regions.Region.{Region}
+use Rattle.nef_ops.specs.declared.regions.Regions.{Regions}
+
+-- ---- the skeleton
+-- the plane holds a point of the open frame
+abbrev pub MeetsFrame : Form → Type 0
+MeetsFrame f = (y : Place) × InFrame y × (form_at f y ≡ pos 0)
+
+-- the points of the skeleton within the open frame lie in the span
+abbrev pub HoldsSkeleton : Complex → Span → Type 0
+HoldsSkeleton c span = (s : Set) (y : Place) → ShowsSet s c → InFrame y → IsSkeletonPoint (complex_of c) y → IsInSpan span y
+
+-- ---- sides
+abbrev pub axis_coordinate : Axis → Coordinate
+axis_coordinate X = coordinate_x
+axis_coordinate Y = coordinate_y
+axis_coordinate Z = coordinate_z
+
+-- n/w lies strictly past the end
+abbrev pub IsPastEnd : Way → ℤ → ℤ → ℤ → Type 0
+IsPastEnd Below end n w = n <ℤ (end *ℤ w)
+IsPastEnd Above end n w = (end *ℤ w) <ℤ n
+
+abbrev pub IsPast : Side → Place → Type 0
+IsPast side p = IsPastEnd side.way side.end (coordinate_of (axis_coordinate side.axis) p) (pos p.w)
+
+-- the point lies past the side, within the open frame
+abbrev pub IsFar : Side → Place → Type 0
+IsFar side p = InFrame p × IsPast side p
+
+-- there is nothing of the skeleton
+abbrev pub IsClear : Complex → Side → Type 0
+IsClear c side = (s : Set) (y : Place) → ShowsSet s c → IsFar side y → IsSkeletonPoint (complex_of c) y → ⊥
+
+-- ---- labels
+-- the point has the label, and so have all points close by
+abbrev pub IsUniform : Set → Place → Label → Type 0
+IsUniform s p l = HasLabel s p l × FlatDim s p 3
+
+abbrev pub IsUniformIn : Complex → Place → Label → Type 0
+IsUniformIn c p l = (s : Set) → ShowsSet s c → IsUniform s p l
+
+-- where the region has a label, it is that of all its points
+abbrev pub IsTold : Complex → Region → Type 0
+IsTold c r = IfSome r.label (λ (l : Label). (p : Place) → IsFar r.side p → IsUniformIn c p l)
+
+abbrev pub AreTold : Complex → Regions → Type 0
+AreTold c x = (k : ℕ) (r : Region) → At x.all k r → IsTold c r
