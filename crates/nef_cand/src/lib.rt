@@ -5,14 +5,14 @@
 #![tactic(auto)]
 
 mod added;
-mod beside;
+mod by_threads;
 mod line;
 mod listing;
 mod merging;
 mod named;
 mod points;
 
-pub use beside::{are_large, named_candidates_beside};
+pub use by_threads::named_candidates_by_threads;
 pub use listing::{candidates, cut_candidates, named_candidates};
 pub use named::{Name, Named, Operand, named_points};
 pub use nef_complex::OutOfMemory;

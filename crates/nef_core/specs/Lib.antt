@@ -8,3 +8,4 @@ pub mod Results
 pub mod Accounts
 pub mod Choice
 pub mod Passes
+pub mod Work

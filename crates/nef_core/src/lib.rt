@@ -8,6 +8,7 @@ mod laws;
 mod machine;
 mod order;
 mod view;
+mod work;
 
 pub use board::{Board, Claim, Receipt};
 pub use how::{BoardKind, How, TextVersion};
@@ -17,3 +18,4 @@ pub use machine::{Event, Machine, Slot};
 pub use order::Order;
 pub use std::alloc::AllocError as OutOfMemory;
 pub use view::View;
+pub use work::Work;

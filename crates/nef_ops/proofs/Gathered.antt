@@ -32,7 +32,7 @@ use Rattle.nef_result.specs.declared.candidate_map.CandidateMap.{CandidateMap}
 use Rattle.nef_result.specs.Results.{AreMapsOf, maps_at}
 use Rattle.nef_ops.specs.declared.op.UnaryOp.{UnaryOp}
 use Rattle.nef_ops.specs.Nodes.{unary_set}
-use Rattle.nef_ops.specs.Rights.{IsRight}
+use Rattle.nef_ops.specs.Rights.{IsRight, IsWorkedBy}
 use Rattle.nef_ops.proofs.OneSet.{unary-carriers, unary-vertex}
 
 -- ---- elements by their places
@@ -52,9 +52,6 @@ each-map P cs f i m e = by (slice_get cs i) refl (sym (slice_get-map (λ (c : Ca
     by None h g = let g : None ≡ Some m = g in absurd (cc)
     by (Some c) h g = let g : c.map.value ≡ m = cc in subst (P i) g (f i c h)
 
-pub maps-alike : (cs : List CandidateMap) (n : ℕ) → length cs ≡ n → length (maps_at cs) ≡ n
-maps-alike cs n e = length-map cs (λ (c : CandidateMap). c.map.value) ∙ e
-
 -- ---- a right map
 pub right-at : (s : Set) (ps : List Point) (i : ℕ) (q : Point) (m : SphereMap) → i < length ps → IsLeastMap m → Cone (map_of m) s (place_of (get_or ps i q)) → IsRight s ps i m
 right-at s ps i q m l L C = record { least = L; cone = λ p a. subst (λ (r : Point). Cone (map_of m) s (place_of r)) (at-one ps i (get_or ps i q) p (get-at ps i q l) a) C }
@@ -72,16 +69,17 @@ named-framed ns i n l F = F (get_or ns i n).point (at-listed (map named_point ns
 pub named-at : (C D : PlainComplex) (ns : List Named) (i : ℕ) (n : Named) → i < length ns → AreNamed C D ns → IsNamed C D (get_or ns i n)
 named-at C D ns i n l N = N (get_or ns i n) (at-listed ns i (get_or ns i n) (get-at ns i n l))
 
--- ---- right maps at points among which all vertices are
-pub right-maps : (s : Set) (hs : List Plane) (ps : List Point) (ms : List SphereMap) → Carriers s (map form_of hs) → length ms ≡ length ps
-    → InOrder (λ (p q : Point). IsPlaceBelow (place_of p) (place_of q)) ps → ((i : ℕ) (m : SphereMap) → slice_get ms i ≡ Some m → IsRight s ps i m)
-    → ((y : Place) → IsVertex s y → IsListed ps y) → AreMapsOf s hs ps ms
-right-maps s hs ps ms C alike order right all = record {
-  carriers = C;
-  least_at = record { alike = alike; ordered = order; least = λ k m h. let r = right k m (at-got ms k m h) in r.least };
-  cones = λ k p m a h. let r = right k m (at-got ms k m h) in r.cone p a;
-  complete = all;
-}
+-- ---- the results of all jobs
+pub worked-maps : (Right : ℕ → CandidateMap → Type 0) (s : Set) (hs : List Plane) (ps : List Point) (cs : List CandidateMap) → IsWorkedBy Right s hs ps → length cs ≡ length ps → ((i : ℕ) (c : CandidateMap) → slice_get cs i ≡ Some c → Right i c)
+    → AreMapsOf s hs ps (maps_at cs)
+worked-maps Right s hs ps cs W alike each =
+    let right = each-map (IsRight s ps) cs (λ i c e. W.right i c (each i c e)) in
+    record {
+      carriers = W.carriers;
+      least_at = record { alike = length-map cs (λ (c : CandidateMap). c.map.value) ∙ alike; ordered = W.ordered; least = λ k m h. let r = right k m (at-got (maps_at cs) k m h) in r.least };
+      cones = λ k p m a h. let r = right k m (at-got (maps_at cs) k m h) in r.cone p a;
+      complete = W.complete;
+    }
 
 -- ---- a vertex of a combination
 pub vertex-of_both : (op : Op) (s t : Set) (y : Place) → IsVertex (op_set op s t) y → IsVertexOfBoth s t y
@@ -95,28 +93,33 @@ abbrev pub AreInOrder : List Point → Type 0
 AreInOrder ps = InOrder (λ (p q : Point). IsPlaceBelow (place_of p) (place_of q)) ps
 
 -- of a combination of two sets, by the candidates ns, lent as ks and js, and their points qs, lent as ps
-module _ (op : Op) (a b : Complex) (hs : List Plane) (ns ks js : List Named) (qs ps : List Point) (cs : List CandidateMap) (asked : ks ≡ ns) (worked : js ≡ ns) (made : qs ≡ map named_point ks) (lent : ps ≡ qs)
-    (L : ListsNamed a b ns) (carried : (s t : Set) (o : Op) → ShowsSet s a → ShowsSet t b → Carriers (op_set o s t) (map form_of hs)) (alike : length cs ≡ length js)
-    (right : (i : ℕ) (c : CandidateMap) → slice_get cs i ≡ Some c → (s t : Set) → ShowsSet s a → ShowsSet t b → IsRight (op_set op s t) (map named_point js) i c.map.value) where
-  same : map named_point ns ≡ ps
-  same = sym (lent ∙ made ∙ ap (map named_point) asked)
+pub both-worked : (op : Op) (a b : Complex) (hs : List Plane) (ns ks js : List Named) (qs ps : List Point) → ks ≡ ns → js ≡ ns → qs ≡ map named_point ks → ps ≡ qs → ListsNamed a b ns
+    → ((s t : Set) (o : Op) → ShowsSet s a → ShowsSet t b → Carriers (op_set o s t) (map form_of hs)) → (s t : Set) → ShowsSet s a → ShowsSet t b
+    → IsWorkedBy (λ i c. (s t : Set) → ShowsSet s a → ShowsSet t b → IsRight (op_set op s t) (map named_point js) i c.map.value) (op_set op s t) hs ps
+both-worked op a b hs ns ks js qs ps asked worked made lent L carried s t S T = record {
+  carriers = carried s t op S T;
+  ordered = subst AreInOrder same L.lists.exactly.ordered;
+  complete = λ y v. subst (λ (rs : List Point). IsListed rs y) same (L.lists.complete s t y S T (vertex-of_both op s t y v));
+  right = λ i c r. subst (λ (rs : List Point). IsRight (op_set op s t) rs i c.map.value) (ap (map named_point) worked ∙ same) (r s t S T);
+}
+  where
+    same : map named_point ns ≡ ps
+    same = sym (lent ∙ made ∙ ap (map named_point) asked)
 
-  all-alike : length (maps_at cs) ≡ length ps
-  all-alike = maps-alike cs (length js) alike ∙ sym (length-map js named_point) ∙ ap length (ap (map named_point) worked ∙ same)
-
-  pub both-maps : (s t : Set) → ShowsSet s a → ShowsSet t b → AreMapsOf (op_set op s t) hs ps (maps_at cs)
-  both-maps s t S T = right-maps (op_set op s t) hs ps (maps_at cs) (carried s t op S T) all-alike (subst AreInOrder same L.lists.exactly.ordered)
-      (subst (λ (rs : List Point). (i : ℕ) (m : SphereMap) → slice_get (maps_at cs) i ≡ Some m → IsRight (op_set op s t) rs i m) (ap (map named_point) worked ∙ same)
-      (each-map (IsRight (op_set op s t) (map named_point js)) cs (λ i c e. right i c e s t S T)))
-      (λ y v. subst (λ (rs : List Point). IsListed rs y) same (L.lists.complete s t y S T (vertex-of_both op s t y v)))
+pub both-alike : (ns ks js : List Named) (qs ps : List Point) → ks ≡ ns → js ≡ ns → qs ≡ map named_point ks → ps ≡ qs → length js ≡ length ps
+both-alike ns ks js qs ps asked worked made lent = sym (length-map js named_point) ∙ ap length (ap (map named_point) (worked ∙ sym asked) ∙ sym (lent ∙ made))
 
 -- of a half
-pub half-maps : (f : Form) (closed : Bool) (h : Plane) (whole : Complex) (hs : List Plane) (vs ps : List Point) (ms : List SphereMap) → ShowsSet Set.full whole → SamePlane (form_of h) f → ps ≡ vs → AreInOrder vs
+pub half-worked : (f : Form) (closed : Bool) (h : Plane) (whole : Complex) (hs : List Plane) (vs ps : List Point) → ShowsSet Set.full whole → SamePlane (form_of h) f → ps ≡ vs → AreInOrder vs
     → ((g : Form) (c : Bool) (y : Place) → SamePlane (form_of h) g → ShowsSet Set.full whole → IsVertex (Set.half g c) y → IsListed vs y)
-    → ((g : Form) (c : Bool) → ShowsSet Set.full whole → SamePlane (form_of h) g → Carriers (Set.half g c) (map form_of hs)) → length ms ≡ length ps
-    → ((i : ℕ) (m : SphereMap) → slice_get ms i ≡ Some m → IsRight (Set.half f closed) ps i m) → AreMapsOf (Set.half f closed) hs ps ms
-half-maps f closed h whole hs vs ps ms S P same order complete carried alike right =
-    right-maps (Set.half f closed) hs ps ms (carried f closed S P) alike (subst AreInOrder (sym same) order) right (λ y v. subst (λ (qs : List Point). IsListed qs y) (sym same) (complete f closed y P S v))
+    → ((g : Form) (c : Bool) → ShowsSet Set.full whole → SamePlane (form_of h) g → Carriers (Set.half g c) (map form_of hs))
+    → IsWorkedBy (λ i c. IsRight (Set.half f closed) ps i c.map.value) (Set.half f closed) hs ps
+half-worked f closed h whole hs vs ps S P same order complete carried = record {
+  carriers = carried f closed S P;
+  ordered = subst AreInOrder (sym same) order;
+  complete = λ y v. subst (λ (qs : List Point). IsListed qs y) (sym same) (complete f closed y P S v);
+  right = λ i c r. r;
+}
 
 -- ---- the vertices of a complex
 module _ (s : Set) (c : Complex) (S : ShowsSet s c) where
@@ -143,9 +146,11 @@ module _ (s : Set) (c : Complex) (S : ShowsSet s c) where
   }
 
 -- of an operation on one set
-pub one-maps : (op : UnaryOp) (a : Complex) (hs : List Plane) (vs ps : List Point) (ms : List SphereMap) → ps ≡ vs → vs ≡ points_of a → hs ≡ a.carriers → length ms ≡ length a.vertices
-    → ((i : ℕ) (m : SphereMap) → slice_get ms i ≡ Some m → (s : Set) → ShowsSet s a → IsRight (unary_set op s) (points_of a) i m) → (s : Set) → ShowsSet s a → AreMapsOf (unary_set op s) hs ps ms
-one-maps op a hs vs ps ms same listed copied alike right s S =
-    subst (λ (qs : List Point). AreMapsOf (unary_set op s) hs qs ms) (sym (same ∙ listed))
-    (right-maps (unary_set op s) hs (points_of a) ms (subst (λ (gs : List Plane). Carriers (unary_set op s) (map form_of gs)) (sym copied) (unary-carriers op s (map form_of a.carriers) S.shows.carriers))
-    (alike ∙ sym (length-map a.vertices (λ (v : Vertex). v.point))) (points-ordered s a S) (λ i m e. right i m e s S) (λ y v. vertices-listed s a S y (unary-vertex op s y v)))
+pub one-worked : (op : UnaryOp) (a : Complex) (hs : List Plane) (vs ps : List Point) → ps ≡ vs → vs ≡ points_of a → hs ≡ a.carriers → (s : Set) → ShowsSet s a
+    → IsWorkedBy (λ i c. (s : Set) → ShowsSet s a → IsRight (unary_set op s) (points_of a) i c.map.value) (unary_set op s) hs ps
+one-worked op a hs vs ps same listed copied s S = record {
+  carriers = subst (λ (gs : List Plane). Carriers (unary_set op s) (map form_of gs)) (sym copied) (unary-carriers op s (map form_of a.carriers) S.shows.carriers);
+  ordered = subst AreInOrder (sym (same ∙ listed)) (points-ordered s a S);
+  complete = λ y v. subst (λ (qs : List Point). IsListed qs y) (sym (same ∙ listed)) (vertices-listed s a S y (unary-vertex op s y v));
+  right = λ i c r. subst (λ (qs : List Point). IsRight (unary_set op s) qs i c.map.value) (sym (same ∙ listed)) (r s S);
+}

@@ -1,3 +1,4 @@
+pub mod Crews
 pub mod Given
 pub mod OneSet
 pub mod Gathered

@@ -1,20 +1,20 @@
 //! Combinations of two sets.
 
-ghost use Rattle.std.specs.Prelude.{◌≡◌, ◌≤◌, IfOk, length};
+ghost use Rattle.std.specs.Prelude.{◌≡◌, ◌+◌, ◌-◌, ◌^◌, min, IfOk, length};
 ghost use Rattle.nef_space.specs.Sets.{Set};
 ghost use Rattle.nef_stopo.specs.Sets.{op_set};
 ghost use Rattle.nef_complex.specs.Complexes.{ShowsSet};
-ghost use Rattle.nef_ops.specs.Crews.{jobs_counted};
+ghost use Rattle.nef_core.specs.Work.{combination_work};
 
 use crate::OutOfMemory;
-use crate::finished::{Load, crew, finished};
+use crate::finished::complex_by_jobs;
 use crate::local::combined_map;
 use crate::regions::Regions;
-use nef_cand::{Named, named_candidates_beside, named_points};
+use nef_cand::{Named, named_candidates_by_threads, named_points};
 use nef_complex::Complex;
-use nef_core::{How, Job};
+use nef_core::{BoardKind, How, Job, Work};
 use nef_io::Gate;
-use nef_result::{CandidateMap, assemble, merge_carriers};
+use nef_result::{CandidateMap, merge_carriers};
 use nef_star::Op;
 use std::alloc::Global;
 use std::sync::Wait;
@@ -67,37 +67,18 @@ impl<'a> Job for BinaryJob<'a> {
     }
 }
 
-// A set with fewer carriers is small.
-const MANY_CARRIERS: usize = 24;
-
-// Most candidates of two sets are looked for in one, and their maps are put together. Where one set is small most lie far
-// from it, so that one look tells their maps.
-fn load_of(a: &Complex, b: &Complex) -> Load {
-    if a.carriers.len().min(b.carriers.len()) < MANY_CARRIERS {
-        Load::Light
-    } else {
-        Load::Heavy
-    }
-}
-
-// So many of the jobs pay for workers: where one set is small, no more than the sets have vertices. The other candidates are
-// cuts on the frame's edges, far from both sets, of which there are many where a set was made of many planes.
-fn paying(a: &Complex, b: &Complex, jobs: u64, load: Load) -> u64
-    ensures counted { result ≡ jobs_counted load jobs (length a.now.vertices) (length b.now.vertices) }
+// What the jobs cost.
+fn work_of(a: &Complex, b: &Complex, jobs: u64, board: BoardKind) -> Work
+    ensures work { result ≡ combination_work board jobs (min (length a.now.carriers) (length b.now.carriers)) (min (length a.now.vertices + length b.now.vertices) (2 ^ 64 - 1)) }
 {
-    match load {
-        Load::Heavy => jobs,
-        Load::Light => {
-            let vertices = a.vertices.len().saturating_add(b.vertices.len());
-            jobs.min(vertices as u64)
-        }
-    }
+    let carriers = a.carriers.len().min(b.carriers.len());
+    let vertices = a.vertices.len().saturating_add(b.vertices.len());
+    Work::of_combination(board, jobs, carriers, vertices)
 }
 
 /// The complex of the combination of the sets of two complexes. One job for each candidate, in their order, is worked over
-/// the board that `how` names, by `how.workers` workers, from 1 to 64, or by fewer where the jobs don't pay for so many
-/// and the gate holds none back; the gate is told of each job before it begins. `OutOfMemory` says that memory was wanted
-/// and not found.
+/// the board that `how` names, by `how.workers` workers, or by fewer where the jobs don't pay for so many and the gate
+/// holds none back; the gate is told of each job before it begins. `OutOfMemory` says that memory was wanted and not found.
 pub fn binary<R: Threads + Wait + Sync, G: Gate + Sync>(
     rt: &R,
     alloc: Global,
@@ -107,16 +88,15 @@ pub fn binary<R: Threads + Wait + Sync, G: Gate + Sync>(
     how: &How,
     gate: &G,
 ) -> Result<Complex, OutOfMemory>
-    requires workers { (1 ≤ how.now.workers) × (how.now.workers ≤ 64) }
     requires first { (s : Set) × ShowsSet s a.now }
     requires second { (t : Set) × ShowsSet t b.now }
     ensures shows { IfOk result (λ c. (s t : Set) → ShowsSet s a.now → ShowsSet t b.now → ShowsSet (op_set op s t) c) }
 {
-    let listed = named_candidates_beside(rt, alloc, a, b, how.workers)?;
+    let listed = named_candidates_by_threads(rt, alloc, a, b, how.workers)?;
     let points = named_points(alloc, listed.as_slice())?;
-    let asked = points.as_slice();
-    let far_first = Regions::of(a, asked);
-    let far_second = Regions::of(b, asked);
+    let points = points.as_slice();
+    let far_first = Regions::of(a, points);
+    let far_second = Regions::of(b, points);
     let job = BinaryJob {
         op,
         first: a,
@@ -125,10 +105,8 @@ pub fn binary<R: Threads + Wait + Sync, G: Gate + Sync>(
         far_second: &far_second,
         listed: listed.as_slice(),
     };
-    let load = load_of(a, b);
-    let workers = crew(how, paying(a, b, job.jobs(), load), load, gate.holds());
-    let maps = finished(rt, alloc, &job, how.board, workers, gate)?;
+    let work = work_of(a, b, job.jobs(), how.board);
     let carriers = merge_carriers(alloc, a, b)?;
-    let complex = assemble(rt, alloc, carriers, asked, maps, workers)?;
+    let complex = complex_by_jobs(rt, alloc, &job, work, points, carriers, how, gate)?;
     Ok(complex)
 }

@@ -1,58 +1,40 @@
-//! All jobs of an operation, worked over the board that was chosen.
+//! All jobs of an operation, worked over the board that was chosen, and the complex that their results make.
 
-ghost use Rattle.std.specs.Prelude.{◌≡◌, ℕ, ◌≤◌, ◌<◌, ◌/◌, min, max, true, false, IfOk, Some, slice_get, vec_len};
-ghost use Rattle.nef_ops.specs.Crews.{jobs_paying};
+ghost use Rattle.std.specs.Prelude.{◌≡◌, ℕ, ◌≤◌, true, false, length, IfOk, Some, slice_get, vec_len};
+ghost use Rattle.nef_space.specs.Sets.{Set};
+ghost use Rattle.nef_complex.specs.Complexes.{ShowsSet};
+ghost use Rattle.nef_core.specs.Work.{crew_of};
+ghost use Rattle.nef_ops.specs.Rights.{IsWorkedBy};
 
 use crate::OutOfMemory;
 use nef_board::LockBoard;
-use nef_core::{BoardKind, How, Job};
+use nef_complex::Complex;
+use nef_core::{BoardKind, How, Job, Work};
 use nef_free::FreeBoard;
+use nef_geo::{List, Plane, Point};
 use nef_io::Gate;
 use nef_pool::finish;
+use nef_result::{CandidateMap, assemble};
 use std::alloc::Global;
 use std::sync::Wait;
 use std::thread::Threads;
 
-/// How long a job takes, as far as its operation can tell beforehand.
-#[derive(Debug, Clone, Copy, PartialEq, Eq)]
-pub(crate) enum Load {
-    /// Mostly no longer than its two turns on the lock board.
-    Light,
-    /// Several times as long.
-    Heavy,
-}
-
-// So many jobs pay for a worker. Starting a thread and waiting for its end costs as much as a hundred of them. On the lock
-// board each job takes two turns besides, which the passes have one after another: where a job takes little longer than its
-// turns, more of them are wanted.
-fn jobs_for_a_worker(board: BoardKind, load: Load) -> u64
-    ensures paying { result ≡ jobs_paying board load }
-    ensures some { 0 < result }
-{
-    match (board, load) {
-        (_, Load::Heavy) => 128,
-        (BoardKind::Free, Load::Light) => 512,
-        (BoardKind::Lock, Load::Light) => 1024,
-    }
-}
-
-/// How many of the workers that were asked for work so many jobs of this load: as many as the jobs pay for, and one at
-/// least; or all, where the gate may hold jobs back until others began.
-pub(crate) fn crew(how: &How, jobs: u64, load: Load, holds: bool) -> u32
-    requires workers { how.now.workers ≤ 64 }
-    ensures workers { result ≤ 64 }
+// How many of the workers that were asked for share the jobs: as many as these pay for, or all, where the gate may hold
+// jobs back until others began.
+fn crew(how: &How, work: Work, holds: bool) -> u32
+    ensures few { result ≤ 64 }
     ensures all { holds ≡ true → result ≡ how.now.workers }
-    ensures paid { holds ≡ false → result ≡ min how.now.workers (max 1 (jobs / jobs_paying how.now.board load)) }
+    ensures paid { holds ≡ false → result ≡ crew_of work how.now.workers }
 {
     if holds {
-        return how.workers;
+        how.workers
+    } else {
+        work.crew(how.workers)
     }
-    let paid = jobs / jobs_for_a_worker(how.board, load);
-    u64::from(how.workers).min(paid.max(1)) as u32
 }
 
-/// One right result for each job, in the order of the jobs, worked by so many workers over a board of this kind.
-pub(crate) fn finished<R: Threads + Wait + Sync, J: Job, G: Gate + Sync>(
+// One right result for each job, in the order of the jobs, worked by so many workers over a board of this kind.
+fn finished<R: Threads + Wait + Sync, J: Job, G: Gate + Sync>(
     rt: &R,
     alloc: Global,
     job: &J,
@@ -76,4 +58,27 @@ pub(crate) fn finished<R: Threads + Wait + Sync, J: Job, G: Gate + Sync>(
             finish(rt, alloc, board, pass, job, workers, gate)
         }
     }
+}
+
+/// The complex of a set with these carriers. The points are its candidates, and each job makes its least map at one of
+/// them. The jobs are this work, and so many workers share them.
+pub(crate) fn complex_by_jobs<R: Threads + Wait + Sync, J: Job<Out = CandidateMap>, G: Gate + Sync>(
+    rt: &R,
+    alloc: Global,
+    job: &J,
+    work: Work,
+    points: &[Point],
+    carriers: List<Plane>,
+    how: &How,
+    gate: &G,
+) -> Result<Complex, OutOfMemory>
+    requires workable { J.workable job.now }
+    requires alike { J.count job.now ≡ length points.now }
+    requires set { (s : Set) × IsWorkedBy (J.right job.now) s carriers points.now }
+    ensures shows { IfOk result (λ c. (s : Set) → IsWorkedBy (J.right job.now) s carriers points.now → ShowsSet s c) }
+{
+    let workers = crew(how, work, gate.holds());
+    let maps = finished(rt, alloc, job, how.board, workers, gate)?;
+    let complex = assemble(rt, alloc, carriers, points, maps, workers)?;
+    Ok(complex)
 }

@@ -1,19 +1,19 @@
 //! Halves of the frame.
 
-ghost use Rattle.std.specs.Prelude.{◌≤◌, IfOk};
+ghost use Rattle.std.specs.Prelude.{IfOk};
 ghost use Rattle.nef_space.specs.Sets.{Set};
 ghost use Rattle.nef_geo.specs.Shapes.{given_form};
 ghost use Rattle.nef_complex.specs.Complexes.{ShowsSet};
 
 use crate::OutOfMemory;
-use crate::finished::{Load, crew, finished};
+use crate::finished::complex_by_jobs;
 use nef_cand::cut_candidates;
 use nef_complex::Complex;
-use nef_core::{How, Job};
+use nef_core::{How, Job, Work};
 use nef_geo::{Label, Oriented, Point};
 use nef_io::Gate;
 use nef_locate::local_map;
-use nef_result::{CandidateMap, add_carrier, assemble, frame, half_map};
+use nef_result::{CandidateMap, add_carrier, frame, half_map};
 use std::alloc::Global;
 use std::sync::Wait;
 use std::thread::Threads;
@@ -64,7 +64,6 @@ pub fn half_within<R: Threads + Wait + Sync, G: Gate + Sync>(
     how: &How,
     gate: &G,
 ) -> Result<Complex, OutOfMemory>
-    requires workers { (1 ≤ how.now.workers) × (how.now.workers ≤ 64) }
     requires whole { ShowsSet Set.full whole.now }
     ensures shows { IfOk result (λ c. ShowsSet (Set.half (given_form oriented.now) closed) c) }
 {
@@ -77,16 +76,15 @@ pub fn half_within<R: Threads + Wait + Sync, G: Gate + Sync>(
         oriented,
         closed,
     };
-    let workers = crew(how, job.jobs(), Load::Light, gate.holds());
-    let maps = finished(rt, alloc, &job, how.board, workers, gate)?;
+    let work = Work::LightJobs(how.board, job.jobs());
     let carriers = add_carrier(alloc, whole, &plane)?;
-    let complex = assemble(rt, alloc, carriers, points, maps, workers)?;
+    let complex = complex_by_jobs(rt, alloc, &job, work, points, carriers, how, gate)?;
     Ok(complex)
 }
 
 /// The complex of a half of the frame: where the given form is negative, or where it is at most zero if the half is
 /// closed. One job for each candidate, in their order, is worked over the board that `how` names, by `how.workers` workers,
-/// from 1 to 64, or by fewer where the jobs don't pay for so many and the gate holds none back; the gate is told of each
+/// or by fewer where the jobs don't pay for so many and the gate holds none back; the gate is told of each
 /// job before it begins. `OutOfMemory` says that memory was wanted and not found.
 pub fn half<R: Threads + Wait + Sync, G: Gate + Sync>(
     rt: &R,
@@ -96,7 +94,6 @@ pub fn half<R: Threads + Wait + Sync, G: Gate + Sync>(
     how: &How,
     gate: &G,
 ) -> Result<Complex, OutOfMemory>
-    requires workers { (1 ≤ how.now.workers) × (how.now.workers ≤ 64) }
     ensures shows { IfOk result (λ c. ShowsSet (Set.half (given_form oriented.now) closed) c) }
 {
     let whole = frame(alloc, Label::In)?;

@@ -1,6 +1,6 @@
 //! Complement, interior, closure, boundary and regularisation of a set.
 
-ghost use Rattle.std.specs.Prelude.{◌≤◌, IfOk};
+ghost use Rattle.std.specs.Prelude.{IfOk};
 ghost use Rattle.nef_space.specs.Place.{Place};
 ghost use Rattle.nef_space.specs.Sets.{Set};
 ghost use Rattle.law_sphere.specs.Least.{Cone};
@@ -10,13 +10,13 @@ ghost use Rattle.nef_cand.specs.Points.{points_of};
 ghost use Rattle.nef_ops.specs.Nodes.{unary_set};
 
 use crate::OutOfMemory;
-use crate::finished::{Load, crew, finished};
+use crate::finished::complex_by_jobs;
 use crate::op::UnaryOp;
 use nef_cand::vertex_points;
 use nef_complex::Complex;
-use nef_core::{How, Job};
+use nef_core::{How, Job, Work};
 use nef_io::Gate;
-use nef_result::{CandidateMap, assemble, copy_carriers};
+use nef_result::{CandidateMap, copy_carriers};
 use nef_smap::SphereMap;
 use nef_stopo::{boundary, closure, complement, interior};
 use std::alloc::Global;
@@ -74,8 +74,8 @@ impl<'a> Job for UnaryJob<'a> {
 }
 
 /// The complex of what the operation makes of the set of a complex. Its vertices are among those of the set. One job for
-/// each of these, in their order, is worked over the board that `how` names, by `how.workers` workers, from 1 to 64, or by
-/// fewer where the jobs don't pay for so many and the gate holds none back; the gate is told of each job before it begins.
+/// each of these, in their order, is worked over the board that `how` names, by `how.workers` workers, or by fewer where
+/// the jobs don't pay for so many and the gate holds none back; the gate is told of each job before it begins.
 /// `OutOfMemory` says that memory was wanted and not found.
 pub fn unary<R: Threads + Wait + Sync, G: Gate + Sync>(
     rt: &R,
@@ -85,15 +85,14 @@ pub fn unary<R: Threads + Wait + Sync, G: Gate + Sync>(
     how: &How,
     gate: &G,
 ) -> Result<Complex, OutOfMemory>
-    requires workers { (1 ≤ how.now.workers) × (how.now.workers ≤ 64) }
     requires shows { (s : Set) × ShowsSet s a.now }
     ensures shows { IfOk result (λ c. (s : Set) → ShowsSet s a.now → ShowsSet (unary_set op s) c) }
 {
     let points = vertex_points(alloc, a)?;
     let job = UnaryJob { op, complex: a };
-    let workers = crew(how, job.jobs(), Load::Heavy, gate.holds());
-    let maps = finished(rt, alloc, &job, how.board, workers, gate)?;
+    let work = Work::HeavyJobs(job.jobs());
     let carriers = copy_carriers(alloc, a)?;
-    let complex = assemble(rt, alloc, carriers, points.as_slice(), maps, workers)?;
+    let points = points.as_slice();
+    let complex = complex_by_jobs(rt, alloc, &job, work, points, carriers, how, gate)?;
     Ok(complex)
 }

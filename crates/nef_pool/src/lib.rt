@@ -1,4 +1,4 @@
-//! Works the jobs of a board by workers beside each other.
+//! Works the jobs of a board by workers side by side.
 #![tactic(auto)]
 
 mod pool;

@@ -63,8 +63,8 @@ fn passes_of<J: Job, B: Board<J>>(
 // Works the jobs by all passes, and takes the other ones in, which work each in a thread of its own where one can be made.
 // The first pass works in this thread, which starts all others itself: one that another new thread starts often waits for
 // its turn on the processor of that one, while a processor is free. Where there are no others no thread starts.
-#[cycle(beside)]
-fn work_beside<R: Threads + Sync, J: Job, B: Board<J>, G: Gate + Sync>(
+#[cycle(by_threads)]
+fn work_by_threads<R: Threads + Sync, J: Job, B: Board<J>, G: Gate + Sync>(
     rt: &R,
     alloc: Global,
     board: &B,
@@ -89,7 +89,7 @@ fn work_beside<R: Threads + Sync, J: Job, B: Board<J>, G: Gate + Sync>(
     let goes_on = move || -> B::Pass
         requires { (B.made_for board.now ≡ job.now) × J.workable job.now × B.belongs board.now pass × (B.hand pass ≡ None) × All (λ p. B.belongs board.now p × (B.hand p ≡ None)) others.items }
         ensures { B.belongs board.entry.now result × (B.hand result ≡ None) }
-    { work_beside(rt, alloc, board, pass, others, job, gate) };
+    { work_by_threads(rt, alloc, board, pass, others, job, gate) };
     let (done, mut pass) = thread::join(rt, works, goes_on);
     board.join(&mut pass, done);
     pass
@@ -161,7 +161,7 @@ pub fn finish<R: Threads + Sync, J: Job, B: Board<J>, G: Gate + Sync>(
     ensures right { IfOk result (λ v. (i : ℕ) (out : _) → slice_get v.items i ≡ Some out → J.right job.now i out) }
 {
     let others = passes_of(alloc, &board, &mut pass, workers.saturating_sub(1))?;
-    let pass = work_beside(rt, alloc, &board, pass, others, job, gate);
+    let pass = work_by_threads(rt, alloc, &board, pass, others, job, gate);
     let slots = board.close(alloc, pass)?;
     filled(alloc, job, slots)
 }

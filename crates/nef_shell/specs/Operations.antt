@@ -19,11 +19,9 @@ use Rattle.nef_shell.specs.declared.operation.Means.{Means}
 use Rattle.nef_shell.specs.declared.operation.Operation.{Operation}
 use Rattle.nef_shell.specs.declared.operation.Operation.TheVariants.{Constant, Half, Unary, Binary, Turned}
 
--- what operations are worked with: 1 to 64 workers, and a complex of the whole frame
-pub record AreMeans (means : Means) : Type 0 where
-  pub some_worker : 1 ≤ means.how.workers
-  pub few_workers : means.how.workers ≤ 64
-  pub whole : ShowsSet Set.full means.whole.now
+-- what operations are worked with: a complex of the whole frame
+abbrev pub AreMeans : Means → Type 0
+AreMeans means = ShowsSet Set.full means.whole.now
 
 -- what the operation makes of the sets of the first nodes
 abbrev pub set_by : List Set → Operation → Set

@@ -149,7 +149,7 @@ fn worked<R: Threads + Wait + Sync, G: Gate + Sync>(
 }
 
 /// The complexes of all nodes that questions ask about, each at its node's place, and no others: all bindings are
-/// worked, those whose operands are done beside each other. `AllocError` says that memory was wanted and not found.
+/// worked, those whose operands are done at the same time. `AllocError` says that memory was wanted and not found.
 pub(crate) fn worked_ahead<R: Threads + Wait + Sync, G: Gate + Sync>(
     rt: &R,
     alloc: Global,

@@ -25,7 +25,7 @@ use nef_io::Gate;
 use nef_ops::same;
 use nef_parts::Parts;
 use nef_script::{Command, Script};
-use nef_volumes::parts_beside;
+use nef_volumes::parts_by_threads;
 use std::alloc::{AllocError, Global};
 use std::sync::Wait;
 use std::thread::Threads;
@@ -126,8 +126,7 @@ impl<'a> Sets<'a> {
         requires second { IsKept self.now.nodes.now self.now.list.items right }
         ensures same { IsTrue result ↔ SameSet (node_set self.now.nodes.now left) (node_set self.now.nodes.now right) }
     {
-        let (a, b) = (self.get(left), self.get(right));
-        same(self.nodes, left, a, self.nodes, right, b)
+        same(self.get(left), self.get(right))
     }
 
     // The complex that the operation makes of those of its operands.
@@ -202,7 +201,7 @@ impl<'a> Sets<'a> {
         if self.parts[node].is_some() {
             return Ok(());
         }
-        let parts = parts_beside(rt, alloc, self.get(node), workers)?;
+        let parts = parts_by_threads(rt, alloc, self.get(node), workers)?;
         self.parts[node] = Some(parts);
         Ok(())
     }

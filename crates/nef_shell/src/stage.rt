@@ -1,9 +1,7 @@
 //! The bindings of a script as a stage of rounds.
 
-ghost use Rattle.std.specs.Prelude.{◌≡◌, ◌<◌, ◌≤◌, ℕ, None, IfOk, length};
+ghost use Rattle.std.specs.Prelude.{◌≡◌, ◌<◌, ℕ, None, IfOk, length};
 ghost use Rattle.std.specs.Option.{option_copied};
-ghost use Rattle.nef_space.specs.Sets.{Set};
-ghost use Rattle.nef_complex.specs.Complexes.{ShowsSet};
 ghost use Rattle.nef_sched.specs.Results.{kept, IsKept as HasResult, IsReady, AreSound};
 ghost use Rattle.nef_sched.specs.Marks.{IsMarked, IsUnmarked};
 ghost use Rattle.nef_shell.specs.Bindings.{AreBindings, first_need, second_need, needed_complex, Fits};
@@ -112,7 +110,6 @@ fn load_of(operation: &Operation, vertices: u64) -> u64 {
 
 // What a binding is worked with: one worker, unless it is alone.
 fn means_for<'a>(means: &Means<'a>, alone: bool) -> Means<'a>
-    ensures workers { (1 ≤ result.how.workers) × (result.how.workers ≤ 64) }
     ensures whole { result.whole ≡ means.now.whole }
 {
     let how = means.how;
@@ -138,7 +135,7 @@ fn work_binding<R: Threads + Wait + Sync, G: Gate + Sync>(
     means: &Means,
     gate: &G,
 ) -> Result<Complex, AllocError>
-    requires whole { ShowsSet Set.full means.now.whole.now }
+    requires means { AreMeans means.now }
     requires are { AreBindings nodes.now bindings.now }
     requires number { n < length bindings.now }
     requires there { IsReady (Fits nodes.now bindings.now) (first_need bindings.now n) (second_need bindings.now n) done.now.list.items }
@@ -173,7 +170,7 @@ pub(crate) fn work_bindings<R: Threads + Wait + Sync, G: Gate + Sync>(
     ensures lean { IfOk result (λ v. (n : ℕ) → IsUnmarked wanted.now n → kept v.items n ≡ None) }
 {
     let work = |n: usize, alone: bool, done: &Results<Complex>| -> Result<Complex, AllocError>
-        requires { ShowsSet Set.full means.now.whole.now × AreBindings nodes.now bindings.now × (n < length bindings.now) × IsReady (Fits nodes.now bindings.now) (first_need bindings.now n) (second_need bindings.now n) done.now.list.items }
+        requires { AreMeans means.now × AreBindings nodes.now bindings.now × (n < length bindings.now) × IsReady (Fits nodes.now bindings.now) (first_need bindings.now n) (second_need bindings.now n) done.now.list.items }
         ensures { IfOk result (Fits nodes.entry.now bindings.entry.now n) }
     { work_binding(rt, alloc, nodes, bindings, n, alone, done, means, gate) };
     let stage = Bindings {

@@ -68,7 +68,6 @@ fn run_script<R: Threads + Wait + Sync, S: Source, K: Sink, G: Gate + Sync>(
     sink: &mut K,
     gate: &G,
 ) -> Status
-    requires workers { (1 ≤ options.now.how.workers) × (options.now.how.workers ≤ 64) }
     requires stairs { IfSome options.now.stairs (λ n. (1 ≤ n) × (n ≤ most_stairs)) }
     ensures status { (words : List (List ℕ)) → GiveStairs words options.now.stairs → GiveText words options.now.text → HasEnded words result (traffic S.rest S.faults K.written K.faults source.old source.new sink.old sink.new) }
     ensures unread { (n : ℕ) → options.now.stairs ≡ Some n → IsUnread (traffic S.rest S.faults K.written K.faults source.old source.new sink.old sink.new) }
@@ -88,7 +87,7 @@ fn run_script<R: Threads + Wait + Sync, S: Source, K: Sink, G: Gate + Sync>(
 
 /// Runs the program: reads the words and then the script, checks the whole script, and works its
 /// commands in order. What a command answers is handed to the sink when it is worked. With `--ahead` all
-/// bindings are worked first, those whose operands are done beside each other, and then the questions.
+/// bindings are worked first, those whose operands are done at the same time, and then the questions.
 ///
 /// `words` are those after the program's name. Where they give `--stairs N`, the script is the generated
 /// one of N boxes (`stairs` of `nef_script`), which is never refused, and the source isn't looked at;

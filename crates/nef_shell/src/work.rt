@@ -210,7 +210,6 @@ pub(crate) fn work<R: Threads + Wait + Sync, K: Sink, G: Gate + Sync>(
     sink: &mut K,
     gate: &G,
 ) -> Result<(), Stop>
-    requires workers { (1 ≤ options.now.how.workers) × (options.now.how.workers ≤ 64) }
     requires workable { AreWorkable script.now.nodes script.now.commands }
     ensures ends { WorkEnds options.now.text script.now.nodes script.now.commands (K.written sink.old) (K.written sink.new) (K.faults sink.old) (K.faults sink.new) result }
 {

@@ -1,12 +1,11 @@
 //! Complexes by their vertices.
 
-ghost use Rattle.std.specs.Prelude.{◌≡◌, ◌↔◌, ◌<◌, length, IsTrue};
+ghost use Rattle.std.specs.Prelude.{◌≡◌, ◌↔◌, IsTrue};
 ghost use Rattle.nef_space.specs.Local.{SameSet};
-ghost use Rattle.nef_expr.specs.Nodes.{node_set};
+ghost use Rattle.nef_space.specs.Sets.{Set};
 ghost use Rattle.nef_complex.specs.Complexes.{ShowsSet};
 
 use nef_complex::{Complex, Vertex};
-use nef_expr::Nodes;
 use nef_smap::SphereMap;
 
 /// Whether two maps are equal in all that they hold. It takes no memory.
@@ -45,14 +44,9 @@ pub fn same_vertices(a: &Complex, b: &Complex) -> bool
     true
 }
 
-/// Whether node `i` of the one list and node `j` of the other stand for the same set: the sets hold at the same points
-/// of the frame. `a` and `b` are complexes that show them. It takes no memory.
-pub fn compare(left: &Nodes, i: usize, a: &Complex, right: &Nodes, j: usize, b: &Complex) -> bool
-    requires first_node { i < length left.now }
-    requires first { ShowsSet (node_set left.now i) a.now }
-    requires second_node { j < length right.now }
-    requires second { ShowsSet (node_set right.now j) b.now }
-    ensures same { IsTrue result ↔ SameSet (node_set left.now i) (node_set right.now j) }
+/// Whether the sets that the complexes show are the same: they hold at the same points of the frame. It takes no memory.
+pub fn compare(a: &Complex, b: &Complex) -> bool
+    ensures same { (s t : Set) → ShowsSet s a.now → ShowsSet t b.now → IsTrue result ↔ SameSet s t }
 {
     same_vertices(a, b)
 }

@@ -8,7 +8,7 @@
 
 mod all;
 mod below;
-mod beside;
+mod by_threads;
 mod cells;
 mod connected;
 mod edges;
@@ -23,6 +23,6 @@ mod sface;
 mod shells;
 
 pub use all::parts;
-pub use beside::parts_beside;
+pub use by_threads::parts_by_threads;
 pub use connected::joined;
 pub use std::alloc::AllocError as OutOfMemory;

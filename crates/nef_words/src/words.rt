@@ -108,7 +108,6 @@ fn chosen(
     ahead: Option<&str>,
 ) -> Option<Options>
     ensures options { result ≡ options_of_values (text_in workers.entry) (text_in board.entry) (text_in stairs.entry) (text_in text.entry) (text_in ahead.entry) }
-    ensures workers { IfSome result (λ o. (1 ≤ o.how.workers) × (o.how.workers ≤ 64)) }
     ensures stairs { IfSome result (λ o. IfSome o.stairs (λ n. (1 ≤ n) × (n ≤ most_stairs))) }
 {
     let workers = workers_of(workers)?;
@@ -134,7 +133,6 @@ fn chosen(
 /// once at most, or a value isn't of its form; a word for help or for the version is no such word.
 pub fn read_words(alloc: Global, words: &[String]) -> Result<Options, WordsFault>
     ensures accepted { IfOk result (λ options. options_of (map string_bytes words.now) ≡ Some options) }
-    ensures workers { IfOk result (λ o. (1 ≤ o.how.workers) × (o.how.workers ≤ 64)) }
     ensures stairs { IfOk result (λ o. IfSome o.stairs (λ n. (1 ≤ n) × (n ≤ most_stairs))) }
     ensures refused { result ≡ Err WordsFault.Refused → options_of (map string_bytes words.now) ≡ None }
 {

@@ -124,7 +124,7 @@ fn check_carriers(rt: &impl Abort, alloc: Global, a: &Complex, b: &Complex) -> R
     check_planes(rt, copied_digits(alloc, b), " 001+ 100+")
 }
 
-fn check_beside(rt: &impl Abort, alloc: Global, a: &Complex) -> Result<(), Fail> {
+fn check_with_second(rt: &impl Abort, alloc: Global, a: &Complex) -> Result<(), Fail> {
     let b = of_carriers(alloc, 4, 0)?;
     check_carriers(rt, alloc, a, &b)
 }
@@ -133,5 +133,5 @@ fn check_beside(rt: &impl Abort, alloc: Global, a: &Complex) -> Result<(), Fail>
 #[test]
 fn carriers_of_two(rt: HostRuntime) -> Result<(), Fail> {
     let a = of_carriers(rt.alloc(), 5, 4)?;
-    check_beside(&rt, rt.alloc(), &a)
+    check_with_second(&rt, rt.alloc(), &a)
 }

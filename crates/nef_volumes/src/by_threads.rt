@@ -3,6 +3,8 @@
 ghost use Rattle.std.specs.Prelude.{◌≡◌, ◌≤◌, ◌++◌, length, IfOk};
 ghost use Rattle.nef_space.specs.Sets.{Set};
 ghost use Rattle.nef_complex.specs.Complexes.{complex_of, ShowsSet};
+ghost use Rattle.nef_core.specs.Work.{crew_of};
+ghost use Rattle.nef_core.specs.declared.work.Work.TheVariants.{Parts as MakingParts};
 ghost use Rattle.nef_facets.specs.Facets.{IsFacetParts};
 ghost use Rattle.nef_parts.specs.Numbers.{IsParts};
 ghost use Rattle.nef_parts.specs.Shells.{SfaceNumbers};
@@ -17,6 +19,7 @@ use crate::pieces::{FacetPieces, Pieces, facet_pieces};
 use crate::sface::sface_numbers;
 use nef_classes::Tie;
 use nef_complex::Complex;
+use nef_core::Work;
 use nef_geo::List;
 use nef_parts::Parts;
 use std::alloc::Global;
@@ -171,39 +174,18 @@ fn pieces_by_four<R: Threads + Sync>(
     })
 }
 
-// Three threads take as long to start as the parts of some thirty vertices to be made. Of fewer than this many vertices one
-// thread makes all, since the others would save it less than half a millisecond.
-const MANY_VERTICES: usize = 128;
-
-// Whether one thread makes all parts.
-fn is_for_one_thread(workers: u32, c: &Complex) -> bool {
-    workers < 2 || c.vertices.len() < MANY_VERTICES
-}
-
-// So many threads make parts together.
-const THREADS: u32 = 4;
-
-// The pieces, made by four threads where there are as many workers, and else by two.
-fn pieces_beside<R: Threads + Sync>(
-    rt: &R,
-    alloc: Global,
-    c: &Complex,
-    workers: u32,
-) -> Result<Pieces, OutOfMemory>
-    requires shows { (s : Set) × ShowsSet s c.now }
-    ensures pieces { IfOk result (λ p. ArePieces (complex_of c.now) p.facets.parts p.facets.items.items p.sface_of p.down.items) }
+// How many threads make the parts.
+fn threads_for(c: &Complex, workers: u32) -> u32
+    ensures threads { result ≡ crew_of (MakingParts (length c.now.vertices)) workers }
 {
-    if workers < THREADS {
-        return pieces_by_two(rt, alloc, c);
-    }
-    pieces_by_four(rt, alloc, c)
+    Work::Parts(c.vertices.len()).crew(workers)
 }
 
-/// As `parts`. Where there are two workers at least, and many vertices, another thread follows the rays down from the
-/// vertices while the calling one numbers the sfaces and makes the facets; where there are four, two others follow the rays,
-/// and one numbers the sfaces. Where a thread can't be made another does its part. `OutOfMemory` says that memory was
-/// wanted and not found, by whichever of them.
-pub fn parts_beside<R: Threads + Sync>(
+/// As `parts`. Where it pays for two of the workers, another thread follows the rays down from the vertices while the
+/// calling one numbers the sfaces and makes the facets; where it pays for four, two others follow the rays, and one numbers
+/// the sfaces. Where a thread can't be made another does its part. `OutOfMemory` says that memory was wanted and not found,
+/// by whichever of them.
+pub fn parts_by_threads<R: Threads + Sync>(
     rt: &R,
     alloc: Global,
     c: &Complex,
@@ -215,9 +197,10 @@ pub fn parts_beside<R: Threads + Sync>(
     ensures sides_joined { IfOk result (λ p. VolumesAreComponents c.now p) }
     ensures counted { IfOk result (λ p. AreCounted c.now p) }
 {
-    if is_for_one_thread(workers, c) {
-        return parts(alloc, c);
-    }
-    let pieces = pieces_beside(rt, alloc, c, workers)?;
+    let pieces = match threads_for(c, workers) {
+        1 => return parts(alloc, c),
+        2 => pieces_by_two(rt, alloc, c)?,
+        _ => pieces_by_four(rt, alloc, c)?,
+    };
     parts_of_pieces(alloc, c, pieces)
 }

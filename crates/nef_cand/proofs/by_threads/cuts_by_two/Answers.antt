@@ -5,7 +5,7 @@ use Rattle.nef_complex.specs.Complexes.{complex_of}
 use Rattle.nef_cand.specs.Names.{IsNamedIn}
 use Rattle.nef_cand.specs.Points.{Adds, CutsOne, HasBoth}
 use Rattle.nef_cand.proofs.Apart.{cuts-merged}
-use Rattle.nef_cand.proofs.beside.cuts_by_two.Goals as goal
+use Rattle.nef_cand.proofs.by_threads.cuts_by_two.Goals as goal
 
 pub returns : goal.returns
 returns g c =

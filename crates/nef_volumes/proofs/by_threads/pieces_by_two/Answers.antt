@@ -5,7 +5,7 @@ use Rattle.nef_facets.specs.Facets.{IsFacetParts}
 use Rattle.nef_parts.specs.Shells.{SfaceNumbers}
 use Rattle.nef_volumes.specs.Ties.{AreItemTies, AreDownBetween}
 use Rattle.nef_volumes.proofs.DownTies.{down-all}
-use Rattle.nef_volumes.proofs.beside.pieces_by_two.Goals as goal
+use Rattle.nef_volumes.proofs.by_threads.pieces_by_two.Goals as goal
 
 pub returns : goal.returns
 returns g c =

@@ -6,7 +6,7 @@ use Rattle.nef_facets.specs.Facets.{IsFacetParts}
 use Rattle.nef_parts.specs.Shells.{SfaceNumbers}
 use Rattle.nef_volumes.specs.Ties.{AreItemTies, AreDownBetween, AreTiesDown}
 use Rattle.nef_volumes.proofs.DownTies.{down-appended, down-all}
-use Rattle.nef_volumes.proofs.beside.pieces_by_four.Goals as goal
+use Rattle.nef_volumes.proofs.by_threads.pieces_by_four.Goals as goal
 
 pub returns : goal.returns
 returns g c =

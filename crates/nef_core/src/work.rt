@@ -1,0 +1,93 @@
+//! What work costs, and how many workers that pays for. Starting a worker and waiting for its end takes as long as a
+//! hundred jobs.
+
+ghost use Rattle.std.specs.Prelude.{◌≡◌, min, max};
+ghost use Rattle.nef_core.specs.Work.{combination_work, crew_of};
+
+use crate::how::BoardKind;
+
+// So many jobs pay for a worker. On the lock board each job takes two turns besides, which the passes have one after
+// another: where a job takes little longer than its turns, more of them are wanted.
+const HEAVY_JOBS: u64 = 128;
+
+const LIGHT_JOBS_FREE: u64 = 512;
+
+const LIGHT_JOBS_LOCK: u64 = 1024;
+
+// So many microseconds of a round pay for a worker.
+const MICROSECONDS: u64 = 500;
+
+// The jobs of two sets of which one has fewer carriers are light.
+const MANY_CARRIERS: usize = 24;
+
+// Edges of a set with fewer carriers are cut sooner than threads start.
+const LISTED_CARRIERS: usize = 48;
+
+// Three threads take as long to start as the parts of some thirty vertices to be made. Of fewer than this many vertices
+// others would save less than half a millisecond.
+const PARTED_VERTICES: usize = 128;
+
+// The maps of fewer points are let go of sooner than a thread starts.
+const RELEASED_POINTS: usize = 2048;
+
+/// Work that several workers may share, with what tells how long it takes.
+#[derive(Debug, Clone, Copy, PartialEq, Eq)]
+pub enum Work {
+    /// So many jobs, mostly no longer than their two turns on the lock board, over this board.
+    LightJobs(BoardKind, u64),
+    /// So many jobs that take several times as long, over any board.
+    HeavyJobs(u64),
+    /// Listing the candidates of two sets, of which each has so many carriers at least. It takes one worker or four.
+    Listing(usize),
+    /// Making the parts of a set with so many vertices. It takes one worker, two or four.
+    Parts(usize),
+    /// Letting go of the maps of so many points, beside what else is done. It takes one worker or two.
+    Release(usize),
+    /// Working so many numbers of a round, which together take so many microseconds.
+    Round(usize, u64),
+}
+
+// As many workers as were asked for, or fewer where fewer are paid for, and one at least.
+fn paid_of(workers: u32, paid: u64) -> u32
+    ensures crew { result ≡ min workers (max 1 paid) }
+{
+    u64::from(workers).min(paid.max(1)) as u32
+}
+
+impl Work {
+    /// So many jobs, one for each candidate of two sets, of which each has so many carriers at least, and which have
+    /// so many vertices together.
+    ///
+    /// Where one set is small, most candidates lie far from it, and one look tells their maps. Then no more of them
+    /// count than the sets have vertices: the others are cuts on the frame's edges, far from both, of which there are
+    /// many where a set was made of many planes.
+    pub fn of_combination(board: BoardKind, jobs: u64, carriers: usize, vertices: usize) -> Work
+        ensures work { result ≡ combination_work board jobs carriers vertices }
+    {
+        if carriers < MANY_CARRIERS {
+            Work::LightJobs(board, jobs.min(vertices as u64))
+        } else {
+            Work::HeavyJobs(jobs)
+        }
+    }
+
+    /// How many of the workers that were asked for share the work, the calling thread among them: as many as it pays
+    /// for, and else one.
+    pub fn crew(&self, workers: u32) -> u32
+        ensures crew { result ≡ crew_of self.now workers }
+    {
+        match *self {
+            Work::LightJobs(BoardKind::Lock, jobs) => paid_of(workers, jobs / LIGHT_JOBS_LOCK),
+            Work::LightJobs(BoardKind::Free, jobs) => paid_of(workers, jobs / LIGHT_JOBS_FREE),
+            Work::HeavyJobs(jobs) => paid_of(workers, jobs / HEAVY_JOBS),
+            Work::Round(numbers, load) => {
+                paid_of(workers, (numbers as u64).min(load / MICROSECONDS))
+            }
+            Work::Listing(carriers) if workers >= 4 && carriers >= LISTED_CARRIERS => 4,
+            Work::Parts(vertices) if workers >= 4 && vertices >= PARTED_VERTICES => 4,
+            Work::Parts(vertices) if workers >= 2 && vertices >= PARTED_VERTICES => 2,
+            Work::Release(points) if workers >= 2 && points >= RELEASED_POINTS => 2,
+            Work::Listing(_) | Work::Parts(_) | Work::Release(_) => 1,
+        }
+    }
+}
