@@ -1,6 +1,8 @@
 -- Lists of results that are there.
-use Rattle.std.proofs.Common.{◌≡◌, ◌≢◌, ℕ, zero, suc, ◌+◌, ◌<◌, List, [], ◌∷◌, ◌++◌, length, refl, ap, sym, ◌∙◌, arith, ◌⊎◌, inl, inr, Option, Some, None, slice_get, slice_set, slice_index_or, All, IfSome, IsSomeAnd, cond, Bool, subst}
+use Rattle.std.proofs.Common.{◌≡◌, ◌≢◌, ℕ, zero, suc, ◌+◌, ◌<◌, List, [], ◌∷◌, ◌++◌, length, refl, ap, sym, ◌∙◌, arith, ◌⊎◌, inl, inr, Option, Some, None, slice_get, slice_set, slice_index_or, All, IfSome, IsSomeAnd, cond, Bool, true, false, subst, take}
+use Rattle.std.specs.Prelude.{option_map, is_some, is_err, OnOk, Result, Ok, Err, ◌≤◌}
 use Rattle.std.proofs.lemmas.List.{length-append, length-set}
+use Rattle.std.proofs.Math.Seq.{take-append_seam}
 use Rattle.std.proofs.lemmas.Bool.{ne_eqb}
 use Rattle.nef_sched.specs.declared.pass.RoundPass.{RoundPass}
 use Rattle.nef_sched.specs.declared.worked.Worked.{Worked}
@@ -51,6 +53,17 @@ module _ {X : Type 0} where
   still_set (x ∷ xs) zero new (suc k) h = h
   still_set (x ∷ xs) (suc j) new zero h = h
   still_set (x ∷ xs) (suc j) new (suc k) h = still_set xs j new k h
+
+  -- it is there then
+  pub kept_here : (list : List (Option X)) (j : ℕ) (new : X) → j < length list → IsKept (slice_set list j (Some new)) j
+  kept_here [] j new h = absurd (omega arith)
+  kept_here (x ∷ xs) zero new h = (new, refl)
+  kept_here (x ∷ xs) (suc j) new h = kept_here xs j new (omega arith)
+
+  -- a result that is found is kept
+  pub kept_found : {Y : Type 0} (f : Y → X) (o : Option Y) (list : List (Option X)) (k : ℕ) → option_map f o ≡ kept list k → is_some o ≡ true → IsKept list k
+  kept_found f None list k e is = absurd (let g : false ≡ true = is in cc)
+  kept_found f (Some y) list k e is = (f y, sym e)
 
   and_fits : (size : ℕ) (fits : ℕ → X → Type 0) (list : List (Option X)) → AreSound size fits list → (k : ℕ) → IsKept list k → IsSomeAnd (kept list k) (fits k)
   and_fits size fits list s k h = rw h.1 (s.1 k h.0 h.1)
@@ -118,6 +131,15 @@ module _ {X : Type 0} where
   worked_snoc [] w = omega arith
   worked_snoc (v ∷ vs) w = let e = worked_snoc vs w in omega arith
 
+-- a slice that was lent whole stands in the list again
+pub put_back : {A : Type 0} (new rest : List A) (n : ℕ) → n ≡ length new → take n (new ++ rest) ≡ new
+put_back new rest n e = ap (λ k. take k (new ++ rest)) e ∙ take-append_seam new rest
+
+-- after a call that made room there is room for one more
+pub room_of : {A B : Type 0} (r : Result A B) (used room : ℕ) → is_err r ≡ false → OnOk r (used + 1 ≤ room) → used < room
+room_of (Ok a) used room is h = omega arith
+room_of (Err e) used room is h = absurd (let g : true ≡ false = is in cc)
+
 -- what holds of all holds of a number that is among them
 pub all_in : (P : ℕ → Type 0) (xs : List ℕ) (x : ℕ) → times x xs ≡ 1 → All P xs → P x
 all_in P [] x e h = absurd (omega arith)
@@ -144,6 +166,11 @@ times_at (x ∷ xs) (suc i) d low = let h = times_at xs i d (omega arith) in ome
 
 pub not_listed : (xs : List ℕ) (i d k : ℕ) → i < length xs → times k xs ≡ 0 → k ≢ slice_index_or xs i d
 not_listed xs i d k low none e = let h = times_at xs i d low in let same : times k xs ≡ times (slice_index_or xs i d) xs = ap (λ z. times z xs) e in omega arith
+
+-- what holds of the one number of a list holds of all
+pub all_of_one : (P : ℕ → Type 0) (xs : List ℕ) → length xs ≡ 1 → P (slice_index_or xs 0 0) → All P xs
+all_of_one P xs e p zero d low = subst P (sym (any_default xs 0 d low)) p
+all_of_one P xs e p (suc k) d low = absurd (omega arith)
 
 pub found : (k : ℕ) (xs : List ℕ) → 0 < times k xs → (i : ℕ) × (i < length xs) × (slice_index_or xs i 0 ≡ k)
 found k [] some = absurd (omega arith)

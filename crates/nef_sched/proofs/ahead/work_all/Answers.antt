@@ -1,9 +1,10 @@
-use Rattle.std.proofs.Common.{◌≡◌, ℕ, ◌<◌, ap, sym, ◌∙◌}
+use Rattle.std.proofs.Common.{◌≡◌, ℕ, ◌<◌, ap, arith, refl, sym, ◌∙◌}
 use Rattle.std.proofs.lemmas.List.Elements.{All-push}
 use Rattle.nef_sched.specs.Counts.{times}
 use Rattle.nef_sched.specs.Results.{HasNeeds}
-use Rattle.nef_sched.proofs.Outs.{all_in}
+use Rattle.nef_sched.proofs.Outs.{all_in, room_of}
 use Rattle.nef_sched.proofs.ahead.work_all.Goals as goal
+use Rattle.nef_sched.proofs.ahead.work_all.Goals.{else-loop-test, then-loop-test+then-is_err, then-loop-test+else-is_err+in_default, then-loop-test+else-is_err+in-Some+in-Err}
 
 pub work-requires-clause-number : goal.work-requires-clause-number
 work-requires-clause-number g c =
@@ -33,3 +34,19 @@ loop-preserved g c =
       knows = c.take.ensures.same.1 ∙ i.knows;
       outs = rw (c.push_reserved.ensures.items, c.reserve.ensures.items) (All-push (λ (o : ℕ × _). (o.0 < s.size t) × (times o.0 c.args.numbers.now ≡ 1) × s.fits t o.0 o.1) _ _ i.outs (due.0, among, c.in-Ok.ensures));
     }
+
+pub loop-init : goal.loop-init
+loop-init g c = record { of = c.requires.of; parts = refl; knows = refl; outs = rw c.new-outs.ensures.items (λ k d low. absurd (omega arith)) }
+
+pub push_reserved-requires : goal.push_reserved-requires
+push_reserved-requires g c = room_of c.reserve.result _ _ (sym c.is_err.ensures.value ∙ c.if-is_err.false) c.reserve.ensures.ok
+
+pub returns : goal.returns
+returns g c =
+    let i = c.loop.invariant in
+    elim c.loop-test.branch [
+      | else-loop-test w ↦ rw (w.pass-is, w.outs-is) (record { of = i.of; parts = i.parts; outs = i.outs })
+      | then-loop-test+then-is_err w ↦ rw (w.pass-is, w.outs-is, w.reserve.ensures.items) (record { of = i.of; parts = i.parts; outs = i.outs })
+      | then-loop-test+else-is_err+in_default w ↦ rw (w.pass-is, w.outs-is, w.reserve.ensures.items) (record { of = w.take.ensures.of; parts = w.take.ensures.same.0 ∙ i.parts; outs = i.outs })
+      | then-loop-test+else-is_err+in-Some+in-Err w ↦ rw (w.pass-is, w.outs-is, w.reserve.ensures.items) (record { of = w.take.ensures.of; parts = w.take.ensures.same.0 ∙ i.parts; outs = i.outs })
+    ]
