@@ -27,7 +27,8 @@ use Rattle.law_complex.specs.Laws.{IsVertexOfBoth}
 use Rattle.nef_cand.specs.declared.named.Named.{Named}
 use Rattle.nef_cand.specs.Candidates.{IsListed, AreFramed}
 use Rattle.nef_cand.specs.Names.{named_point, IsNamed, AreNamed}
-use Rattle.nef_cand.specs.Points.{points_of, ListsNamed}
+use Rattle.nef_cand.specs.Near.{ListsNear}
+use Rattle.nef_cand.specs.Points.{points_of}
 use Rattle.nef_result.specs.declared.candidate_map.CandidateMap.{CandidateMap}
 use Rattle.nef_result.specs.Results.{AreMapsOf, maps_at}
 use Rattle.nef_ops.specs.declared.op.UnaryOp.{UnaryOp}
@@ -96,7 +97,7 @@ AreInOrder ps = InOrder (λ (p q : Point). IsPlaceBelow (place_of p) (place_of q
 
 -- of a combination of two sets, by the candidates ns, lent as ks and js, and their points qs, lent as ps
 module _ (op : Op) (a b : Complex) (hs : List Plane) (ns ks js : List Named) (qs ps : List Point) (cs : List CandidateMap) (asked : ks ≡ ns) (worked : js ≡ ns) (made : qs ≡ map named_point ks) (lent : ps ≡ qs)
-    (L : ListsNamed a b ns) (carried : (s t : Set) (o : Op) → ShowsSet s a → ShowsSet t b → Carriers (op_set o s t) (map form_of hs)) (alike : length cs ≡ length js)
+    (L : ListsNear a b ns) (carried : (s t : Set) (o : Op) → ShowsSet s a → ShowsSet t b → Carriers (op_set o s t) (map form_of hs)) (alike : length cs ≡ length js)
     (right : (i : ℕ) (c : CandidateMap) → slice_get cs i ≡ Some c → (s t : Set) → ShowsSet s a → ShowsSet t b → IsRight (op_set op s t) (map named_point js) i c.map.value) where
   same : map named_point ns ≡ ps
   same = sym (lent ∙ made ∙ ap (map named_point) asked)
@@ -105,10 +106,10 @@ module _ (op : Op) (a b : Complex) (hs : List Plane) (ns ks js : List Named) (qs
   all-alike = maps-alike cs (length js) alike ∙ sym (length-map js named_point) ∙ ap length (ap (map named_point) worked ∙ same)
 
   pub both-maps : (s t : Set) → ShowsSet s a → ShowsSet t b → AreMapsOf (op_set op s t) hs ps (maps_at cs)
-  both-maps s t S T = right-maps (op_set op s t) hs ps (maps_at cs) (carried s t op S T) all-alike (subst AreInOrder same L.lists.exactly.ordered)
+  both-maps s t S T = right-maps (op_set op s t) hs ps (maps_at cs) (carried s t op S T) all-alike (subst AreInOrder same L.ordered)
       (subst (λ (rs : List Point). (i : ℕ) (m : SphereMap) → slice_get (maps_at cs) i ≡ Some m → IsRight (op_set op s t) rs i m) (ap (map named_point) worked ∙ same)
       (each-map (IsRight (op_set op s t) (map named_point js)) cs (λ i c e. right i c e s t S T)))
-      (λ y v. subst (λ (rs : List Point). IsListed rs y) same (L.lists.complete s t y S T (vertex-of_both op s t y v)))
+      (λ y v. subst (λ (rs : List Point). IsListed rs y) same (L.complete s t y S T (vertex-of_both op s t y v)))
 
 -- of a half
 pub half-maps : (f : Form) (closed : Bool) (h : Plane) (whole : Complex) (hs : List Plane) (vs ps : List Point) (ms : List SphereMap) → ShowsSet Set.full whole → SamePlane (form_of h) f → ps ≡ vs → AreInOrder vs

@@ -9,7 +9,7 @@ ghost use Rattle.nef_ops.specs.Crews.{jobs_counted};
 use crate::OutOfMemory;
 use crate::finished::{Load, crew, finished};
 use crate::local::combined_map;
-use nef_cand::{Named, named_candidates_beside, named_points};
+use nef_cand::{Named, named_points, near_candidates_beside};
 use nef_complex::Complex;
 use nef_core::{How, Job};
 use nef_io::Gate;
@@ -68,8 +68,8 @@ fn load_of(a: &Complex, b: &Complex) -> Load {
     }
 }
 
-// So many of the jobs pay for workers: where one set is small, no more than the sets have vertices. The other candidates are
-// cuts on the frame's edges, far from both sets, of which there are many where a set was made of many planes.
+// So many of the jobs pay for workers: where one set is small, no more than the sets have vertices, however many cuts there
+// are.
 fn paying(a: &Complex, b: &Complex, jobs: u64, load: Load) -> u64
     ensures counted { result ≡ jobs_counted load jobs (length a.now.vertices) (length b.now.vertices) }
 {
@@ -82,8 +82,8 @@ fn paying(a: &Complex, b: &Complex, jobs: u64, load: Load) -> u64
     }
 }
 
-/// The complex of the combination of the sets of two complexes. One job for each candidate, in their order, is worked over
-/// the board that `how` names, by `how.workers` workers, from 1 to 64, or by fewer where the jobs don't pay for so many
+/// The complex of the combination of the sets of two complexes. One job for each near candidate, in their order, is worked
+/// over the board that `how` names, by `how.workers` workers, from 1 to 64, or by fewer where the jobs don't pay for so many
 /// and the gate holds none back; the gate is told of each job before it begins. `OutOfMemory` says that memory was wanted
 /// and not found.
 pub fn binary<R: Threads + Wait + Sync, G: Gate + Sync>(
@@ -100,7 +100,7 @@ pub fn binary<R: Threads + Wait + Sync, G: Gate + Sync>(
     requires second { (t : Set) × ShowsSet t b.now }
     ensures shows { IfOk result (λ c. (s t : Set) → ShowsSet s a.now → ShowsSet t b.now → ShowsSet (op_set op s t) c) }
 {
-    let listed = named_candidates_beside(rt, alloc, a, b, how.workers)?;
+    let listed = near_candidates_beside(rt, alloc, a, b, how.workers)?;
     let points = named_points(alloc, listed.as_slice())?;
     let job = BinaryJob {
         op,
