@@ -50,6 +50,13 @@ plane-back h p q z e = by (form_at h p) (form_at h q) (sym (slope-toward h p q) 
 pub plane-ahead : (h : Form) (p q : Place) (d : Vector) → SameDirection (toward p q) d → slope h d ≡ pos 0 → form_at h p ≡ pos 0 → form_at h q ≡ pos 0
 plane-ahead h p q d w z e = plane-onward h p q (level-way (normal_of h) d (toward p q) (SameDirection-turned (toward p q) d w) z) e
 
+-- where the way of a segment lies in the plane, its ends lie there where a point between them does
+pub plane-ends : (h : Form) (p q z : Place) → IsBetween p z q → slope h (toward p q) ≡ pos 0 → form_at h z ≡ pos 0 → (form_at h p ≡ pos 0) × (form_at h q ≡ pos 0)
+plane-ends h p q z b l on =
+    let to-z = level-way (normal_of h) (toward p q) (toward p z) (SameDirection-turned (toward p z) (toward p q) (between-way p z q b)) l in
+    let low = plane-back h p z to-z on in
+    (low, plane-onward h p q l low)
+
 -- ---- flat ways
 pub dim-same : (s : Set) (p q : Place) (k : ℕ) → SamePlace p q → FlatDim s p k → FlatDim s q k
 dim-same s p q k e = FlatDim-by_germs s s p q (germs-by_cell s p q (signs-same (carriers s) p q e)) k
@@ -122,11 +129,7 @@ module _ (s : Set) (C : Complex) (S : Shows s C) where
 
     -- both ends of its edge lie in the plane
     pub ends-lie : (k : ℕ) (e : Edge) (v w : Vertex) → At C.edges k e → HasEnds C e v w → IsBetween v.point z w.point → (form_at h v.point ≡ pos 0) × (form_at h w.point ≡ pos 0)
-    ends-lie k e v w a H b =
-        let l = edge-level k e v w a H b in
-        let to-z = level-way (normal_of h) (toward v.point w.point) (toward v.point z) (SameDirection-turned (toward v.point z) (toward v.point w.point) (between-way v.point z w.point b)) l in
-        let low = plane-back h v.point z to-z on in
-        (low, plane-onward h v.point w.point l low)
+    ends-lie k e v w a H b = plane-ends h v.point w.point z b (edge-level k e v w a H b) on
 
     edge-lies : (k : ℕ) → IsEdgePoint C k z → LiesIn C h k
     edge-lies k (e, v, w, a, H, b) = let l = ends-lie k e v w a H b in (e, v, w, a, H, l.0, l.1)

@@ -171,6 +171,16 @@ of-within c low high p (x, y) = (
     upper : (f a b : ℤ) → f ≡ b -ℤ a → b ≤ℤ a → f ≤ℤ pos 0
     upper f a b e l = omega (arith, ints)
 
+-- at equal points, and between two points, a coordinate lies within what bounds it
+pub within-same : (c : Coordinate) (low high : ℤ) (p q : Place) → SamePlace p q → IsWithin c low high p → IsWithin c low high q
+within-same c low high p q e i = let x = of-within c low high p i in within-of c low high q (below-same (below_form c low) p q e x.0) (below-same (above_form c high) p q e x.1)
+
+pub within-between : (c : Coordinate) (low high : ℤ) (p r q : Place) → IsBetween p r q → IsWithin c low high p → IsWithin c low high q → IsWithin c low high r
+within-between c low high p r q b i j =
+    let x = of-within c low high p i in
+    let y = of-within c low high q j in
+    within-of c low high r (below-between (below_form c low) p r q b x.0 y.0) (below-between (above_form c high) p r q b x.1 y.1)
+
 pub plane-within : (s : Set) (C : Complex) → Shows s C → (h : Form) (c : Coordinate) (low high : ℤ) → EachVertexOn C h (IsWithin c low high) → EachPointOn s C h (IsWithin c low high)
 plane-within s C S h c low high each =
     let x = plane-bounded s C S h (below_form c low) (λ k v a on. (of-within c low high v.point (each k v a on)).0) in

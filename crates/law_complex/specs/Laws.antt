@@ -40,6 +40,10 @@ FacetPoints = (s : Set) (C : Complex) (k : Corner) (v : Vertex) (x : Item) (y : 
 abbrev pub IsFlatIn : Set → Form → Place → Type 0
 IsFlatIn s h y = FlatDim s y 2 × ((d : Vector) → Flat s y d ↔ (slope h d ≡ pos 0))
 
+-- y is a vertex, or lies on an edge in the plane, or in a facet of the plane
+abbrev pub IsSkeletonIn : Set → Complex → Form → Place → Type 0
+IsSkeletonIn s C h y = ((m : PlaneMeet) × Meets C h m y) ⊎ IsFlatIn s h y
+
 -- a point with two flat directions has a corner; every direction of its plane leads to a first vertex or edge of the plane, and the item there, which lies in the plane, has the labels of the point
 abbrev pub FacetsComplete : Type 0
 FacetsComplete = (s : Set) (C : Complex) (h : Form) (y : Place) → Shows s C → IsNormal (normal_of h) → form_at h y ≡ pos 0 → IsFlatIn s h y → (k : Corner) × HasCorner C y k
@@ -87,6 +91,11 @@ IsCut C D y = (k : ℕ) × (e : Edge) × (v : Vertex) × (w : Vertex) × (i : �
 abbrev pub IsVertexOfBoth : Set → Set → Place → Type 0
 IsVertexOfBoth s t y = IsVertex (Set.both s t) y ⊎ IsVertex (Set.either s t) y ⊎ IsVertex (Set.less s t) y ⊎ IsVertex (Set.one_of s t) y
 
--- such a vertex is one of s or of t, or a cut of one's edges by the other's carriers
+-- y is a cut of an edge of C by a carrier of D, in which t has something at y: an edge whose ends both lie on the carrier, or a facet of the carrier's plane
+abbrev pub IsNearCut : Complex → Set → Complex → Place → Type 0
+IsNearCut C t D y = (k : ℕ) × (e : Edge) × (v : Vertex) × (w : Vertex) × (i : ℕ) × (h : Form) × At C.edges k e × HasEnds C e v w × IsBetween v.point y w.point
+    × At D.carriers i h × (form_at h y ≡ pos 0) × (HoldsEdge h v w → ⊥) × IsSkeletonIn t D h y
+
+-- such a vertex is one of s or of t, or a cut of one's edges by a carrier of the other in which that has something there
 abbrev pub CandidatesSuffice : Type 0
-CandidatesSuffice = (s t : Set) (C D : Complex) (y : Place) → Shows s C → Shows t D → IsVertexOfBoth s t y → IsVertex s y ⊎ IsVertex t y ⊎ IsCut C D y ⊎ IsCut D C y
+CandidatesSuffice = (s t : Set) (C D : Complex) (y : Place) → Shows s C → Shows t D → IsVertexOfBoth s t y → IsVertex s y ⊎ IsVertex t y ⊎ IsNearCut C t D y ⊎ IsNearCut D s C y

@@ -12,7 +12,8 @@ pub fn edge_laws()
 {}
 
 /// A vertex of the intersection, the union, the difference or the symmetric difference of two sets is a vertex of one of
-/// them, or a point where an edge of the one crosses a carrier of the other.
+/// them, or a point where an edge of the one crosses a carrier of the other that holds, at this point, an edge or a facet
+/// of the other.
 pub fn candidate_laws()
     ensures suffice { CandidatesSuffice }
 {}

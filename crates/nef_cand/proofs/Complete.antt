@@ -1,5 +1,5 @@
 -- What is listed, and that all vertices of a combination are.
-use Rattle.std.proofs.Common.{◌≡◌, ℕ, pos, List, [], map, arith, sym, subst, ◌⊎◌, inl, inr, ⊎_elim}
+use Rattle.std.proofs.Common.{◌≡◌, ℕ, pos, List, [], ◌++◌, map, arith, refl, sym, subst, ◌⊎◌, inl, inr, ⊎_elim}
 use Rattle.std.specs.List.{Contains}
 use Rattle.nef_space.specs.Local.{IsVertex}
 use Rattle.nef_space.specs.Place.{Place, Form, form_at, SamePlace, IsPlaceBelow, IsBetween}
@@ -13,16 +13,20 @@ use Rattle.law_sphere.proofs.Lists.{search_list, Found}
 use Rattle.nef_smap.proofs.Lists.{at-within, at-get, map-at, at-map, contains-at, at-contains}
 use Rattle.law_complex.specs.Complexes.{Vertex, Edge, Complex, HasEnds}
 use Rattle.law_complex.specs.Shows.{Shows}
-use Rattle.law_complex.specs.Laws.{IsCut, HoldsEdge, IsVertexOfBoth}
+use Rattle.law_complex.specs.Laws.{IsCut, IsNearCut, HoldsEdge, IsVertexOfBoth}
 use Rattle.law_complex.proofs.Candidates.{candidates-suffice}
 use Rattle.nef_complex.specs.declared.complex.Complex.{Complex as ProgramComplex}
-use Rattle.nef_complex.specs.Complexes.{complex_of}
+use Rattle.nef_complex.specs.Complexes.{complex_of, ShowsSet}
 use Rattle.nef_cand.specs.declared.named.Named.{Named}
-use Rattle.nef_cand.specs.Names.{named_point, IsAmong, IsOnceEach}
+use Rattle.nef_cand.specs.declared.named.Operand.TheVariants.{First, Second}
+use Rattle.nef_cand.specs.Names.{named_point, IsAmong, IsNamed, IsNamedIn, AreNamed, IsOnceEach}
 use Rattle.nef_cand.specs.Candidates.{IsListed, AreExactly, IsVertexOf, AreCandidates}
-use Rattle.nef_cand.specs.Points.{Adds, CutsOne}
+use Rattle.nef_cand.specs.Points.{Adds, CutsOne, ListsNamed}
+use Rattle.nef_cand.specs.Near.{HasTogether, IsCandidate}
 use Rattle.nef_complex.proofs.Reading.{read-at}
-use Rattle.nef_cand.proofs.Adding.{adds-both, adds-as}
+use Rattle.nef_cand.proofs.Adding.{adds-both, adds-with}
+use Rattle.nef_cand.proofs.Apart.{adds-after}
+use Rattle.nef_cand.proofs.Framed.{each-framed}
 
 -- ---- whether a place is listed is decided
 pub listed-decided : (ps : List Point) (y : Place) → IsListed ps y ⊎ (IsListed ps y → ⊥)
@@ -67,10 +71,14 @@ vertex-of s C y S v = let f = S.complete y v in (f.0, (f.1, f.2, f.3))
 pub vertices-listed : (s t : Set) (C D : Complex) (ps : List Point) (y : Place) → AreCandidates C D ps → Shows s C → Shows t D → IsVertexOfBoth s t y → IsListed ps y
 vertices-listed s t C D ps y A S T v = A.all y (candidate (candidates-suffice s t C D y S T v))
   where
-    candidate : IsVertex s y ⊎ IsVertex t y ⊎ IsCut C D y ⊎ IsCut D C y → IsVertexOf C y ⊎ IsVertexOf D y ⊎ IsCut C D y ⊎ IsCut D C y
+    cut : (E F : Complex) (r : Set) → IsNearCut E r F y → IsCut E F y
+    cut E F r (k, e, p, q, i, h, a, H, b, l, o, n, x) = (k, e, p, q, i, h, a, H, b, l, o, n)
+
+    candidate : IsVertex s y ⊎ IsVertex t y ⊎ IsNearCut C t D y ⊎ IsNearCut D s C y → IsCandidate C D y
     candidate (inl u) = inl (vertex-of s C y S u)
     candidate (inr (inl u)) = inr (inl (vertex-of t D y T u))
-    candidate (inr (inr u)) = inr (inr u)
+    candidate (inr (inr (inl u))) = inr (inr (inl (cut C D t u)))
+    candidate (inr (inr (inr u))) = inr (inr (inr (cut D C s u)))
 
 -- ---- what the program collects
 -- y lies strictly inside an edge of C, on one of these planes, which doesn't hold the edge
@@ -78,7 +86,7 @@ abbrev IsCutByAny : Complex → List Form → Place → Type 0
 IsCutByAny C hs y = (k : ℕ) × (e : Edge) × (v : Vertex) × (w : Vertex) × (i : ℕ) × (h : Form) × At C.edges k e × HasEnds C e v w × IsBetween v.point y w.point
     × At hs i h × (form_at h y ≡ pos 0) × (HoldsEdge h v w → ⊥)
 
-cuts-any : (C : Complex) (hs : List Plane) (y : Place) → CutsOne C hs y → IsCutByAny C (map form_of hs) y
+pub cuts-any : (C : Complex) (hs : List Plane) (y : Place) → CutsOne C hs y → IsCutByAny C (map form_of hs) y
 cuts-any C hs y (i, h, a, (k, e, v, w, b, H, m, o, n)) = (k, e, v, w, i, form_of h, b, H, m, map-at form_of hs i h a, o, n)
 
 any-cuts : (C : Complex) (hs : List Plane) (y : Place) → IsCutByAny C (map form_of hs) y → CutsOne C hs y
@@ -86,28 +94,63 @@ any-cuts C hs y (k, e, v, w, i, h, b, H, m, a, o, n) =
     let g = at-map form_of hs i h a in
     (i, g.0, g.1, (k, e, v, w, b, H, m, subst (λ (f : Form). form_at f y ≡ pos 0) (sym g.2) o, subst (λ (f : Form). HoldsEdge f v w → ⊥) (sym g.2) n))
 
--- the planes of one are the carriers of the other
-cuts-added : (C : Complex) (hs gs : List Plane) → hs ≡ gs → (N : Named → Type 0) (ps qs : List Named) → Adds (CutsOne C hs) N ps qs → Adds (IsCutByAny C (map form_of gs)) N ps qs
-cuts-added C hs gs e N ps qs a = adds-as (CutsOne C gs) (IsCutByAny C (map form_of gs)) N ps qs (cuts-any C gs) (any-cuts C gs) (subst (λ (r : List Plane). Adds (CutsOne C r) N ps qs) e a)
+-- the vertices of both complexes, and points with P of the first and with Q of the second
+module _ (a b : ProgramComplex) (P Q : Place → Type 0) (xs ys ns : List Named) (t : HasTogether a b xs ys ns) (third : Adds P (IsNamedIn First (complex_of a)) [] xs) (fourth : Adds Q (IsNamedIn Second (complex_of b)) [] ys) where
+  abbrev pub Has : Place → Type 0
+  Has y = IsVertexOf (complex_of a) y ⊎ IsVertexOf (complex_of b) y ⊎ P y ⊎ Q y
 
-module _ (a b : ProgramComplex) (hs gs : List Plane) (of_b : hs ≡ b.carriers) (of_a : gs ≡ a.carriers) (N : Named → Type 0) (ps qs rs ts us : List Named)
-    (first : Adds (IsVertexOf (complex_of a)) N [] ps) (second : Adds (IsVertexOf (complex_of b)) N ps qs) (third : Adds (CutsOne (complex_of a) hs) N qs rs) (fourth : Adds (CutsOne (complex_of b) gs) N rs ts)
-    (once : IsOnceEach ts us) where
-  vertices-added : Adds (λ y. IsVertexOf (complex_of a) y ⊎ IsVertexOf (complex_of b) y) N [] qs
-  vertices-added = adds-both (IsVertexOf (complex_of a)) (IsVertexOf (complex_of b)) (λ y. IsVertexOf (complex_of a) y ⊎ IsVertexOf (complex_of b) y) N [] ps qs first second (λ y h. h) (λ y h. h)
+  abbrev N : Named → Type 0
+  N = IsNamed (complex_of a) (complex_of b)
 
-  crossings-added : Adds (λ y. IsCut (complex_of a) (complex_of b) y ⊎ IsCut (complex_of b) (complex_of a) y) N qs ts
-  crossings-added = adds-both (IsCut (complex_of a) (complex_of b)) (IsCut (complex_of b) (complex_of a)) (λ y. IsCut (complex_of a) (complex_of b) y ⊎ IsCut (complex_of b) (complex_of a) y) N qs rs ts
-      (cuts-added (complex_of a) hs b.carriers of_b N qs rs third) (cuts-added (complex_of b) gs a.carriers of_a N rs ts fourth) (λ y h. h) (λ y h. h)
+  vertices-added : Adds (λ y. IsVertexOf (complex_of a) y ⊎ IsVertexOf (complex_of b) y) N [] (t.us ++ t.vs)
+  vertices-added = adds-both (IsVertexOf (complex_of a)) (IsVertexOf (complex_of b)) (λ y. IsVertexOf (complex_of a) y ⊎ IsVertexOf (complex_of b) y) N [] t.us (t.us ++ t.vs)
+      (adds-with (IsVertexOf (complex_of a)) (IsNamedIn First (complex_of a)) N [] t.us (λ n h. h (complex_of a) (complex_of b) refl) t.of_first)
+      (adds-after (IsVertexOf (complex_of b)) N t.us t.vs (adds-with (IsVertexOf (complex_of b)) (IsNamedIn Second (complex_of b)) N [] t.vs (λ n h. h (complex_of a) (complex_of b) refl) t.of_second))
+      (λ y h. h) (λ y h. h)
 
-  all-added : Adds (λ y. IsVertexOf (complex_of a) y ⊎ IsVertexOf (complex_of b) y ⊎ IsCut (complex_of a) (complex_of b) y ⊎ IsCut (complex_of b) (complex_of a) y) N [] ts
-  all-added =
-      adds-both (λ y. IsVertexOf (complex_of a) y ⊎ IsVertexOf (complex_of b) y) (λ y. IsCut (complex_of a) (complex_of b) y ⊎ IsCut (complex_of b) (complex_of a) y)
-      (λ y. IsVertexOf (complex_of a) y ⊎ IsVertexOf (complex_of b) y ⊎ IsCut (complex_of a) (complex_of b) y ⊎ IsCut (complex_of b) (complex_of a) y) N [] qs ts vertices-added crossings-added
+  others-added : Adds (λ y. P y ⊎ Q y) N (t.us ++ t.vs) (((t.us ++ t.vs) ++ xs) ++ ys)
+  others-added = adds-both P Q (λ y. P y ⊎ Q y) N (t.us ++ t.vs) ((t.us ++ t.vs) ++ xs) (((t.us ++ t.vs) ++ xs) ++ ys)
+      (adds-after P N (t.us ++ t.vs) xs (adds-with P (IsNamedIn First (complex_of a)) N [] xs (λ n h. h (complex_of a) (complex_of b) refl) third))
+      (adds-after Q N ((t.us ++ t.vs) ++ xs) ys (adds-with Q (IsNamedIn Second (complex_of b)) N [] ys (λ n h. h (complex_of a) (complex_of b) refl) fourth))
+      (λ y h. h) (λ y h. h)
+
+  all-added : Adds Has N [] (((t.us ++ t.vs) ++ xs) ++ ys)
+  all-added = adds-both (λ y. IsVertexOf (complex_of a) y ⊎ IsVertexOf (complex_of b) y) (λ y. P y ⊎ Q y) Has N [] (t.us ++ t.vs) (((t.us ++ t.vs) ++ xs) ++ ys) vertices-added others-added
       (λ y. ⊎_elim (⊎_elim (λ h. inl h) (λ h. inr (inl h))) (λ h. inr (inr h))) (λ y. ⊎_elim (λ h. inl (inl h)) (⊎_elim (λ h. inl (inr h)) (λ h. inr h)))
 
-  pub listed-all : AreCandidates (complex_of a) (complex_of b) (map named_point us)
-  listed-all = added-exactly (λ y. IsVertexOf (complex_of a) y ⊎ IsVertexOf (complex_of b) y ⊎ IsCut (complex_of a) (complex_of b) y ⊎ IsCut (complex_of b) (complex_of a) y) N ts us all-added once
+  pub together-exactly : AreExactly Has (map named_point ns)
+  together-exactly = added-exactly Has N (((t.us ++ t.vs) ++ xs) ++ ys) ns all-added t.once
 
-  pub named-all : (n : Named) → Contains us n → N n
-  named-all = added-named (λ y. IsVertexOf (complex_of a) y ⊎ IsVertexOf (complex_of b) y ⊎ IsCut (complex_of a) (complex_of b) y ⊎ IsCut (complex_of b) (complex_of a) y) N ts us all-added once
+  pub together-named : AreNamed (complex_of a) (complex_of b) ns
+  together-named = added-named Has N (((t.us ++ t.vs) ++ xs) ++ ys) ns all-added t.once
+
+exactly-as : (P Q : Place → Type 0) (ps : List Point) → ((y : Place) → P y → Q y) → ((y : Place) → Q y → P y) → AreExactly P ps → AreExactly Q ps
+exactly-as P Q ps f g x = record { ordered = x.ordered; each = λ p h. f (place_of p) (x.each p h); all = λ y h. x.all y (g y h) }
+
+-- of all cuts by carriers of the other
+pub lists-named : (s t : Set) (a b : ProgramComplex) (xs ys ns : List Named) → ShowsSet s a → ShowsSet t b → HasTogether a b xs ys ns
+    → Adds (CutsOne (complex_of a) b.carriers) (IsNamedIn First (complex_of a)) [] xs → Adds (CutsOne (complex_of b) a.carriers) (IsNamedIn Second (complex_of b)) [] ys → ListsNamed a b ns
+lists-named s t a b xs ys ns S T all third fourth = record {
+  lists = record {
+    exactly = exactly;
+    framed = each-framed s t a b (map named_point ns) S.shows T.shows exactly.each;
+    complete = λ r u y X Y v. vertices-listed r u (complex_of a) (complex_of b) (map named_point ns) y exactly X.shows Y.shows v;
+  };
+  named = together-named a b (CutsOne (complex_of a) b.carriers) (CutsOne (complex_of b) a.carriers) xs ys ns all third fourth;
+}
+  where
+    forth : (y : Place) → Has a b (CutsOne (complex_of a) b.carriers) (CutsOne (complex_of b) a.carriers) xs ys ns all third fourth y → IsCandidate (complex_of a) (complex_of b) y
+    forth y (inl h) = inl h
+    forth y (inr (inl h)) = inr (inl h)
+    forth y (inr (inr (inl h))) = inr (inr (inl (cuts-any (complex_of a) b.carriers y h)))
+    forth y (inr (inr (inr h))) = inr (inr (inr (cuts-any (complex_of b) a.carriers y h)))
+
+    back : (y : Place) → IsCandidate (complex_of a) (complex_of b) y → Has a b (CutsOne (complex_of a) b.carriers) (CutsOne (complex_of b) a.carriers) xs ys ns all third fourth y
+    back y (inl h) = inl h
+    back y (inr (inl h)) = inr (inl h)
+    back y (inr (inr (inl h))) = inr (inr (inl (any-cuts (complex_of a) b.carriers y h)))
+    back y (inr (inr (inr h))) = inr (inr (inr (any-cuts (complex_of b) a.carriers y h)))
+
+    exactly : AreCandidates (complex_of a) (complex_of b) (map named_point ns)
+    exactly = exactly-as (Has a b (CutsOne (complex_of a) b.carriers) (CutsOne (complex_of b) a.carriers) xs ys ns all third fourth) (IsCandidate (complex_of a) (complex_of b)) (map named_point ns) forth back
+        (together-exactly a b (CutsOne (complex_of a) b.carriers) (CutsOne (complex_of b) a.carriers) xs ys ns all third fourth)

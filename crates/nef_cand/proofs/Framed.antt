@@ -1,5 +1,6 @@
 -- All that is listed lies in the closed frame, since outside all directions are flat.
 use Rattle.std.proofs.Common.{◌≡◌, ℕ, ◌*◌, ◌<◌, ◌≤◌, nat_abs, List, arith, sym, subst, ⊎_elim}
+use Rattle.std.specs.List.{Contains}
 use Rattle.std.proofs.lemmas.Bool.{cases_lt}
 use Rattle.nef_space.specs.Limits.{half_side}
 use Rattle.nef_space.specs.Local.{FlatDim, IsVertex}
@@ -17,7 +18,8 @@ use Rattle.law_complex.specs.Shows.{Shows}
 use Rattle.law_complex.proofs.Edges.{edge-points}
 use Rattle.nef_complex.specs.declared.complex.Complex.{Complex}
 use Rattle.nef_complex.specs.Complexes.{vertex_of, complex_of}
-use Rattle.nef_cand.specs.Candidates.{IsVertexOf, AreCandidates, AreCutCandidates, AreFramed}
+use Rattle.nef_cand.specs.Candidates.{IsVertexOf, AreCutCandidates, AreFramed}
+use Rattle.nef_cand.specs.Near.{IsCandidate}
 
 -- a point with fewer than three flat directions lies in the closed frame
 pub framed : (s : Set) (y : Place) (k : ℕ) → k < 3 → FlatDim s y k → InClosedFrame y
@@ -46,10 +48,10 @@ module _ (s : Set) (c : Complex) (S : Shows s (complex_of c)) (p : Point) where
   edge-framed : (k : ℕ) (e : Edge) (v w : Vertex) → At (complex_of c).edges k e → HasEnds (complex_of c) e v w → IsBetween v.point (place_of p) w.point → InClosedFrame (place_of p)
   edge-framed k e v w a H b = framed s (place_of p) 1 (omega arith) (edge-points s (complex_of c) k e v w (place_of p) S a H b).0
 
-pub candidates-framed : (s t : Set) (a b : Complex) (ps : List Point) → Shows s (complex_of a) → Shows t (complex_of b) → AreCandidates (complex_of a) (complex_of b) ps → AreFramed ps
-candidates-framed s t a b ps S T A p h =
+pub each-framed : (s t : Set) (a b : Complex) (ps : List Point) → Shows s (complex_of a) → Shows t (complex_of b) → ((p : Point) → Contains ps p → IsCandidate (complex_of a) (complex_of b) (place_of p)) → AreFramed ps
+each-framed s t a b ps S T each p h =
     ⊎_elim (vertex-framed s a S p) (⊎_elim (vertex-framed t b T p) (⊎_elim
-    (λ (k, e, v, w, i, g, x, H, m, z, o, n). edge-framed s a S p k e v w x H m) (λ (k, e, v, w, i, g, x, H, m, z, o, n). edge-framed t b T p k e v w x H m))) (A.each p h)
+    (λ (k, e, v, w, i, g, x, H, m, z, o, n). edge-framed s a S p k e v w x H m) (λ (k, e, v, w, i, g, x, H, m, z, o, n). edge-framed t b T p k e v w x H m))) (each p h)
 
 pub cuts-framed : (s : Set) (c : Complex) (h : Form) (ps : List Point) → Shows s (complex_of c) → AreCutCandidates (complex_of c) h ps → AreFramed ps
 cuts-framed s c h ps S A p l = ⊎_elim (vertex-framed s c S p) (λ (k, e, v, w, x, H, m, o, n). edge-framed s c S p k e v w x H m) (A.each p l)

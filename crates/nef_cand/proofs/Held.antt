@@ -104,44 +104,45 @@ pub edge-named : (o : Operand) (c : Complex) (h : Plane) (k : ℕ) (e : Edge) (u
 edge-named o c h k e u v a f g p x = λ D E same. subst (λ (C : PlainComplex). IsEdgePoint C k (place_of p)) (sym same)
     (edge_of e, vertex_of u, vertex_of v, map-at edge_of c.edges k e a, record { low = map-at vertex_of c.vertices e.low u f; high = map-at vertex_of c.vertices e.high v g }, x.between)
 
+pub edge-crosses : (c : Complex) (h : Plane) (e : Edge) (u v : Vertex) → At c.vertices e.low u → At c.vertices e.high v → (y : Place) → CutsEdge c h e y → IsCrossing (form_of h) (place_of u.point) (place_of v.point) y
+edge-crosses c h e u v a b y (r, t, f, g, x) =
+    subst (λ (w : Vertex). IsCrossing (form_of h) (place_of w.point) (place_of v.point) y) (at-one c.vertices e.low r u f a)
+    (subst (λ (w : Vertex). IsCrossing (form_of h) (place_of r.point) (place_of w.point) y) (at-one c.vertices e.high t v g b) x)
+
 pub edge-cuts : (c : Complex) (h : Plane) (e : Edge) (u v : Vertex) → At c.vertices e.low u → At c.vertices e.high v
     → (N : Named → Type 0) (ps qs : List Named) → Adds (IsCrossing (form_of h) (place_of u.point) (place_of v.point)) N ps qs → Adds (CutsEdge c h e) N ps qs
-edge-cuts c h e u v a b N ps qs = adds-as (IsCrossing (form_of h) (place_of u.point) (place_of v.point)) (CutsEdge c h e) N ps qs (λ y x. (u, v, a, b, x)) back
+edge-cuts c h e u v a b N ps qs = adds-as (IsCrossing (form_of h) (place_of u.point) (place_of v.point)) (CutsEdge c h e) N ps qs (λ y x. (u, v, a, b, x)) (edge-crosses c h e u v a b)
+
+-- a plane cuts the complex where it crosses one of its edges
+pub some-cut : (c : Complex) (h : Plane) (y : Place) → AnyAt (CutsEdge c h) c.edges y → IsCutBy (complex_of c) (form_of h) y
+some-cut c h y (k, e, a, (u, v, f, g, x)) =
+    (k, edge_of e, vertex_of u, vertex_of v, map-at edge_of c.edges k e a, record { low = map-at vertex_of c.vertices e.low u f; high = map-at vertex_of c.vertices e.high v g }, x.between, x.on, x.parts)
+
+pub cut-some : (c : Complex) (h : Plane) (y : Place) → IsCutBy (complex_of c) (form_of h) y → AnyAt (CutsEdge c h) c.edges y
+cut-some c h y (k, e, v, w, a, H, m, o, n) =
+    let d = at-map edge_of c.edges k e a in
+    from y k d.0 d.1 v w (subst (λ (r : PlainEdge). HasEnds (complex_of c) r v w) (sym d.2) H) m o n
   where
-    back : (y : Place) → CutsEdge c h e y → IsCrossing (form_of h) (place_of u.point) (place_of v.point) y
-    back y (r, t, f, g, x) =
-        subst (λ (w : Vertex). IsCrossing (form_of h) (place_of w.point) (place_of v.point) y) (at-one c.vertices e.low r u f a)
-        (subst (λ (w : Vertex). IsCrossing (form_of h) (place_of r.point) (place_of w.point) y) (at-one c.vertices e.high t v g b) x)
+    from : (y : Place) (k : ℕ) (e : Edge) → At c.edges k e → (v w : PlainVertex) → HasEnds (complex_of c) (edge_of e) v w → IsBetween v.point y w.point
+        → form_at (form_of h) y ≡ pos 0 → (HoldsBoth (form_of h) v.point w.point → ⊥) → AnyAt (CutsEdge c h) c.edges y
+    from y k e a v w H m o n =
+        let u = at-map vertex_of c.vertices e.low v H.low in
+        let t = at-map vertex_of c.vertices e.high w H.high in (
+          k,
+          e,
+          a,
+          (
+            u.0,
+            t.0,
+            u.1,
+            t.1,
+            subst (λ (r : PlainVertex). IsCrossing (form_of h) r.point (place_of t.0.point) y) (sym u.2)
+                (subst (λ (r : PlainVertex). IsCrossing (form_of h) v.point r.point y) (sym t.2) (record { between = m; on = o; parts = n })),
+          ),
+        )
 
 pub cuts-all : (c : Complex) (h : Plane) (N : Named → Type 0) (ps qs : List Named) → Adds (AnyAt (CutsEdge c h) c.edges) N ps qs → Adds (IsCutBy (complex_of c) (form_of h)) N ps qs
-cuts-all c h N ps qs = adds-as (AnyAt (CutsEdge c h) c.edges) (IsCutBy (complex_of c) (form_of h)) N ps qs forth back
-  where
-    forth : (y : Place) → AnyAt (CutsEdge c h) c.edges y → IsCutBy (complex_of c) (form_of h) y
-    forth y (k, e, a, (u, v, f, g, x)) =
-        (k, edge_of e, vertex_of u, vertex_of v, map-at edge_of c.edges k e a, record { low = map-at vertex_of c.vertices e.low u f; high = map-at vertex_of c.vertices e.high v g }, x.between, x.on, x.parts)
-
-    back : (y : Place) → IsCutBy (complex_of c) (form_of h) y → AnyAt (CutsEdge c h) c.edges y
-    back y (k, e, v, w, a, H, m, o, n) =
-        let d = at-map edge_of c.edges k e a in
-        from y k d.0 d.1 v w (subst (λ (r : PlainEdge). HasEnds (complex_of c) r v w) (sym d.2) H) m o n
-      where
-        from : (y : Place) (k : ℕ) (e : Edge) → At c.edges k e → (v w : PlainVertex) → HasEnds (complex_of c) (edge_of e) v w → IsBetween v.point y w.point
-            → form_at (form_of h) y ≡ pos 0 → (HoldsBoth (form_of h) v.point w.point → ⊥) → AnyAt (CutsEdge c h) c.edges y
-        from y k e a v w H m o n =
-            let u = at-map vertex_of c.vertices e.low v H.low in
-            let t = at-map vertex_of c.vertices e.high w H.high in (
-              k,
-              e,
-              a,
-              (
-                u.0,
-                t.0,
-                u.1,
-                t.1,
-                subst (λ (r : PlainVertex). IsCrossing (form_of h) r.point (place_of t.0.point) y) (sym u.2)
-                    (subst (λ (r : PlainVertex). IsCrossing (form_of h) v.point r.point y) (sym t.2) (record { between = m; on = o; parts = n })),
-              ),
-            )
+cuts-all c h N ps qs = adds-as (AnyAt (CutsEdge c h) c.edges) (IsCutBy (complex_of c) (form_of h)) N ps qs (some-cut c h) (cut-some c h)
 
 -- ---- the vertices
 pub vertex-named : (o : Operand) (c : Complex) (k : ℕ) (u : Vertex) → At c.vertices k u → IsNamedIn o (complex_of c) (record { point = u.point; name = name.Vertex o k })

@@ -11,3 +11,4 @@ pub mod Framed
 pub mod Sides
 pub mod Apart
 pub mod Both
+pub mod NearCuts

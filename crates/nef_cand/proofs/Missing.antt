@@ -45,11 +45,14 @@ module _ (h : Form) (far : half_side * (nat_abs h.a + nat_abs h.b + nat_abs h.c)
       (λ s. let f = plus (h.a *ℤ p.x +ℤ h.b *ℤ p.y +ℤ h.c *ℤ p.z) h.d p.w (small p i) s in let g = plus (h.a *ℤ q.x +ℤ h.b *ℤ q.y +ℤ h.c *ℤ q.z) h.d q.w (small q k) s in
       ⊎_elim (λ m. let t = m.0 in absurd (omega (arith, ints, f, t))) (λ m. let t = m.1 in absurd (omega (arith, ints, g, t))) o)
 
-pub nothing-cut : (s : Set) (C : Complex) (h : Form) (N : Named → Type 0) (ps : List Named) → Shows s C → MissesFrame h → Adds (IsCutBy C h) N ps ps
-nothing-cut s C h N ps S n = adds-none (IsCutBy C h) N ps (λ y (k, e, v, w, x, H, m, o, off).
+pub never-cut : (s : Set) (C : Complex) (h : Form) → Shows s C → MissesFrame h → (y : Place) → IsCutBy C h y → ⊥
+never-cut s C h S n y (k, e, v, w, x, H, m, o, off) =
     never-crosses h v.point w.point
     (n v.point w.point (framed s v.point 0 (omega arith) (S.vertices e.low v H.low)) (framed s w.point 0 (omega arith) (S.vertices e.high w H.high)))
-    y (record { between = m; on = o; parts = off }))
+    y (record { between = m; on = o; parts = off })
+
+pub nothing-cut : (s : Set) (C : Complex) (h : Form) (N : Named → Type 0) (ps : List Named) → Shows s C → MissesFrame h → Adds (IsCutBy C h) N ps ps
+nothing-cut s C h N ps S n = adds-none (IsCutBy C h) N ps (never-cut s C h S n)
 
 -- ---- by the numbers that the program reads
 pub number-fits : (x y : ℤ) (k : ℕ) → x ≡ y → nat_abs y ≤ k → k ≤ point_limit → nat_abs x ≤ point_limit

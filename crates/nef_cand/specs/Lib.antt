@@ -1,3 +1,4 @@
 pub mod Candidates
 pub mod Names
 pub mod Points
+pub mod Near

@@ -96,9 +96,9 @@ fn add_plane_cuts(
     Ok(())
 }
 
-// Whether the plane leaves the whole open frame on one side, as those of the frame's own sides do. It crosses no edge
-// then, since edges lie in the closed frame.
-fn misses_frame(h: &Plane) -> bool
+/// Whether the plane leaves the whole open frame on one side, as those of the frame's own sides do. It crosses no edge
+/// then, since edges lie in the closed frame.
+pub(crate) fn misses_frame(h: &Plane) -> bool
     ensures misses { IsTrue result → MissesFrame (form_of h.now) }
 {
     let normal = h.a().unsigned_abs() + h.b().unsigned_abs() + h.c().unsigned_abs();

@@ -7,73 +7,74 @@ ghost use Rattle.nef_core.specs.Work.{crew_of};
 ghost use Rattle.nef_core.specs.declared.work.Work.TheVariants.{Listing};
 ghost use Rattle.nef_cand.specs.declared.named.Operand.TheVariants.{First, Second};
 ghost use Rattle.nef_cand.specs.Names.{IsNamedIn};
-ghost use Rattle.nef_cand.specs.Points.{Adds, CutsOne, ListsNamed};
+ghost use Rattle.nef_cand.specs.Points.{Adds};
+ghost use Rattle.nef_cand.specs.Near.{CutsNear, ListsNear};
 
 use crate::OutOfMemory;
-use crate::listing::{cuts, gathered, named_candidates};
 use crate::merging::merged;
 use crate::named::{Named, Operand};
+use crate::near::{Spanned, gathered_near, near_candidates, near_cuts, spanned_carriers};
 use nef_complex::Complex;
 use nef_core::Work;
-use nef_geo::Plane;
 use std::alloc::Global;
 use std::thread;
 use std::thread::Threads;
 
-// As `cuts`, by two threads, of which each asks half of the planes. What each finds stands in order, and so do all.
+// As `near_cuts`, by two threads, of which each asks half of the carriers. What each finds stands in order, and so do all.
 fn cuts_by_two<R: Threads + Sync>(
     rt: &R,
     alloc: Global,
     c: &Complex,
     operand: Operand,
-    planes: &[Plane],
+    near: &[Spanned],
 ) -> Result<Vec<Named>, OutOfMemory>
     requires shows { (s : Set) × ShowsSet s c.now }
-    ensures cuts { IfOk result (λ v. Adds (CutsOne (complex_of c.now) planes.now) (IsNamedIn operand (complex_of c.now)) [] v.items) }
+    ensures cuts { IfOk result (λ v. Adds (CutsNear (complex_of c.now) near.now) (IsNamedIn operand (complex_of c.now)) [] v.items) }
 {
-    let (front, back) = planes.split_at(planes.len() / 2);
+    let (front, back) = near.split_at(near.len() / 2);
     let (first, second) = thread::join(
         rt,
         || -> Result<Vec<Named>, OutOfMemory>
             requires { (s : Set) × ShowsSet s c.now }
-            ensures { IfOk result (λ v. Adds (CutsOne (complex_of c.entry.now) front.entry.now) (IsNamedIn operand (complex_of c.entry.now)) [] v.items) }
-        { cuts(alloc, c, operand, front) },
+            ensures { IfOk result (λ v. Adds (CutsNear (complex_of c.entry.now) front.entry.now) (IsNamedIn operand (complex_of c.entry.now)) [] v.items) }
+        { near_cuts(alloc, c, operand, front) },
         || -> Result<Vec<Named>, OutOfMemory>
             requires { (s : Set) × ShowsSet s c.now }
-            ensures { IfOk result (λ v. Adds (CutsOne (complex_of c.entry.now) back.entry.now) (IsNamedIn operand (complex_of c.entry.now)) [] v.items) }
-        { cuts(alloc, c, operand, back) },
+            ensures { IfOk result (λ v. Adds (CutsNear (complex_of c.entry.now) back.entry.now) (IsNamedIn operand (complex_of c.entry.now)) [] v.items) }
+        { near_cuts(alloc, c, operand, back) },
     );
     let inside_front = first?;
     let inside_back = second?;
     merged(alloc, inside_front.as_slice(), inside_back.as_slice())
 }
 
-// As `cuts` of `a` and these planes, by one thread, and of `b` and the carriers of `a`, by two.
+// As `near_cuts` of `a` and these carriers, by one thread, and of `b` and the carriers of `a`, by two.
 fn cuts_by_three<R: Threads + Sync>(
     rt: &R,
     alloc: Global,
     a: &Complex,
-    planes: &[Plane],
+    near: &[Spanned],
     b: &Complex,
+    of_a: &[Spanned],
 ) -> (
     Result<Vec<Named>, OutOfMemory>,
     Result<Vec<Named>, OutOfMemory>,
 )
     requires first { (s : Set) × ShowsSet s a.now }
     requires second { (t : Set) × ShowsSet t b.now }
-    ensures inside_a { IfOk result.0 (λ v. Adds (CutsOne (complex_of a.now) planes.now) (IsNamedIn First (complex_of a.now)) [] v.items) }
-    ensures inside_b { IfOk result.1 (λ v. Adds (CutsOne (complex_of b.now) a.now.carriers) (IsNamedIn Second (complex_of b.now)) [] v.items) }
+    ensures inside_a { IfOk result.0 (λ v. Adds (CutsNear (complex_of a.now) near.now) (IsNamedIn First (complex_of a.now)) [] v.items) }
+    ensures inside_b { IfOk result.1 (λ v. Adds (CutsNear (complex_of b.now) of_a.now) (IsNamedIn Second (complex_of b.now)) [] v.items) }
 {
     thread::join(
         rt,
         || -> Result<Vec<Named>, OutOfMemory>
             requires { (s : Set) × ShowsSet s a.now }
-            ensures { IfOk result (λ v. Adds (CutsOne (complex_of a.entry.now) planes.entry.now) (IsNamedIn First (complex_of a.entry.now)) [] v.items) }
-        { cuts(alloc, a, Operand::First, planes) },
+            ensures { IfOk result (λ v. Adds (CutsNear (complex_of a.entry.now) near.entry.now) (IsNamedIn First (complex_of a.entry.now)) [] v.items) }
+        { near_cuts(alloc, a, Operand::First, near) },
         || -> Result<Vec<Named>, OutOfMemory>
             requires { (t : Set) × ShowsSet t b.now }
-            ensures { IfOk result (λ v. Adds (CutsOne (complex_of b.entry.now) a.entry.now.carriers) (IsNamedIn Second (complex_of b.entry.now)) [] v.items) }
-        { cuts_by_two(rt, alloc, b, Operand::Second, a.carriers.as_slice()) },
+            ensures { IfOk result (λ v. Adds (CutsNear (complex_of b.entry.now) of_a.entry.now) (IsNamedIn Second (complex_of b.entry.now)) [] v.items) }
+        { cuts_by_two(rt, alloc, b, Operand::Second, of_a) },
     )
 }
 
@@ -84,9 +85,9 @@ fn threads_for(a: &Complex, b: &Complex, workers: u32) -> u32
     Work::Listing(a.carriers.len().min(b.carriers.len())).crew(workers)
 }
 
-/// As `named_candidates`. Where it pays for four of the workers, as many threads list the points strictly inside edges, each
+/// As `near_candidates`. Where it pays for four of the workers, as many threads list the points strictly inside edges, each
 /// those on half of the carriers of one set; where a thread can't be made another does its part.
-pub fn named_candidates_by_threads<R: Threads + Sync>(
+pub fn near_candidates_by_threads<R: Threads + Sync>(
     rt: &R,
     alloc: Global,
     a: &Complex,
@@ -95,31 +96,35 @@ pub fn named_candidates_by_threads<R: Threads + Sync>(
 ) -> Result<Vec<Named>, OutOfMemory>
     requires first { (s : Set) × ShowsSet s a.now }
     requires second { (t : Set) × ShowsSet t b.now }
-    ensures lists { IfOk result (λ v. ListsNamed a.now b.now v.items) }
+    ensures lists { IfOk result (λ v. ListsNear a.now b.now v.items) }
 {
     if threads_for(a, b, workers) < 4 {
-        return named_candidates(alloc, a, b);
+        return near_candidates(alloc, a, b);
     }
-    let (front, back) = b.carriers.as_slice().split_at(b.carriers.len() / 2);
+    let carriers_a = spanned_carriers(alloc, a)?;
+    let carriers_b = spanned_carriers(alloc, b)?;
+    let of_a = carriers_a.as_slice();
+    let (front, back) = carriers_b.as_slice().split_at(carriers_b.len() / 2);
     // The calling thread starts all others, since one that a new thread starts begins on the processor of its maker.
-    let (first, (second, inside_b)) = thread::join(
+    let (first, (second, third)) = thread::join(
         rt,
         || -> Result<Vec<Named>, OutOfMemory>
             requires { (s : Set) × ShowsSet s a.now }
-            ensures { IfOk result (λ v. Adds (CutsOne (complex_of a.entry.now) front.entry.now) (IsNamedIn First (complex_of a.entry.now)) [] v.items) }
-        { cuts(alloc, a, Operand::First, front) },
+            ensures { IfOk result (λ v. Adds (CutsNear (complex_of a.entry.now) front.entry.now) (IsNamedIn First (complex_of a.entry.now)) [] v.items) }
+        { near_cuts(alloc, a, Operand::First, front) },
         || -> (
             Result<Vec<Named>, OutOfMemory>,
             Result<Vec<Named>, OutOfMemory>,
         )
             requires first { (s : Set) × ShowsSet s a.now }
             requires second { (t : Set) × ShowsSet t b.now }
-            ensures inside_a { IfOk result.0 (λ v. Adds (CutsOne (complex_of a.entry.now) back.entry.now) (IsNamedIn First (complex_of a.entry.now)) [] v.items) }
-            ensures inside_b { IfOk result.1 (λ v. Adds (CutsOne (complex_of b.entry.now) a.entry.now.carriers) (IsNamedIn Second (complex_of b.entry.now)) [] v.items) }
-        { cuts_by_three(rt, alloc, a, back, b) },
+            ensures inside_a { IfOk result.0 (λ v. Adds (CutsNear (complex_of a.entry.now) back.entry.now) (IsNamedIn First (complex_of a.entry.now)) [] v.items) }
+            ensures inside_b { IfOk result.1 (λ v. Adds (CutsNear (complex_of b.entry.now) of_a.entry.now) (IsNamedIn Second (complex_of b.entry.now)) [] v.items) }
+        { cuts_by_three(rt, alloc, a, back, b, of_a) },
     );
     let inside_front = first?;
     let inside_back = second?;
+    let inside_b = third?;
     let inside_a = merged(alloc, inside_front.as_slice(), inside_back.as_slice())?;
-    gathered(alloc, a, b, inside_a.as_slice(), inside_b?.as_slice())
+    gathered_near(alloc, a, b, inside_a.as_slice(), inside_b.as_slice())
 }

@@ -1,7 +1,8 @@
 //! The candidates of an operation: the points that may be vertices of what is made of two sets, or of a half.
 //!
 //! A vertex of a combination is a vertex of one of the sets, or a point where an edge of the one crosses a carrier of
-//! the other: at every other point some direction is flat for both.
+//! the other: at every other point some direction is flat for both. Of these crossings those beyond the span of
+//! the vertices on the carrier may be left out.
 #![tactic(auto)]
 
 mod added;
@@ -10,10 +11,13 @@ mod line;
 mod listing;
 mod merging;
 mod named;
+mod near;
 mod points;
+mod spans;
 
-pub use by_threads::named_candidates_by_threads;
+pub use by_threads::near_candidates_by_threads;
 pub use listing::{candidates, cut_candidates, named_candidates};
 pub use named::{Name, Named, Operand, named_points};
+pub use near::near_candidates;
 pub use nef_complex::OutOfMemory;
 pub use points::vertex_points;

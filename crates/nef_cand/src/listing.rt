@@ -12,6 +12,7 @@ ghost use Rattle.nef_cand.specs.Candidates.{IsVertexOf, IsListed, AreCandidates,
 ghost use Rattle.nef_cand.specs.declared.named.Operand.TheVariants.{First, Second};
 ghost use Rattle.nef_cand.specs.Names.{IsNamedIn};
 ghost use Rattle.nef_cand.specs.Points.{Adds, CutsOne, ListsNamed};
+ghost use Rattle.nef_cand.specs.Near.{HasTogether};
 
 use crate::OutOfMemory;
 use crate::added::{add_cuts, add_vertices, sort_once};
@@ -25,9 +26,9 @@ use std::slice;
 // Few planes of a small set cross more edges.
 const CUTS_OF_PLANE: usize = 4;
 
-/// The points strictly inside an edge of the complex, which is that of this operand, that lie on one of the planes, which
-/// doesn't hold the edge.
-pub(crate) fn cuts(
+// The points strictly inside an edge of the complex, which is that of this operand, that lie on one of the planes, which
+// doesn't hold the edge.
+fn cuts(
     alloc: Global,
     c: &Complex,
     operand: Operand,
@@ -52,9 +53,28 @@ fn vertices_of(alloc: Global, c: &Complex, operand: Operand) -> Result<Vec<Named
     Ok(listed)
 }
 
-/// The candidates: the vertices of both complexes, and the points strictly inside an edge of the one that lie on a carrier
-/// of the other, which are given for each.
-pub(crate) fn gathered(
+/// The vertices of both complexes and what is given of each, in order, once each.
+pub(crate) fn together(
+    alloc: Global,
+    a: &Complex,
+    b: &Complex,
+    inside_a: &[Named],
+    inside_b: &[Named],
+) -> Result<Vec<Named>, OutOfMemory>
+    ensures together { IfOk result (λ v. HasTogether a.now b.now inside_a.now inside_b.now v.items) }
+{
+    let of_a = vertices_of(alloc, a, Operand::First)?;
+    let of_b = vertices_of(alloc, b, Operand::Second)?;
+    let vertices = merged(alloc, of_a.as_slice(), of_b.as_slice())?;
+    let inside = merged(alloc, inside_a, inside_b)?;
+    let mut listed = merged(alloc, vertices.as_slice(), inside.as_slice())?;
+    sort_once(&mut listed)?;
+    Ok(listed)
+}
+
+// The candidates: the vertices of both complexes, and the points strictly inside an edge of the one that lie on a carrier
+// of the other, which are given for each.
+fn gathered(
     alloc: Global,
     a: &Complex,
     b: &Complex,
@@ -67,13 +87,7 @@ pub(crate) fn gathered(
     requires inside_second { Adds (CutsOne (complex_of b.now) a.now.carriers) (IsNamedIn Second (complex_of b.now)) [] inside_b.now }
     ensures lists { IfOk result (λ v. ListsNamed a.now b.now v.items) }
 {
-    let of_a = vertices_of(alloc, a, Operand::First)?;
-    let of_b = vertices_of(alloc, b, Operand::Second)?;
-    let vertices = merged(alloc, of_a.as_slice(), of_b.as_slice())?;
-    let inside = merged(alloc, inside_a, inside_b)?;
-    let mut listed = merged(alloc, vertices.as_slice(), inside.as_slice())?;
-    sort_once(&mut listed)?;
-    Ok(listed)
+    together(alloc, a, b, inside_a, inside_b)
 }
 
 /// The candidates of the two complexes, as `candidates` has them, each with a vertex that it is, or an edge strictly inside

@@ -15,3 +15,4 @@ pub mod ListedHolders
 pub mod Turned
 pub mod Spanning
 pub mod Grouped
+pub mod Spanned

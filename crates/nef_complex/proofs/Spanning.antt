@@ -111,7 +111,7 @@ euclid-next z w p off = by (int_div_euclid z w) (euclid-small z w p) (euclid-bel
         omega (arith, ints)
 
 -- ---- wider bounds
-weight : (p : Place) → pos 0 <ℤ pos p.w
+pub weight : (p : Place) → pos 0 <ℤ pos p.w
 weight p = let m = p.proper in omega (arith, ints)
 
 within-wider : (c : Coordinate) (a b : Bounds) (p : Place) → AreNarrower a b → IsWithin c a.low a.high p → IsWithin c b.low b.high p

@@ -27,7 +27,8 @@ use Rattle.law_complex.specs.Laws.{IsVertexOfBoth}
 use Rattle.nef_cand.specs.declared.named.Named.{Named}
 use Rattle.nef_cand.specs.Candidates.{IsListed, AreFramed}
 use Rattle.nef_cand.specs.Names.{named_point, IsNamed, AreNamed}
-use Rattle.nef_cand.specs.Points.{points_of, ListsNamed}
+use Rattle.nef_cand.specs.Near.{ListsNear}
+use Rattle.nef_cand.specs.Points.{points_of}
 use Rattle.nef_result.specs.declared.candidate_map.CandidateMap.{CandidateMap}
 use Rattle.nef_result.specs.Results.{AreMapsOf, maps_at}
 use Rattle.nef_ops.specs.declared.op.UnaryOp.{UnaryOp}
@@ -93,13 +94,13 @@ abbrev pub AreInOrder : List Point → Type 0
 AreInOrder ps = InOrder (λ (p q : Point). IsPlaceBelow (place_of p) (place_of q)) ps
 
 -- of a combination of two sets, by the candidates ns, lent as ks and js, and their points qs, lent as ps
-pub both-worked : (op : Op) (a b : Complex) (hs : List Plane) (ns ks js : List Named) (qs ps : List Point) → ks ≡ ns → js ≡ ns → qs ≡ map named_point ks → ps ≡ qs → ListsNamed a b ns
+pub both-worked : (op : Op) (a b : Complex) (hs : List Plane) (ns ks js : List Named) (qs ps : List Point) → ks ≡ ns → js ≡ ns → qs ≡ map named_point ks → ps ≡ qs → ListsNear a b ns
     → ((s t : Set) (o : Op) → ShowsSet s a → ShowsSet t b → Carriers (op_set o s t) (map form_of hs)) → (s t : Set) → ShowsSet s a → ShowsSet t b
     → IsWorkedBy (λ i c. (s t : Set) → ShowsSet s a → ShowsSet t b → IsRight (op_set op s t) (map named_point js) i c.map.value) (op_set op s t) hs ps
 both-worked op a b hs ns ks js qs ps asked worked made lent L carried s t S T = record {
   carriers = carried s t op S T;
-  ordered = subst AreInOrder same L.lists.exactly.ordered;
-  complete = λ y v. subst (λ (rs : List Point). IsListed rs y) same (L.lists.complete s t y S T (vertex-of_both op s t y v));
+  ordered = subst AreInOrder same L.ordered;
+  complete = λ y v. subst (λ (rs : List Point). IsListed rs y) same (L.complete s t y S T (vertex-of_both op s t y v));
   right = λ i c r. subst (λ (rs : List Point). IsRight (op_set op s t) rs i c.map.value) (ap (map named_point) worked ∙ same) (r s t S T);
 }
   where

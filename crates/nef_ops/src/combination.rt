@@ -10,7 +10,7 @@ use crate::OutOfMemory;
 use crate::finished::complex_by_jobs;
 use crate::local::combined_map;
 use crate::regions::Regions;
-use nef_cand::{Named, named_candidates_by_threads, named_points};
+use nef_cand::{Named, named_points, near_candidates_by_threads};
 use nef_complex::Complex;
 use nef_core::{BoardKind, How, Job, Work};
 use nef_io::Gate;
@@ -76,7 +76,7 @@ fn work_of(a: &Complex, b: &Complex, jobs: u64, board: BoardKind) -> Work
     Work::of_combination(board, jobs, carriers, vertices)
 }
 
-/// The complex of the combination of the sets of two complexes. One job for each candidate, in their order, is worked over
+/// The complex of the combination of the sets of two complexes. One job for each near candidate, in their order, is worked over
 /// the board that `how` names, by `how.workers` workers, or by fewer where the jobs don't pay for so many and the gate
 /// holds none back; the gate is told of each job before it begins. `OutOfMemory` says that memory was wanted and not found.
 pub fn binary<R: Threads + Wait + Sync, G: Gate + Sync>(
@@ -92,7 +92,7 @@ pub fn binary<R: Threads + Wait + Sync, G: Gate + Sync>(
     requires second { (t : Set) × ShowsSet t b.now }
     ensures shows { IfOk result (λ c. (s t : Set) → ShowsSet s a.now → ShowsSet t b.now → ShowsSet (op_set op s t) c) }
 {
-    let listed = named_candidates_by_threads(rt, alloc, a, b, how.workers)?;
+    let listed = near_candidates_by_threads(rt, alloc, a, b, how.workers)?;
     let points = named_points(alloc, listed.as_slice())?;
     let points = points.as_slice();
     let far_first = Regions::of(a, points);

@@ -10,7 +10,7 @@ use Rattle.nef_ops.proofs.combination.binary.Goals as goal
 pub complex_by_jobs-requires-clause-workable : goal.complex_by_jobs-requires-clause-workable
 complex_by_jobs-requires-clause-workable g c = λ κs within.
     let same = sym c.as_slice-2.ensures.value in let lists = c.in_ok-listed.ensures.lists in
-    (c.requires.first, c.requires.second, subst (λ (ns : List Named). AreFramed (map named_point ns)) same lists.lists.framed, subst (AreNamed (complex_of c.args.a.now) (complex_of c.args.b.now)) same lists.named, c.of-far_first.ensures.told, c.of-far_second.ensures.told)
+    (c.requires.first, c.requires.second, subst (λ (ns : List Named). AreFramed (map named_point ns)) same lists.framed, subst (AreNamed (complex_of c.args.a.now) (complex_of c.args.b.now)) same lists.named, c.of-far_first.ensures.told, c.of-far_second.ensures.told)
 
 pub complex_by_jobs-requires-clause-alike : goal.complex_by_jobs-requires-clause-alike
 complex_by_jobs-requires-clause-alike g c = λ κs within.

@@ -1,0 +1,26 @@
+use Rattle.std.proofs.Common.{◌≡◌, ℕ, ◌+◌, length, arith, rules, ap, sym, ◌∙◌, subst}
+use Rattle.nef_cand.specs.Near.{AreSpannedCarriers}
+use Rattle.nef_cand.proofs.NearCuts.{spanned-none, spanned-same, spanned-more}
+use Rattle.nef_cand.proofs.near.spanned_carriers.Goals.{then-not-misses_frame+in_ok-push, else-not-misses_frame}
+use Rattle.nef_cand.proofs.near.spanned_carriers.Goals as goal
+
+pub loop-number-init : goal.loop-number-init
+loop-number-init c = record { carriers = spanned-none c.args.c.now c.in_ok-near.near.items c.in_ok-near.ensures.items }
+
+pub loop-number-preserved : goal.loop-number-preserved
+loop-number-preserved c =
+    let C = c.args.c.now in let n = c.loop-number.number in let old = c.loop-number.near.items in let x = c.spanned_carrier-carrier.result in
+    record {
+      carriers = elim c.if-not-misses_frame.branch [
+        | then-not-misses_frame+in_ok-push w ↦ subst (AreSpannedCarriers C (n + 1)) (sym (ap (λ v. v.items) w.near-is ∙ w.in_ok-push.ensures.items))
+            (spanned-more C n old c.loop-number.invariant.carriers x c.spanned_carrier-carrier.ensures.carrier c.spanned_carrier-carrier.ensures.span)
+        | else-not-misses_frame w ↦ subst (AreSpannedCarriers C (n + 1)) (sym (ap (λ v. v.items) w.near-is))
+            (spanned-same C n old c.loop-number.invariant.carriers x.plane c.spanned_carrier-carrier.ensures.carrier (c.misses_frame.ensures.misses (search (rules, w.if-not-misses_frame.false))))
+      ];
+    }
+
+pub returns : goal.returns
+returns c =
+    let C = c.args.c.now in
+    let e : c.loop-number.number ≡ length C.carriers = (let f = c.loop-number-test.false in let g = c.loop-number.auto in let h = c.len-number-end.ensures.len in omega arith) in
+    record { carriers = subst (λ (n : ℕ). AreSpannedCarriers C n c.loop-number.near.items) e c.loop-number.invariant.carriers }
