@@ -1,11 +1,14 @@
--- The nearest change at a crossing of a carrier is the end of the ray, and there is one.
-use Rattle.std.proofs.Common.{◌≡◌, ℕ, ◌<◌, ◌≤◌, List, length, Option, Some, None, ◌⊎◌, ⊎_elim, arith, sym, subst}
+-- The first change at a crossing of a carrier is the end of the ray, and there is one.
+use Rattle.std.proofs.Common.{◌≡◌, ℕ, ◌<◌, ◌≤◌, List, All, IsSortedBy, false, ◌⊎◌, ⊎_elim, inl, inr, get_or, sym, subst}
+use Rattle.std.specs.List.{Contains}
+use Rattle.std.proofs.lemmas.Bool.{cases_lt}
+use Rattle.std.proofs.lemmas.List.Elements.{All-contains}
+use Rattle.std.proofs.lemmas.List.Sorted.{sorted_far}
 use Rattle.law_arithmetic.specs.Signs.{Lies}
 use Rattle.nef_space.specs.Local.{Germ}
-use Rattle.nef_space.specs.Place.{Place, Form, InFrame, InClosedFrame}
+use Rattle.nef_space.specs.Place.{Place, Form, SamePlace, InFrame, InClosedFrame, IsBetween}
 use Rattle.nef_space.specs.Sets.{Set}
-use Rattle.nef_space.specs.Vectors.{Vector, IsDirection}
-use Rattle.nef_space.specs.declared.label.Label.{Label}
+use Rattle.nef_space.specs.Vectors.{Vector}
 use Rattle.law_forms.proofs.Between.{between-same}
 use Rattle.nef_geo.specs.Hits.{IsCrossing}
 use Rattle.nef_geo.specs.Shapes.{form_of, vector_of, place_of, hit_place}
@@ -13,59 +16,80 @@ use Rattle.nef_geo.specs.declared.plane.Plane.{Plane}
 use Rattle.law_near.specs.Cells.{carriers}
 use Rattle.law_near.proofs.Rays.{same-place_sym}
 use Rattle.law_sphere.specs.Maps.{At}
-use Rattle.nef_smap.proofs.Lists.{at-map, at-within}
+use Rattle.nef_smap.proofs.Lists.{at-contains, at-get, at-map, at-within}
 use Rattle.law_complex.proofs.FacetEdges.{ahead-same}
 use Rattle.law_complex.proofs.Planes.{plane-turned, plane-point, plane-slope}
 use Rattle.law_complex.proofs.Ways.{same-itself}
 use Rattle.nef_complex.specs.declared.complex.Complex.{Complex}
 use Rattle.nef_complex.specs.Complexes.{ShowsSet}
 use Rattle.nef_ray.specs.declared.crossed.Crossed.{Crossed}
-use Rattle.nef_ray.specs.declared.nearer.Change.{Change}
+use Rattle.nef_ray.specs.declared.ray.RayEnd.{RayEnd}
 use Rattle.nef_ray.specs.declared.ray.RayStart.{RayStart}
-use Rattle.nef_ray.specs.Changes.{IsUnchanged, IsAlong, IsChangeOf, IsNotBefore, IsListed, AreAllCrossed}
+use Rattle.nef_ray.specs.Changes.{IsHitOf, IsUnchanged, IsUnchangedOn, IsChangeOf, IsListed, AreAllCrossed, crossed_lt}
 use Rattle.nef_ray.specs.Ends.{IsRayEnd}
 use Rattle.nef_ray.proofs.Along.{label-stays, changes-somewhere}
 use Rattle.nef_ray.proofs.Listed.{each-listed}
+use Rattle.nef_ray.proofs.Nearest.{stays}
+use Rattle.nef_ray.proofs.Nearness.{steps_weak, not-ahead}
 
--- at each crossing of a carrier in the closed frame nothing changes, or it doesn't lie before the change
-abbrev pub AllSeen : Set → Complex → Place → Vector → Label → Option Change → Type 0
-AllSeen s c p d m best = (k : ℕ) (h : Plane) → At c.carriers k h → (y : Place) → IsCrossing p d (form_of h) y → InClosedFrame y → IsUnchanged s d m y ⊎ IsNotBefore p y best
-
-module _ (s : Set) (c : Complex) (S : ShowsSet s c) (p : Place) (d : Vector) (m : Label) where
-  -- so it is at each crossing of the set's own carriers
-  seen : (best : Option Change) → AllSeen s c p d m best → (f : Form) → Lies (carriers s) f → (y : Place) → IsCrossing p d f y → InClosedFrame y → IsUnchanged s d m y ⊎ IsNotBefore p y best
-  seen best A f l y X i =
-      let N = S.shows.carriers.all f l in
-      let g = at-map form_of c.carriers N.0 N.1 N.2 in
-      let crossing : IsCrossing p d N.1 y = record { on = plane-point f N.1 y (plane-turned N.1 f N.3) X.on; ahead = X.ahead; passes = λ z. X.passes (plane-slope N.1 f d N.3 z) } in
-      A N.0 g.0 g.1 y (subst (λ (h : Form). IsCrossing p d h y) (sym g.2) crossing) i
-
-  pub end-none : InFrame p → IsDirection d → Germ s p d m → AllSeen s c p d m None → ⊥
-  end-none inside some germ A = changes-somewhere s p d m inside germ some (λ f l y X i. ⊎_elim (λ u. u) (λ n. absurd n) (seen None A f l y X i))
+-- at each crossing of a carrier in the closed frame nothing changes, or N holds
+abbrev pub AllSeen : Set → Complex → RayStart → (Place → Type 0) → Type 0
+AllSeen s c ray N = (k : ℕ) (h : Plane) → At c.carriers k h → (y : Place) → IsCrossing (place_of ray.from) (vector_of ray.along) (form_of h) y → InClosedFrame y → IsUnchanged s (vector_of ray.along) ray.before y ⊎ N y
 
 -- so it is where each crossing among those listed is so
-pub all-seen : (s : Set) (c : Complex) (ray : RayStart) (best : Option Change) (xs zs : List Crossed) (n : ℕ) → zs ≡ xs → length zs ≤ n → AreAllCrossed c.carriers ray xs
-    → ((k : ℕ) (x : Crossed) → k < n → At zs k x → (y : Place) → IsCrossing (place_of ray.from) (vector_of ray.along) (form_of x.plane) y → InClosedFrame y
-    → IsUnchanged s (vector_of ray.along) ray.before y ⊎ IsNotBefore (place_of ray.from) y best)
-    → AllSeen s c (place_of ray.from) (vector_of ray.along) ray.before best
-all-seen s c ray best xs zs n e l A f k h a y X i =
+pub all-seen : (s : Set) (c : Complex) (ray : RayStart) (N : Place → Type 0) (xs zs : List Crossed) → zs ≡ xs → AreAllCrossed c.carriers ray xs
+    → ((k : ℕ) (x : Crossed) → At zs k x → (y : Place) → IsCrossing (place_of ray.from) (vector_of ray.along) (form_of x.plane) y → InClosedFrame y → IsUnchanged s (vector_of ray.along) ray.before y ⊎ N y)
+    → AllSeen s c ray N
+all-seen s c ray N xs zs e A f k h a y X i =
     let d = vector_of ray.along in let p = place_of ray.from in
-    each-listed (λ (g : Plane). (y : Place) → IsCrossing p d (form_of g) y → InClosedFrame y → IsUnchanged s d ray.before y ⊎ IsNotBefore p y best) zs
-    (λ j x b z Z o. let w = at-within zs j x b in f j x (omega (arith, l, w)) b z Z o) h
-    (subst (λ (vs : List Crossed). IsListed vs h) (sym e) (A k h a y X)) y X i
+    each-listed (λ (g : Plane). (y : Place) → IsCrossing p d (form_of g) y → InClosedFrame y → IsUnchanged s d ray.before y ⊎ N y) zs f h (subst (λ (vs : List Crossed). IsListed vs h) (sym e) (A k h a y X)) y X i
 
-pub end-some : (s : Set) (c : Complex) → ShowsSet s c → (ray : RayStart) (x : Change) → InFrame (place_of ray.from) → Germ s (place_of ray.from) (vector_of ray.along) ray.before
-    → IsAlong ray x → IsChangeOf s (vector_of ray.along) ray.before x.end → AllSeen s c (place_of ray.from) (vector_of ray.along) ray.before (Some x)
-    → IsRayEnd s (place_of ray.from) (vector_of ray.along) (place_of x.end.point) x.end.after x.end.label
-end-some s c S ray x inside germ M E A =
-    let p = place_of ray.from in let d = vector_of ray.along in let q = hit_place x.at in
-    record {
-      before = ray.before;
-      germ = germ;
-      ahead = ahead-same p q (place_of x.end.point) d (same-place_sym q (place_of x.end.point) M.same) M.ahead;
-      same = λ r b. label-stays s p d ray.before inside germ q M.ahead
-          (λ f l y X between i. ⊎_elim (λ u. u) (λ n. absurd (n between)) (seen s c S p d ray.before (Some x) A f l y X i)) r
-          (between-same p r (place_of x.end.point) p r q (same-itself p) (same-itself r) (same-place_sym q (place_of x.end.point) M.same) b);
-      other = E.other;
-      changes = E.changes;
-    }
+module _ (s : Set) (c : Complex) (S : ShowsSet s c) (ray : RayStart) (inside : InFrame (place_of ray.from)) (germ : Germ s (place_of ray.from) (vector_of ray.along) ray.before) where
+  abbrev p : Place
+  p = place_of ray.from
+
+  abbrev d : Vector
+  d = vector_of ray.along
+
+  -- so it is at each crossing of the set's own carriers
+  seen : (N : Place → Type 0) → AllSeen s c ray N → (f : Form) → Lies (carriers s) f → (y : Place) → IsCrossing p d f y → InClosedFrame y → IsUnchanged s d ray.before y ⊎ N y
+  seen N A f l y X i =
+      let M = S.shows.carriers.all f l in
+      let g = at-map form_of c.carriers M.0 M.1 M.2 in
+      let crossing : IsCrossing p d M.1 y = record { on = plane-point f M.1 y (plane-turned M.1 f M.3) X.on; ahead = X.ahead; passes = λ z. X.passes (plane-slope M.1 f d M.3 z) } in
+      A M.0 g.0 g.1 y (subst (λ (h : Form). IsCrossing p d h y) (sym g.2) crossing) i
+
+  pub end-none : AllSeen s c ray (λ y. ⊥) → ⊥
+  end-none A = changes-somewhere s p d ray.before inside germ ray.along.some (λ f l y X i. ⊎_elim (λ u. u) (λ n. absurd n) (seen (λ y. ⊥) A f l y X i))
+
+  pub end-some : (x : Crossed) (e : RayEnd) → IsHitOf ray x → SamePlace (hit_place x.at) (place_of e.point) → IsChangeOf s d ray.before e → AllSeen s c ray (λ y. IsBetween p y (hit_place x.at) → ⊥)
+      → IsRayEnd s p d (place_of e.point) e.after e.label
+  end-some x e H same E A =
+      let q = hit_place x.at in let X = H.crossing in
+      record {
+        before = ray.before;
+        germ = germ;
+        ahead = ahead-same p q (place_of e.point) d (same-place_sym q (place_of e.point) same) X.ahead;
+        same = λ r b. label-stays s p d ray.before inside germ q X.ahead
+            (λ f l y Y between i. ⊎_elim (λ u. u) (λ n. absurd (n between)) (seen (λ y. IsBetween p y q → ⊥) A f l y Y i)) r
+            (between-same p r (place_of e.point) p r q (same-itself p) (same-itself r) (same-place_sym q (place_of e.point) same) b);
+        other = E.other;
+        changes = E.changes;
+      }
+
+-- ---- the crossings in their order: nothing changes before the first change
+pub ordered-seen : (s : Set) (c : Complex) (ray : RayStart) (xs zs : List Crossed) → zs ≡ xs → AreAllCrossed c.carriers ray xs → All (IsHitOf ray) xs → IsSortedBy crossed_lt xs
+    → (n : ℕ) (x : Crossed) → At zs n x → ((k : ℕ) (z : Crossed) → k < n → At zs k z → IsUnchangedOn s ray z.plane) → AllSeen s c ray (λ y. IsBetween (place_of ray.from) y (hit_place x.at) → ⊥)
+ordered-seen s c ray xs zs e A H up n x a f =
+    let p = place_of ray.from in let d = vector_of ray.along in
+    all-seen s c ray (λ y. IsBetween p y (hit_place x.at) → ⊥) xs zs e A
+    (λ k z b y Y i. ⊎_elim (λ l. inl (f k z l b y Y i)) (λ l. inr (stays p d z.plane z.at (hit k z b).crossing (hit_place x.at) (not-ahead p d ray.along.some x z (hit n x a).reached (hit k z b).reached (later k z b l)) y Y)) (cases_lt k n))
+  where
+    hit : (k : ℕ) (z : Crossed) → At zs k z → IsHitOf ray z
+    hit k z b = All-contains (IsHitOf ray) xs z H (subst (λ (vs : List Crossed). Contains vs z) e (at-contains zs k z b))
+
+    later : (k : ℕ) (z : Crossed) → At zs k z → n ≤ k → crossed_lt z x ≡ false
+    later k z b l =
+        subst (λ (w : Crossed). crossed_lt z w ≡ false) (at-get zs n x z a)
+        (subst (λ (w : Crossed). crossed_lt w (get_or zs n z) ≡ false) (at-get zs k z z b)
+        (sorted_far crossed_lt steps_weak zs (subst (IsSortedBy crossed_lt) (sym e) up) n k z l (at-within zs k z b)))

@@ -1,14 +1,15 @@
 -- The planes that a ray crosses, listed one after another, sorted, and gone through.
-use Rattle.std.proofs.Common.{◌≡◌, ℕ, ◌+◌, ◌<◌, List, [], ◌∷◌, ◌++◌, length, get_or, subst, refl}
+use Rattle.std.proofs.Common.{◌≡◌, ℕ, ◌+◌, ◌<◌, List, [], ◌∷◌, ◌++◌, length, get_or, subst, refl, All}
 use Rattle.std.specs.List.Sorted.{IsPermutation}
-use Rattle.std.proofs.lemmas.List.Elements.{Contains-append_left, Contains-push}
+use Rattle.std.proofs.lemmas.List.Elements.{All-contains, Contains-append_left, Contains-push}
+use Rattle.std.specs.List.{Contains}
 use Rattle.std.proofs.lemmas.List.Sorted.{Contains-permutation}
 use Rattle.nef_space.specs.Place.{Place}
 use Rattle.nef_geo.specs.Hits.{IsCrossing}
 use Rattle.nef_geo.specs.Shapes.{form_of, vector_of, place_of}
 use Rattle.nef_geo.specs.declared.plane.Plane.{Plane}
 use Rattle.law_sphere.specs.Maps.{At}
-use Rattle.nef_smap.proofs.Lists.{contains-at}
+use Rattle.nef_smap.proofs.Lists.{contains-at, at-contains}
 use Rattle.nef_edges.proofs.Places.{at-some}
 use Rattle.nef_complex.proofs.Reading.{read-at}
 use Rattle.nef_locate.proofs.Reading.{next-all}
@@ -43,3 +44,7 @@ each-listed P xs f h (x, i, e) = let a = contains-at xs x i in subst P e (f a.0 
 pub next-read : {X : Type 0} (P : X → Type 0) (xs : List X) (n : ℕ) (x : X) → n < length xs → x ≡ get_or xs n x
     → ((k : ℕ) (y : X) → k < n → At xs k y → P y) → P x → (k : ℕ) (y : X) → k < n + 1 → At xs k y → P y
 next-read P xs n x l e = next-all P xs n x (at-some xs n x (read-at xs n x l e))
+
+-- what holds of all elements holds of the one read
+pub one-listed : {X : Type 0} (P : X → Type 0) (xs zs : List X) (n : ℕ) (x : X) → zs ≡ xs → n < length zs → x ≡ get_or zs n x → All P xs → P x
+one-listed {X} P xs zs n x e l r A = All-contains P xs x A (subst (λ (vs : List X). Contains vs x) e (at-contains zs n x (read-at zs n x l r)))

@@ -4,6 +4,12 @@ use Rattle.std.proofs.lemmas.Int.{ints}
 use Rattle.std.specs.Cmp.{IsStrictWeakOrder, int_ranks, int_cmp_is}
 use Rattle.std.specs.Ordering.{MatchOrdering, int_cmp, is_lt}
 use Rattle.law_arithmetic.proofs.Fractions.{fraction-le-trans}
+use Rattle.nef_space.specs.Place.{Place, SamePlace, IsAhead}
+use Rattle.nef_space.specs.Vectors.{Vector, IsDirection}
+use Rattle.nef_geo.specs.Hits.{IsReached}
+use Rattle.nef_geo.specs.Shapes.{hit_place}
+use Rattle.nef_geo.proofs.Along.{along-ray}
+use Rattle.nef_locate.proofs.RayMeets.{never-same, never-both}
 use Rattle.nef_ray.specs.declared.crossed.Crossed.{Crossed}
 use Rattle.nef_ray.specs.Changes.{crossed_lt}
 
@@ -41,3 +47,15 @@ steps_weak = record {
 
 pub answers-step : (x y : Crossed) (o : Ordering) → MatchOrdering o (first x y <ℤ first y x) (first x y ≡ first y x) (first y x <ℤ first x y) → is_lt o ≡ crossed_lt x y
 answers-step x y o h = ap is_lt (int_cmp_is (first x y) (first y x) o h)
+
+-- where the step of y isn't the smaller one, y doesn't lie before x
+pub not-ahead : (p : Place) (d : Vector) → IsDirection d → (x y : Crossed) → IsReached p d x.at.num x.at.den x.at.den_sign (hit_place x.at) → IsReached p d y.at.num y.at.den y.at.den_sign (hit_place y.at) → crossed_lt y x ≡ false
+    → IsAhead (hit_place y.at) d (hit_place x.at) → ⊥
+not-ahead p d some x y r t e a =
+    let o = int_cmp (first y x) (first x y) in
+    by o (along-ray p d y.at.num y.at.den (hit_place y.at) x.at.num x.at.den (hit_place x.at) o some y.at.den_sign x.at.den_sign t r (int_ranks (first y x) (first x y))) e
+  where
+    by : (o : Ordering) → MatchOrdering o (IsAhead (hit_place y.at) d (hit_place x.at)) (SamePlace (hit_place y.at) (hit_place x.at)) (IsAhead (hit_place x.at) d (hit_place y.at)) → is_lt o ≡ false → ⊥
+    by Less h e = cc
+    by Equal h e = never-same (hit_place y.at) (hit_place x.at) d a h
+    by Greater h e = never-both (hit_place y.at) (hit_place x.at) d a h

@@ -1,22 +1,20 @@
 -- Changes of the label along a ray.
-use Rattle.std.specs.Prelude.{◌≡◌, ℕ, ◌*ℤ◌, Bool, List, Option, Some, None}
+use Rattle.std.specs.Prelude.{◌≡◌, ℕ, ◌*ℤ◌, Bool, List}
 use Rattle.std.specs.Ordering.{int_cmp, is_lt}
 use Rattle.std.specs.List.{Contains}
 use Rattle.nef_space.specs.Limits.{ray_direction_limit, ray_point_limit, ray_weight_limit}
 use Rattle.nef_space.specs.Local.{HasLabel, Germ}
-use Rattle.nef_space.specs.Place.{Place, SamePlace, IsAhead, IsBetween}
+use Rattle.nef_space.specs.Place.{Place, InClosedFrame}
 use Rattle.nef_space.specs.Sets.{Set}
 use Rattle.nef_space.specs.Vectors.{Vector, IsAtMost}
 use Rattle.nef_space.specs.declared.label.Label.{Label}
 use Rattle.nef_geo.specs.Hits.{IsCrossing, IsReached, IsPlaceAtMost}
 use Rattle.nef_geo.specs.Shapes.{form_of, vector_of, place_of, hit_place}
-use Rattle.nef_geo.specs.declared.hit.Hit.{Hit}
 use Rattle.nef_geo.specs.declared.plane.Plane.{Plane}
 use Rattle.law_sphere.specs.Maps.{At}
 use Rattle.nef_ray.specs.declared.crossed.Crossed.{Crossed}
 use Rattle.nef_ray.specs.declared.ray.RayStart.{RayStart}
 use Rattle.nef_ray.specs.declared.ray.RayEnd.{RayEnd}
-use Rattle.nef_ray.specs.declared.nearer.Change.{Change}
 use Rattle.nef_ray.specs.Ends.{Changes}
 
 -- the numbers of the ray are within its limits
@@ -33,21 +31,14 @@ pub record IsChangeOf (s : Set) (d : Vector) (m : Label) (e : RayEnd) : Type 0 w
   pub other : e.label ≡ m → ⊥
   pub changes : Changes s (place_of e.point) d m e.after e.label
 
--- the hit stands at its step along the ray, and is the point of the change
-pub record IsAlong (ray : RayStart) (x : Change) : Type 0 where
+-- the ray crosses the plane at the hit, which stands at its step
+pub record IsHitOf (ray : RayStart) (x : Crossed) : Type 0 where
+  pub crossing : IsCrossing (place_of ray.from) (vector_of ray.along) (form_of x.plane) (hit_place x.at)
   pub reached : IsReached (place_of ray.from) (vector_of ray.along) x.at.num x.at.den x.at.den_sign (hit_place x.at)
-  pub ahead : IsAhead (place_of ray.from) (vector_of ray.along) (hit_place x.at)
-  pub same : SamePlace (hit_place x.at) (place_of x.end.point)
 
--- the hit lies before the change, if there is one
-abbrev pub IsSooner : Vector → Hit → Option Change → Type 0
-IsSooner d q None = Unit {0}
-IsSooner d q (Some x) = IsAhead (hit_place q) d (hit_place x.at)
-
--- there is a change, and y doesn't lie before it
-abbrev pub IsNotBefore : Place → Place → Option Change → Type 0
-IsNotBefore p y None = ⊥
-IsNotBefore p y (Some x) = IsBetween p y (hit_place x.at) → ⊥
+-- nothing changes where the ray crosses the plane in the closed frame
+abbrev pub IsUnchangedOn : Set → RayStart → Plane → Type 0
+IsUnchangedOn s ray h = (y : Place) → IsCrossing (place_of ray.from) (vector_of ray.along) (form_of h) y → InClosedFrame y → IsUnchanged s (vector_of ray.along) ray.before y
 
 -- the plane is among those crossed
 abbrev pub IsListed : List Crossed → Plane → Type 0

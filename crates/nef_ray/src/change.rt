@@ -1,17 +1,20 @@
 //! Whether the label changes at a point of a ray.
 
-ghost use Rattle.std.specs.Prelude.{◌≡◌, IfOk, IfSome, IsNone};
+ghost use Rattle.std.specs.Prelude.{◌≡◌, ◌*◌, ◌≤◌, ◌↔◌, nat_abs, IsTrue, IfOk, IfSome, IsNone};
+ghost use Rattle.nef_space.specs.Limits.{half_side};
 ghost use Rattle.nef_space.specs.Local.{HasLabel, Germ};
-ghost use Rattle.nef_space.specs.Place.{InClosedFrame};
+ghost use Rattle.nef_space.specs.Place.{InClosedFrame, SamePlace};
 ghost use Rattle.nef_space.specs.Sets.{Set};
-ghost use Rattle.nef_geo.specs.Shapes.{vector_of, place_of};
+ghost use Rattle.nef_geo.specs.Shapes.{vector_of, place_of, hit_place};
 ghost use Rattle.nef_complex.specs.Complexes.{ShowsSet};
-ghost use Rattle.nef_ray.specs.Changes.{IsUnchanged, IsChangeOf};
+ghost use Rattle.nef_ray.specs.Changes.{IsSmall, IsHitOf, IsUnchanged, IsUnchangedOn, IsChangeOf};
 
 use crate::OutOfMemory;
+use crate::crossed::Crossed;
+use crate::crossing::crossing;
 use crate::ray::{RayEnd, RayStart};
 use nef_complex::Complex;
-use nef_geo::{Dir, Label, Point};
+use nef_geo::{Dir, HALF_SIDE, Label, Point};
 use nef_locate::{local_map, locate, place_label};
 use nef_smap::label_at;
 use std::alloc::Global;
@@ -41,7 +44,7 @@ pub(crate) fn label_after(
 }
 
 // The change of the label at the point, if there is one: at the point itself, or else just after it.
-pub(crate) fn change_at(
+fn change_at(
     alloc: Global,
     c: &Complex,
     ray: &RayStart,
@@ -70,4 +73,41 @@ pub(crate) fn change_at(
         }));
     }
     Ok(None)
+}
+
+// Whether the number is at most this large in size.
+fn is_within(number: i64, limit: u64) -> bool
+    ensures within { IsTrue result ↔ (nat_abs number ≤ limit) }
+{
+    number.unsigned_abs() <= limit
+}
+
+// Whether the point lies in the closed frame.
+fn is_framed(p: &Point) -> bool
+    ensures framed { IsTrue result ↔ InClosedFrame (place_of p.now) }
+{
+    let limit = HALF_SIDE.unsigned_abs() * p.w().unsigned_abs();
+    is_within(p.x(), limit) && is_within(p.y(), limit) && is_within(p.z(), limit)
+}
+
+// The change of the label where the ray crosses the plane, if there is one. Outside the closed frame there is none to look
+// for.
+pub(crate) fn change_on(
+    alloc: Global,
+    c: &Complex,
+    ray: &RayStart,
+    crossed: &Crossed,
+) -> Result<Option<RayEnd>, OutOfMemory>
+    requires shows { (s : Set) × ShowsSet s c.now }
+    requires small { IsSmall ray.now }
+    requires hit { IsHitOf ray.now crossed.now }
+    ensures point { IfOk result (λ o. IfSome o (λ e. SamePlace (hit_place crossed.now.at) (place_of e.point))) }
+    ensures change { IfOk result (λ o. IfSome o (λ e. (s : Set) → ShowsSet s c.now → IsChangeOf s (vector_of ray.now.along) ray.now.before e)) }
+    ensures none { IfOk result (λ o. IsNone o → (s : Set) → ShowsSet s c.now → IsUnchangedOn s ray.now crossed.now.plane) }
+{
+    let point = crossing(&ray.from, &ray.along, &crossed.plane);
+    if !is_framed(&point) {
+        return Ok(None);
+    }
+    change_at(alloc, c, ray, &point)
 }

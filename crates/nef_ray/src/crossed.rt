@@ -1,7 +1,7 @@
 //! The carriers that a ray crosses, in the order of the steps at which it does.
 
-ghost use Rattle.std.specs.Prelude.{IfOk, IsSortedBy};
-ghost use Rattle.nef_ray.specs.Changes.{IsSmall, AreAllCrossed, crossed_lt};
+ghost use Rattle.std.specs.Prelude.{All, IfOk, IsSortedBy};
+ghost use Rattle.nef_ray.specs.Changes.{IsSmall, IsHitOf, AreAllCrossed, crossed_lt};
 
 use crate::OutOfMemory;
 use crate::ray::RayStart;
@@ -19,6 +19,7 @@ pub(crate) struct Crossed {
 // The carriers that the ray crosses.
 fn all_crossed(alloc: Global, c: &Complex, ray: &RayStart) -> Result<Vec<Crossed>, OutOfMemory>
     requires small { IsSmall ray.now }
+    ensures hits { IfOk result (λ v. All (IsHitOf ray.now) v.items) }
     ensures all { IfOk result (λ v. AreAllCrossed c.now.carriers ray.now v.items) }
 {
     let mut crossed = Vec::new(alloc);
@@ -38,6 +39,7 @@ pub(crate) fn sorted_crossed(
     ray: &RayStart,
 ) -> Result<Vec<Crossed>, OutOfMemory>
     requires small { IsSmall ray.now }
+    ensures hits { IfOk result (λ v. All (IsHitOf ray.now) v.items) }
     ensures all { IfOk result (λ v. AreAllCrossed c.now.carriers ray.now v.items) }
     ensures sorted { IfOk result (λ v. IsSortedBy crossed_lt v.items) }
 {

@@ -9,7 +9,6 @@ mod change;
 mod crossed;
 mod crossing;
 mod laws;
-mod nearer;
 mod ray;
 
 pub use laws::ray_end_laws;

@@ -11,9 +11,8 @@ ghost use Rattle.nef_complex.specs.Complexes.{ShowsSet};
 ghost use Rattle.nef_ray.specs.Ends.{IsRayEnd};
 
 use crate::OutOfMemory;
-use crate::change::label_after;
+use crate::change::{change_on, label_after};
 use crate::crossed::sorted_crossed;
-use crate::nearer::nearer;
 use nef_complex::Complex;
 use nef_geo::{Dir, Label, Point};
 use std::alloc::Global;
@@ -51,13 +50,10 @@ pub fn ray_end(alloc: Global, c: &Complex, p: &Point, d: &Dir) -> Result<RayEnd,
         before: label_after(alloc, c, p, d)?,
     };
     let crossed = sorted_crossed(alloc, c, &ray)?;
-    let mut best = None;
-    // After the first change the rest are passed over, since none of them is nearer.
     for next in crossed.as_slice() {
-        best = nearer(alloc, c, &ray, &next.plane, best)?;
+        if let Some(end) = change_on(alloc, c, &ray, next)? {
+            return Ok(end);
+        }
     }
-    match best {
-        Some(change) => Ok(change.end),
-        None => unreachable!(),
-    }
+    unreachable!()
 }

@@ -1,46 +1,48 @@
-use Rattle.std.proofs.Common.{◌⊎◌, inl, inr, ⊎_elim, subst, Option, IfSome}
-use Rattle.nef_space.specs.Place.{Place, InClosedFrame}
+use Rattle.std.proofs.Common.{inl, subst, arith, rules, IfSome, IsNone, Option}
 use Rattle.nef_space.specs.Sets.{Set}
-use Rattle.nef_geo.specs.Hits.{IsCrossing}
-use Rattle.nef_geo.specs.Shapes.{form_of, vector_of, place_of}
+use Rattle.nef_space.specs.Place.{SamePlace}
+use Rattle.nef_geo.specs.Shapes.{place_of, vector_of, hit_place}
+use Rattle.nef_smap.proofs.Lists.{at-within}
+use Rattle.nef_complex.proofs.Reading.{read-at}
 use Rattle.nef_complex.specs.Complexes.{ShowsSet}
 use Rattle.nef_ray.specs.declared.crossed.Crossed.{Crossed}
-use Rattle.nef_ray.specs.declared.nearer.Change.{Change}
+use Rattle.nef_ray.specs.declared.ray.RayEnd.{RayEnd}
 use Rattle.nef_ray.specs.declared.ray.RayStart.{RayStart}
-use Rattle.nef_ray.specs.Changes.{IsUnchanged, IsAlong, IsChangeOf, IsNotBefore}
-use Rattle.nef_ray.proofs.Found.{AllSeen, all-seen, end-some, end-none}
-use Rattle.nef_ray.proofs.Listed.{next-read}
+use Rattle.nef_ray.specs.Changes.{IsHitOf, IsUnchangedOn, IsChangeOf}
+use Rattle.nef_ray.proofs.Found.{all-seen, ordered-seen, end-some, end-none}
+use Rattle.nef_ray.proofs.Listed.{next-read, one-listed}
 use Rattle.nef_ray.proofs.ray.ray_end.Goals as goal
+
+pub change_on-requires-clause-hit : goal.change_on-requires-clause-hit
+change_on-requires-clause-hit c =
+    let ray : RayStart = record { from = c.args.p.now; along = c.args.d.now; before = c.in_ok-label_after.field-0 } in
+    one-listed (IsHitOf ray) c.in_ok-crossed.crossed.items c.as_slice-next-items.result.now c.loop-next.next-index c.next-item.result c.as_slice-next-items.ensures.value c.loop-next-test.true c.next-item.is c.in_ok-crossed.ensures.hits
 
 pub loop-next-preserved : goal.loop-next-preserved
 loop-next-preserved c =
-    let C = c.args.c.now in let p = place_of c.args.p.now in let d = vector_of c.args.d.now in let m = c.in_ok-label_after.field-0 in (
-      c.in_ok-best.ensures.along,
-      c.in_ok-best.ensures.change,
-      next-read (λ (x : Crossed). (s : Set) (y : Place) → ShowsSet s C → IsCrossing p d (form_of x.plane) y → InClosedFrame y → IsUnchanged s d m y ⊎ IsNotBefore p y c.in_ok-best.best)
-          c.as_slice-next-items.result.now c.loop-next.next-index c.next-item.result c.loop-next-test.true c.next-item.is
-          (λ k x l a s y S X i. ⊎_elim (λ u. inl u) (λ n. inr (c.in_ok-best.ensures.kept y n)) (c.loop-next.invariant.2 k x l a s y S X i)) c.in_ok-best.ensures.plane,
-    )
+    let C = c.args.c.now in let ray : RayStart = record { from = c.args.p.now; along = c.args.d.now; before = c.in_ok-label_after.field-0 } in
+    next-read (λ (x : Crossed). (s : Set) → ShowsSet s C → IsUnchangedOn s ray x.plane) c.as_slice-next-items.result.now c.loop-next.next-index c.next-item.result c.loop-next-test.true c.next-item.is c.loop-next.invariant
+    (let e : IsNone c.in_ok-end.field-0 = search rules in c.in_ok-end.ensures.none e)
+
+pub returns-in-Some : goal.returns-in-Some
+returns-in-Some c =
+    let C = c.args.c.now in let ray : RayStart = record { from = c.args.p.now; along = c.args.d.now; before = c.in_ok-label_after.field-0 } in
+    let zs = c.as_slice-next-items.result.now in let n = c.loop-next.next-index in let x = c.next-item.result in
+    let a = read-at zs n x c.loop-next-test.true c.next-item.is in
+    let H = one-listed (IsHitOf ray) c.in_ok-crossed.crossed.items zs n x c.as_slice-next-items.ensures.value c.loop-next-test.true c.next-item.is c.in_ok-crossed.ensures.hits in
+    record {
+      end = λ s S.
+          end-some s C S ray c.requires.framed (c.in_ok-label_after.ensures.germ s S) x c.in-Some.end H
+          (subst (λ (o : Option RayEnd). IfSome o (λ e. SamePlace (hit_place x.at) (place_of e.point))) c.in-Some.is c.in_ok-end.ensures.point)
+          (subst (λ (o : Option RayEnd). IfSome o (λ e. (s : Set) → ShowsSet s C → IsChangeOf s (vector_of ray.along) ray.before e)) c.in-Some.is c.in_ok-end.ensures.change s S)
+          (ordered-seen s C ray c.in_ok-crossed.crossed.items zs c.as_slice-next-items.ensures.value c.in_ok-crossed.ensures.all c.in_ok-crossed.ensures.hits c.in_ok-crossed.ensures.sorted n x a
+          (λ k z l b. c.loop-next.invariant k z l b s S));
+    }
 
 pub unreachable-requires : goal.unreachable-requires
 unreachable-requires c =
-    let C = c.args.c.now in let p = place_of c.args.p.now in let d = vector_of c.args.d.now in let m = c.in_ok-label_after.field-0 in let S = c.requires.shows in
-    let ray : RayStart = record { from = c.args.p.now; along = c.args.d.now; before = m } in
-    end-none S.0 C S.1 p d m c.requires.framed c.args.d.now.some (c.in_ok-label_after.ensures.germ S.0 S.1)
-    (subst (AllSeen S.0 C p d m) c.in-None.is
-    (all-seen S.0 C ray c.loop-next.best c.in_ok-crossed.crossed.items c.as_slice-next-items.result.now c.loop-next.next-index c.as_slice-next-items.ensures.value c.loop-next-test.false c.in_ok-crossed.ensures.all
-    (λ k x l a y X i. c.loop-next.invariant.2 k x l a S.0 y S.1 X i)))
-
-pub returns : goal.returns
-returns c =
-    let C = c.args.c.now in let p = place_of c.args.p.now in let d = vector_of c.args.d.now in let m = c.in_ok-label_after.field-0 in
-    let ray : RayStart = record { from = c.args.p.now; along = c.args.d.now; before = m } in
-    record {
-      end = λ s S.
-          end-some s C S ray c.in-Some.change c.requires.framed (c.in_ok-label_after.ensures.germ s S)
-          (subst (λ (o : Option Change). IfSome o (IsAlong ray)) c.in-Some.is c.loop-next.invariant.0)
-          (subst (λ (o : Option Change). IfSome o (λ x. (s : Set) → ShowsSet s C → IsChangeOf s d m x.end)) c.in-Some.is c.loop-next.invariant.1 s S)
-          (subst (AllSeen s C p d m) c.in-Some.is
-          (all-seen s C ray c.loop-next.best c.in_ok-crossed.crossed.items c.as_slice-next-items.result.now c.loop-next.next-index c.as_slice-next-items.ensures.value c.loop-next-test.false c.in_ok-crossed.ensures.all
-          (λ k x l a y X i. c.loop-next.invariant.2 k x l a s y S X i)));
-    }
+    let C = c.args.c.now in let ray : RayStart = record { from = c.args.p.now; along = c.args.d.now; before = c.in_ok-label_after.field-0 } in
+    let zs = c.as_slice-next-items.result.now in let S = c.requires.shows in
+    end-none S.0 C S.1 ray c.requires.framed (c.in_ok-label_after.ensures.germ S.0 S.1)
+    (all-seen S.0 C ray (λ y. ⊥) c.in_ok-crossed.crossed.items zs c.as_slice-next-items.ensures.value c.in_ok-crossed.ensures.all
+    (λ k x a y X i. inl (c.loop-next.invariant k x (let w = at-within zs k x a in let t = c.loop-next-test.false in omega (arith, w, t)) a S.0 S.1 y X i)))
