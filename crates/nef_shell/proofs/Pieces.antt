@@ -5,48 +5,28 @@ use Rattle.nef_space.specs.Local.{SameSet}
 use Rattle.nef_space.specs.Sets.{Set}
 use Rattle.law_near.proofs.Germs.{label-one}
 use Rattle.nef_geo.specs.Shapes.{place_of, vector_of}
-use Rattle.nef_complex.specs.declared.complex.Vertex.{Vertex}
-use Rattle.nef_complex.specs.declared.complex.Edge.{Edge}
-use Rattle.nef_unique.proofs.Vertices.{set-vertices}
 use Rattle.nef_core.specs.declared.how.TextVersion.{TextVersion}
-use Rattle.nef_core.specs.declared.how.TextVersion.TheVariants.{One}
-use Rattle.nef_parts.specs.declared.parts.Parts.{Parts}
-use Rattle.nef_parts.specs.Text.{line, numbers, text}
-use Rattle.law_text.proofs.SameText.{same-set_text, spelled-holds}
+use Rattle.nef_parts.specs.Text.{text}
 use Rattle.nef_expr.specs.declared.nodes.Node.{Node}
 use Rattle.nef_expr.specs.Nodes.{node_set}
 use Rattle.nef_script.specs.declared.script.Command.{Command}
 use Rattle.nef_script.specs.declared.script.Command.TheVariants.{Bind, Turn, Has, Joined, Ray, Same, Count, Print}
 use Rattle.nef_statement.specs.Output.{framed, line_end, answer_of}
-use Rattle.nef_statement.specs.Texts.{IsWrittenOf, count_line}
+use Rattle.nef_statement.specs.Texts.{IsWrittenOf}
 use Rattle.nef_statement.proofs.Alike.{same-self}
 use Rattle.nef_statement.proofs.Answered.{answered-one, joined-one, ended-one}
-use Rattle.nef_statement.proofs.Texts.{same-texts}
+use Rattle.nef_statement.proofs.Texts.{same-texts, counted-one, text-spells, text-holds}
 use Rattle.nef_shell.specs.Output.{IsPiece, IsOutput, printed}
 use Rattle.nef_shell.specs.Prints.{IsPrinted, AreTextsCompared, AreTextsMeant}
 use Rattle.nef_shell.specs.Written.{TextTells}
-use Rattle.law_complex.proofs.FacetNames.{facet-of}
-use Rattle.law_complex.proofs.Skeletons.{belongs-holds}
-use Rattle.nef_locate.proofs.Cones.{facet-at}
 
 -- the text of a set spells the complex that shows it, and tells which points belong to it
 pub text-tells : (version : TextVersion) (s : Set) (x : List ℕ) → IsWrittenOf s (text version) x → TextTells version s x
-text-tells version s x (c, p, S, P, e) =
-    record {
-      spelled = (c, (S.shows.edges, (p, P, e)));
-      holds = λ d y spells inside. spelled-holds (λ s C p S inside. belongs-holds s C S (facet-at s C S) (facet-of s C S) p inside) version s c d p x y S e spells inside;
-    }
+text-tells version s x is = record { spelled = text-spells version s x is; holds = λ d y spells inside. text-holds version s x d y is spells inside }
 
 pub printed-one : (version : TextVersion) (s t : Set) (name x y : List ℕ) → SameSet s t → IsWrittenOf s (printed version name) x → IsWrittenOf t (printed version name) y → x ≡ y
 printed-one version s t name x y same (c, p, S, P, e) (d, q, T, Q, f) =
-    e ∙ ap (λ (r : List ℕ). codes "polyhedron " ++ name ++ line_end ++ r ++ codes "end" ++ line_end) (same-set_text version s t c d p q S T same P Q).1 ∙ sym f
-
-pub counted-one : (s t : Set) (x y : List ℕ) → SameSet s t → IsWrittenOf s count_line x → IsWrittenOf t count_line y → x ≡ y
-counted-one s t x y same (c, p, S, P, e) (d, q, T, Q, f) =
-    let v = set-vertices s t c d S T same in
-    e ∙ ap (λ (vs : List Vertex). line (numbers (length vs ∷ length c.edges ∷ length p.facets ∷ length p.volumes ∷ []))) v.0
-    ∙ ap (λ (es : List Edge). line (numbers (length d.vertices ∷ length es ∷ length p.facets ∷ length p.volumes ∷ []))) v.1
-    ∙ ap (λ (r : Parts). line (numbers (length d.vertices ∷ length d.edges ∷ length r.facets ∷ length r.volumes ∷ []))) (same-set_text One s t c d p q S T same P Q).0 ∙ sym f
+    e ∙ ap (framed name) ((same-texts version s t (text version c p) (text version d q) (c, p, S, P, refl) (d, q, T, Q, refl)).1 same) ∙ sym f
 
 piece-one : (version : TextVersion) (nodes : List Node) (c : Command) (x y : List ℕ) → IsPiece version nodes c x → IsPiece version nodes c y → x ≡ y
 piece-one version nodes (Bind _ k) x y a b = a ∙ sym b

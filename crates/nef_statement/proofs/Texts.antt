@@ -1,5 +1,5 @@
 -- A set has one text, and the text tells it.
-use Rattle.std.proofs.Common.{◌≡◌, ◌↔◌, ℕ, refl, ap, sym, ◌∙◌, subst, List, [], ◌++◌, length, map, append_assoc}
+use Rattle.std.proofs.Common.{◌≡◌, ◌↔◌, ℕ, refl, ap, sym, ◌∙◌, subst, List, [], ◌∷◌, ◌++◌, length, map, append_assoc}
 use Rattle.nef_space.specs.Local.{SameSet}
 use Rattle.nef_space.specs.Place.{Place, InFrame}
 use Rattle.nef_space.specs.Sets.{Set, Holds}
@@ -10,15 +10,17 @@ use Rattle.law_complex.proofs.Skeletons.{belongs-holds}
 use Rattle.nef_complex.specs.Complexes.{complex_of, vertex_of, edge_of, ShowsSet}
 use Rattle.nef_core.specs.declared.how.TextVersion.{TextVersion}
 use Rattle.nef_locate.proofs.Cones.{facet-at}
-use Rattle.nef_unique.proofs.Vertices.{edges-one}
+use Rattle.nef_unique.proofs.Vertices.{edges-one, set-vertices}
 use Rattle.law_text.proofs.SameText.{same-parts, same-set_text, text-set, spelled-holds}
 use Rattle.nef_parts.specs.Numbers.{IsParts}
-use Rattle.nef_parts.specs.Text.{version_word, first_line, vertices_text, edge_line, facet_text, volumes_text, text}
+use Rattle.nef_parts.specs.Text.{version_word, first_line, vertices_text, edge_line, facet_text, line, numbers, volumes_text, text, Spells}
 use Rattle.std.specs.Prelude.{codes}
 use Rattle.std.specs.List.{flat_map}
 use Rattle.nef_statement.proofs.Counts.{count-same}
 use Rattle.nef_parts.specs.declared.parts.Parts.{Parts}
 use Rattle.nef_complex.specs.declared.complex.Complex.{Complex}
+use Rattle.nef_complex.specs.declared.complex.Vertex.{Vertex as ComplexVertex}
+use Rattle.nef_complex.specs.declared.complex.Edge.{Edge as ComplexEdge}
 use Rattle.nef_core.specs.declared.how.TextVersion.TheVariants.{One, Two}
 use Rattle.nef_volumes.proofs.Components.{are-counted}
 use Rattle.nef_statement.specs.Reader.{rows_of, vertices_told, with_edges, TextSays}
@@ -31,6 +33,22 @@ use Rattle.nef_statement.proofs.Told.{HasWeights, vertices-told, weights-told}
 pub same-texts : (version : TextVersion) (s t : Set) (x y : List ℕ) → IsWrittenOf s (text version) x → IsWrittenOf t (text version) y → (x ≡ y) ↔ SameSet s t
 same-texts version s t x y (c, p, S, P, e) (d, q, T, Q, f) =
     (λ g. text-set version s t c d p q S T (sym e ∙ g ∙ f), λ h. e ∙ (same-set_text version s t c d p q S T h P Q).1 ∙ sym f)
+
+-- what is counted of two sets that are one is the same
+pub counted-one : (s t : Set) (x y : List ℕ) → SameSet s t → IsWrittenOf s count_line x → IsWrittenOf t count_line y → x ≡ y
+counted-one s t x y same (c, p, S, P, e) (d, q, T, Q, f) =
+    let v = set-vertices s t c d S T same in
+    e ∙ ap (λ (vs : List ComplexVertex). line (numbers (length vs ∷ length c.edges ∷ length p.facets ∷ length p.volumes ∷ []))) v.0
+    ∙ ap (λ (es : List ComplexEdge). line (numbers (length d.vertices ∷ length es ∷ length p.facets ∷ length p.volumes ∷ []))) v.1
+    ∙ ap (λ (r : Parts). line (numbers (length d.vertices ∷ length d.edges ∷ length r.facets ∷ length r.volumes ∷ []))) (same-set_text One s t c d p q S T same P Q).0 ∙ sym f
+
+-- the text of a set spells the complex that shows it
+pub text-spells : (version : TextVersion) (s : Set) (x : List ℕ) → IsWrittenOf s (text version) x → (d : Complex) × Spells version x d
+text-spells version s x (c, p, S, P, e) = (c, (S.shows.edges, (p, P, e)))
+
+-- and a point of the frame belongs to each complex that it spells exactly where the set holds
+pub text-holds : (version : TextVersion) (s : Set) (x : List ℕ) (d : Complex) (y : Place) → IsWrittenOf s (text version) x → Spells version x d → InFrame y → Belongs (complex_of d) y ↔ Holds s y
+text-holds version s x d y (c, p, S, P, e) spells inside = spelled-holds (λ s C p S inside. belongs-holds s C S (facet-at s C S) (facet-of s C S) p inside) version s c d p x y S e spells inside
 
 -- the counted numbers are those of components
 pub count-tells : (s : Set) (x : List ℕ) → IsWrittenOf s count_line x → CountTells s x

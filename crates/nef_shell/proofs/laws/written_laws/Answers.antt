@@ -1,5 +1,5 @@
-use Rattle.nef_statement.proofs.Texts.{same-texts, count-tells}
-use Rattle.nef_shell.proofs.Pieces.{printed-one, counted-one, text-tells}
+use Rattle.nef_statement.proofs.Texts.{same-texts, count-tells, counted-one}
+use Rattle.nef_shell.proofs.Pieces.{printed-one, text-tells}
 use Rattle.nef_shell.proofs.laws.written_laws.Goals as goal
 
 pub returns-clause-texts : goal.returns-clause-texts
