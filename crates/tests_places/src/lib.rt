@@ -25,6 +25,8 @@ mod lone;
 #[cfg(test)]
 mod made;
 #[cfg(test)]
+mod near;
+#[cfg(test)]
 mod parts;
 #[cfg(test)]
 mod places;
