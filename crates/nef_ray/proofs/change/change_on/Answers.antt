@@ -1,8 +1,5 @@
-use Rattle.std.proofs.Common.{◌≡◌, Option, IfSome, IsNone, refl, rules, sym, subst, IsTrue}
-use Rattle.nef_space.specs.Place.{SamePlace}
-use Rattle.nef_space.specs.Sets.{Set}
+use Rattle.std.proofs.Common.{rules, IsTrue}
 use Rattle.nef_geo.specs.Shapes.{vector_of, place_of, hit_place}
-use Rattle.nef_geo.specs.declared.point.Point.{Point}
 use Rattle.law_complex.proofs.EqualPoints.{closed-same}
 use Rattle.nef_ray.proofs.Nearest.{crossings-same, change-same, none-on}
 use Rattle.nef_ray.proofs.change.change_on.Goals as goal
