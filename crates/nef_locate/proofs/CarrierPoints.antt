@@ -22,6 +22,7 @@ use Rattle.law_near.proofs.Supports.{facet-support}
 use Rattle.law_sphere.specs.Maps.{At}
 use Rattle.nef_smap.proofs.Lists.{at-map}
 use Rattle.law_complex.specs.Shows.{SamePlane}
+use Rattle.law_complex.specs.Laws.{IsSkeletonIn}
 use Rattle.law_complex.specs.Skeleton.{at_vertex, on_edge, in_facet, IsSkeletonPoint, meets_vertex, meets_edge}
 use Rattle.law_complex.proofs.Planes.{plane-turned, plane-point, plane-slope}
 use Rattle.law_complex.proofs.FacetWays.{dim-same}
@@ -30,7 +31,6 @@ use Rattle.nef_complex.specs.declared.complex.Complex.{Complex}
 use Rattle.nef_complex.specs.Complexes.{complex_of, ShowsSet}
 use Rattle.nef_complex.proofs.Parted.{held-between}
 use Rattle.nef_plane.proofs.Crossed.{edge-carried}
-use Rattle.nef_locate.specs.Rays.{IsSkeletonIn}
 use Rattle.nef_locate.proofs.Cones.{facet-at}
 use Rattle.nef_locate.proofs.Upward.{plane-upright}
 

@@ -24,9 +24,10 @@ use Rattle.nef_complex.specs.Complexes.{complex_of, ShowsSet}
 use Rattle.nef_classes.proofs.ClassLists.{is-at_one}
 use Rattle.nef_smap.proofs.Lists.{at-within}
 use Rattle.nef_smap.proofs.SideLists.{get-from_at}
+use Rattle.law_complex.specs.Laws.{IsSkeletonIn}
 use Rattle.nef_locate.specs.declared.beam.Met.{Met}
 use Rattle.nef_locate.specs.Places.{IsFirstHit}
-use Rattle.nef_locate.specs.Rays.{IsMet, IsReachedMet, IsSooner, IsNotBefore, IsSkeletonIn, HasNoneOn, HasNoneOnCarrier, HasNotAt, HasNotAtCarrier}
+use Rattle.nef_locate.specs.Rays.{IsMet, IsReachedMet, IsSooner, IsNotBefore, HasNoneOn, HasNoneOnCarrier, HasNotAt, HasNotAtCarrier}
 use Rattle.nef_locate.proofs.CarrierPoints.{skeleton-carrier, crossed}
 use Rattle.law_complex.proofs.EqualPoints.{ahead-from, vertex-same, edge-same, flat-same}
 

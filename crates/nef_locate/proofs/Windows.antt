@@ -25,7 +25,8 @@ use Rattle.nef_complex.specs.Complexes.{vertex_of, complex_of, ShowsSet}
 use Rattle.nef_complex.specs.Index.{IsSpanOn, AreSpans, AreSpanned}
 use Rattle.nef_complex.specs.Spans.{IsInSpan}
 use Rattle.nef_plane.proofs.Framed.{dim-framed, vertex-framed, edge-framed}
-use Rattle.nef_locate.specs.Rays.{IsSkeletonIn, LiesOutside}
+use Rattle.law_complex.specs.Laws.{IsSkeletonIn}
+use Rattle.nef_locate.specs.Rays.{LiesOutside}
 
 weight : (p : Place) → pos 0 <ℤ pos p.w
 weight p = let m = p.proper in omega (arith, ints)

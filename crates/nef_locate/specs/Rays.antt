@@ -1,7 +1,7 @@
 -- What a ray meets of the skeleton, carrier by carrier.
-use Rattle.std.specs.Prelude.{◌≡◌, ℕ, pos, ◌⊎◌, Option, Some, None}
+use Rattle.std.specs.Prelude.{◌≡◌, ℕ, pos, Option, Some, None}
 use Rattle.nef_space.specs.Lists.{IsAt}
-use Rattle.nef_space.specs.Place.{Place as PlainPlace, Form, form_at, InClosedFrame, IsAhead, IsBetween}
+use Rattle.nef_space.specs.Place.{Place as PlainPlace, form_at, InClosedFrame, IsAhead, IsBetween}
 use Rattle.nef_space.specs.Sets.{Set}
 use Rattle.nef_space.specs.Vectors.{Vector}
 use Rattle.nef_space.specs.declared.label.Label.{Label}
@@ -11,9 +11,9 @@ use Rattle.nef_geo.specs.declared.hit.Hit.{Hit}
 use Rattle.nef_geo.specs.declared.plane.Plane.{Plane}
 use Rattle.law_sphere.specs.Maps.{Side}
 use Rattle.law_complex.specs.Complexes.{Complex}
-use Rattle.law_complex.specs.Laws.{IsFlatIn}
+use Rattle.law_complex.specs.Laws.{IsSkeletonIn}
 use Rattle.law_complex.specs.Rays.{IsAbove}
-use Rattle.law_complex.specs.Skeleton.{Spot, IsSpot, IsSkeletonPoint, PlaneMeet, Meets}
+use Rattle.law_complex.specs.Skeleton.{Spot, IsSpot, IsSkeletonPoint}
 use Rattle.nef_complex.specs.declared.complex.Complex.{Complex as ProgramComplex}
 use Rattle.nef_complex.specs.declared.spans.Span.{Span}
 use Rattle.nef_complex.specs.Complexes.{complex_of, ShowsSet}
@@ -27,10 +27,6 @@ pub record IsSkeletonAt (C : Complex) (y : PlainPlace) (a : Place) : Type 0 wher
   pub has : IsPlaceIn C a
   pub at : IsPlaceAt C y a
   pub skeleton : IsSkeletonPoint C y
-
--- y is a vertex, or lies on an edge in the plane, or in a facet of the plane
-abbrev pub IsSkeletonIn : Set → Complex → Form → PlainPlace → Type 0
-IsSkeletonIn s C h y = ((m : PlaneMeet) × Meets C h m y) ⊎ IsFlatIn s h y
 
 -- the hit stands at its step along the ray
 abbrev pub IsReachedMet : PlainPlace → Vector → Met → Type 0

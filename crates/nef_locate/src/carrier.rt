@@ -12,7 +12,8 @@ ghost use Rattle.law_complex.specs.Skeleton.{IsEdgePoint};
 ghost use Rattle.nef_complex.specs.Complexes.{complex_of, ShowsSet};
 ghost use Rattle.nef_complex.specs.Index.{AreNumbersWith, EdgeLiesIn};
 ghost use Rattle.nef_locate.specs.Orders.{PartsOn};
-ghost use Rattle.nef_locate.specs.Rays.{IsSkeletonAt, IsSkeletonIn};
+ghost use Rattle.law_complex.specs.Laws.{IsSkeletonIn};
+ghost use Rattle.nef_locate.specs.Rays.{IsSkeletonAt};
 
 use crate::facet::in_facet;
 use crate::hit::{is_framed, is_in_span};
