@@ -1,5 +1,6 @@
 -- Scripts whose lines pass, one after the other.
 use Rattle.std.proofs.Common.{◌≡◌, ℕ, ◌+◌, ◌*◌, ◌≤◌, Bool, true, false, ◌&&◌, ◌||◌, ◌==◌, cond, List, [], ◌∷◌, ◌++◌, map, length, Option, Some, None, is_none, inl, inr, refl, sym, ◌∙◌, ap, subst, arith, append-nil, append_assoc, length-append}
+use Rattle.std.specs.Prelude.{nat_lt}
 use Rattle.std.specs.List.{All, list_any}
 use Rattle.std.proofs.lemmas.Bool.{ltb-false}
 use Rattle.std.proofs.lemmas.Bool.Decides.{eqb_tells}
@@ -9,13 +10,11 @@ use Rattle.nef_lex.specs.Words.{words_of}
 use Rattle.nef_lex.specs.Laws.{LacksFeed, ended}
 use Rattle.nef_lex.proofs.LineLaws.{pieces_of_ended}
 use Rattle.nef_script.specs.Tests.{line_limit, is_bad_byte}
-use Rattle.nef_script.specs.Checks.{is_refused_for}
 use Rattle.nef_script.specs.Refusal.{line_refusal, bound_name, names_of, Passes, IsAccepted}
 use Rattle.nef_script.specs.Laws.{script_of}
 use Rattle.nef_script.specs.declared.fault.ScriptKind.{ScriptKind}
 use Rattle.nef_script.specs.declared.fault.ScriptKind.TheVariants as kind
-use Rattle.nef_script.proofs.ByCommand.{none-by-kinds}
-use Rattle.nef_script.proofs.Adding.{first_none}
+use Rattle.nef_script.proofs.ByCommand.{refusal-by-words, first_none}
 use Rattle.nef_script.proofs.LineByLine.{names_of-push, here_at, passes_more}
 
 -- each of the lines passes, against these names and those that the lines before it bind
@@ -89,13 +88,13 @@ kept_whole (b ∷ c ∷ bs) clean = ap (λ l. b ∷ l) (kept_whole (c ∷ bs) (A
 
 clean_line : (names : List (List ℕ)) (line : List ℕ) → line_refusal names line ≡ None → IsClean line
 clean_line names line passes =
-    let a = first_none (is_refused_for kind.LineTooLong names line) kind.LineTooLong _ (none-by-kinds names line passes) in
-    let b = first_none (is_refused_for kind.BadByte names line) kind.BadByte _ a.1 in
+    let a = first_none (nat_lt line_limit (length line)) kind.LineTooLong _ (sym (refusal-by-words names line) ∙ passes) in
+    let b = first_none (list_any is_bad_byte line) kind.BadByte _ a.1 in
     all_fail line b.0
 
 short_line : (names : List (List ℕ)) (line : List ℕ) → line_refusal names line ≡ None → length line ≤ line_limit
 short_line names line passes =
-    let a = first_none (is_refused_for kind.LineTooLong names line) kind.LineTooLong _ (none-by-kinds names line passes) in
+    let a = first_none (nat_lt line_limit (length line)) kind.LineTooLong _ (sym (refusal-by-words names line) ∙ passes) in
     ltb-false line_limit (length line) a.0
 
 -- the lines, each with its line feed, are cut apart again

@@ -1,8 +1,5 @@
 -- What one line adds.
 use Rattle.std.proofs.Common.{◌≡◌, ℕ, ◌+◌, ◌<◌, ◌≤◌, ◌⊎◌, pos, inl, inr, Bool, true, false, not, cond, nat_eq, List, [], ◌∷◌, ◌++◌, length, take, get_or, Option, Some, None, is_some, slice_get, if◌then◌else◌, refl, sym, ◌∙◌, ap, subst, arith, append-nil, length-append}
-use Rattle.std.specs.List.{list_any, zip, position}
-use Rattle.std.specs.Option.{option_map}
-use Rattle.std.specs.Str.{bytes_eq}
 use Rattle.std.proofs.Math.Dec.{eqb-suc-zero}
 use Rattle.std.proofs.lemmas.Option.{slice_get_within, get_or_from_slice_get}
 use Rattle.nef_lex.specs.Words.{words_of}
@@ -17,72 +14,26 @@ use Rattle.nef_expr.proofs.Chains.{pair-of}
 use Rattle.nef_expr.proofs.Tables.{extends-length}
 use Rattle.nef_script.specs.Table.{verb_of, roles, binds, is_own}
 use Rattle.nef_script.specs.Limits.{KeepsRayLimits}
-use Rattle.nef_script.specs.Tests.{word_test, on_verb}
+use Rattle.nef_script.specs.Tests.{on_verb}
 use Rattle.nef_script.specs.Refusal.{line_refusal, bound_name}
 use Rattle.nef_script.specs.Meaning.{Names, IsNode, IsQuestion, IsTurn, MeansCommand, MeansWords, has_words, adds_base}
-use Rattle.nef_script.specs.Checks.{command_test, command_in, is_among, is_refused_for, is_unknown_command}
-use Rattle.nef_script.specs.Reading.{Fits, State, sets_of, IsSound, AddsWords, AddsLine, AddsCommand, number_at}
+use Rattle.nef_script.specs.Checks.{on_command}
+use Rattle.nef_script.specs.Reading.{State, sets_of, IsSound, AddsWords, AddsLine, AddsCommand, number_at}
 use Rattle.nef_script.specs.declared.table.Verb.{Verb}
 use Rattle.nef_script.specs.declared.table.Verb.TheVariants as verb
-use Rattle.nef_script.specs.declared.table.Role.{Role}
-use Rattle.nef_script.specs.declared.table.Role.TheVariants.{NewName}
 use Rattle.nef_script.specs.declared.script.Command.{Command}
 use Rattle.nef_script.specs.declared.script.Command.TheVariants.{Bind, Turn}
-use Rattle.nef_script.specs.declared.fault.ScriptKind.{ScriptKind}
-use Rattle.nef_script.specs.declared.fault.ScriptKind.TheVariants as kind
-use Rattle.nef_script.proofs.ByCommand.{on_command-Some, on_command-None, some_value, none-by-kinds}
 use Rattle.nef_script.proofs.Looking.{node-operands, question-asks}
 use Rattle.nef_script.proofs.More.{names-more, node-more, own-binding, own-binds, ask-owns}
-use Rattle.nef_script.proofs.Shapes.{three_words}
-use Rattle.nef_script.proofs.Positions.{position-any}
-use Rattle.nef_script.proofs.Questions.{or_parts, count_is}
-
--- ---- a new name
-
-first_role : (v : Verb) → binds v ≡ true → (rest : List Role) × (roles v ≡ NewName ∷ rest)
-first_role verb.Half e = (_, refl)
-first_role verb.Empty e = (_, refl)
-first_role verb.Full e = (_, refl)
-first_role verb.And e = (_, refl)
-first_role verb.Or e = (_, refl)
-first_role verb.Diff e = (_, refl)
-first_role verb.Xor e = (_, refl)
-first_role verb.Not e = (_, refl)
-first_role verb.Int e = (_, refl)
-first_role verb.Cl e = (_, refl)
-first_role verb.Bd e = (_, refl)
-first_role verb.Reg e = (_, refl)
-first_role verb.Turn e = (_, refl)
-first_role verb.Has e = cc
-first_role verb.Joined e = cc
-first_role verb.Ray e = cc
-first_role verb.Same e = cc
-first_role verb.Count e = cc
-first_role verb.Print e = cc
-
-none_from : (o : Option ℕ) → is_some o ≡ false → o ≡ None
-none_from None e = refl
-none_from (Some k) e = cc
-
-pub some_word : (names : List (List ℕ)) (v : Verb) (ws : List (List ℕ)) → Fits names v ws → binds v ≡ true → 0 < length ws
-some_word names v ws fits e =
-    let first = first_role v e in
-    let count : length ws ≡ length (roles v) = count_is names v ws fits in
-    let longer : length (roles v) ≡ length (NewName ∷ first.0) = ap length first.1 in
-    omega arith
-
-new_of : (names : List (List ℕ)) (v : Verb) (rest : List Role) (ws : List (List ℕ)) → 0 < length ws → roles v ≡ NewName ∷ rest → list_any (word_test kind.NameTaken names) (zip (roles v) ws) ≡ false → position (bytes_eq (get_or ws 0 [])) names ≡ None
-new_of names v rest [] some e free = absurd (omega arith)
-new_of names v rest (w ∷ ws) some e free =
-    let parts = or_parts (is_among w names) (list_any (word_test kind.NameTaken names) (zip rest ws)) (sym (ap (λ rs. list_any (word_test kind.NameTaken names) (zip rs (w ∷ ws))) e) ∙ free) in
-    none_from _ (position-any (bytes_eq w) names ∙ parts.0)
-
-pub new_name : (names : List (List ℕ)) (v : Verb) (ws : List (List ℕ)) → Fits names v ws → binds v ≡ true → position (bytes_eq (get_or ws 0 [])) names ≡ None
-new_name names v ws fits e =
-    let first = first_role v e in
-    new_of names v first.0 ws (some_word names v ws fits e) first.1 fits.new
 
 -- ---- a command and the words after it
+
+three_words : (ws : List (List ℕ)) → length ws ≡ 3 → ws ≡ get_or ws 0 [] ∷ get_or ws 1 [] ∷ get_or ws 2 [] ∷ []
+three_words [] e = absurd (omega arith)
+three_words (a ∷ []) e = absurd (omega arith)
+three_words (a ∷ b ∷ []) e = absurd (omega arith)
+three_words (a ∷ b ∷ c ∷ []) e = refl
+three_words (a ∷ b ∷ c ∷ d ∷ ws) e = absurd (omega arith)
 
 take_one : (ws : List (List ℕ)) → 0 < length ws → get_or ws 0 [] ∷ [] ≡ take 1 ws
 take_one [] some = absurd (omega arith)
@@ -216,53 +167,7 @@ AddsWords-turn number ws old new from t k sound count named number_is below turn
     plus-none : (n : ℕ) → n ≡ n + 0
     plus-none n = omega arith
 
--- ---- a line that no kind refuses
-
-pub first_none : (t : Bool) (k : ScriptKind) (o : Option ScriptKind) → cond t (Some k) o ≡ None → (t ≡ false) × (o ≡ None)
-first_none true k o e = cc
-first_none false k o e = (refl, e)
-
-pub Fits-from : (names : List (List ℕ)) (text : List ℕ) (v : Verb) (args : List (List ℕ)) → line_refusal names text ≡ None → command_in (words_of text) ≡ Some (v, args) → Fits names v args
-Fits-from names text v args passes command =
-    let test = λ (k : ScriptKind). is_refused_for k names text in
-    let a = first_none (test kind.LineTooLong) kind.LineTooLong _ (none-by-kinds names text passes) in
-    let b = first_none (test kind.BadByte) kind.BadByte _ a.1 in
-    let c = first_none (test kind.UnknownCommand) kind.UnknownCommand _ b.1 in
-    let d = first_none (test kind.WordCount) kind.WordCount _ c.1 in
-    let e = first_none (test kind.BadName) kind.BadName _ d.1 in
-    let f = first_none (test kind.NameTaken) kind.NameTaken _ e.1 in
-    let g = first_none (test kind.UnknownName) kind.UnknownName _ f.1 in
-    let h = first_none (test kind.NotANumber) kind.NotANumber _ g.1 in
-    let i = first_none (test kind.OutOfRange) kind.OutOfRange _ h.1 in
-    let j = first_none (test kind.ZeroNormal) kind.ZeroNormal _ i.1 in
-    let k = first_none (test kind.BadMode) kind.BadMode _ j.1 in
-    let l = first_none (test kind.BadWeight) kind.BadWeight _ k.1 in
-    let m = first_none (test kind.ZeroDirection) kind.ZeroDirection _ l.1 in
-    let n = first_none (test kind.TooManyNames) kind.TooManyNames _ m.1 in
-    record {
-      word_count = sym (on_command-Some (command_test kind.WordCount names) (words_of text) args v command) ∙ d.0;
-      good_names = sym (on_command-Some (command_test kind.BadName names) (words_of text) args v command) ∙ e.0;
-      new = sym (on_command-Some (command_test kind.NameTaken names) (words_of text) args v command) ∙ f.0;
-      known = sym (on_command-Some (command_test kind.UnknownName names) (words_of text) args v command) ∙ g.0;
-      numbers = sym (on_command-Some (command_test kind.NotANumber names) (words_of text) args v command) ∙ h.0;
-      within = sym (on_command-Some (command_test kind.OutOfRange names) (words_of text) args v command) ∙ i.0;
-      normal = sym (on_command-Some (command_test kind.ZeroNormal names) (words_of text) args v command) ∙ j.0;
-      mode = sym (on_command-Some (command_test kind.BadMode names) (words_of text) args v command) ∙ k.0;
-      weight = sym (on_command-Some (command_test kind.BadWeight names) (words_of text) args v command) ∙ l.0;
-      direction = sym (on_command-Some (command_test kind.ZeroDirection names) (words_of text) args v command) ∙ m.0;
-      room = sym (on_command-Some (command_test kind.TooManyNames names) (words_of text) args v command) ∙ n.0;
-    }
-
--- the words begin with the command
-first_word : (words args : List (List ℕ)) (v : Verb) → command_in words ≡ Some (v, args) → (word : List ℕ) × (words ≡ word ∷ args) × (verb_of word ≡ Some v)
-first_word [] args v e = cc
-first_word (word ∷ rest) args v e = pick (verb_of word) refl e
-  where
-    pick : (o : Option Verb) → verb_of word ≡ o → option_map {U = Verb × List (List ℕ)} (λ v. (v, rest)) o ≡ Some (v, args) → (w : List ℕ) × (word ∷ rest ≡ w ∷ args) × (verb_of w ≡ Some v)
-    pick None is e = cc
-    pick (Some u) is e =
-        let both = some_value {X = Verb × List (List ℕ)} (u, rest) (v, args) e in
-        (word, ap (λ (p : Verb × List (List ℕ)). word ∷ p.1) both, is ∙ ap (λ (p : Verb × List (List ℕ)). Some p.0) both)
+-- ---- a line that isn't refused
 
 bound_of : (word : List ℕ) (args : List (List ℕ)) (v : Verb) → verb_of word ≡ Some v → bound_name (word ∷ args) ≡ (if binds v then take 1 args else [])
 bound_of word [] v e = none (binds v)
@@ -272,44 +177,27 @@ bound_of word [] v e = none (binds v)
     none false = refl
 bound_of word (name ∷ rest) v e = ap (λ o. if on_verb binds o then name ∷ [] else []) e
 
--- the line adds a base exactly where its command does
-bases-of : (text : List ℕ) (v : Verb) (args : List (List ℕ)) → command_in (words_of text) ≡ Some (v, args) → adds_base text ≡ is_own v
-bases-of text v args command = on_command-Some (λ u rest. is_own u) (words_of text) args v command
-
-pub AddsLine-words : (number : ℕ) (text : List ℕ) (v : Verb) (args : List (List ℕ)) (old new : State) → line_refusal old.names text ≡ None → command_in (words_of text) ≡ Some (v, args) → AddsWords number v args old new → AddsLine number text old new
-AddsLine-words number text v args old new passes command adds =
-    let first = first_word (words_of text) args v command in
-    let bound : bound_name (words_of text) ≡ (if binds v then take 1 args else []) = ap bound_name first.1 ∙ bound_of first.0 args v first.2 in
-    let filled : has_words text ≡ true = ap (λ ws. not (nat_eq (length ws) 0)) first.1 ∙ ap not (eqb-suc-zero (length args)) in
+pub AddsLine-words : (number : ℕ) (text word : List ℕ) (v : Verb) (args : List (List ℕ)) (old new : State) → line_refusal old.names text ≡ None → words_of text ≡ word ∷ args → verb_of word ≡ Some v → AddsWords number v args old new → AddsLine number text old new
+AddsLine-words number text word v args old new passes words verb adds =
+    let bound : bound_name (words_of text) ≡ (if binds v then take 1 args else []) = ap bound_name words ∙ bound_of word args v verb in
+    let bases : adds_base text ≡ is_own v = ap (on_command (λ u rest. is_own u)) words ∙ ap (on_verb (λ u. is_own u)) verb in
+    let filled : has_words text ≡ true = ap (λ ws. not (nat_eq (length ws) 0)) words ∙ ap not (eqb-suc-zero (length args)) in
     record {
       passes = passes;
       names_are = adds.names_are ∙ ap (λ l. old.names ++ l) (sym bound);
-      bases_are = adds.bases_are ∙ ap (λ b. old.table.bases + (if b then 1 else 0)) (sym (bases-of text v args command));
+      bases_are = adds.bases_are ∙ ap (λ b. old.table.bases + (if b then 1 else 0)) (sym bases);
       sound = adds.sound;
       command = subst (λ t. AddsCommand t number text old new) (sym filled)
-          (adds.command, adds.step, subst (λ ws. MeansWords old.names old.table.bases number ws (sets_of new) adds.command) (sym first.1) (v, first.2, adds.means));
+          (adds.command, adds.step, subst (λ ws. MeansWords old.names old.table.bases number ws (sets_of new) adds.command) (sym words) (v, verb, adds.means));
     }
 
-no_words : (words : List (List ℕ)) → command_in words ≡ None → is_unknown_command words ≡ false → words ≡ []
-no_words [] e known = refl
-no_words (word ∷ rest) e known = pick (verb_of word) refl e
-  where
-    pick : (o : Option Verb) → verb_of word ≡ o → option_map {U = Verb × List (List ℕ)} (λ v. (v, rest)) o ≡ None → word ∷ rest ≡ []
-    pick None is e = (let odd : is_unknown_command (word ∷ rest) ≡ true = ap (λ o. not (is_some o)) is in cc)
-    pick (Some u) is e = cc
-
-pub AddsLine-blank : (number : ℕ) (text : List ℕ) (old : State) → IsSound old → line_refusal old.names text ≡ None → command_in (words_of text) ≡ None → AddsLine number text old old
-AddsLine-blank number text old sound passes command =
-    let test = λ (k : ScriptKind). is_refused_for k old.names text in
-    let a = first_none (test kind.LineTooLong) kind.LineTooLong _ (none-by-kinds old.names text passes) in
-    let b = first_none (test kind.BadByte) kind.BadByte _ a.1 in
-    let c = first_none (test kind.UnknownCommand) kind.UnknownCommand _ b.1 in
-    let none = no_words (words_of text) command c.0 in
+pub AddsLine-blank : (number : ℕ) (text : List ℕ) (old : State) → IsSound old → line_refusal old.names text ≡ None → words_of text ≡ [] → AddsLine number text old old
+AddsLine-blank number text old sound passes none =
     let blank : has_words text ≡ false = ap (λ ws. not (nat_eq (length ws) 0)) none in
     record {
       passes = passes;
       names_are = sym (ap (λ ws. old.names ++ bound_name ws) none ∙ append-nil old.names);
-      bases_are = plus-none old.table.bases ∙ ap (λ b. old.table.bases + (if b then 1 else 0)) (sym (on_command-None (λ u rest. is_own u) (words_of text) command));
+      bases_are = plus-none old.table.bases ∙ ap (λ b. old.table.bases + (if b then 1 else 0)) (sym (ap (on_command (λ u rest. is_own u)) none));
       sound = sound;
       command = subst (λ t. AddsCommand t number text old old) (sym blank) (refl, refl, refl);
     }

@@ -1,13 +1,13 @@
 pub mod Positions
 pub mod Bound
-pub mod Failing
+pub mod Firsts
+pub mod CommandTests
 pub mod ByCommand
 pub mod Shapes
 pub mod Values
 pub mod Nodes
 pub mod More
 pub mod Looking
-pub mod Questions
 pub mod Rays
 pub mod Adding
 pub mod LineByLine

@@ -1,17 +1,19 @@
 -- The nodes that lines bind names to, by the command.
-use Rattle.std.proofs.Common.{◌≡◌, ℕ, Bool, List, [], ◌∷◌, length, get_or, codes, refl, sym, ap, subst}
-use Rattle.std.specs.Str.{bytes_eq}
-use Rattle.nef_geo.specs.Reading.{IsPositiveMultiple}
-use Rattle.nef_geo.specs.Shapes.{given_form}
-use Rattle.nef_geo.specs.declared.plane.Oriented.{Oriented}
+use Rattle.std.proofs.Common.{◌≡◌, ℕ, Bool, List, [], ◌∷◌, length, get_or, codes, refl, sym, ap, subst, arith}
 use Rattle.nef_expr.specs.declared.nodes.Node.TheVariants as node
 use Rattle.nef_script.specs.Meaning.{IsNode}
-use Rattle.nef_script.specs.Reading.{SecondIs, LastTwoAre, words_form}
+use Rattle.nef_script.specs.Reading.{SecondIs, LastTwoAre}
 use Rattle.nef_script.specs.declared.table.Verb.TheVariants as verb
-use Rattle.nef_script.proofs.Shapes.{six_words}
 
-pub IsNode-Half : (names : List (List ℕ)) (bound : List ℕ) (ws : List (List ℕ)) (o : Oriented) (closed : Bool) → length ws ≡ 6 → closed ≡ bytes_eq (get_or ws 5 []) (codes "closed") → IsPositiveMultiple (words_form ws) (given_form o) → IsNode names bound verb.Half ws (node.Half o closed)
-IsNode-Half names bound ws o closed count mode multiple = subst (λ l. IsNode names bound verb.Half l (node.Half o closed)) (sym (six_words ws count)) (o, ap (node.Half o) mode, multiple)
+pub IsNode-Empty : (names : List (List ℕ)) (bound : List ℕ) (ws : List (List ℕ)) → length ws ≡ 1 → IsNode names bound verb.Empty ws node.Empty
+IsNode-Empty names bound [] one = absurd (omega arith)
+IsNode-Empty names bound (a ∷ []) one = refl
+IsNode-Empty names bound (a ∷ b ∷ ws) one = absurd (omega arith)
+
+pub IsNode-Full : (names : List (List ℕ)) (bound : List ℕ) (ws : List (List ℕ)) → length ws ≡ 1 → IsNode names bound verb.Full ws node.Full
+IsNode-Full names bound [] one = absurd (omega arith)
+IsNode-Full names bound (a ∷ []) one = refl
+IsNode-Full names bound (a ∷ b ∷ ws) one = absurd (omega arith)
 
 pub IsNode-And : (names : List (List ℕ)) (bound : List ℕ) (ws : List (List ℕ)) (i j : ℕ) → LastTwoAre names bound ws i j → IsNode names bound verb.And ws (node.And i j)
 IsNode-And names bound [] i j are = absurd are

@@ -4,7 +4,6 @@ use Rattle.std.proofs.Math.IntN.{*ℤ_comm}
 use Rattle.std.proofs.Math.Nat.{mul-le-mul, le_of_mul-le-mul_left, mul_comm}
 use Rattle.std.proofs.lemmas.Int.{ints, unsigned_abs-mul}
 use Rattle.std.proofs.lemmas.Nat.Gcd.{le_of_dvd}
-use Rattle.nef_space.specs.Limits.{ray_direction_limit, ray_point_limit, ray_weight_limit}
 use Rattle.nef_space.specs.Place.{SamePlace}
 use Rattle.nef_space.specs.Vectors.{IsAtMost}
 use Rattle.nef_geo.specs.Hits.{IsPlaceAtMost}
@@ -12,9 +11,7 @@ use Rattle.nef_geo.specs.Shapes.{place_at, place_of, vector_of}
 use Rattle.nef_geo.specs.declared.dir.Dir.{Dir}
 use Rattle.nef_geo.specs.declared.point.Point.{Point}
 use Rattle.nef_geo.proofs.Euclid.{divides_same}
-use Rattle.nef_script.specs.Limits.{IsRayWithin}
 use Rattle.nef_script.specs.Meaning.{IsQuotient}
-use Rattle.nef_script.specs.Reading.{HasPointAt, number_at}
 
 -- x/w is y/v, where v is at most w
 numerator_small : (x y : ℤ) (w v m : ℕ) → x *ℤ pos v ≡ y *ℤ pos w → v ≤ w → 0 < w → nat_abs x ≤ m → nat_abs y ≤ m
@@ -39,7 +36,7 @@ weight_small p x y z w positive same =
     (*ℤ_comm m x ∙ same.along_x) (*ℤ_comm m y ∙ same.along_y) (*ℤ_comm m z ∙ same.along_z) (ap (λ v. v *ℤ n) (as_pos p.w p.proper)) in
     le_of_dvd (some_size w positive) divides
 
-start_small : (p : Point) (x y z w : ℤ) (m n : ℕ) → IsQuotient p x y z w → nat_abs x ≤ m → nat_abs y ≤ m → nat_abs z ≤ m → nat_abs w ≤ n → IsPlaceAtMost m n (place_of p)
+pub start_small : (p : Point) (x y z w : ℤ) (m n : ℕ) → IsQuotient p x y z w → nat_abs x ≤ m → nat_abs y ≤ m → nat_abs z ≤ m → nat_abs w ≤ n → IsPlaceAtMost m n (place_of p)
 start_small p x y z w m n (positive, same) x_small y_small z_small w_small =
     let le = weight_small p x y z w positive same in
     let some = some_size w positive in
@@ -51,9 +48,3 @@ start_small p x y z w m n (positive, same) x_small y_small z_small w_small =
       };
       weight = omega arith;
     }
-
-pub IsRayWithin-from : (p : Point) (d : Dir) (ws : List (List ℕ)) (i : ℕ) → HasPointAt ray_point_limit ray_weight_limit ws i → IsQuotient p (number_at ws i) (number_at ws (i + 1)) (number_at ws (i + 2)) (number_at ws (i + 3)) → IsAtMost ray_direction_limit (vector_of d) → IsRayWithin p d
-IsRayWithin-from p d ws i has quotient direction = record {
-  start = start_small p _ _ _ _ ray_point_limit ray_weight_limit quotient has.x_small has.y_small has.z_small has.w_small;
-  direction = direction;
-}

@@ -1,33 +1,14 @@
 -- The values of a line's words, as the calls take them.
-use Rattle.std.proofs.Common.{◌≡◌, ℕ, ◌<◌, ◌≤◌, ◌^◌, ℤ, pos, ◌<ℤ◌, List, length, get_or, nat_abs, Result, Err, ◌↔◌, refl, sym, ◌∙◌, ap, subst, w64, to_z, of_z}
-use Rattle.std.proofs.lemmas.Int.{to_z-of_z}
+use Rattle.std.proofs.Common.{◌≡◌, ℕ, ◌<◌, ◌≤◌, ◌^◌, ℤ, pos, negsuc, ◌<ℤ◌, nat_abs, Bool, true, false, ◌&&◌, refl, subst, arith, w64, to_z, of_z}
+use Rattle.std.proofs.lemmas.Bool.{eqb-true}
+use Rattle.std.proofs.lemmas.Int.{ints, to_z-of_z}
 use Rattle.std.specs.Int.Signed.{mag}
-use Rattle.nef_space.specs.Place.{Form, form, SamePlace, normal_of}
-use Rattle.nef_space.specs.Vectors.{vector, IsZero, IsDirection}
-use Rattle.nef_geo.specs.Reading.{IsInRange}
+use Rattle.nef_space.specs.Place.{form, SamePlace}
+use Rattle.nef_space.specs.Vectors.{vector, IsZero}
 use Rattle.nef_geo.specs.Shapes.{place_at, place_of}
-use Rattle.nef_geo.specs.declared.plane.Oriented.{Oriented}
 use Rattle.nef_geo.specs.declared.point.Point.{Point}
-use Rattle.nef_geo.specs.declared.reading.PlaneFault.{PlaneFault}
-use Rattle.nef_geo.specs.declared.reading.PlaneFault.TheVariants.{OutOfRange, ZeroNormal}
-use denote.Ref.{Bor}
-use Rattle.nef_script.specs.Names.{pointed}
-use Rattle.nef_script.specs.Tests.{number_or_zero}
+use Rattle.nef_script.specs.Tests.{is_zero}
 use Rattle.nef_script.specs.Meaning.{IsQuotient}
-use Rattle.nef_script.specs.Reading.{number_at}
-use Rattle.nef_script.proofs.Failing.{no_word}
-use Rattle.nef_script.proofs.Shapes.{pointed-at}
-
--- a number that was read from the word at a place and is passed on
-pub passed_number : (words : List (Bor (List ℕ))) (i : ℕ) (r : ℤ) → i < length words → mag r < 2 ^ 63 → r ≡ number_or_zero (get_or words i no_word).now → to_z w64 (of_z w64 r) ≡ number_at (pointed words) i
-passed_number words i r within small read = to_z-of_z w64 r (record { sfits = small }) ∙ read ∙ ap number_or_zero (sym (pointed-at words i within))
-
--- a number that is read and passed on is as small as the words' statement says it is
-pub read_small : (words : List (Bor (List ℕ))) (i n : ℕ) → i < length words → nat_abs (number_at (pointed words) i) ≤ n → nat_abs (number_or_zero (get_or words i no_word).now) ≤ n
-read_small words i n within small = subst (λ w. nat_abs (number_or_zero w) ≤ n) (pointed-at words i within) small
-
-pub passed_small : (words : List (Bor (List ℕ))) (i n : ℕ) (r : ℤ) → to_z w64 (of_z w64 r) ≡ number_at (pointed words) i → nat_abs (number_at (pointed words) i) ≤ n → nat_abs (to_z w64 (of_z w64 r)) ≤ n
-passed_small words i n r same small = subst (λ z. nat_abs z ≤ n) (sym same) small
 
 pub quotient : (p : Point) (x y z w x' y' z' w' : ℤ) → x' ≡ x → y' ≡ y → z' ≡ z → w' ≡ w → pos 0 <ℤ w → ((positive : pos 0 <ℤ w') → SamePlace (place_at x' y' z' w' positive) (place_of p)) → IsQuotient p x y z w
 quotient p x y z w x' y' z' w' is_x is_y is_z is_w positive same =
@@ -43,7 +24,31 @@ same_form a b c d a' b' c' d' is_a is_b is_c is_d = rw (is_a, is_b, is_c, is_d) 
 pub same_vector : (x y z x' y' z' : ℤ) → x' ≡ x → y' ≡ y → z' ≡ z → vector x' y' z' ≡ vector x y z
 same_vector x y z x' y' z' is_x is_y is_z = rw (is_x, is_y, is_z) refl
 
--- a plane within the limits whose normal isn't zero is read
-pub read_succeeds : (h : Form) (r : Result Oriented PlaneFault) (f : PlaneFault) → r ≡ Err f → ((r ≡ Err OutOfRange) ↔ (¬ IsInRange h)) → ((r ≡ Err ZeroNormal) ↔ (IsInRange h × IsZero (normal_of h))) → IsInRange h → IsDirection (normal_of h) → ⊥
-read_succeeds h r OutOfRange e past zero within some = past.0 e within
-read_succeeds h r ZeroNormal e past zero within some = some (zero.0 e).1
+-- three numbers are zero
+pub zero-are : (a b c : ℤ) → IsZero (vector a b c) → (is_zero a && is_zero b && is_zero c) ≡ true
+zero-are a b c none = rw (none.0, none.1, none.2) refl
+
+is-zero : (z : ℤ) → is_zero z ≡ true → z ≡ pos 0
+is-zero z e = (let none = eqb-true (nat_abs z) 0 e in omega (arith, ints, none))
+
+both_parts : (a b : Bool) → (a && b) ≡ true → (a ≡ true) × (b ≡ true)
+both_parts true b e = (refl, e)
+both_parts false b e = cc
+
+pub not-zero : (a b c : ℤ) → (IsZero (vector a b c) → ⊥) → (is_zero a && is_zero b && is_zero c) ≡ false
+not-zero a b c some = by (is_zero a && is_zero b && is_zero c) refl
+  where
+    by : (t : Bool) → (is_zero a && is_zero b && is_zero c) ≡ t → t ≡ false
+    by false e = refl
+    by true e =
+        let first = both_parts (is_zero a && is_zero b) (is_zero c) e in
+        let second = both_parts (is_zero a) (is_zero b) first.0 in
+        absurd (some (is-zero a second.0, is-zero b second.1, is-zero c first.1))
+
+-- a small number is passed on as it is
+mag-small : (z : ℤ) (m : ℕ) → nat_abs z ≤ m → m < 2 ^ 63 → mag z < 2 ^ 63
+mag-small (pos n) m small fits = omega (arith, small, fits)
+mag-small (negsuc n) m small fits = omega (arith, small, fits)
+
+pub passed : (z : ℤ) (m : ℕ) → nat_abs z ≤ m → m < 2 ^ 63 → to_z w64 (of_z w64 z) ≡ z
+passed z m small fits = to_z-of_z w64 z (record { sfits = mag-small z m small fits })

@@ -7,6 +7,7 @@ pub mod Commands
 pub mod Texts
 pub mod Names
 pub mod Checks
+pub mod Outcome
 pub mod Reading
 pub mod Progress
 pub mod Laws

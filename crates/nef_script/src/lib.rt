@@ -1,15 +1,14 @@
 //! Scripts: what they mean, and the first refusal of one that is refused.
 #![tactic(auto)]
 
-mod checks;
+mod arguments;
 mod fault;
 mod laws;
-mod meaning;
 mod names;
 mod parser;
 mod reader;
-mod refusal;
 mod script;
+mod statement;
 mod steps;
 mod table;
 

@@ -1,23 +1,20 @@
 //! Reads a script line by line.
 
-ghost use Rattle.std.specs.Prelude.{◌≡◌, ℕ, ◌*◌, ◌≤◌, ◌∷◌, ◌++◌, length, IfOk, OnOk, Some, None, [], true, false};
+ghost use Rattle.std.specs.Prelude.{◌≡◌, ℕ, ◌*◌, ◌≤◌, ◌∷◌, ◌++◌, length, IfOk, OnOk, Some, None, []};
 ghost use Rattle.std.specs.List.{position};
 ghost use Rattle.std.specs.Str.{bytes_eq};
 ghost use Rattle.nef_expr.specs.Nodes.{IsOrdered};
 ghost use Rattle.nef_expr.specs.Table.{AreOrigins};
-ghost use Rattle.nef_script.specs.Table.{binds, is_own};
-ghost use Rattle.nef_script.specs.Names.{pointed};
 ghost use Rattle.nef_script.specs.Refusal.{line_refusal};
-ghost use Rattle.nef_script.specs.Reading.{Fits, IsSound, AddsLine, AddsWords, state};
+ghost use Rattle.nef_script.specs.Outcome.{IsStatement};
+ghost use Rattle.nef_script.specs.Reading.{IsSound, AddsLine, AddsWords, state};
 ghost use Rattle.nef_script.specs.declared.fault.ScriptKind.{ScriptKind as Kind};
-ghost use Rattle.nef_script.specs.declared.table.Verb.TheVariants as verb;
+ghost use Rattle.nef_script.specs.declared.table.Verb.{Verb as Said};
 
 use crate::fault::ScriptFault;
-use crate::meaning::{node_of, question_of, turn_of};
 use crate::names::Names;
-use crate::refusal::{command_of, line_refusal};
-use crate::script::{Command, Script};
-use crate::table::Verb;
+use crate::script::{Command, Name, Script};
+use crate::statement::{Statement, read_statement};
 use nef_expr::TurnedNodes;
 use nef_geo::List;
 use nef_lex::{Line, words};
@@ -77,36 +74,48 @@ impl<'a> Reader<'a> {
         ensures refused { (n : ℕ) (kind : Kind) → result ≡ Err (ScriptFault.Refused n kind) → (n ≡ line.entry.number) × (line_refusal self.old.names line.entry.text.now ≡ Some kind) }
     {
         let words = words(alloc, line.text)?;
-        if let Some(kind) = line_refusal(&self.names, line.text, &words) {
-            return Err(ScriptFault::Refused {
+        match read_statement(line.number, line.text, &words, &self.names, &self.bound) {
+            Err(kind) => Err(ScriptFault::Refused {
                 line: line.number,
                 kind,
-            });
-        }
-        match command_of(&words) {
-            Some((verb, args)) => Ok(self.add(alloc, line.number, verb, args)?),
-            None => Ok(()),
+            }),
+            Ok(None) => Ok(()),
+            Ok(Some(statement)) => Ok(self.add(alloc, line.number, statement)?),
         }
     }
 
-    // Adds what a command and the words after it mean.
-    fn add(
-        &mut self,
-        alloc: Global,
-        line: u64,
-        verb: Verb,
-        args: &[&'a [u8]],
-    ) -> Result<(), AllocError>
+    // Adds what a line says.
+    fn add(&mut self, alloc: Global, line: u64, statement: Statement<'a>) -> Result<(), AllocError>
         requires sound { IsSound (state self.old.names self.old.bound.items self.old.sets self.old.commands) }
-        requires fits { Fits self.old.names verb (pointed args.now) }
-        ensures adds { IfOk result (λ _. AddsWords line verb (pointed args.now) (state self.old.names self.old.bound.items self.old.sets self.old.commands) (state self.new.names self.new.bound.items self.new.sets self.new.commands)) }
+        requires says { (v : Said) × (args : List (List ℕ)) × IsStatement self.old.names self.old.bound.items line v args statement }
+        ensures adds { IfOk result (λ _. (v : Said) (args : List (List ℕ)) → IsStatement self.old.names self.old.bound.items line v args statement.entry → AddsWords line v args (state self.old.names self.old.bound.items self.old.sets self.old.commands) (state self.new.names self.new.bound.items self.new.sets self.new.commands)) }
     {
-        if verb == Verb::Turn {
-            self.add_turn(alloc, line, args)
-        } else if verb.binds() {
-            self.add_node(line, verb, args)
-        } else {
-            self.add_question(alloc, line, verb, args)
+        match statement {
+            Statement::Bind { name, node } => {
+                let node = self.sets.push(node)?;
+                self.bind(name, node, Command::Bind { line, node })?;
+                Ok(())
+            }
+            Statement::Turn { name, from, turn } => {
+                let node = self.sets.turn(alloc, from, usize::from(turn))?;
+                let command = Command::Turn {
+                    line,
+                    node,
+                    from,
+                    turn,
+                };
+                self.bind(name, node, command)?;
+                Ok(())
+            }
+            Statement::Ask(question) => {
+                self.commands.push(question)?;
+                Ok(())
+            }
+            Statement::Print { node, name } => {
+                let name = Name::new(alloc, name)?;
+                self.commands.push(Command::Print { line, node, name })?;
+                Ok(())
+            }
         }
     }
 
@@ -121,56 +130,6 @@ impl<'a> Reader<'a> {
         self.names.push(name)?;
         self.bound.push(node)?;
         self.commands.push(command)?;
-        Ok(())
-    }
-
-    // Adds the node of a line, and binds its name to it.
-    fn add_node(&mut self, line: u64, verb: Verb, args: &[&'a [u8]]) -> Result<(), AllocError>
-        requires sound { IsSound (state self.old.names self.old.bound.items self.old.sets self.old.commands) }
-        requires fits { Fits self.old.names verb (pointed args.now) }
-        requires own { is_own verb ≡ true }
-        ensures adds { IfOk result (λ _. AddsWords line verb (pointed args.now) (state self.old.names self.old.bound.items self.old.sets self.old.commands) (state self.new.names self.new.bound.items self.new.sets self.new.commands)) }
-    {
-        let node = self
-            .sets
-            .push(node_of(&self.names, &self.bound, verb, args))?;
-        self.bind(args[0], node, Command::Bind { line, node })?;
-        Ok(())
-    }
-
-    // Adds the turned copy of a node, and binds the line's name to it.
-    fn add_turn(&mut self, alloc: Global, line: u64, args: &[&'a [u8]]) -> Result<(), AllocError>
-        requires sound { IsSound (state self.old.names self.old.bound.items self.old.sets self.old.commands) }
-        requires fits { Fits self.old.names verb.Turn (pointed args.now) }
-        ensures adds { IfOk result (λ _. AddsWords line verb.Turn (pointed args.now) (state self.old.names self.old.bound.items self.old.sets self.old.commands) (state self.new.names self.new.bound.items self.new.sets self.new.commands)) }
-    {
-        let (from, turn) = turn_of(&self.names, &self.bound, args);
-        let node = self.sets.turn(alloc, from, usize::from(turn))?;
-        let command = Command::Turn {
-            line,
-            node,
-            from,
-            turn,
-        };
-        self.bind(args[0], node, command)?;
-        Ok(())
-    }
-
-    // Adds the question of a line.
-    fn add_question(
-        &mut self,
-        alloc: Global,
-        line: u64,
-        verb: Verb,
-        args: &[&'a [u8]],
-    ) -> Result<(), AllocError>
-        requires sound { IsSound (state self.old.names self.old.bound.items self.old.sets self.old.commands) }
-        requires fits { Fits self.old.names verb (pointed args.now) }
-        requires asks { binds verb ≡ false }
-        ensures adds { IfOk result (λ _. AddsWords line verb (pointed args.now) (state self.old.names self.old.bound.items self.old.sets self.old.commands) (state self.new.names self.new.bound.items self.new.sets self.new.commands)) }
-    {
-        let question = question_of(alloc, line, &self.names, &self.bound, verb, args)?;
-        self.commands.push(question)?;
         Ok(())
     }
 }

@@ -1,7 +1,7 @@
 use Rattle.std.proofs.Common.{◌++◌}
 use Rattle.std.specs.List.{concat}
 use Rattle.nef_script.specs.Names.{pointed}
-use Rattle.nef_script.proofs.Failing.{no_word}
+use Rattle.nef_script.proofs.Shapes.{no_word}
 use Rattle.nef_script.proofs.Writing.{pieces-next, pieces-end}
 use Rattle.nef_script.proofs.steps.add_pieces.Goals as goal
 

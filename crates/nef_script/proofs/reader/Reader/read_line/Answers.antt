@@ -1,24 +1,18 @@
-use Rattle.std.proofs.Common.{◌≡◌, Some, None, sym, ◌∙◌, ap}
-use Rattle.std.specs.Option.{option_map}
+use Rattle.std.proofs.Common.{◌≡◌, ◌∙◌, ℕ, List, Some, None, sym, ap, subst}
+use Rattle.std.specs.Prelude.{IfOk}
 use Rattle.nef_lex.specs.Words.{words_of}
-use Rattle.nef_script.specs.Names.{pointed}
 use Rattle.nef_script.specs.Refusal.{line_refusal}
-use Rattle.nef_script.specs.Checks.{command_in}
-use Rattle.nef_script.proofs.Adding.{Fits-from, AddsLine-words}
+use Rattle.nef_script.specs.Outcome.{refused, LineSays}
+use Rattle.nef_script.proofs.Adding.{AddsLine-words}
 use Rattle.nef_script.proofs.reader.Reader.read_line.Goals as goal
 
-pub add-requires-clause-fits : goal.add-requires-clause-fits
-add-requires-clause-fits c =
-    let passes : line_refusal c.args.self.now.names c.args.line.text.now ≡ None = sym c.line_refusal.ensures.refusal ∙ c.in_default.is in
-    let words : pointed c.deref-2.result.now ≡ words_of c.args.line.text.now = ap pointed c.deref-2.ensures.value ∙ c.in_ok-words.ensures.words in
-    let command : command_in (words_of c.args.line.text.now) ≡ Some (c.in-Some-command_of.verb, pointed c.in-Some-command_of.args.now) =
-    ap command_in (sym words) ∙ sym c.command_of.ensures.command ∙ ap (option_map (λ p. (p.0, pointed p.1.now))) c.in-Some-command_of.is in
-    Fits-from c.args.self.now.names c.args.line.text.now c.in-Some-command_of.verb (pointed c.in-Some-command_of.args.now) passes command
-
-pub returns-in-Some-command_of-clause-adds : goal.returns-in-Some-command_of-clause-adds
-returns-in-Some-command_of-clause-adds c =
-    let passes : line_refusal c.args.self.now.names c.args.line.text.now ≡ None = sym c.line_refusal.ensures.refusal ∙ c.in_default.is in
-    let words : pointed c.deref-2.result.now ≡ words_of c.args.line.text.now = ap pointed c.deref-2.ensures.value ∙ c.in_ok-words.ensures.words in
-    let command : command_in (words_of c.args.line.text.now) ≡ Some (c.in-Some-command_of.verb, pointed c.in-Some-command_of.args.now) =
-    ap command_in (sym words) ∙ sym c.command_of.ensures.command ∙ ap (option_map (λ p. (p.0, pointed p.1.now))) c.in-Some-command_of.is in
-    AddsLine-words _ _ _ _ _ _ passes command c.in_ok-add-in-Some-command_of.ensures.adds
+pub returns-clause-adds : goal.returns-clause-adds
+returns-clause-adds c =
+    let s = c.args.self.now in
+    let text = c.args.line.text.now in
+    let number = c.args.line.number in
+    let passes : line_refusal s.names text ≡ None = sym c.read_statement.ensures.refusal ∙ ap refused c.in-Ok-Some.is in
+    let said = subst (λ r. IfOk r (LineSays s.names c.deref-2.result.now number (words_of text))) c.in-Ok-Some.is c.read_statement.ensures.says in
+    let says = subst (LineSays s.names c.deref-2.result.now number (words_of text)) c.in-Ok-Some.field-0-is said in
+    let here = subst (λ (xs : List ℕ). LineSays s.names xs number (words_of text) (Some c.in-Ok-Some.statement)) c.deref-2.ensures.value says in
+    AddsLine-words number text here.0 here.2 here.1 _ _ passes here.3 here.4 (c.in_ok-add-in-Ok-Some.ensures.adds here.2 here.1 here.5)

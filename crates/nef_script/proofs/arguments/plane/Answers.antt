@@ -1,0 +1,78 @@
+use Rattle.std.proofs.Common.{◌≡◌, ◌∙◌, ℕ, ◌≤◌, Bool, true, false, cond, ◌&&◌, List, [], ◌∷◌, Ok, Err, Some, None, ℤ, pos, nat_abs, refl, sym, ap, subst, arith}
+use Rattle.nef_space.specs.Limits.{normal_limit, offset_limit, direction_limit, ray_direction_limit}
+use Rattle.nef_space.specs.Place.{form}
+use Rattle.nef_space.specs.Vectors.{vector, IsAtMost, IsZero, SameDirection}
+use Rattle.nef_geo.specs.Reading.{IsInRange, IsPositiveMultiple}
+use Rattle.nef_geo.specs.Shapes.{given_form, vector_of}
+use Rattle.nef_geo.specs.declared.reading.PlaneFault.TheVariants as fault
+use Rattle.nef_script.specs.Tests.{number_or_zero}
+use Rattle.nef_script.specs.Outcome.{IsRead, both, some_fails, is_normal, is_direction, are_zero}
+use Rattle.nef_script.specs.declared.fault.ScriptKind.TheVariants as kind
+use Rattle.nef_script.specs.declared.table.Role.TheVariants.{Coefficient}
+use Rattle.nef_script.proofs.Firsts.{IsRead-three, IsRead-four, IsRead-unless, place-number, zeros-none}
+use Rattle.nef_script.proofs.Values.{passed, same_form, same_vector, zero-are, not-zero}
+use Rattle.nef_script.proofs.arguments.plane.Goals as goal
+
+pub returns-in_err-a : goal.returns-in_err-a
+returns-in_err-a c =
+    let a = c.args.a.now in let b = c.args.b.now in let d = c.args.c.now in let e = c.args.d.now in
+    let roles = Coefficient normal_limit ∷ Coefficient normal_limit ∷ Coefficient normal_limit ∷ Coefficient offset_limit ∷ [] in
+    let all = c.both-numbers.ensures.both ∙ ap (both c.coefficient.result) (c.both-2.ensures.both ∙ ap (both c.coefficient-2.result) c.both.ensures.both) in
+    let read = λ (names : List (List ℕ)). subst (IsRead _ _) (sym all) (IsRead-four names _ _ _ _ _ _ _ _ _ _ _ _ c.coefficient.result c.coefficient-2.result c.coefficient-3.result c.coefficient-4.result (c.coefficient.ensures.read names) (c.coefficient-2.ensures.read names) (c.coefficient-3.ensures.read names) (c.coefficient-4.ensures.read names)) in
+    record { read = λ names. IsRead-unless (some_fails names roles (a ∷ b ∷ d ∷ e ∷ [])) (λ k. is_normal k && are_zero a b d) kind.ZeroNormal (are_zero a b d) refl _ _ c.both-numbers.result (read names) (λ k f. (let le = place-number (some_fails names roles (a ∷ b ∷ d ∷ e ∷ []) kind.NotANumber) (some_fails names roles (a ∷ b ∷ d ∷ e ∷ []) kind.OutOfRange) k f in omega (arith, le))) _ c.from_residual.result c.in_err-a.was c.from_residual.ensures.1 }
+
+pub returns-in-Ok : goal.returns-in-Ok
+returns-in-Ok c =
+    let a = c.args.a.now in let b = c.args.b.now in let d = c.args.c.now in let e = c.args.d.now in
+    let roles = Coefficient normal_limit ∷ Coefficient normal_limit ∷ Coefficient normal_limit ∷ Coefficient offset_limit ∷ [] in
+    let all = c.both-numbers.ensures.both ∙ ap (both c.coefficient.result) (c.both-2.ensures.both ∙ ap (both c.coefficient-2.result) c.both.ensures.both) in
+    let read = λ (names : List (List ℕ)). subst (IsRead _ _) (sym all) (IsRead-four names _ _ _ _ _ _ _ _ _ _ _ _ c.coefficient.result c.coefficient-2.result c.coefficient-3.result c.coefficient-4.result (c.coefficient.ensures.read names) (c.coefficient-2.ensures.read names) (c.coefficient-3.ensures.read names) (c.coefficient-4.ensures.read names)) in
+    let ok = λ (names : List (List ℕ)). subst (IsRead _ _) c.in_ok-a.was (read names) in
+    let h = (ok []).value in
+    let is_a = passed c.in_ok-a.a normal_limit h.0.1 (omega arith) in
+    let is_b = passed c.in_ok-a.b normal_limit h.1.0.1 (omega arith) in
+    let is_c = passed c.in_ok-a.c normal_limit h.1.1.0.1 (omega arith) in
+    let is_d = passed c.in_ok-a.d offset_limit h.1.1.1.1 (omega arith) in
+    let same = same_form _ _ _ _ _ _ _ _ (is_a ∙ h.0.0) (is_b ∙ h.1.0.0) (is_c ∙ h.1.1.0.0) (is_d ∙ h.1.1.1.0) in
+    let first = same_vector _ _ _ _ _ _ (is_a ∙ h.0.0) (is_b ∙ h.1.0.0) (is_c ∙ h.1.1.0.0) in
+    let inside : IsInRange (form c.in_ok-a.a c.in_ok-a.b c.in_ok-a.c c.in_ok-a.d) = record { a_small = h.0.1; b_small = h.1.0.1; c_small = h.1.1.0.1; d_small = h.1.1.1.1 } in
+    let within = subst IsInRange (sym (same_form _ _ _ _ _ _ _ _ is_a is_b is_c is_d)) inside in
+    let some : are_zero a b d ≡ false = not-zero _ _ _ (λ none. (let odd = sym c.in-Ok.is ∙ c.read.ensures.zero_normal.1 (within, subst IsZero (sym first) none) in cc)) in
+    record { read = λ names. record { refusal = ap (λ t. cond t (Some kind.ZeroNormal) None) (sym some) ∙ zeros-none (some_fails names roles (a ∷ b ∷ d ∷ e ∷ [])) (λ k. is_normal k && are_zero a b d) kind.ZeroNormal (are_zero a b d) refl (ok names).refusal; value = subst (λ f. IsPositiveMultiple f (given_form c.in-Ok.oriented)) same c.in-Ok.ensures.multiple } }
+
+pub returns-in-Err-OutOfRange : goal.returns-in-Err-OutOfRange
+returns-in-Err-OutOfRange c =
+    let a = c.args.a.now in let b = c.args.b.now in let d = c.args.c.now in let e = c.args.d.now in
+    let roles = Coefficient normal_limit ∷ Coefficient normal_limit ∷ Coefficient normal_limit ∷ Coefficient offset_limit ∷ [] in
+    let all = c.both-numbers.ensures.both ∙ ap (both c.coefficient.result) (c.both-2.ensures.both ∙ ap (both c.coefficient-2.result) c.both.ensures.both) in
+    let read = λ (names : List (List ℕ)). subst (IsRead _ _) (sym all) (IsRead-four names _ _ _ _ _ _ _ _ _ _ _ _ c.coefficient.result c.coefficient-2.result c.coefficient-3.result c.coefficient-4.result (c.coefficient.ensures.read names) (c.coefficient-2.ensures.read names) (c.coefficient-3.ensures.read names) (c.coefficient-4.ensures.read names)) in
+    let ok = λ (names : List (List ℕ)). subst (IsRead _ _) c.in_ok-a.was (read names) in
+    let h = (ok []).value in
+    let is_a = passed c.in_ok-a.a normal_limit h.0.1 (omega arith) in
+    let is_b = passed c.in_ok-a.b normal_limit h.1.0.1 (omega arith) in
+    let is_c = passed c.in_ok-a.c normal_limit h.1.1.0.1 (omega arith) in
+    let is_d = passed c.in_ok-a.d offset_limit h.1.1.1.1 (omega arith) in
+    let same = same_form _ _ _ _ _ _ _ _ (is_a ∙ h.0.0) (is_b ∙ h.1.0.0) (is_c ∙ h.1.1.0.0) (is_d ∙ h.1.1.1.0) in
+    let first = same_vector _ _ _ _ _ _ (is_a ∙ h.0.0) (is_b ∙ h.1.0.0) (is_c ∙ h.1.1.0.0) in
+    let inside : IsInRange (form c.in_ok-a.a c.in_ok-a.b c.in_ok-a.c c.in_ok-a.d) = record { a_small = h.0.1; b_small = h.1.0.1; c_small = h.1.1.0.1; d_small = h.1.1.1.1 } in
+    let within = subst IsInRange (sym (same_form _ _ _ _ _ _ _ _ is_a is_b is_c is_d)) inside in
+    absurd (c.read.ensures.out_of_range.0 (c.in-Err-OutOfRange.is ∙ ap Err c.in-Err-OutOfRange.field-0-is) within)
+
+pub returns-in-Err-ZeroNormal : goal.returns-in-Err-ZeroNormal
+returns-in-Err-ZeroNormal c =
+    let a = c.args.a.now in let b = c.args.b.now in let d = c.args.c.now in let e = c.args.d.now in
+    let roles = Coefficient normal_limit ∷ Coefficient normal_limit ∷ Coefficient normal_limit ∷ Coefficient offset_limit ∷ [] in
+    let all = c.both-numbers.ensures.both ∙ ap (both c.coefficient.result) (c.both-2.ensures.both ∙ ap (both c.coefficient-2.result) c.both.ensures.both) in
+    let read = λ (names : List (List ℕ)). subst (IsRead _ _) (sym all) (IsRead-four names _ _ _ _ _ _ _ _ _ _ _ _ c.coefficient.result c.coefficient-2.result c.coefficient-3.result c.coefficient-4.result (c.coefficient.ensures.read names) (c.coefficient-2.ensures.read names) (c.coefficient-3.ensures.read names) (c.coefficient-4.ensures.read names)) in
+    let ok = λ (names : List (List ℕ)). subst (IsRead _ _) c.in_ok-a.was (read names) in
+    let h = (ok []).value in
+    let is_a = passed c.in_ok-a.a normal_limit h.0.1 (omega arith) in
+    let is_b = passed c.in_ok-a.b normal_limit h.1.0.1 (omega arith) in
+    let is_c = passed c.in_ok-a.c normal_limit h.1.1.0.1 (omega arith) in
+    let is_d = passed c.in_ok-a.d offset_limit h.1.1.1.1 (omega arith) in
+    let same = same_form _ _ _ _ _ _ _ _ (is_a ∙ h.0.0) (is_b ∙ h.1.0.0) (is_c ∙ h.1.1.0.0) (is_d ∙ h.1.1.1.0) in
+    let first = same_vector _ _ _ _ _ _ (is_a ∙ h.0.0) (is_b ∙ h.1.0.0) (is_c ∙ h.1.1.0.0) in
+    let inside : IsInRange (form c.in_ok-a.a c.in_ok-a.b c.in_ok-a.c c.in_ok-a.d) = record { a_small = h.0.1; b_small = h.1.0.1; c_small = h.1.1.0.1; d_small = h.1.1.1.1 } in
+    let within = subst IsInRange (sym (same_form _ _ _ _ _ _ _ _ is_a is_b is_c is_d)) inside in
+    let none : are_zero a b d ≡ true = zero-are _ _ _ (subst IsZero first (c.read.ensures.zero_normal.0 (c.in-Err-ZeroNormal.is ∙ ap Err c.in-Err-ZeroNormal.field-0-is)).1) in
+    record { read = λ names. record { refusal = ap (λ t. cond t (Some kind.ZeroNormal) None) (sym none) ∙ zeros-none (some_fails names roles (a ∷ b ∷ d ∷ e ∷ [])) (λ k. is_normal k && are_zero a b d) kind.ZeroNormal (are_zero a b d) refl (ok names).refusal; value = tt } }

@@ -1,0 +1,193 @@
+//! The words after a command, each read once: its value, or the first kind of refusal that holds for it.
+
+ghost use Rattle.std.specs.Prelude.{◌≡◌, ◌<◌, ◌≤◌, ◌<ℤ◌, ◌&&◌, ◌||◌, List, ℕ, [], ◌∷◌, codes, length, nat_abs, None, pos};
+ghost use Rattle.std.specs.List.{position};
+ghost use Rattle.std.specs.Str.{bytes_eq};
+ghost use Rattle.nef_space.specs.Limits.{normal_limit, number_limit, offset_limit, query_limit, query_weight_limit, ray_direction_limit};
+ghost use Rattle.nef_space.specs.Vectors.{IsAtMost};
+ghost use Rattle.nef_geo.specs.Hits.{IsPlaceAtMost};
+ghost use Rattle.nef_geo.specs.Shapes.{place_of, vector_of};
+ghost use Rattle.nef_script.specs.Meaning.{Names as IsNamed, IsGiven, IsQuotient, IsToward};
+ghost use Rattle.nef_script.specs.Tests.{name_count_limit, number_or_zero, word_test};
+ghost use Rattle.nef_script.specs.Outcome.{earlier, both, IsRead, is_normal, is_direction, are_zero, no_room, some_fails};
+ghost use Rattle.nef_script.specs.declared.table.Role.TheVariants as role;
+
+use crate::fault::ScriptKind;
+use crate::names::Names;
+use nef_geo::{Dir, Oriented, Plane, PlaneFault, Point};
+use nef_lex::{NumberWord, is_name, whole_number};
+use nef_space::{NORMAL_LIMIT, OFFSET_LIMIT, RAY_ENTRY_LIMIT};
+
+// The most names that one script binds.
+const NAME_COUNT_LIMIT: usize = 4096;
+
+// The number of the last turn.
+const LAST_TURN: i64 = 47;
+
+// The modes of a half-space.
+const OPEN: &[u8] = b"open";
+
+const CLOSED: &[u8] = b"closed";
+
+// The earlier of two kinds in the order of the tests.
+fn earlier(first: ScriptKind, second: ScriptKind) -> ScriptKind
+    ensures earlier { result ≡ earlier first second }
+{
+    if first as u8 <= second as u8 {
+        first
+    } else {
+        second
+    }
+}
+
+/// Both values, or the first of their refusals.
+pub(crate) fn both<A: Drop, B: Drop>(
+    first: Result<A, ScriptKind>,
+    second: Result<B, ScriptKind>,
+) -> Result<(A, B), ScriptKind>
+    ensures both { result ≡ both first second }
+{
+    match (first, second) {
+        (Ok(a), Ok(b)) => Ok((a, b)),
+        (Ok(_), Err(kind)) | (Err(kind), Ok(_)) => Err(kind),
+        (Err(j), Err(k)) => Err(earlier(j, k)),
+    }
+}
+
+/// The name to be bound.
+pub(crate) fn new_name<'a>(names: &Names, word: &'a [u8]) -> Result<&'a [u8], ScriptKind>
+    ensures read { IsRead (λ k. word_test k names.now (role.NewName, word.now) || no_room names.now k) (λ name. (name.now ≡ word.now) × (position (bytes_eq word.now) names.now ≡ None) × (length names.now < name_count_limit)) result }
+{
+    if !is_name(word) {
+        Err(ScriptKind::BadName)
+    } else if names.find(word).is_some() {
+        Err(ScriptKind::NameTaken)
+    } else if names.len() >= NAME_COUNT_LIMIT {
+        Err(ScriptKind::TooManyNames)
+    } else {
+        Ok(word)
+    }
+}
+
+/// The number of the node that the word names. The nodes stand in the order of their names.
+pub(crate) fn operand(names: &Names, bound: &[usize], word: &[u8]) -> Result<usize, ScriptKind>
+    requires level { length bound.now ≡ length names.now }
+    ensures read { IsRead (λ k. word_test k names.now (role.Operand, word.now)) (IsNamed names.now bound.now word.now) result }
+{
+    if !is_name(word) {
+        return Err(ScriptKind::BadName);
+    }
+    match names.find(word) {
+        Some(place) => Ok(bound[place]),
+        None => Err(ScriptKind::UnknownName),
+    }
+}
+
+// The whole number of at most this size.
+fn coefficient(limit: u64, word: &[u8]) -> Result<i64, ScriptKind>
+    requires readable { limit ≤ number_limit }
+    ensures read { (names : List (List ℕ)) → IsRead (λ k. word_test k names (role.Coefficient limit, word.now)) (λ n. (n ≡ number_or_zero word.now) × (nat_abs n ≤ limit)) result }
+{
+    match whole_number(word) {
+        NumberWord::NotOne => Err(ScriptKind::NotANumber),
+        NumberWord::Value(number) if number.unsigned_abs() <= limit => Ok(number),
+        NumberWord::Beyond | NumberWord::Value(_) => Err(ScriptKind::OutOfRange),
+    }
+}
+
+// The whole number from 1 to this one.
+fn weight(most: u64, word: &[u8]) -> Result<i64, ScriptKind>
+    requires readable { most ≤ number_limit }
+    ensures read { (names : List (List ℕ)) → IsRead (λ k. word_test k names (role.Weight most, word.now)) (λ n. (n ≡ number_or_zero word.now) × (pos 0 <ℤ n) × (nat_abs n ≤ most)) result }
+{
+    match whole_number(word) {
+        NumberWord::NotOne => Err(ScriptKind::NotANumber),
+        NumberWord::Value(number) if number >= 1 && number.unsigned_abs() <= most => Ok(number),
+        NumberWord::Beyond | NumberWord::Value(_) => Err(ScriptKind::BadWeight),
+    }
+}
+
+/// The number of a turn.
+pub(crate) fn turn_number(word: &[u8]) -> Result<u8, ScriptKind>
+    ensures read { (names : List (List ℕ)) → IsRead (λ k. word_test k names (role.Index 47, word.now)) (λ turn. (number_or_zero word.now ≡ pos turn) × (turn < 48)) result }
+{
+    match whole_number(word) {
+        NumberWord::NotOne => Err(ScriptKind::NotANumber),
+        NumberWord::Value(number) if 0 <= number && number <= LAST_TURN => Ok(number as u8),
+        NumberWord::Beyond | NumberWord::Value(_) => Err(ScriptKind::OutOfRange),
+    }
+}
+
+/// Whether the mode is `closed`.
+pub(crate) fn is_closed(word: &[u8]) -> Result<bool, ScriptKind>
+    ensures read { (names : List (List ℕ)) → IsRead (λ k. word_test k names (role.Mode, word.now)) (λ closed. closed ≡ bytes_eq word.now (codes "closed")) result }
+{
+    if word == CLOSED {
+        Ok(true)
+    } else if word == OPEN {
+        Ok(false)
+    } else {
+        Err(ScriptKind::BadMode)
+    }
+}
+
+/// The plane of the four numbers.
+pub(crate) fn plane(a: &[u8], b: &[u8], c: &[u8], d: &[u8]) -> Result<Oriented, ScriptKind>
+    ensures read { (names : List (List ℕ)) → IsRead (λ k. some_fails names (role.Coefficient normal_limit ∷ role.Coefficient normal_limit ∷ role.Coefficient normal_limit ∷ role.Coefficient offset_limit ∷ []) (a.now ∷ b.now ∷ c.now ∷ d.now ∷ []) k || (is_normal k && are_zero a.now b.now c.now)) (λ o. IsGiven o (number_or_zero a.now) (number_or_zero b.now) (number_or_zero c.now) (number_or_zero d.now)) result }
+{
+    let numbers = both(
+        coefficient(NORMAL_LIMIT, a),
+        both(
+            coefficient(NORMAL_LIMIT, b),
+            both(coefficient(NORMAL_LIMIT, c), coefficient(OFFSET_LIMIT, d)),
+        ),
+    );
+    let (a, (b, (c, d))) = numbers?;
+    match Plane::read(a, b, c, d) {
+        Ok(oriented) => Ok(oriented),
+        Err(PlaneFault::OutOfRange) => Err(ScriptKind::OutOfRange),
+        Err(PlaneFault::ZeroNormal) => Err(ScriptKind::ZeroNormal),
+    }
+}
+
+/// The point of the four numbers: the first three are at most the first limit in size, and the last is from 1 to the
+/// second limit.
+pub(crate) fn point(
+    limits: (u64, u64),
+    x: &[u8],
+    y: &[u8],
+    z: &[u8],
+    w: &[u8],
+) -> Result<Point, ScriptKind>
+    requires place { limits.0 ≤ query_limit }
+    requires weight { limits.1 ≤ query_weight_limit }
+    ensures read { (names : List (List ℕ)) → IsRead (some_fails names (role.Coefficient limits.0 ∷ role.Coefficient limits.0 ∷ role.Coefficient limits.0 ∷ role.Weight limits.1 ∷ []) (x.now ∷ y.now ∷ z.now ∷ w.now ∷ [])) (λ p. IsQuotient p (number_or_zero x.now) (number_or_zero y.now) (number_or_zero z.now) (number_or_zero w.now) × IsPlaceAtMost limits.0 limits.1 (place_of p)) result }
+{
+    let numbers = both(
+        coefficient(limits.0, x),
+        both(
+            coefficient(limits.0, y),
+            both(coefficient(limits.0, z), weight(limits.1, w)),
+        ),
+    );
+    let (x, (y, (z, w))) = numbers?;
+    Ok(Point::of(x, y, z, w))
+}
+
+/// The direction of a ray, of three numbers.
+pub(crate) fn direction(x: &[u8], y: &[u8], z: &[u8]) -> Result<Dir, ScriptKind>
+    ensures read { (names : List (List ℕ)) → IsRead (λ k. some_fails names (role.Coefficient ray_direction_limit ∷ role.Coefficient ray_direction_limit ∷ role.Coefficient ray_direction_limit ∷ []) (x.now ∷ y.now ∷ z.now ∷ []) k || (is_direction k && are_zero x.now y.now z.now)) (λ d. IsToward d (number_or_zero x.now) (number_or_zero y.now) (number_or_zero z.now) × IsAtMost ray_direction_limit (vector_of d)) result }
+{
+    let numbers = both(
+        coefficient(RAY_ENTRY_LIMIT, x),
+        both(
+            coefficient(RAY_ENTRY_LIMIT, y),
+            coefficient(RAY_ENTRY_LIMIT, z),
+        ),
+    );
+    let (x, (y, z)) = numbers?;
+    match Dir::of(x, y, z) {
+        Some(dir) => Ok(dir),
+        None => Err(ScriptKind::ZeroDirection),
+    }
+}
