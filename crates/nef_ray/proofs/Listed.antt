@@ -1,5 +1,5 @@
 -- The planes that a ray crosses, listed one after another, sorted, and gone through.
-use Rattle.std.proofs.Common.{◌≡◌, ℕ, ◌+◌, ◌<◌, List, [], ◌∷◌, ◌++◌, length, get_or, subst, refl}
+use Rattle.std.proofs.Common.{ℕ, ◌+◌, ◌<◌, List, [], ◌∷◌, ◌++◌, subst, refl}
 use Rattle.std.specs.List.Sorted.{IsPermutation}
 use Rattle.std.proofs.lemmas.List.Elements.{Contains-append_left, Contains-push}
 use Rattle.std.proofs.lemmas.List.Sorted.{Contains-permutation}
@@ -9,9 +9,6 @@ use Rattle.nef_geo.specs.Shapes.{form_of, vector_of, place_of}
 use Rattle.nef_geo.specs.declared.plane.Plane.{Plane}
 use Rattle.law_sphere.specs.Maps.{At}
 use Rattle.nef_smap.proofs.Lists.{contains-at}
-use Rattle.nef_edges.proofs.Places.{at-some}
-use Rattle.nef_complex.proofs.Reading.{read-at}
-use Rattle.nef_locate.proofs.Reading.{next-all}
 use Rattle.nef_ray.specs.declared.crossed.Crossed.{Crossed}
 use Rattle.nef_ray.specs.declared.ray.RayStart.{RayStart}
 use Rattle.nef_ray.specs.Changes.{IsListed, AreAllCrossed}
@@ -38,8 +35,3 @@ sorted-kept hs ray xs zs moved A k h a y X = let l = A k h a y X in (l.0, Contai
 -- what holds of all those listed holds of all that are crossed
 pub each-listed : (P : Plane → Type 0) (xs : List Crossed) → ((k : ℕ) (x : Crossed) → At xs k x → P x.plane) → (h : Plane) → IsListed xs h → P h
 each-listed P xs f h (x, i, e) = let a = contains-at xs x i in subst P e (f a.0 x a.1)
-
--- what holds of the first elements read and of the next holds of all these
-pub next-read : {X : Type 0} (P : X → Type 0) (xs : List X) (n : ℕ) (x : X) → n < length xs → x ≡ get_or xs n x
-    → ((k : ℕ) (y : X) → k < n → At xs k y → P y) → P x → (k : ℕ) (y : X) → k < n + 1 → At xs k y → P y
-next-read P xs n x l e = next-all P xs n x (at-some xs n x (read-at xs n x l e))

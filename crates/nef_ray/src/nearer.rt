@@ -14,7 +14,7 @@ use crate::change::change_at;
 use crate::crossing::crossing;
 use crate::ray::{RayEnd, RayStart};
 use nef_complex::Complex;
-use nef_geo::{HALF_SIDE, Hit, Plane, Point, hit_order, ray_hit};
+use nef_geo::{Hit, Plane, hit_order, ray_hit};
 use std::alloc::Global;
 use std::cmp::Ordering;
 
@@ -23,21 +23,6 @@ use std::cmp::Ordering;
 pub(crate) struct Change {
     pub(crate) end: RayEnd,
     pub(crate) at: Hit,
-}
-
-// Whether the number is at most this large in size.
-fn is_within(number: i64, limit: u64) -> bool
-    ensures within { IsTrue result ↔ (nat_abs number ≤ limit) }
-{
-    number.unsigned_abs() <= limit
-}
-
-// Whether the point lies in the closed frame.
-fn is_framed(p: &Point) -> bool
-    ensures framed { IsTrue result ↔ InClosedFrame (place_of p.now) }
-{
-    let limit = HALF_SIDE.unsigned_abs() * p.w().unsigned_abs();
-    is_within(p.x(), limit) && is_within(p.y(), limit) && is_within(p.z(), limit)
 }
 
 // Whether the hit lies before the change that was found, which it does where none was.
@@ -81,7 +66,7 @@ pub(crate) fn nearer(
         return Ok(best);
     }
     let point = crossing(&ray.from, &ray.along, h);
-    if !is_framed(&point) {
+    if !point.in_closed_frame() {
         return Ok(best);
     }
     match change_at(alloc, c, ray, &point)? {

@@ -17,11 +17,11 @@ returns-then-not-is_sooner-clause-plane c =
     let off : IsTrue c.is_sooner.result → ⊥ = search rules in
     λ s y S X i. inr (stays p d c.args.h.now c.in-Some.hit c.in-Some.ensures.crossing c.args.best (λ w. off (c.is_sooner.ensures.sooner.1 w)) y X)
 
-pub returns-then-not-is_framed-clause-plane : goal.returns-then-not-is_framed-clause-plane
-returns-then-not-is_framed-clause-plane c =
+pub returns-then-not-in_closed_frame-clause-plane : goal.returns-then-not-in_closed_frame-clause-plane
+returns-then-not-in_closed_frame-clause-plane c =
     let p = place_of c.args.ray.now.from in let d = vector_of c.args.ray.now.along in let q = place_of c.crossing-point.result in
-    let off : IsTrue c.is_framed.result → ⊥ = search rules in
-    λ s y S X i. absurd (off (c.is_framed.ensures.framed.1 (closed-same y q (crossings-same p d c.args.h.now y q X c.crossing-point.ensures.crossing) i)))
+    let off : IsTrue c.in_closed_frame.result → ⊥ = search rules in
+    λ s y S X i. absurd (off (c.in_closed_frame.ensures.in_closed_frame.1 (closed-same y q (crossings-same p d c.args.h.now y q X c.crossing-point.ensures.crossing) i)))
 
 pub returns-in-Some-2-clause-along : goal.returns-in-Some-2-clause-along
 returns-in-Some-2-clause-along c =

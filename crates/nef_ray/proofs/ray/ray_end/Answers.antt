@@ -9,8 +9,8 @@ use Rattle.nef_ray.specs.declared.nearer.Change.{Change}
 use Rattle.nef_ray.specs.declared.ray.RayStart.{RayStart}
 use Rattle.nef_ray.specs.Changes.{IsUnchanged, IsAlong, IsChangeOf, IsNotBefore}
 use Rattle.nef_ray.proofs.Found.{AllSeen, all-seen, end-some, end-none}
-use Rattle.nef_ray.proofs.Listed.{next-read}
 use Rattle.nef_ray.proofs.ray.ray_end.Goals as goal
+use Rattle.nef_complex.proofs.Reading.{all-more as next-read}
 
 pub loop-next-preserved : goal.loop-next-preserved
 loop-next-preserved c =
