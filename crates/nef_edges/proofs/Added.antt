@@ -12,8 +12,8 @@ use Rattle.nef_smap.specs.Maps.{svertex_of}
 use Rattle.nef_complex.specs.declared.complex.Vertex.{Vertex}
 use Rattle.nef_complex.specs.declared.complex.Edge.{Edge}
 use Rattle.nef_complex.specs.Complexes.{vertex_of, edge_of}
-use Rattle.nef_edges.specs.declared.half.Half.{Half}
-use Rattle.nef_edges.specs.Halves.{IsBefore}
+use Rattle.nef_edges.specs.declared.edge_end.EdgeEnd.{EdgeEnd}
+use Rattle.nef_edges.specs.EdgeEnds.{IsBefore}
 use Rattle.nef_edges.specs.Pairs.{AreJoined, AreEdges}
 use Rattle.nef_edges.proofs.Arrivals.{before-more, before-row}
 use Rattle.nef_edges.proofs.Existing.{edge-same, one-edge}
@@ -79,7 +79,7 @@ module _ (vs : List Vertex) (J : AreJoined (map vertex_of vs)) where
           n (subst (λ (x : SVertex). IsNormal (vector_of x.dir)) u w.4)
 
   -- one that an edge leads on from
-  module _ (i k : ℕ) (es : List Edge) (v : Vertex) (s : SVertex) (a : At vs i v) (b : At v.map.svertices k s) (A : AreEdges vs (IsBefore i k) es) (from next : Half) (fi : from.vertex ≡ i) (fk : from.svertex ≡ k) (P : IsPair vs from next) where
+  module _ (i k : ℕ) (es : List Edge) (v : Vertex) (s : SVertex) (a : At vs i v) (b : At v.map.svertices k s) (A : AreEdges vs (IsBefore i k) es) (from next : EdgeEnd) (fi : from.vertex ≡ i) (fk : from.svertex ≡ k) (P : IsPair vs from next) where
     abbrev pub new_edge : Edge
     new_edge = record { low = i; low_svertex = k; high = next.vertex; high_svertex = next.svertex; mark = s.mark }
 

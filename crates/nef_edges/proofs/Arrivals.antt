@@ -1,4 +1,4 @@
--- Halves that arrive, collected svertex by svertex.
+-- EdgeEnds that arrive, collected svertex by svertex.
 use Rattle.std.proofs.Common.{◌≡◌, ℕ, zero, suc, ◌+◌, ◌<◌, ◌≤◌, List, [], ◌∷◌, ◌++◌, length, Bool, false, arith, refl, sym, ap, subst, ◌∙◌, inl, inr, ◌⊎◌, ⊎_elim}
 use Rattle.std.specs.Bool.{IsTrue}
 use Rattle.std.proofs.lemmas.Bool.{false≢true}
@@ -8,8 +8,8 @@ use Rattle.law_sphere.specs.Maps.{At}
 use Rattle.law_sphere.proofs.Lists.{at-one}
 use Rattle.nef_smap.specs.declared.map.SVertex.{SVertex}
 use Rattle.nef_complex.specs.declared.complex.Vertex.{Vertex}
-use Rattle.nef_edges.specs.declared.half.Half.{Half}
-use Rattle.nef_edges.specs.Halves.{IsBefore, IsArriving, AreArriving}
+use Rattle.nef_edges.specs.declared.edge_end.EdgeEnd.{EdgeEnd}
+use Rattle.nef_edges.specs.EdgeEnds.{IsBefore, IsArriving, AreArriving}
 use Rattle.nef_edges.proofs.Places.{at-within, at-before, at-last, at-more}
 
 pub IsTrue-false : (b : Bool) → IsTrue b → b ≡ false → ⊥
@@ -49,7 +49,7 @@ before-row vs i k v a l j m w s b t (inl h) = elim (before-more i 0 j 0 (before-
         inr (e, omega arith)
 
 module _ (vs : List Vertex) where
-  pub arriving-weaken : (P Q : ℕ → ℕ → Type 0) (hs : List Half) → AreArriving vs P hs → ((j m : ℕ) (v : Vertex) (s : SVertex) → At vs j v → At v.map.svertices m s → Q j m → P j m) → AreArriving vs Q hs
+  pub arriving-weaken : (P Q : ℕ → ℕ → Type 0) (hs : List EdgeEnd) → AreArriving vs P hs → ((j m : ℕ) (v : Vertex) (s : SVertex) → At vs j v → At v.map.svertices m s → Q j m → P j m) → AreArriving vs Q hs
   arriving-weaken P Q hs a f = record { each = a.each; all = λ j m v s b c n q. a.all j m v s b c n (f j m v s b c q) }
 
   pub arriving-none : AreArriving vs (IsBefore 0 0) []
@@ -60,10 +60,10 @@ module _ (vs : List Vertex) where
       none j m (inr h) = let z = h.1 in omega arith
 
   -- a svertex that an edge doesn't arrive along
-  pub arriving-pass : (i k : ℕ) (hs : List Half) (v : Vertex) (s : SVertex) → AreArriving vs (IsBefore i k) hs → At vs i v → At v.map.svertices k s → (IsNormal (opposite (vector_of s.dir)) → ⊥) → AreArriving vs (IsBefore i (k + 1)) hs
+  pub arriving-pass : (i k : ℕ) (hs : List EdgeEnd) (v : Vertex) (s : SVertex) → AreArriving vs (IsBefore i k) hs → At vs i v → At v.map.svertices k s → (IsNormal (opposite (vector_of s.dir)) → ⊥) → AreArriving vs (IsBefore i (k + 1)) hs
   arriving-pass i k hs v s a b c n = record { each = a.each; all = all }
     where
-      all : (j m : ℕ) (w : Vertex) (t : SVertex) → At vs j w → At w.map.svertices m t → IsNormal (opposite (vector_of t.dir)) → IsBefore i (k + 1) j m → (l : ℕ) × (h : Half) × At hs l h × (h.vertex ≡ j) × (h.svertex ≡ m)
+      all : (j m : ℕ) (w : Vertex) (t : SVertex) → At vs j w → At w.map.svertices m t → IsNormal (opposite (vector_of t.dir)) → IsBefore i (k + 1) j m → (l : ℕ) × (h : EdgeEnd) × At hs l h × (h.vertex ≡ j) × (h.svertex ≡ m)
       all j m w t d e up q = ⊎_elim (λ g. a.all j m w t d e up g) (λ g. absurd (this g.0 g.1)) (before-more i k j m q)
         where
           this : j ≡ i → m ≡ k → ⊥
@@ -72,18 +72,18 @@ module _ (vs : List Vertex) where
               let u = at-one v.map.svertices k t s (subst (λ (x : Vertex). At x.map.svertices k t) f (subst (λ n. At w.map.svertices n t) h e)) c in
               n (subst (λ (x : SVertex). IsNormal (opposite (vector_of x.dir))) u up)
 
-  -- svertex k of vertex i as a half that arrives
-  pub arriving-half : (i k : ℕ) (v : Vertex) (s : SVertex) (h : Half) → At vs i v → At v.map.svertices k s → h.point ≡ v.point → vector_of h.dir ≡ opposite (vector_of s.dir) → h.vertex ≡ i → h.svertex ≡ k → IsArriving vs h
-  arriving-half i k v s h a b p d e f = record { vertex = v; svertex = s; has_vertex = subst (λ m. At vs m v) (sym e) a; has_svertex = subst (λ m. At v.map.svertices m s) (sym f) b; point = p; back = d }
+  -- svertex k of vertex i as an end that arrives
+  pub arriving-end : (i k : ℕ) (v : Vertex) (s : SVertex) (h : EdgeEnd) → At vs i v → At v.map.svertices k s → h.point ≡ v.point → vector_of h.dir ≡ opposite (vector_of s.dir) → h.vertex ≡ i → h.svertex ≡ k → IsArriving vs h
+  arriving-end i k v s h a b p d e f = record { vertex = v; svertex = s; has_vertex = subst (λ m. At vs m v) (sym e) a; has_svertex = subst (λ m. At v.map.svertices m s) (sym f) b; point = p; back = d }
 
   -- one that it arrives along
-  pub arriving-add : (i k : ℕ) (hs : List Half) (h : Half) → AreArriving vs (IsBefore i k) hs → IsArriving vs h → h.vertex ≡ i → h.svertex ≡ k → AreArriving vs (IsBefore i (k + 1)) (hs ++ h ∷ [])
+  pub arriving-add : (i k : ℕ) (hs : List EdgeEnd) (h : EdgeEnd) → AreArriving vs (IsBefore i k) hs → IsArriving vs h → h.vertex ≡ i → h.svertex ≡ k → AreArriving vs (IsBefore i (k + 1)) (hs ++ h ∷ [])
   arriving-add i k hs h a is e f = record { each = each; all = all }
     where
-      each : (l : ℕ) (g : Half) → At (hs ++ h ∷ []) l g → IsArriving vs g
+      each : (l : ℕ) (g : EdgeEnd) → At (hs ++ h ∷ []) l g → IsArriving vs g
       each l g b = ⊎_elim (λ c. a.each l g c) (λ c. subst (IsArriving vs) c.1 is) (at-more hs h l g b)
 
-      all : (j m : ℕ) (w : Vertex) (t : SVertex) → At vs j w → At w.map.svertices m t → IsNormal (opposite (vector_of t.dir)) → IsBefore i (k + 1) j m → (l : ℕ) × (g : Half) × At (hs ++ h ∷ []) l g × (g.vertex ≡ j) × (g.svertex ≡ m)
+      all : (j m : ℕ) (w : Vertex) (t : SVertex) → At vs j w → At w.map.svertices m t → IsNormal (opposite (vector_of t.dir)) → IsBefore i (k + 1) j m → (l : ℕ) × (g : EdgeEnd) × At (hs ++ h ∷ []) l g × (g.vertex ≡ j) × (g.svertex ≡ m)
       all j m w t d b up q = ⊎_elim
           (λ g. let r = a.all j m w t d b up g in (r.0, r.1, at-before hs (h ∷ []) r.0 r.1 r.2, r.3, r.4))
           (λ g. (length hs, h, at-last hs h, e ∙ sym g.0, f ∙ sym g.1)) (before-more i k j m q)

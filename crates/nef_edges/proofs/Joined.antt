@@ -1,4 +1,4 @@
--- The vertices of a set are joined: their svertices are halves of edges.
+-- The vertices of a set are joined: their svertices are ends of edges.
 use Rattle.std.proofs.Common.{◌≡◌, ℕ, ◌<◌, List, map, length, sym, subst}
 use Rattle.nef_space.specs.Lists.{IsAt}
 use Rattle.nef_space.specs.Place.{IsPlaceBelow}

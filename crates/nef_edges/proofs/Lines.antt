@@ -1,4 +1,4 @@
--- The order of halves is total, and halves tie by their lines where they lie on one line.
+-- The order of ends is total, and ends tie by their lines where they lie on one line.
 use Rattle.std.proofs.Common.{◌≡◌, ℕ, ◌<◌, ◌≤◌, ℤ, pos, ◌+ℤ◌, ◌-ℤ◌, ◌*ℤ◌, ◌<ℤ◌, nat_abs, [], ◌∷◌, false, Ordering, Less, Equal, Greater, arith, refl, ap, sym, subst, ◌∙◌}
 use Rattle.std.specs.Cmp.{IsTotalOrder, int_ranks}
 use Rattle.std.specs.Ordering.{MatchOrdering, int_cmp, nat_cmp, ordering_then, ordering_reverse, is_lt}
@@ -18,9 +18,9 @@ use Rattle.nef_geo.specs.declared.dir.Dir.{Dir}
 use Rattle.nef_geo.specs.declared.point.Point.{Point}
 use Rattle.nef_geo.proofs.Orders.{dir_total, dir-ordered}
 use Rattle.nef_geo.proofs.Places.{pos_size}
-use Rattle.nef_edges.specs.declared.half.Half.{Half}
+use Rattle.nef_edges.specs.declared.edge_end.EdgeEnd.{EdgeEnd}
 use Rattle.nef_edges.specs.Moments.{sum_of, clamped}
-use Rattle.nef_edges.specs.Order.{moment_of, ratio_order, moment_order, dir_order, line_order, half_order}
+use Rattle.nef_edges.specs.Order.{moment_of, ratio_order, moment_order, dir_order, line_order, end_order}
 use Rattle.nef_edges.proofs.Wholes.{wholes-alike}
 
 -- ---- answers of comparisons
@@ -53,7 +53,7 @@ cmp-by_sign x y u v e = by_order x y
     (λ l. let k = plus-is (u -ℤ v) (sym e ∙ sign-plus (x -ℤ y) (omega (arith, ints))) in cmp-greater x y l ∙ sym (cmp-greater u v (omega (arith, ints))))
 
 -- ---- the order is total
-module _ (part : Half → ℤ) where
+module _ (part : EdgeEnd → ℤ) where
   ratio_total : IsTotalOrder (ratio_order part)
   ratio_total = record {
     antisymm = λ a b. int_cmp_total.antisymm (part a *ℤ b.point.w) (part b *ℤ a.point.w);
@@ -68,10 +68,10 @@ moment_total : IsTotalOrder moment_order
 moment_total = then_total (then_total (ratio_total (λ h. (moment_of h).x)) (ratio_total (λ h. (moment_of h).y))) (ratio_total (λ h. (moment_of h).z))
 
 pub line_total : IsTotalOrder line_order
-line_total = then_total (on_total (λ (h : Half). h.key) int_cmp_total) (then_total (on_total (λ (h : Half). h.dir) dir_total) moment_total)
+line_total = then_total (on_total (λ (h : EdgeEnd). h.key) int_cmp_total) (then_total (on_total (λ (h : EdgeEnd). h.dir) dir_total) moment_total)
 
-pub half_total : IsTotalOrder half_order
-half_total = then_total line_total (on_total (λ (h : Half). h.vertex) nat_cmp_total)
+pub end_total : IsTotalOrder end_order
+end_total = then_total line_total (on_total (λ (h : EdgeEnd). h.vertex) nat_cmp_total)
 
 -- ---- one line
 then-equal : (o p : Ordering) → ordering_then o p ≡ Equal → (o ≡ Equal) × (p ≡ Equal)
@@ -103,12 +103,12 @@ module _ (p q : Point) (d : Vector) where
   from-level : IsZero (cross (toward (place_of p) (place_of q)) d) → Level p.w q.w
   from-level z = subst (λ v. Level p.w v) (pos_size q.w q.proper) (subst (λ w. Level w (pos (nat_abs q.w))) (pos_size p.w p.proper) z)
 
--- two halves on one line
-pub record OnOneLine (a b : Half) : Type 0 where
+-- two ends on one line
+pub record OnOneLine (a b : EdgeEnd) : Type 0 where
   pub same_dir : a.dir ≡ b.dir
   pub level : IsZero (cross (toward (place_of a.point) (place_of b.point)) (vector_of a.dir))
 
-pub tied-line : (a b : Half) → line_order a b ≡ Equal → OnOneLine a b
+pub tied-line : (a b : EdgeEnd) → line_order a b ≡ Equal → OnOneLine a b
 tied-line a b h =
     let s = then-equal (int_cmp a.key b.key) (ordering_then (dir_order a.dir b.dir) (moment_order a b)) h in
     let m = then-equal (dir_order a.dir b.dir) (moment_order a b) s.1 in
@@ -116,7 +116,7 @@ tied-line a b h =
     let u = then-equal (ratio_order (λ h. (moment_of h).x) a b) (ratio_order (λ h. (moment_of h).y) a b) t.0 in
     let e = dir-tied a.dir b.dir m.0 in
     let p = a.point in let q = b.point in let d = vector_of a.dir in
-    let equal = λ (part : Half → ℤ) (i : ratio_order part a b ≡ Equal). cmp-is (part a *ℤ q.w) (part b *ℤ p.w) Equal i in
+    let equal = λ (part : EdgeEnd → ℤ) (i : ratio_order part a b ≡ Equal). cmp-is (part a *ℤ q.w) (part b *ℤ p.w) Equal i in
     record {
       same_dir = e;
       level = to-level p q d (
@@ -131,12 +131,12 @@ sums-alike : (x y z x' y' z' w v : ℤ) → x *ℤ v ≡ x' *ℤ w → y *ℤ v 
 sums-alike x y z x' y' z' w v h i j = follows (x ∷ y ∷ z ∷ x' ∷ y' ∷ z' ∷ w ∷ v ∷ []) ((at 0 ⊕ num (pos 61) ⊗ at 1 ⊕ num (pos 3721) ⊗ at 2) ⊗ at 7) ((at 3 ⊕ num (pos 61) ⊗ at 4 ⊕ num (pos 3721) ⊗ at 5) ⊗ at 6)
     (given (num (pos 1)) (at 0 ⊗ at 7) (at 3 ⊗ at 6) h (given (num (pos 61)) (at 1 ⊗ at 7) (at 4 ⊗ at 6) i (given (num (pos 3721)) (at 2 ⊗ at 7) (at 5 ⊗ at 6) j none))) tt
 
-same-key : (a b : Half) → (moment_of a).x *ℤ b.point.w ≡ (moment_of b).x *ℤ a.point.w → (moment_of a).y *ℤ b.point.w ≡ (moment_of b).y *ℤ a.point.w → (moment_of a).z *ℤ b.point.w ≡ (moment_of b).z *ℤ a.point.w → a.key ≡ b.key
+same-key : (a b : EdgeEnd) → (moment_of a).x *ℤ b.point.w ≡ (moment_of b).x *ℤ a.point.w → (moment_of a).y *ℤ b.point.w ≡ (moment_of b).y *ℤ a.point.w → (moment_of a).z *ℤ b.point.w ≡ (moment_of b).z *ℤ a.point.w → a.key ≡ b.key
 same-key a b x y z =
     let e = sums-alike (moment_of a).x (moment_of a).y (moment_of a).z (moment_of b).x (moment_of b).y (moment_of b).z a.point.w b.point.w x y z in
     a.is_key ∙ ap clamped (wholes-alike (sum_of a.point a.dir) a.point.w (sum_of b.point b.dir) b.point.w a.point.proper b.point.proper e) ∙ sym b.is_key
 
-pub line-tied : (a b : Half) → OnOneLine a b → line_order a b ≡ Equal
+pub line-tied : (a b : EdgeEnd) → OnOneLine a b → line_order a b ≡ Equal
 line-tied a b l =
     let p = a.point in let q = b.point in let d = vector_of a.dir in let e = l.same_dir in
     let z = from-level p q d l.level in
@@ -151,8 +151,8 @@ line-tied a b l =
     all : (k o x y z : Ordering) → k ≡ Equal → o ≡ Equal → x ≡ Equal → y ≡ Equal → z ≡ Equal → ordering_then k (ordering_then o (ordering_then (ordering_then x y) z)) ≡ Equal
     all k o x y z g h i j l = rw (g, h, i, j, l) refl
 
--- ---- a half that stands between two of one line
-pub record StandsBetween (f h g : Half) : Type 0 where
+-- ---- an end that stands between two of one line
+pub record StandsBetween (f h g : EdgeEnd) : Type 0 where
   pub line : line_order h f ≡ Equal
   pub after : f.vertex < h.vertex
   pub before : h.vertex ≤ g.vertex
@@ -169,7 +169,7 @@ not-less x y e = by (nat_cmp x y) refl
     by Greater h = let m : y < x = nat-is x y Greater h in omega arith
 
 -- f < h <= g, with f and g on one line
-pub stands-between : (f h g : Half) → half_order h f ≡ Greater → is_lt (half_order g h) ≡ false → line_order g f ≡ Equal → StandsBetween f h g
+pub stands-between : (f h g : EdgeEnd) → end_order h f ≡ Greater → is_lt (end_order g h) ≡ false → line_order g f ≡ Equal → StandsBetween f h g
 stands-between f h g after first tied = by (line_order h f) refl
   where
     turned : (o : Ordering) → line_order h f ≡ o → line_order g h ≡ ordering_reverse o

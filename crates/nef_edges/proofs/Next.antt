@@ -1,4 +1,4 @@
--- The place where the sorted halves pass a half.
+-- The place where the sorted ends of edges pass one.
 use Rattle.std.proofs.Common.{◌≡◌, ℕ, ◌<◌, ◌≤◌, ℤ, ◌<ℤ◌, ◌≤ℤ◌, List, length, get_or, true, false, Ordering, Less, Equal, Greater, arith, refl, sym, ap, ◌∙◌, ⊎_elim}
 use Rattle.std.specs.Cmp.{IsStrictWeakOrder, upto}
 use Rattle.std.specs.List.Sorted.{IsSortedBy, IsPermutation, IsPartitionedBy, IsPartitionPoint}
@@ -8,14 +8,14 @@ use Rattle.std.proofs.lemmas.Int.{ints}
 use Rattle.std.proofs.lemmas.List.Sorted.{ranks_by, sorted_far, Contains-permutation, IsPermutation-sym}
 use Rattle.law_sphere.specs.Maps.{At}
 use Rattle.nef_complex.specs.declared.complex.Vertex.{Vertex}
-use Rattle.nef_edges.specs.declared.half.Half.{Half}
-use Rattle.nef_edges.specs.Order.{dir_order, moment_order, half_order, half_lt}
-use Rattle.nef_edges.specs.Halves.{AreArriving, IsAfter, NoneAfter, AllAfter, IsNext}
-use Rattle.nef_edges.proofs.Lines.{cmp-is, cmp-less, half_total}
+use Rattle.nef_edges.specs.declared.edge_end.EdgeEnd.{EdgeEnd}
+use Rattle.nef_edges.specs.Order.{dir_order, moment_order, end_order, end_lt}
+use Rattle.nef_edges.specs.EdgeEnds.{AreArriving, IsAfter, NoneAfter, AllAfter, IsNext}
+use Rattle.nef_edges.proofs.Lines.{cmp-is, cmp-less, end_total}
 use Rattle.nef_edges.proofs.Places.{at-within, at-read, read-at}
 
-pub weak : IsStrictWeakOrder half_lt
-weak = ranks_by half_total (λ (h : Half). h)
+pub weak : IsStrictWeakOrder end_lt
+weak = ranks_by end_total (λ (h : EdgeEnd). h)
 
 turned : (o : Ordering) → is_lt (ordering_reverse o) ≡ false → is_gt o ≡ false
 turned Less e = refl
@@ -72,61 +72,61 @@ first-lt Less p q e t = let i : Less ≡ Greater = t in cc
 first-lt Equal p q e t = false≢true e
 first-lt Greater p q e t = false≢true e
 
-module _ (hs : List Half) (sorted : IsSortedBy half_lt hs) where
-  -- of two sorted halves the later isn't less
-  pub not-less : (i k : ℕ) (g h : Half) → At hs i g → At hs k h → i ≤ k → half_lt h g ≡ false
+module _ (hs : List EdgeEnd) (sorted : IsSortedBy end_lt hs) where
+  -- of two sorted ends the later isn't less
+  pub not-less : (i k : ℕ) (g h : EdgeEnd) → At hs i g → At hs k h → i ≤ k → end_lt h g ≡ false
   not-less i k g h a b l =
-      let far = sorted_far half_lt weak hs sorted i k g l (at-within hs k h b) in
-      ap (λ r. half_lt r g) (sym (at-read hs k g h b)) ∙ ap (half_lt (get_or hs k g)) (sym (at-read hs i g g a)) ∙ far
+      let far = sorted_far end_lt weak hs sorted i k g l (at-within hs k h b) in
+      ap (λ r. end_lt r g) (sym (at-read hs k g h b)) ∙ ap (end_lt (get_or hs k g)) (sym (at-read hs i g g a)) ∙ far
 
-  module _ (f : Half) where
+  module _ (f : EdgeEnd) where
     -- those with a lesser key than f come first, and don't stand after it
-    pub keys-parted : IsPartitionedBy (λ (h : Half). is_lt (int_cmp h.key f.key)) hs
+    pub keys-parted : IsPartitionedBy (λ (h : EdgeEnd). is_lt (int_cmp h.key f.key)) hs
     keys-parted i j d l m e =
         let g = get_or hs i d in let h = get_or hs j d in
-        below-too g.key h.key f.key (first-no-lt (int_cmp h.key g.key) (ordering_then (dir_order h.dir g.dir) (moment_order h g)) (nat_cmp h.vertex g.vertex) (sorted_far half_lt weak hs sorted i j d l m)) e
+        below-too g.key h.key f.key (first-no-lt (int_cmp h.key g.key) (ordering_then (dir_order h.dir g.dir) (moment_order h g)) (nat_cmp h.vertex g.vertex) (sorted_far end_lt weak hs sorted i j d l m)) e
 
-    pub none-below : (p : ℕ) → IsPartitionPoint (λ (h : Half). is_lt (int_cmp h.key f.key) ≡ true) (λ (h : Half). is_lt (int_cmp h.key f.key) ≡ false) hs p → NoneAfter hs f p
+    pub none-below : (p : ℕ) → IsPartitionPoint (λ (h : EdgeEnd). is_lt (int_cmp h.key f.key) ≡ true) (λ (h : EdgeEnd). is_lt (int_cmp h.key f.key) ≡ false) hs p → NoneAfter hs f p
     none-below p point k h a l t =
         first-lt (int_cmp h.key f.key) (ordering_then (dir_order h.dir f.dir) (moment_order h f)) (nat_cmp h.vertex f.vertex)
-        (sym (ap (λ (g : Half). is_lt (int_cmp g.key f.key)) (at-read hs k h h a)) ∙ point.0 k h (omega arith) l) t
+        (sym (ap (λ (g : EdgeEnd). is_lt (int_cmp g.key f.key)) (at-read hs k h h a)) ∙ point.0 k h (omega arith) l) t
 
     -- all from one on that stands after f do
-    pub all-after : (p : ℕ) (h : Half) → At hs p h → IsAfter f h → AllAfter hs f p
-    all-after p h a t k g b l = by (half_order g h) refl
+    pub all-after : (p : ℕ) (h : EdgeEnd) → At hs p h → IsAfter f h → AllAfter hs f p
+    all-after p h a t k g b l = by (end_order g h) refl
       where
-        by : (o : Ordering) → half_order g h ≡ o → half_order g f ≡ Greater
+        by : (o : Ordering) → end_order g h ≡ o → end_order g f ≡ Greater
         by Less e = absurd (false≢true (sym (not-less p k h g a b l) ∙ ap is_lt e))
-        by Equal e = half_total.congr g h f e ∙ t
-        by Greater e = half_total.antisymm g f ∙ ap ordering_reverse (half_total.trans f h g (half_total.antisymm f h ∙ ap ordering_reverse t) (half_total.antisymm h g ∙ ap ordering_reverse e))
+        by Equal e = end_total.congr g h f e ∙ t
+        by Greater e = end_total.antisymm g f ∙ ap ordering_reverse (end_total.trans f h g (end_total.antisymm f h ∙ ap ordering_reverse t) (end_total.antisymm h g ∙ ap ordering_reverse e))
 
     -- those that don't stand after f come first
-    pub parted : IsPartitionedBy (λ (h : Half). is_le (half_order h f)) hs
+    pub parted : IsPartitionedBy (λ (h : EdgeEnd). is_le (end_order h f)) hs
     parted i j d l m e =
         let g = get_or hs i d in let h = get_or hs j d in
-        let r = turned (half_order g h) (ap is_lt (sym (half_total.antisymm h g)) ∙ sorted_far half_lt weak hs sorted i j d l m) in
-        no-gt-le (half_order g f) (upto half_total g h f r (le-no-gt (half_order h f) e))
+        let r = turned (end_order g h) (ap is_lt (sym (end_total.antisymm h g)) ∙ sorted_far end_lt weak hs sorted i j d l m) in
+        no-gt-le (end_order g f) (upto end_total g h f r (le-no-gt (end_order h f) e))
 
-    module _ (p : ℕ) (point : IsPartitionPoint (λ (h : Half). is_le (half_order h f) ≡ true) (λ (h : Half). is_le (half_order h f) ≡ false) hs p) where
+    module _ (p : ℕ) (point : IsPartitionPoint (λ (h : EdgeEnd). is_le (end_order h f) ≡ true) (λ (h : EdgeEnd). is_le (end_order h f) ≡ false) hs p) where
       pub none-before : NoneAfter hs f p
-      none-before k h a l t = false≢true (sym (ap is_le t) ∙ sym (ap (λ (g : Half). is_le (half_order g f)) (at-read hs k h h a)) ∙ point.0 k h (omega arith) l)
+      none-before k h a l t = false≢true (sym (ap is_le t) ∙ sym (ap (λ (g : EdgeEnd). is_le (end_order g f)) (at-read hs k h h a)) ∙ point.0 k h (omega arith) l)
 
       pub all-from : AllAfter hs f p
-      all-from k h a l = no-le-greater (half_order h f) (sym (ap (λ (g : Half). is_le (half_order g f)) (at-read hs k h h a)) ∙ point.1 k h l (at-within hs k h a))
+      all-from k h a l = no-le-greater (end_order h f) (sym (ap (λ (g : EdgeEnd). is_le (end_order g f)) (at-read hs k h h a)) ∙ point.1 k h l (at-within hs k h a))
 
     module _ (p : ℕ) (none : NoneAfter hs f p) (all : AllAfter hs f p) where
-      pub next-within : (k : ℕ) (g : Half) → At hs k g → IsAfter f g → p < length hs
+      pub next-within : (k : ℕ) (g : EdgeEnd) → At hs k g → IsAfter f g → p < length hs
       next-within k g a t = ⊎_elim (λ l. absurd (none k g a l t)) (λ l. let m = at-within hs k g a in omega arith) (cases_lt k p)
 
-      pub next-is : (h : Half) → At hs p h → IsNext hs f h
+      pub next-is : (h : EdgeEnd) → At hs p h → IsNext hs f h
       next-is h a = record {
         listed = (p, a);
         after = all p h a (omega arith);
         first = λ k g b t. ⊎_elim (λ l. absurd (none k g b l t)) (λ l. not-less p k h g a b l) (cases_lt k p);
       }
 
--- ---- a sort keeps the halves
-pub sorted-kept : (vs : List Vertex) (P : ℕ → ℕ → Type 0) (hs gs : List Half) → IsPermutation hs gs → AreArriving vs P hs → AreArriving vs P gs
+-- ---- a sort keeps the ends
+pub sorted-kept : (vs : List Vertex) (P : ℕ → ℕ → Type 0) (hs gs : List EdgeEnd) → IsPermutation hs gs → AreArriving vs P hs → AreArriving vs P gs
 sorted-kept vs P hs gs moved a = record {
   each = λ k h b.
       let c = Contains-permutation gs hs h (IsPermutation-sym hs gs moved) (k, at-within gs k h b, at-read gs k h h b) in

@@ -1,4 +1,4 @@
--- The next half that arrives is the partner of a half that leads on.
+-- The next end that arrives is the partner of one that leads on.
 use Rattle.std.proofs.Common.{◌≡◌, ℕ, ◌<◌, List, length, map, arith, refl, sym, ap, subst, ◌∙◌, inl, inr, ◌⊎◌, ⊎_elim, Ordering, Less, Equal, Greater}
 use Rattle.std.proofs.lemmas.Bool.{cases_lt}
 use Rattle.std.specs.Ordering.{MatchOrdering, nat_cmp, ordering_then}
@@ -20,9 +20,9 @@ use Rattle.nef_smap.specs.declared.map.SVertex.{SVertex}
 use Rattle.nef_smap.specs.Maps.{svertex_of}
 use Rattle.nef_complex.specs.declared.complex.Vertex.{Vertex}
 use Rattle.nef_complex.specs.Complexes.{vertex_of}
-use Rattle.nef_edges.specs.declared.half.Half.{Half}
+use Rattle.nef_edges.specs.declared.edge_end.EdgeEnd.{EdgeEnd}
 use Rattle.nef_edges.specs.Order.{line_order}
-use Rattle.nef_edges.specs.Halves.{IsBefore, IsArriving, AreArriving, IsAfter, IsNext}
+use Rattle.nef_edges.specs.EdgeEnds.{IsBefore, IsArriving, AreArriving, IsAfter, IsNext}
 use Rattle.nef_edges.specs.Pairs.{IsFrom, AreJoined}
 use Rattle.nef_edges.proofs.Lines.{OnOneLine, tied-line, line-tied, StandsBetween, stands-between, line_total}
 use Rattle.nef_edges.proofs.Places.{at-within, at-map, map-at}
@@ -52,9 +52,9 @@ nat-greater x y h = by (nat_cmp x y) (ranked x y (nat_cmp x y) refl)
     by Equal m = absurd (omega (arith, m, h))
     by Greater m = refl
 
--- ---- the partner of a half
--- the half is a svertex along which an edge leads on to a later vertex
-pub record IsLeading (vs : List Vertex) (h : Half) : Type 0 where
+-- ---- the partner of an end
+-- the end is a svertex along which an edge leads on to a later vertex
+pub record IsLeading (vs : List Vertex) (h : EdgeEnd) : Type 0 where
   pub vertex : Vertex
   pub svertex : SVertex
   pub has_vertex : At vs h.vertex vertex
@@ -63,8 +63,8 @@ pub record IsLeading (vs : List Vertex) (h : Half) : Type 0 where
   pub dir : h.dir ≡ svertex.dir
   pub up : IsNormal (vector_of h.dir)
 
--- svertex k of vertex i as a half
-pub leading : (vs : List Vertex) (i k : ℕ) (v : Vertex) (s : SVertex) (h : Half) → At vs i v → At v.map.svertices k s → h.point ≡ v.point → h.dir ≡ s.dir → h.vertex ≡ i → h.svertex ≡ k → IsNormal (vector_of s.dir) → IsLeading vs h
+-- svertex k of vertex i as an end
+pub leading : (vs : List Vertex) (i k : ℕ) (v : Vertex) (s : SVertex) (h : EdgeEnd) → At vs i v → At v.map.svertices k s → h.point ≡ v.point → h.dir ≡ s.dir → h.vertex ≡ i → h.svertex ≡ k → IsNormal (vector_of s.dir) → IsLeading vs h
 leading vs i k v s h a b p d e f n = record {
   vertex = v;
   svertex = s;
@@ -75,14 +75,14 @@ leading vs i k v s h a b p d e f n = record {
   up = subst (λ (x : Dir). IsNormal (vector_of x)) (sym d) n;
 }
 
--- the edge from the half f to the half h
-pub record IsPair (vs : List Vertex) (f h : Half) : Type 0 where
+-- the edge from the end f to the end h
+pub record IsPair (vs : List Vertex) (f h : EdgeEnd) : Type 0 where
   pub edge : PlainEdge
   pub from : IsFrom (map vertex_of vs) f.vertex f.svertex edge
   pub high : edge.high ≡ h.vertex
   pub high_svertex : edge.high_svertex ≡ h.svertex
 
-module _ (vs : List Vertex) (J : AreJoined (map vertex_of vs)) (hs : List Half) (all : AreArriving vs (IsBefore (length vs) 0) hs) (f : Half) (F : IsLeading vs f) where
+module _ (vs : List Vertex) (J : AreJoined (map vertex_of vs)) (hs : List EdgeEnd) (all : AreArriving vs (IsBefore (length vs) 0) hs) (f : EdgeEnd) (F : IsLeading vs f) where
   abbrev plain : List PlainVertex
   plain = map vertex_of vs
 
@@ -119,11 +119,11 @@ module _ (vs : List Vertex) (J : AreJoined (map vertex_of vs)) (hs : List Half) 
   along = subst (λ (d : Dir). SameDirection (vector_of d) (opposite (vector_of end.0.dir))) (sym F.dir)
       (subst (λ (x : MapVertex). SameDirection x.dir (opposite (vector_of end.0.dir))) end-is (subst (λ (x : MapVertex). SameDirection E.low_end.dir (opposite x.dir)) (sym end.2) (to_opposite E.low_end.dir E.high_end.dir E.back)))
 
-  -- it is a half that arrives, on the line of f
-  met : (k : ℕ) × (g : Half) × At hs k g × (g.vertex ≡ edge.high) × (g.svertex ≡ edge.high_svertex)
+  -- it is an end that arrives, on the line of f
+  met : (k : ℕ) × (g : EdgeEnd) × At hs k g × (g.vertex ≡ edge.high) × (g.svertex ≡ edge.high_svertex)
   met = all.all edge.high edge.high_svertex high.0 end.0 high.1 end.1 (normal-kept (vector_of f.dir) (opposite (vector_of end.0.dir)) along F.up) (inl (at-within vs edge.high high.0 high.1))
 
-  abbrev g : Half
+  abbrev g : EdgeEnd
   g = met.1
 
   abbrev G : IsArriving vs met.1
@@ -162,12 +162,12 @@ module _ (vs : List Vertex) (J : AreJoined (map vertex_of vs)) (hs : List Half) 
   after : IsAfter f g
   after = ap (λ o. ordering_then o (nat_cmp g.vertex f.vertex)) tied ∙ nat-greater g.vertex f.vertex upward
 
-  -- so that there is a half after f
-  pub some-after : (k : ℕ) × (h : Half) × At hs k h × IsAfter f h
+  -- so that there is one after f
+  pub some-after : (k : ℕ) × (h : EdgeEnd) × At hs k h × IsAfter f h
   some-after = (met.0, met.1, met.2, after)
 
-  -- and the first one is that half
-  module _ (h : Half) (N : IsNext hs f h) where
+  -- and the first one is that end
+  module _ (h : EdgeEnd) (N : IsNext hs f h) where
     between : StandsBetween f h g
     between = stands-between f h g N.after (N.first met.0 g met.2 after) tied
 

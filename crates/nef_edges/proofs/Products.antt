@@ -5,7 +5,7 @@ use Rattle.std.specs.Ordering.{int_cmp}
 use Rattle.nef_space.specs.Limits.{direction_limit, point_limit, weight_limit}
 use Rattle.law_arithmetic.proofs.Machine.{Code, load, const, wrap, run, ◌⊞◌, ◌⊟◌, ◌⊠◌, Limited, fits_of, exact_of, size_of}
 use Rattle.nef_geo.specs.declared.point.Point.{Point}
-use Rattle.nef_edges.specs.declared.half.Half.{Half}
+use Rattle.nef_edges.specs.declared.edge_end.EdgeEnd.{EdgeEnd}
 use Rattle.nef_edges.specs.Widths.{moment_limit}
 use Rattle.nef_edges.specs.Order.{ratio_order}
 
@@ -63,7 +63,7 @@ scaled-fits n v h k = fits_of (moment_limit ∷ weight_limit ∷ []) (n ∷ v �
 kept : (n : ℤ) → nat_abs n ≤ moment_limit → to_z w128 (of_z w128 n) ≡ n
 kept n h = exact_of (moment_limit ∷ []) (n ∷ []) (wrap w128 (load 0)) (h, tt) tt
 
-pub ratio-is : (a b : Half) (part : Half → ℤ) (x y : ℤ) (o : Ordering) → x ≡ part a → y ≡ part b → nat_abs x ≤ moment_limit → nat_abs y ≤ moment_limit
+pub ratio-is : (a b : EdgeEnd) (part : EdgeEnd → ℤ) (x y : ℤ) (o : Ordering) → x ≡ part a → y ≡ part b → nat_abs x ≤ moment_limit → nat_abs y ≤ moment_limit
     → o ≡ int_cmp (to_z w128 (of_z w128 x) *ℤ b.point.w) (to_z w128 (of_z w128 y) *ℤ a.point.w) → o ≡ ratio_order part a b
 ratio-is a b part x y o ex ey hx hy e =
     e ∙ ap (λ z. int_cmp (z *ℤ b.point.w) (to_z w128 (of_z w128 y) *ℤ a.point.w)) (kept x hx ∙ ex) ∙ ap (λ z. int_cmp (part a *ℤ b.point.w) (z *ℤ a.point.w)) (kept y hy ∙ ey)

@@ -1,5 +1,5 @@
 pub mod Widths
 pub mod Moments
 pub mod Order
-pub mod Halves
+pub mod EdgeEnds
 pub mod Pairs

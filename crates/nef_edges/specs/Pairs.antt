@@ -1,4 +1,4 @@
--- Vertices whose svertices are halves of edges, and the edges from some of them.
+-- Vertices whose svertices are ends of edges, and the edges from some of them.
 use Rattle.std.specs.Prelude.{◌≡◌, ℕ, List, map}
 use Rattle.nef_space.specs.Place.{IsPlaceBelow}
 use Rattle.nef_space.specs.Vectors.{IsNormal}

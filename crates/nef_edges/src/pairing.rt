@@ -6,13 +6,13 @@ ghost use Rattle.nef_space.specs.Sets.{Set};
 ghost use Rattle.law_complex.specs.Complexes.{Edges};
 ghost use Rattle.nef_complex.specs.Complexes.{vertex_of, edge_of, AreVerticesOf, ShowsSet};
 ghost use Rattle.nef_complex.specs.Index.{AreVertexHolders};
-ghost use Rattle.nef_edges.specs.Order.{half_lt};
-ghost use Rattle.nef_edges.specs.Halves.{IsBefore, AreArriving};
+ghost use Rattle.nef_edges.specs.Order.{end_lt};
+ghost use Rattle.nef_edges.specs.EdgeEnds.{IsBefore, AreArriving};
 ghost use Rattle.nef_edges.specs.Pairs.{AreJoined, AreEdges};
 
 use crate::OutOfMemory;
 use crate::arriving::{next_after, sorted_arriving};
-use crate::half::{Half, leads_on};
+use crate::edge_end::EdgeEnd;
 use nef_complex::{Complex, Edge, SortedCarriers, Table, Vertex, vertex_rows};
 use nef_geo::{List, Plane};
 use std::alloc::Global;
@@ -22,19 +22,19 @@ fn add_edges(
     edges: &mut Vec<Edge>,
     vertices: &[Vertex],
     i: usize,
-    arriving: &[Half],
+    arriving: &[EdgeEnd],
 ) -> Result<(), OutOfMemory>
     requires within { i < length vertices.now }
     requires joined { AreJoined (map vertex_of vertices.now) }
     requires arriving { AreArriving vertices.now (IsBefore (length vertices.now) 0) arriving.now }
-    requires sorted { IsSortedBy half_lt arriving.now }
+    requires sorted { IsSortedBy end_lt arriving.now }
     requires before { AreEdges vertices.now (IsBefore i 0) edges.old.items }
     ensures added { OnOk result (AreEdges vertices.now (IsBefore (i + 1) 0) edges.new.items) }
 {
     let vertex = &vertices[i];
     for (k, svertex) in vertex.map.svertices.as_slice().iter().enumerate() {
-        if leads_on(&svertex.dir) {
-            let from = Half::of(vertex.point, svertex.dir, i, k);
+        if svertex.dir.is_normal() {
+            let from = EdgeEnd::of(vertex.point, svertex.dir, i, k);
             let next = next_after(arriving, &from);
             edges.push(Edge {
                 low: i,

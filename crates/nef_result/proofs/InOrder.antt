@@ -15,6 +15,7 @@ use Rattle.nef_complex.specs.Complexes.{AreSorted}
 use Rattle.nef_complex.specs.declared.complex.Vertex.{Vertex}
 use Rattle.nef_result.specs.Planes.{sorted_sides}
 use Rattle.nef_result.specs.Ends.{end_at, Ends, ends, all_ends, IsCornerPlace, IsCornerOf, AreCorners}
+use Rattle.law_complex.proofs.FacetNames.{weight as positive}
 
 -- ---- the order of two corners
 abbrev pub IsLow : Bool → Bool → Type 0
@@ -39,9 +40,6 @@ same-corner k p q c d = record {
   along_y = along-same k.y k.y p.y q.y (pos p.w) (pos q.w) refl c.along_y d.along_y;
   along_z = along-same k.z k.z p.z q.z (pos p.w) (pos q.w) refl c.along_z d.along_z;
 }
-
-positive : (p : Place) → pos 0 <ℤ pos p.w
-positive p = let m = p.proper in omega (arith, ints)
 
 pub corner-below : (k j : Ends) (p q : Place) → IsEndsBelow k j → IsCornerPlace k p → IsCornerPlace j q → IsPlaceBelow p q
 corner-below k j p q (inl l) c d = inl (along-low k.x j.x p.x q.x (pos p.w) (pos q.w) l (positive p) (positive q) c.along_x d.along_x)

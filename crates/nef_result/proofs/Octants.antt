@@ -1,5 +1,5 @@
 -- The maps at the corners of the frame, written out: three svertices and three arcs, by the axes.
-use Rattle.std.proofs.Common.{◌≡◌, ℕ, zero, suc, pos, neg_ℤ, ℤ, ◌-ℤ◌, ◌*ℤ◌, ◌<ℤ◌, arith, refl, sym, ap, ◌⊎◌, inl, inr, ⊎_elim, Bool, true, false, List, [], ◌∷◌, None, subst}
+use Rattle.std.proofs.Common.{◌≡◌, ℕ, zero, suc, pos, neg_ℤ, ℤ, ◌-ℤ◌, ◌*ℤ◌, ◌<ℤ◌, arith, refl, sym, ◌⊎◌, inl, inr, ⊎_elim, Bool, true, false, List, [], ◌∷◌, None, subst}
 use Rattle.std.proofs.lemmas.Int.{ints}
 use Rattle.nef_space.specs.Vectors.{Vector, vector, dot, cross, triple}
 use Rattle.nef_space.specs.declared.label.Label.{Label}
@@ -12,6 +12,7 @@ use Rattle.nef_result.specs.Ends.{Ends, ends}
 use Rattle.nef_result.proofs.Walls.{Axis, on_x, on_y, on_z}
 use Rattle.nef_result.proofs.CornerVertices.{end_of, inward}
 use Rattle.nef_result.proofs.CornerCones.{axis_of}
+use Rattle.law_sphere.proofs.Shot.{dir-at}
 
 -- ---- the axes at a corner
 -- how far a direction leads inward along an axis
@@ -148,11 +149,6 @@ svertex-at_by false true k on_z = refl
 svertex-at_by false false k on_x = refl
 svertex-at_by false false k on_y = refl
 svertex-at_by false false k on_z = refl
-
-pub dir-at : (vs : List MapVertex) (n : ℕ) (v : MapVertex) → At vs n v → dir_of vs n ≡ v.dir
-dir-at [] n v h = absurd h
-dir-at (u ∷ us) zero v h = ap (λ (w : MapVertex). w.dir) h
-dir-at (u ∷ us) (suc n) v h = dir-at us n v h
 
 pub each-svertex : (l : Label) (k : Ends) (P : ℕ → MapVertex → Type 0) → ((a : Axis) → P (place k.x k.y a) (svertex k a)) → (n : ℕ) (v : MapVertex) → At (octant l k).svertices n v → P n v
 each-svertex l k = each-svertex_by k.x k.y k

@@ -4,9 +4,9 @@ ghost use Rattle.std.specs.Prelude.{◌≡◌, List as Sequence, true, false, If
 ghost use Rattle.nef_result.specs.Ends.{end_at, Ends, ends, all_ends, IsCornerOf, AreCorners};
 
 use crate::OutOfMemory;
-use crate::sides::{axis, wall};
+use crate::sides::wall;
 use nef_complex::Vertex;
-use nef_geo::{HALF_SIDE, Label, List, Point};
+use nef_geo::{HALF_SIDE, Label, List, Point, axis_x, axis_y, axis_z};
 use nef_star::Op;
 use nef_stopo::combine;
 use std::alloc::Global;
@@ -22,9 +22,9 @@ fn end(high: bool) -> i64
 fn corner(alloc: Global, label: Label, x: bool, y: bool, z: bool) -> Result<Vertex, OutOfMemory>
     ensures corner { IfOk result (IsCornerOf label (ends x y z)) }
 {
-    let x_wall = wall(alloc, axis(1, 0, 0), x, label);
-    let y_wall = wall(alloc, axis(0, 1, 0), y, label);
-    let z_wall = wall(alloc, axis(0, 0, 1), z, label);
+    let x_wall = wall(alloc, axis_x(), x, label);
+    let y_wall = wall(alloc, axis_y(), y, label);
+    let z_wall = wall(alloc, axis_z(), z, label);
     let two_walls = combine(alloc, &x_wall, &y_wall, Op::And)?;
     let map = combine(alloc, &two_walls, &z_wall, Op::And)?;
     Ok(Vertex {

@@ -2,7 +2,6 @@
 
 ghost use Rattle.std.specs.Prelude.{◌≡◌, IfOk, map};
 ghost use Rattle.law_arithmetic.specs.Signs.{Lies};
-ghost use Rattle.nef_space.specs.Vectors.{vector};
 ghost use Rattle.nef_geo.specs.Shapes.{vector_of, form_of};
 ghost use Rattle.nef_result.specs.Ends.{axes, IsWall};
 ghost use Rattle.nef_result.specs.Planes.{sorted_sides};
@@ -11,17 +10,6 @@ use crate::OutOfMemory;
 use nef_geo::{Dir, Label, List, Plane};
 use nef_smap::{SLoop, SphereMap, plane_map};
 use std::alloc::Global;
-
-/// The direction of a coordinate axis.
-pub(crate) fn axis(x: i64, y: i64, z: i64) -> Dir
-    requires axis { Lies axes (vector x y z) }
-    ensures axis { vector_of result ≡ vector x y z }
-{
-    let Some(dir) = Dir::of(x, y, z) else {
-        unreachable!()
-    };
-    dir
-}
 
 /// The map of the frame at a side of it, at right angles to the axis, at its high end or its low one: `label` on the
 /// inward side, and `Out` on the outward side and in the plane itself.

@@ -1,13 +1,11 @@
 -- The sloop of an overlay.
-use Rattle.std.proofs.Common.{◌≡◌, ◌≤◌, ℤ, pos, ◌-ℤ◌, neg_ℤ, nat_abs, w64, to_z, of_z, List, Option, Some, None, option_map, arith, refl, sym, ap, subst, ◌∙◌, inl, inr, ◌⊎◌, [], ◌∷◌}
-use Rattle.law_arithmetic.proofs.Ring.{ring, at, num, neg, ◌⊕◌, ◌⊗◌}
-use Rattle.nef_space.specs.Limits.{normal_limit, direction_limit, svertex_limit, point_limit}
-use Rattle.nef_space.specs.Vectors.{Vector, vector, IsAtMost, IsNormal, SameDirection, dot, opposite}
+use Rattle.std.proofs.Common.{◌≡◌, pos, List, Option, Some, None, option_map, refl, sym, ap, subst, ◌∙◌, inl, inr, ◌⊎◌}
+use Rattle.law_arithmetic.proofs.Ring.{neg}
+use Rattle.nef_space.specs.Limits.{normal_limit}
+use Rattle.nef_space.specs.Vectors.{Vector, IsAtMost, IsNormal, opposite}
 use Rattle.nef_space.specs.declared.label.Label.{Label}
 use Rattle.nef_geo.specs.Shapes.{vector_of}
 use Rattle.nef_geo.specs.declared.dir.Dir.{Dir}
-use Rattle.nef_geo.proofs.Directions.{small-neg, negated}
-use Rattle.nef_geo.proofs.Products.{kept}
 use Rattle.law_cyclic.specs.Arcs.{IsOnCircle}
 use Rattle.law_cyclic.proofs.StrictlyOn.{same-sym}
 use Rattle.law_cyclic.proofs.Directions.{level-same}
@@ -124,38 +122,3 @@ module _ (a b : SphereMap) (S : IsSphereMap a) (T : IsSphereMap b) (n : Dir) (L 
 
   pub lone-uncrossed_b : IsUncrossed (map_of b) (vector_of n)
   lone-uncrossed_b = let h = L.is_lone in subst (IsUncrossed (map_of b)) (sym L.is_normal) (uncrossed-b (map_of a) (map_of b) S.valid T.valid L.lone h.1 h.0)
-
--- ---- a direction on a circle
-beside-level : (n : Vector) → dot n (vector (pos 0) n.z (neg_ℤ n.y)) ≡ pos 0
-beside-level n = ring (n.x ∷ n.y ∷ n.z ∷ []) (at 0 ⊗ num (pos 0) ⊕ at 1 ⊗ at 2 ⊕ at 2 ⊗ neg (at 1)) (num (pos 0)) tt
-
-across-level : (n : Vector) → dot n (vector (neg_ℤ n.z) (pos 0) n.x) ≡ pos 0
-across-level n = ring (n.x ∷ n.y ∷ n.z ∷ []) (at 0 ⊗ neg (at 2) ⊕ at 1 ⊗ num (pos 0) ⊕ at 2 ⊗ at 0) (num (pos 0)) tt
-
-level-on : (n d : Vector) (e : Dir) → dot n d ≡ pos 0 → SameDirection d (vector_of e) → IsOnCircle n (vector_of e)
-level-on n d e z s = record { direction = e.some; level = level-same n d (vector_of e) s z }
-
-pub beside-on : (n : Vector) (z y : ℤ) (e : Dir) → z ≡ n.z → y ≡ neg_ℤ n.y → SameDirection (vector (pos 0) z y) (vector_of e) → IsOnCircle n (vector_of e)
-beside-on n z y e p q s = level-on n (vector (pos 0) z y) e (ap (λ r. dot n (vector (pos 0) r y)) p ∙ ap (λ r. dot n (vector (pos 0) n.z r)) q ∙ beside-level n) s
-
-pub across-on : (n : Vector) (z x : ℤ) (e : Dir) → z ≡ neg_ℤ n.z → x ≡ n.x → SameDirection (vector z (pos 0) x) (vector_of e) → IsOnCircle n (vector_of e)
-across-on n z x e p q s = level-on n (vector z (pos 0) x) e (ap (λ r. dot n (vector r (pos 0) x)) p ∙ ap (λ r. dot n (vector (neg_ℤ n.z) (pos 0) r)) q ∙ across-level n) s
-
-still-small : (x y : ℤ) → y ≡ x → nat_abs x ≤ normal_limit → nat_abs y ≤ svertex_limit
-still-small x y e h = subst (λ r. nat_abs r ≤ svertex_limit) (sym e) (omega (arith, h))
-
-turned-small : (x y : ℤ) → y ≡ neg_ℤ x → nat_abs x ≤ normal_limit → nat_abs y ≤ svertex_limit
-turned-small x y e h = let k = small-neg normal_limit x y e h in omega (arith, k)
-
-pub beside-small : (n : Vector) (z y : ℤ) → IsAtMost normal_limit n → z ≡ n.z → y ≡ neg_ℤ n.y → IsAtMost svertex_limit (vector (pos 0) z y)
-beside-small n z y s p q = record { of_x = omega arith; of_y = still-small n.z z p s.of_z; of_z = turned-small n.y y q s.of_y }
-
-pub across-small : (n : Vector) (z x : ℤ) → IsAtMost normal_limit n → z ≡ neg_ℤ n.z → x ≡ n.x → IsAtMost svertex_limit (vector z (pos 0) x)
-across-small n z x s p q = record { of_x = turned-small n.z z p s.of_z; of_y = omega arith; of_z = still-small n.x x q s.of_x }
-
--- what the machine makes of a direction's number, and of its negation
-pub number-read : (r x : ℤ) → r ≡ x → nat_abs x ≤ direction_limit → to_z w64 (of_z w64 r) ≡ x
-number-read r x e h = kept r (subst (λ i. nat_abs i ≤ point_limit) (sym e) (omega (arith, h))) ∙ e
-
-pub number-turned : (r x : ℤ) → r ≡ x → nat_abs x ≤ direction_limit → to_z w64 (of_z w64 (pos 0 -ℤ to_z w64 (of_z w64 r))) ≡ neg_ℤ x
-number-turned r x e h = negated r (subst (λ i. nat_abs i ≤ direction_limit) (sym e) h) ∙ ap neg_ℤ e

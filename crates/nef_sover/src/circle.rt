@@ -5,7 +5,6 @@ ghost use Rattle.nef_space.specs.Limits.{normal_limit, svertex_limit};
 ghost use Rattle.nef_space.specs.Vectors.{IsAtMost, IsNormal};
 ghost use Rattle.nef_geo.specs.Shapes.{vector_of};
 ghost use Rattle.nef_geo.specs.declared.dir.Dir.{Dir};
-ghost use Rattle.law_cyclic.specs.Arcs.{IsOnCircle};
 ghost use Rattle.law_sphere.specs.Maps.{MapSloop};
 ghost use Rattle.law_build.specs.Overlays.{IsLoneSloop, IsMergedSloop};
 ghost use Rattle.nef_star.specs.Ops.{op_label};
@@ -17,7 +16,7 @@ ghost use Rattle.nef_sover.specs.Circles.{AreOff, IsBareNormal, IsUncrossed, Has
 use crate::OutOfMemory;
 use crate::axes::Axis;
 use nef_geo::Dir;
-use nef_smap::{SLoop, SphereMap, star_at};
+use nef_smap::{SLoop, SphereMap, on_circle, star_at};
 use nef_star::Op;
 use std::alloc::Global;
 
@@ -59,22 +58,6 @@ fn lone_normal(a: &SphereMap, b: &SphereMap, axes: &[Axis]) -> Option<Dir>
         Some(normal) => Some(normal),
         None => bare_normal(&b.sloop, axes),
     }
-}
-
-// A direction on the great circle of the normal.
-fn on_circle(normal: &Dir) -> Dir
-    requires small { IsAtMost normal_limit (vector_of normal.now) }
-    ensures on { IsOnCircle (vector_of normal.now) (vector_of result) }
-    ensures small { IsAtMost svertex_limit (vector_of result) }
-{
-    let (x, y, z) = (normal.x(), normal.y(), normal.z());
-    if let Some(across) = Dir::of(0, z, -y) {
-        return across;
-    }
-    let Some(across) = Dir::of(-z, 0, x) else {
-        unreachable!()
-    };
-    across
 }
 
 // The map's sloop, if it has this normal.

@@ -49,10 +49,6 @@ module _ (r q : RawStars) (w : AreSimple r.stars q.stars) where
   all-simplified k t a = let s = at-map star_of q.stars k t a in subst IsSimplified s.2 (let i = simple-at k s.0 s.1 in i.simplified)
 
 -- ---- the map that is made of the pieces
-pub map-none : {A B : Type 0} (f : A → B) (xs : List A) → map f xs ≡ [] → xs ≡ []
-map-none f [] e = refl
-map-none f (x ∷ xs) e = let i : f x ∷ map f xs ≡ [] = e in absurd (cc)
-
 pub first-same : (t : PlainStar) (s u : IsStraight t) → s.first ≡ u.first
 first-same t s u = let e : s.first ∷ s.second ∷ [] ≡ u.first ∷ u.second ∷ [] = sym s.two_rays ∙ u.two_rays in cc
 

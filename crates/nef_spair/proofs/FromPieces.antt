@@ -22,10 +22,9 @@ use Rattle.nef_spair.specs.Made.{IsMadeOf}
 use Rattle.nef_spair.specs.Pieces.{ArePiecesOf, IsChosen}
 use Rattle.nef_spair.proofs.OneKind.{no-sloop-was, sloop-was, none-was}
 use Rattle.nef_spair.proofs.Places.{all-at}
-use Rattle.nef_spair.proofs.Built.{map-none, first-same, kept-stars, plain-from, plain-needed, plain-all, plain-ordered}
-
-pub none-some : {A : Type 0} (o : Option A) (x : A) → o ≡ None → o ≡ Some x → ⊥
-none-some o x e f = let i : None ≡ Some x = sym e ∙ f in cc
+use Rattle.nef_spair.proofs.Built.{first-same, kept-stars, plain-from, plain-needed, plain-all, plain-ordered}
+use Rattle.law_build.proofs.BuiltAxes.{map-empty as map-none}
+use Rattle.law_build.proofs.RawGround.{not-both as none-some}
 
 module _ (q : RawStars) (p : Pieces) (m : SphereMap) (pieces : ArePiecesOf q p) (made : IsMadeOf p m) where
   abbrev K : List PlainStar

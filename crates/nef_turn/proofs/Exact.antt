@@ -1,10 +1,10 @@
 -- Turned numbers make one direction and one plane in lowest terms.
-use Rattle.std.proofs.Common.{◌≡◌, ℕ, ◌≤◌, ℤ, pos, ◌*ℤ◌, ◌-ℤ◌, ◌<ℤ◌, neg_ℤ, nat_abs, Bool, true, false, cond, [], ◌∷◌, arith, ap, sym, Result, Err, ◌↔◌, ◌∙◌, subst, w64, to_z, of_z}
+use Rattle.std.proofs.Common.{◌≡◌, ℕ, ◌≤◌, ℤ, pos, ◌*ℤ◌, ◌-ℤ◌, ◌<ℤ◌, neg_ℤ, nat_abs, Bool, true, false, cond, [], ◌∷◌, arith, ap, sym, ◌∙◌, subst, w64, to_z, of_z}
 use Rattle.std.proofs.lemmas.Int.{ints}
 use Rattle.law_arithmetic.proofs.Ring.{ring, at, num, neg, ◌⊖◌, ◌⊗◌}
 use Rattle.nef_space.specs.Limits.{direction_limit, normal_limit, point_limit}
 use Rattle.nef_space.specs.Place.{Place, Form, form, SamePlace, normal_of}
-use Rattle.nef_space.specs.Vectors.{Vector, vector, IsDirection, IsAtMost, IsNormal, IsZero, SameDirection}
+use Rattle.nef_space.specs.Vectors.{Vector, vector, IsDirection, IsAtMost, IsNormal, SameDirection}
 use Rattle.nef_geo.specs.Meet.{IsSamePlane}
 use Rattle.nef_geo.specs.Reading.{IsInRange, IsPositiveMultiple}
 use Rattle.nef_geo.specs.Shapes.{form_of, vector_of, turned_form as opposite_form, given_form, place_at}
@@ -12,9 +12,7 @@ use Rattle.nef_geo.specs.declared.dir.Dir.{Dir}
 use Rattle.nef_geo.specs.declared.plane.Oriented.{Oriented}
 use Rattle.nef_geo.specs.declared.plane.Plane.{Plane}
 use Rattle.nef_geo.specs.declared.point.Point.{Point}
-use Rattle.nef_geo.specs.declared.reading.PlaneFault.{PlaneFault}
-use Rattle.nef_geo.specs.declared.reading.PlaneFault.TheVariants.{OutOfRange, ZeroNormal}
-use Rattle.nef_geo.proofs.Products.{kept}
+use Rattle.nef_geo.proofs.Products.{kept, IsAtMost-weaken as larger}
 use Rattle.nef_geo.proofs.Unique.{direction, same_directions_equal, plane, same_planes_equal}
 use Rattle.nef_case.specs.Turns.{Triple, negated_if, turned}
 use Rattle.nef_case.proofs.TurnLemmas.{same_triple}
@@ -41,9 +39,6 @@ pub words-are : (k : ℕ) (t : Triple) (v : Vector) → t ≡ turned k (v.x, v.y
 words-are k t v e h =
     let s = at_most-turned k false point_limit v h in
     same-vector _ _ _ _ _ _ (word-is t.0 _ (ap (λ (u : Triple). u.0) e) s.of_x) (word-is t.1 _ (ap (λ (u : Triple). u.1) e) s.of_y) (word-is t.2 _ (ap (λ (u : Triple). u.2) e) s.of_z)
-
-pub larger : (m n : ℕ) (v : Vector) → m ≤ n → IsAtMost m v → IsAtMost n v
-larger m n v l h = let x = h.of_x in let y = h.of_y in let z = h.of_z in record { of_x = omega (arith, l, x); of_y = omega (arith, l, y); of_z = omega (arith, l, z) }
 
 -- ---- points
 pub point-words : (k : ℕ) (p : Point) (t : Triple) (x y z : ℤ) → t ≡ turned k (word x, word y, word z) → x ≡ p.x → y ≡ p.y → z ≡ p.z → vector (word t.0) (word t.1) (word t.2) ≡ turned_vector k (vector p.x p.y p.z)
@@ -148,8 +143,3 @@ module _ (k : ℕ) (g : Plane) where
       image : Plane
       image = plane (negated_if normal.0 f.a) (negated_if normal.0 f.b) (negated_if normal.0 f.c) (negated_if normal.0 f.d)
           (s.of_x, s.of_y, s.of_z, size-kept normal.0 g.d _ g.d_small, lowest_form-turned k normal.0 (form_of g) g.lowest, normal.1)
-
--- reading such numbers finds no fault
-pub no-fault : (r : Result Oriented PlaneFault) (f : PlaneFault) (h : Form) → r ≡ Err f → ((r ≡ Err OutOfRange) ↔ (IsInRange h → ⊥)) → ((r ≡ Err ZeroNormal) ↔ (IsInRange h × IsZero (normal_of h))) → IsInRange h → IsDirection (normal_of h) → ⊥
-no-fault r OutOfRange h e p q i d = p.0 e i
-no-fault r ZeroNormal h e p q i d = d (q.0 e).1

@@ -1,19 +1,15 @@
 -- Lists of images, made one after the other.
-use Rattle.std.proofs.Common.{◌≡◌, ℕ, zero, suc, ◌+◌, ◌<◌, ◌≤◌, List, [], ◌∷◌, ◌++◌, length, get_or, arith, refl, sym, ap, subst, ◌∙◌, ⊎_elim}
+use Rattle.std.proofs.Common.{◌≡◌, ℕ, ◌+◌, ◌<◌, ◌≤◌, List, [], ◌∷◌, ◌++◌, length, get_or, arith, refl, sym, ap, subst, ◌∙◌, ⊎_elim}
 use Rattle.law_sphere.specs.Maps.{At}
 use Rattle.law_sphere.proofs.Lists.{at-one}
 use Rattle.nef_smap.proofs.Lists.{at-within}
 use Rattle.nef_edges.proofs.Places.{at-more, read-at}
 use Rattle.nef_turn.specs.Images.{AreImages}
+use Rattle.nef_smap.proofs.SideLists.{at-some as at-length}
 
 length-more : {A : Type 0} (xs : List A) (x : A) → length (xs ++ x ∷ []) ≡ length xs + 1
 length-more [] x = refl
 length-more (y ∷ ys) x = let e = length-more ys x in omega (arith, e)
-
-at-length : {A : Type 0} (xs : List A) (k : ℕ) → k < length xs → (x : A) × At xs k x
-at-length [] k l = absurd (omega arith)
-at-length (y ∷ ys) zero l = (y, refl)
-at-length (y ∷ ys) (suc k) l = at-length ys k (omega arith)
 
 module _ {A B : Type 0} (R : ℕ → A → B → Type 0) (xs : List A) where
   pub images-none : AreImages R 0 xs []

@@ -1,5 +1,5 @@
 -- A map of the turned svertices, arcs and sloop is the turned map.
-use Rattle.std.proofs.Common.{◌≡◌, ℕ, List, map, length, Option, Some, None, option_map, refl, ap, sym, ◌∙◌, subst}
+use Rattle.std.proofs.Common.{◌≡◌, ℕ, List, map, length, Some, option_map, ap, sym, ◌∙◌, subst}
 use Rattle.nef_space.specs.Vectors.{Vector, IsNormal}
 use Rattle.nef_geo.specs.Shapes.{vector_of}
 use Rattle.law_sphere.specs.Vectors.{IsPrimitive, VectorBelow}
@@ -17,6 +17,7 @@ use Rattle.nef_turn.specs.declared.moved.Moved.{Moved}
 use Rattle.nef_turn.specs.Images.{AreImages}
 use Rattle.nef_turn.specs.Turning.{AreMoved, AreNumbers, IsOfMoved, AreTurnedArcs, number_in}
 use Rattle.nef_turn.proofs.MovedSvertices.{placed, number-is}
+use Rattle.nef_spair.proofs.OneKind.{sloop-was as sloop-from}
 
 -- what the steps of turning the map m make
 pub record IsMade (k : ℕ) (m n : SphereMap) (us : List Moved) (ns : List ℕ) : Type 0 where
@@ -28,10 +29,6 @@ pub record IsMade (k : ℕ) (m n : SphereMap) (us : List Moved) (ns : List ℕ) 
   pub upward : (l : SLoop) → n.sloop ≡ Some l → IsNormal (vector_of l.normal)
   pub mark : n.mark ≡ m.mark
   pub ground : n.ground ≡ m.ground
-
-sloop-from : (o : Option SLoop) (l : MapSloop) → option_map sloop_of o ≡ Some l → (s : SLoop) × (o ≡ Some s) × (sloop_of s ≡ l)
-sloop-from None l e = cc
-sloop-from (Some s) l e = (s, refl, cc)
 
 module _ (k : ℕ) (m n : SphereMap) (us : List Moved) (ns : List ℕ) (I : IsMade k m n us ns) where
   abbrev Good : Vector → Type 0

@@ -1,12 +1,11 @@
 -- The turned planes and vertices of a program's complex are those of the turned set, which are ready to be paired.
-use Rattle.std.proofs.Common.{◌≡◌, ℕ, zero, suc, false, ap, sym, subst, List, [], ◌∷◌, map, Some}
-use Rattle.std.specs.Prelude.{slice_get}
+use Rattle.std.proofs.Common.{ℕ, false, sym, subst, List, map}
 use Rattle.nef_space.specs.Limits.{normal_limit, svertex_limit}
 use Rattle.nef_space.specs.Sets.{Set}
 use Rattle.nef_space.specs.Vectors.{Vector, IsAtMost}
 use Rattle.nef_geo.specs.Shapes.{form_of}
 use Rattle.nef_geo.specs.declared.plane.Plane.{Plane}
-use Rattle.law_sphere.specs.Maps.{At, MapVertex, Map, Shaped}
+use Rattle.law_sphere.specs.Maps.{MapVertex, Map, Shaped}
 use Rattle.law_sphere.specs.Least.{Ordered}
 use Rattle.law_build.proofs.BuiltAxes.{at-map, map-at}
 use Rattle.nef_smap.specs.Maps.{map_of, IsSmall, IsLeastMap}
@@ -22,11 +21,7 @@ use Rattle.law_turns.specs.Complexes.{AreTurnedPlanes, AreTurnedVertices}
 use Rattle.law_turns.proofs.Numbers.{at_most-turned}
 use Rattle.law_turns.proofs.TurnedMaps.{svertex-from, item-from, item-normal, valid-turned, least-turned}
 use Rattle.law_turns.proofs.Complexes.{shows-turned}
-
-at-got : {A : Type 0} (xs : List A) (i : ℕ) (x : A) → At xs i x → slice_get xs i ≡ Some x
-at-got [] i x a = absurd a
-at-got (y ∷ ys) zero x e = ap Some e
-at-got (y ∷ ys) (suc i) x a = at-got ys i x a
+use Rattle.nef_smap.proofs.SideLists.{get-from_at as at-got}
 
 module _ (k : ℕ) where
   pub small-turned : (M N : Map) → Shaped M → IsTurnedMap k M N → IsSmall M → IsSmall N

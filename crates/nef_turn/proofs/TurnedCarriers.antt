@@ -1,12 +1,11 @@
 -- Turned carriers, sorted, are the turned planes.
-use Rattle.std.proofs.Common.{◌≡◌, ℕ, ℤ, List, [], ◌∷◌, map, arith, inl, inr, ap, sym, ◌∙◌, subst, length}
-use Rattle.std.proofs.lemmas.Int.{ints}
+use Rattle.std.proofs.Common.{◌≡◌, ℕ, List, map, ap, sym, ◌∙◌, subst, length}
 use Rattle.std.specs.List.Sorted.{IsPermutation, IsSorted}
 use Rattle.nef_space.specs.Numbers.{IsBelow}
 use Rattle.nef_space.specs.Place.{Form, form_numbers}
 use Rattle.nef_geo.specs.Shapes.{form_of}
 use Rattle.nef_geo.specs.declared.plane.Plane.{Plane}
-use Rattle.nef_geo.proofs.Orders.{plane_order}
+use Rattle.nef_geo.proofs.Orders.{plane_order, never-below}
 use Rattle.law_sphere.specs.Maps.{At}
 use Rattle.law_build.proofs.BuiltAxes.{at-map, map-at, number-order}
 use Rattle.nef_complex.specs.Index.{AreInOrder}
@@ -19,11 +18,6 @@ use Rattle.nef_turn.specs.Images.{AreImages, AreApart}
 use Rattle.nef_turn.specs.Turning.{IsTurnedCarrier}
 use Rattle.nef_turn.proofs.Images.{images-all}
 use Rattle.nef_turn.proofs.Orders.{IsOnePlane, planes-in_order}
-
-never-below : (xs : List ℤ) → IsBelow xs xs → ⊥
-never-below [] h = h
-never-below (x ∷ xs) (inl h) = omega (arith, ints, h)
-never-below (x ∷ xs) (inr h) = never-below xs h.1
 
 module _ (k : ℕ) (gs hs ks : List Plane) (ordered : AreInOrder gs) (I : AreImages (IsTurnedCarrier k) (length gs) gs hs) where
   never : (i j : ℕ) (g h : Plane) → At gs i g → At gs j h → form_of g ≡ form_of h → i ≡ j

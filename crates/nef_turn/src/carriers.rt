@@ -10,7 +10,7 @@ ghost use Rattle.nef_turn.specs.Turning.{IsTurnedCarrier};
 use crate::OutOfMemory;
 use crate::turn::Turn;
 use crate::vectors::turned;
-use nef_geo::{List, Plane};
+use nef_geo::{List, Oriented, Plane};
 use std::alloc::Global;
 
 // The normal form of the turned plane.
@@ -18,10 +18,7 @@ fn turned_carrier(turn: &Turn, h: &Plane) -> Plane
     ensures turned { IsTurnedCarrier turn.now.number 0 h.now result }
 {
     let (a, b, c) = turned(turn, h.a(), h.b(), h.c());
-    match Plane::read(a, b, c, h.d()) {
-        Ok(oriented) => oriented.plane(),
-        Err(_) => unreachable!(),
-    }
+    Oriented::of(a, b, c, h.d()).plane()
 }
 
 // The turned planes, in the order of the planes.

@@ -35,10 +35,7 @@ pub(crate) fn turned_dir(turn: &Turn, d: &Dir) -> Dir
     ensures turned { vector_of result ≡ turned_vector turn.now.number (vector_of d.now) }
 {
     let (x, y, z) = turned(turn, d.x(), d.y(), d.z());
-    let Some(dir) = Dir::of(x, y, z) else {
-        unreachable!()
-    };
-    dir
+    Dir::reduced(x, y, z)
 }
 
 /// The normal form of a turned normal.
@@ -49,26 +46,13 @@ pub(crate) struct TurnedNormal {
     pub(crate) flipped: bool,
 }
 
-// Whether the first nonzero number of the direction is positive.
-fn is_normal(d: &Dir) -> bool
-    ensures normal { IsTrue result ↔ IsNormal (vector_of d.now) }
-{
-    if d.x() != 0 {
-        return d.x() > 0;
-    }
-    if d.y() != 0 {
-        return d.y() > 0;
-    }
-    d.z() > 0
-}
-
 /// The normal form of the turned normal.
 pub(crate) fn turned_normal(turn: &Turn, normal: &Dir) -> TurnedNormal
     ensures turned { vector_of result.dir ≡ signed result.flipped (turned_vector turn.now.number (vector_of normal.now)) }
     ensures normal { IsNormal (vector_of result.dir) }
 {
     let dir = turned_dir(turn, normal);
-    if is_normal(&dir) {
+    if dir.is_normal() {
         TurnedNormal {
             dir,
             flipped: false,

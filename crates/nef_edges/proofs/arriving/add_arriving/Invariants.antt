@@ -1,5 +1,5 @@
-use Rattle.nef_edges.specs.Halves.{AreArriving, IsBefore}
+use Rattle.nef_edges.specs.EdgeEnds.{AreArriving, IsBefore}
 use Rattle.nef_edges.proofs.arriving.add_arriving.Given as goal
 
 abbrev pub invariant-loop-k : goal.invariant-loop-k
-invariant-loop-k l = record { added : AreArriving l.vertices (IsBefore l.i l.k) l.halves.items }
+invariant-loop-k l = record { added : AreArriving l.vertices (IsBefore l.i l.k) l.ends.items }

@@ -1,5 +1,5 @@
 use Rattle.std.proofs.Common.{◌≡◌, ℕ, length, arith, subst}
-use Rattle.nef_edges.specs.Halves.{IsBefore}
+use Rattle.nef_edges.specs.EdgeEnds.{IsBefore}
 use Rattle.nef_edges.specs.Pairs.{AreEdges}
 use Rattle.nef_edges.proofs.Added.{edges-all}
 use Rattle.nef_edges.proofs.pairing.edges_of.Goals as goal

@@ -4,19 +4,18 @@ use Rattle.nef_space.specs.Place.{Form, normal_of}
 use Rattle.nef_space.specs.Vectors.{IsDirection}
 use Rattle.nef_geo.specs.Reading.{IsInRange, IsPositiveMultiple}
 use Rattle.nef_geo.specs.Shapes.{form_of, given_form}
-use Rattle.nef_turn.proofs.Exact.{plane-words, plane-in_range, plane-some, plane-one, no-fault}
+use Rattle.nef_turn.proofs.Exact.{plane-words, plane-in_range, plane-some, plane-one}
 use Rattle.nef_turn.proofs.carriers.turned_carrier.Goals as goal
 
-pub unreachable-requires : goal.unreachable-requires
-unreachable-requires c =
+pub of-requires : goal.of-requires
+of-requires c =
     let k = c.args.turn.now.number in let h = c.args.h.now in
     let e = plane-words k h c.turned-a.result c.a.result c.b.result c.c.result c.d.result c.turned-a.ensures.turned c.a.ensures.a c.b.ensures.b c.c.ensures.c c.d.ensures.d in
-    no-fault c.read.result c.in-Err.field-0 _ c.in-Err.is c.read.ensures.out_of_range c.read.ensures.zero_normal
-    (subst IsInRange (sym e) (plane-in_range k h)) (subst (λ (f : Form). IsDirection (normal_of f)) (sym e) (plane-some k h))
+    record { in_range = subst IsInRange (sym e) (plane-in_range k h); some = subst (λ (f : Form). IsDirection (normal_of f)) (sym e) (plane-some k h) }
 
 pub returns : goal.returns
 returns c =
-    let k = c.args.turn.now.number in let h = c.args.h.now in let o = c.in-Ok.oriented in
+    let k = c.args.turn.now.number in let h = c.args.h.now in let o = c.of.result in
     let e = plane-words k h c.turned-a.result c.a.result c.b.result c.c.result c.d.result c.turned-a.ensures.turned c.a.ensures.a c.b.ensures.b c.c.ensures.c c.d.ensures.d in
-    let r = plane-one k h o (subst (λ (f : Form). IsPositiveMultiple f (given_form o)) e c.in-Ok.ensures.multiple) in
+    let r = plane-one k h o (subst (λ (f : Form). IsPositiveMultiple f (given_form o)) e c.of.ensures.multiple) in
     record { turned = (r.0, ap form_of c.plane.ensures.plane ∙ r.1) }

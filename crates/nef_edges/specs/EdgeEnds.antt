@@ -1,0 +1,47 @@
+-- Ends of edges that arrive at vertices and lead on from them, and the next one in order.
+use Rattle.std.specs.Prelude.{◌≡◌, ℕ, ◌<◌, ◌≤◌, List, false, ◌⊎◌}
+use Rattle.std.specs.declared.cmp.Ordering.TheVariants.{Greater}
+use Rattle.std.specs.Ordering.{is_lt}
+use Rattle.nef_space.specs.Vectors.{opposite, IsNormal}
+use Rattle.nef_geo.specs.Shapes.{vector_of}
+use Rattle.law_sphere.specs.Maps.{At}
+use Rattle.nef_smap.specs.declared.map.SVertex.{SVertex}
+use Rattle.nef_complex.specs.declared.complex.Vertex.{Vertex}
+use Rattle.nef_edges.specs.declared.edge_end.EdgeEnd.{EdgeEnd}
+use Rattle.nef_edges.specs.Order.{end_order}
+
+-- the svertices of the vertices before number i, and the first n of vertex i
+abbrev pub IsBefore : ℕ → ℕ → ℕ → ℕ → Type 0
+IsBefore i n j m = (j < i) ⊎ ((j ≡ i) × (m < n))
+
+-- the end is a svertex along which an edge arrives from an earlier vertex
+pub record IsArriving (vs : List Vertex) (h : EdgeEnd) : Type 0 where
+  pub vertex : Vertex
+  pub svertex : SVertex
+  pub has_vertex : At vs h.vertex vertex
+  pub has_svertex : At vertex.map.svertices h.svertex svertex
+  pub point : h.point ≡ vertex.point
+  pub back : vector_of h.dir ≡ opposite (vector_of svertex.dir)
+
+-- the ends that arrive, of the svertices that count
+pub record AreArriving (vs : List Vertex) (Counts : ℕ → ℕ → Type 0) (hs : List EdgeEnd) : Type 0 where
+  pub each : (k : ℕ) (h : EdgeEnd) → At hs k h → IsArriving vs h
+  pub all : (j m : ℕ) (v : Vertex) (s : SVertex) → At vs j v → At v.map.svertices m s → IsNormal (opposite (vector_of s.dir)) → Counts j m → (k : ℕ) × (h : EdgeEnd) × At hs k h × (h.vertex ≡ j) × (h.svertex ≡ m)
+
+-- h stands after the end f
+abbrev pub IsAfter : EdgeEnd → EdgeEnd → Type 0
+IsAfter f h = end_order h f ≡ Greater
+
+-- none of the ends before number p stands after f
+abbrev pub NoneAfter : List EdgeEnd → EdgeEnd → ℕ → Type 0
+NoneAfter hs f p = (k : ℕ) (h : EdgeEnd) → At hs k h → k < p → IsAfter f h → ⊥
+
+-- all ends from number p on stand after f
+abbrev pub AllAfter : List EdgeEnd → EdgeEnd → ℕ → Type 0
+AllAfter hs f p = (k : ℕ) (h : EdgeEnd) → At hs k h → p ≤ k → IsAfter f h
+
+-- h is the first of the ends after f: none of these is less
+pub record IsNext (hs : List EdgeEnd) (f h : EdgeEnd) : Type 0 where
+  pub listed : (k : ℕ) × At hs k h
+  pub after : IsAfter f h
+  pub first : (k : ℕ) (g : EdgeEnd) → At hs k g → IsAfter f g → is_lt (end_order g h) ≡ false
