@@ -1,5 +1,6 @@
 //! Works a stage round after round.
-ghost use Rattle.std.specs.Prelude.{◌≡◌, ◌≢◌, ℕ, ◌<◌, ◌≤◌, ◌/◌, min, length, All, IfOk, None, Some, slice_get, slice_index_or, vec_len};
+ghost use Rattle.std.specs.Prelude.{◌≡◌, ◌≢◌, ℕ, ◌<◌, ◌≤◌, length, All, IfOk, None, Some, slice_get, slice_index_or, vec_len};
+ghost use Rattle.nef_core.specs.Work.{crew_of};
 ghost use Rattle.nef_sched.specs.declared.pass.RoundPass.{RoundPass};
 ghost use Rattle.nef_sched.specs.declared.worked.Worked.{Worked};
 ghost use Rattle.nef_sched.specs.Counts.{times, Differ};
@@ -14,13 +15,11 @@ use crate::pass::{Round, RoundPass};
 use crate::plan::plan_of;
 use crate::stage::{Results, Stage};
 use crate::worked::Worked;
+use nef_core::Work;
 use std::alloc::Global;
 use std::sync::Wait;
 use std::thread;
 use std::thread::Threads;
-
-// So many microseconds of work pay for a worker: several times what it takes to start a thread and to wait for its end.
-const PAYING: u64 = 500;
 
 /// Works every number of the stage, and returns one fitting result for each, in order.
 ///
@@ -257,12 +256,11 @@ fn total_load<T: Stage>(stage: &T, numbers: &[usize], done: &Results<T::Out>) ->
     total
 }
 
-// How many workers a round of so many numbers pays for: one for each `PAYING` microseconds.
+// How many of the workers share a round of so many numbers, which together are taken to last so many microseconds.
 fn crew(workers: u32, numbers: usize, load: u64) -> u32
-    ensures { result ≡ min workers (min numbers (load / 500)) }
+    ensures { result ≡ crew_of (Work.Round numbers load) workers }
 {
-    let paid = (numbers as u64).min(load / PAYING);
-    u64::from(workers).min(paid) as u32
+    Work::Round(numbers, load).crew(workers)
 }
 
 // Works the numbers of a round by the caller. A single one is told that it is alone.
