@@ -26,15 +26,16 @@ fn the_empty_set_twice(rt: HostRuntime) -> Result<(), Fail> {
     check_bare(&rt, rt.alloc(), &first)
 }
 
-// Whether it is the same set as the empty one or the whole frame, by the label.
-fn is_same(alloc: Global, first: &Complex, label: Label) -> Result<bool, OutOfMemory> {
+// Whether it is the same set as the whole frame, or as the empty set.
+fn is_same(alloc: Global, first: &Complex, full: bool) -> Result<bool, OutOfMemory> {
+    let label = if full { Label::In } else { Label::Not };
     let second = frame(alloc, label)?;
     Ok(compare(first, &second))
 }
 
 fn check_same(rt: &impl Abort, alloc: Global, first: &Complex) -> Result<(), Fail> {
-    assert!(rt; !is_same(alloc, first, Label::In)?);
-    assert!(rt; is_same(alloc, first, Label::Not)?);
+    assert!(rt; !is_same(alloc, first, true)?);
+    assert!(rt; is_same(alloc, first, false)?);
     Ok(())
 }
 
