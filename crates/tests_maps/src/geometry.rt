@@ -2,12 +2,13 @@
 
 ghost use Rattle.std.specs.Prelude.{◌↔◌, ◌≤◌, nat_abs, IsTrue};
 
-use crate::words::{direction, is_at_most, numbers, way, way_text};
+use crate::words::{check, is_at_most, numbers, parted, way};
 use nef_geo::{
-    Dir, List, Plane, Point, Sign, cross, dir_cmp, dir_side, dot, hit_at, hit_side, lex_cmp, meet,
-    plane_axis, plane_dir, quad, side, triple,
+    Dir, List, Oriented, Plane, PlaneFault, Point, Sign, cross, dir_cmp, dir_side, dot, hit_at,
+    hit_side, lex_cmp, meet, plane_axis, plane_dir, quad, side, triple,
 };
-use std::alloc::Global;
+use std::alloc::{AllocError, Global};
+use std::cmp::Ordering;
 use std::process::Abort;
 use std::test::Fail;
 
@@ -67,198 +68,280 @@ fn is_within(n: i64, limit: u64) -> bool
     n.unsigned_abs() <= limit
 }
 
-pub(crate) fn point(alloc: Global, text: &str) -> Result<Point, Fail> {
-    let numbers = numbers(alloc, text)?;
-    let [x, y, z, w] = numbers.as_slice() else {
-        return Err("four numbers of a point".into());
-    };
-    let (x, y, z, w) = (*x, *y, *z, *w);
+fn point_of(x: i64, y: i64, z: i64, w: i64) -> Option<Point> {
     let near = is_within(x, 3 << 45) && is_within(y, 3 << 45) && is_within(z, 3 << 45);
     if near && is_within(w, 3 << 34) && w > 0 {
-        Ok(Point::of(x, y, z, w))
+        Some(Point::of(x, y, z, w))
     } else {
-        Err("the numbers of a point".into())
+        None
     }
 }
 
-pub(crate) fn plane(alloc: Global, text: &str) -> Result<Plane, Fail> {
-    let numbers = numbers(alloc, text)?;
-    match numbers.as_slice() {
-        [a, b, c, d] => Ok(Plane::read(*a, *b, *c, *d)?.plane()),
-        _ => Err("four numbers of a plane".into()),
-    }
+pub(crate) fn point(text: &str) -> Option<Point> {
+    let [x, y, z, w] = numbers(text)?;
+    point_of(x, y, z, w)
 }
 
-fn plane_text(alloc: Global, h: &Plane) -> Result<String, Fail> {
-    Ok(format!(in alloc; "{} {} {} {}", h.a(), h.b(), h.c(), h.d())?)
+// The plane as it was given.
+fn given(text: &str) -> Option<Oriented> {
+    let [a, b, c, d] = numbers(text)?;
+    Plane::read(a, b, c, d).ok()
 }
 
-fn point_text(alloc: Global, p: &Point) -> Result<String, Fail> {
-    Ok(format!(in alloc; "{} {} {} {}", p.x(), p.y(), p.z(), p.w())?)
+pub(crate) fn plane(text: &str) -> Option<Plane> {
+    Some(given(text)?.plane())
 }
 
-fn maybe_way_text(alloc: Global, d: Option<Dir>) -> Result<String, Fail> {
+fn are_numbers(list: &[i64; 4], wanted: &str) -> bool {
+    numbers(wanted) == Some(*list)
+}
+
+fn is_plane(h: &Plane, wanted: &str) -> bool {
+    are_numbers(&[h.a(), h.b(), h.c(), h.d()], wanted)
+}
+
+fn is_point(p: &Point, wanted: &str) -> bool {
+    are_numbers(&[p.x(), p.y(), p.z(), p.w()], wanted)
+}
+
+/// Whether it is the direction of these numbers.
+pub(crate) fn is_way(d: &Dir, wanted: &str) -> bool {
+    are_numbers(&[d.x(), d.y(), d.z(), 0], wanted)
+}
+
+// Whether there is none, or the one that is wanted.
+fn is_maybe_way(d: Option<Dir>, wanted: &str) -> bool {
     match d {
-        Some(d) => way_text(alloc, &d),
-        None => Ok(String::from_str(alloc, "none")?),
+        Some(d) => is_way(&d, wanted),
+        None => wanted == "none",
     }
 }
 
-fn reading(alloc: Global, text: &str) -> Result<String, Fail> {
-    let numbers = numbers(alloc, text)?;
-    let [a, b, c, d] = numbers.as_slice() else {
-        return Err("four numbers of a plane".into());
-    };
-    match Plane::read(*a, *b, *c, *d) {
-        Ok(given) => {
-            let mut text = plane_text(alloc, &given.plane())?;
-            text.push_str(if given.flipped() { " flipped" } else { "" })?;
-            Ok(text)
-        }
-        Err(fault) => Ok(format!(in alloc; "{fault:?}")?),
+fn is_given(given: &Oriented, wanted: &str) -> bool {
+    let (numbers, turned) = parted(wanted, " flipped");
+    is_plane(&given.plane(), numbers) && given.flipped() == (numbers != wanted)
+}
+
+fn is_read(text: &str, wanted: &str) -> Option<bool> {
+    let [a, b, c, d] = numbers(text)?;
+    match Plane::read(a, b, c, d) {
+        Ok(given) => Some(is_given(&given, wanted)),
+        Err(PlaneFault::OutOfRange) => Some(wanted == "OutOfRange"),
+        Err(PlaneFault::ZeroNormal) => Some(wanted == "ZeroNormal"),
     }
 }
 
-fn frame(alloc: Global, text: &str) -> Result<String, Fail> {
-    let number: usize = text.parse()?;
+fn is_side_of_frame(text: &str, wanted: &str) -> Option<bool> {
+    let number: usize = text.parse().ok()?;
     if number < 6 {
-        plane_text(alloc, &Plane::frame(number))
+        Some(is_plane(&Plane::frame(number), wanted))
     } else {
-        Err("a side of the frame".into())
+        None
     }
 }
 
-fn placed(alloc: Global, text: &str) -> Result<String, Fail> {
-    let p = point(alloc, text)?;
-    let mut text = point_text(alloc, &p)?;
-    text.push_str(if p.in_frame() { " inside" } else { " outside" })?;
-    Ok(text)
+fn is_placed(text: &str, wanted: &str) -> Option<bool> {
+    let p = point(text)?;
+    let (numbers, place) = wanted.rsplit_once(' ')?;
+    Some(is_point(&p, numbers) && p.in_frame() == (place == "inside"))
 }
 
-// The answer to a question about one thing.
-fn of_one(alloc: Global, verb: &str, a: &str) -> Result<String, Fail> {
+fn axis(text: &str) -> Option<Dir> {
+    Some(plane_axis(&plane(text)?))
+}
+
+fn across(text: &str) -> Option<Dir> {
+    Some(plane_dir(&plane(text)?))
+}
+
+fn back(text: &str) -> Option<Dir> {
+    Some(way(text)?.back())
+}
+
+// Whether this is the answer to a question about one thing.
+fn fits_one(verb: &str, a: &str, wanted: &str) -> Option<bool> {
     match verb {
-        "read" => reading(alloc, a),
-        "frame" => frame(alloc, a),
-        "point" => placed(alloc, a),
-        "direction" => maybe_way_text(alloc, direction(alloc, a)?),
-        "back" => way_text(alloc, &way(alloc, a)?.back()),
-        "axis" => way_text(alloc, &plane_axis(&plane(alloc, a)?)),
-        "across" => way_text(alloc, &plane_dir(&plane(alloc, a)?)),
-        _ => Err("a question about one thing".into()),
+        "read" => is_read(a, wanted),
+        "frame" => is_side_of_frame(a, wanted),
+        "point" => is_placed(a, wanted),
+        "direction" => Some(is_maybe_way(way(a), wanted)),
+        "back" => Some(is_maybe_way(back(a), wanted)),
+        "axis" => Some(is_maybe_way(axis(a), wanted)),
+        "across" => Some(is_maybe_way(across(a), wanted)),
+        _ => None,
     }
 }
 
-fn given_side(alloc: Global, h: &str, p: &Point) -> Result<String, Fail> {
-    let numbers = numbers(alloc, h)?;
-    let [a, b, c, d] = numbers.as_slice() else {
-        return Err("four numbers of a plane".into());
-    };
-    let side = Plane::read(*a, *b, *c, *d)?.side(p);
-    Ok(format!(in alloc; "{}", side.number())?)
+fn is_given_side(h: &str, p: &str, wanted: &str) -> Option<bool> {
+    let (given, point) = (given(h)?, point(p)?);
+    Some(given.side(&point).number() == wanted.parse().ok()?)
 }
 
-fn crossed(alloc: Global, a: &str, b: &str) -> Result<String, Fail> {
-    let (a, b) = (way(alloc, a)?, way(alloc, b)?);
+fn is_crossed(a: &str, b: &str, wanted: &str) -> Option<bool> {
+    let (a, b) = (way(a)?, way(b)?);
     if is_at_most(&a, 1 << 11) && is_at_most(&b, 1 << 11) {
-        maybe_way_text(alloc, cross(&a, &b))
+        Some(is_maybe_way(cross(&a, &b), wanted))
     } else {
-        Err("normals".into())
+        None
     }
+}
+
+fn side_of(a: &str, b: &str) -> Option<Sign> {
+    Some(side(&plane(a)?, &point(b)?))
+}
+
+fn hit_side_of(a: &str, b: &str) -> Option<Sign> {
+    Some(hit_side(&plane(a)?, &hit_at(&point(b)?)))
+}
+
+fn dot_of(a: &str, b: &str) -> Option<Sign> {
+    Some(dot(&way(a)?, &way(b)?))
+}
+
+fn way_side_of(a: &str, b: &str) -> Option<Sign> {
+    Some(dir_side(&plane(a)?, &way(b)?))
 }
 
 // The sign that two things have together.
-fn sign_of_two(alloc: Global, verb: &str, a: &str, b: &str) -> Result<Sign, Fail> {
+fn sign_of_two(verb: &str, a: &str, b: &str) -> Option<Sign> {
     match verb {
-        "side" => Ok(side(&plane(alloc, a)?, &point(alloc, b)?)),
-        "hit_side" => Ok(hit_side(&plane(alloc, a)?, &hit_at(&point(alloc, b)?))),
-        "dot" => Ok(dot(&way(alloc, a)?, &way(alloc, b)?)),
-        "way_side" => Ok(dir_side(&plane(alloc, a)?, &way(alloc, b)?)),
-        _ => Err("a question about two things".into()),
+        "side" => side_of(a, b),
+        "hit_side" => hit_side_of(a, b),
+        "dot" => dot_of(a, b),
+        "way_side" => way_side_of(a, b),
+        _ => None,
     }
 }
 
-// The answer to a question about two things.
-fn of_two(alloc: Global, verb: &str, a: &str, b: &str) -> Result<String, Fail> {
-    let order = match verb {
-        "cross" => return crossed(alloc, a, b),
-        "given_side" => return given_side(alloc, a, &point(alloc, b)?),
-        "order" => way(alloc, a)?.cmp(&way(alloc, b)?),
-        "way_order" => dir_cmp(&way(alloc, a)?, &way(alloc, b)?),
-        "plane_order" => plane(alloc, a)?.cmp(&plane(alloc, b)?),
-        "point_order" => lex_cmp(&point(alloc, a)?, &point(alloc, b)?),
-        _ => {
-            let sign = sign_of_two(alloc, verb, a, b)?;
-            return Ok(format!(in alloc; "{sign:?}")?);
-        }
-    };
-    Ok(format!(in alloc; "{order:?}")?)
+fn order_of(a: &str, b: &str) -> Option<Ordering> {
+    Some(way(a)?.cmp(&way(b)?))
 }
 
-fn met(alloc: Global, a: &str, b: &str, c: &str) -> Result<String, Fail> {
-    match meet(&plane(alloc, a)?, &plane(alloc, b)?, &plane(alloc, c)?) {
-        Some(p) => point_text(alloc, &p),
-        None => Ok(String::from_str(alloc, "none")?),
-    }
+fn way_order_of(a: &str, b: &str) -> Option<Ordering> {
+    Some(dir_cmp(&way(a)?, &way(b)?))
 }
 
-// The answer to a question about three things.
-fn of_three(alloc: Global, verb: &str, a: &str, b: &str, c: &str) -> Result<String, Fail> {
+fn plane_order_of(a: &str, b: &str) -> Option<Ordering> {
+    Some(plane(a)?.cmp(&plane(b)?))
+}
+
+fn point_order_of(a: &str, b: &str) -> Option<Ordering> {
+    Some(lex_cmp(&point(a)?, &point(b)?))
+}
+
+// The order of two things.
+fn order_of_two(verb: &str, a: &str, b: &str) -> Option<Ordering> {
     match verb {
-        "meet" => met(alloc, a, b, c),
-        "triple" => {
-            let sign = triple(&way(alloc, a)?, &way(alloc, b)?, &way(alloc, c)?);
-            Ok(format!(in alloc; "{sign:?}")?)
-        }
-        _ => Err("a question about three things".into()),
+        "order" => order_of(a, b),
+        "way_order" => way_order_of(a, b),
+        "plane_order" => plane_order_of(a, b),
+        _ => point_order_of(a, b),
     }
 }
 
-fn quad_of(alloc: Global, a: &str, b: &str, c: &str, d: &str) -> Result<String, Fail> {
-    let (b, c, d) = (way(alloc, b)?, way(alloc, c)?, way(alloc, d)?);
+/// Whether it is the order with this name.
+pub(crate) fn is_order(order: Option<Ordering>, wanted: &str) -> bool {
+    match order {
+        Some(Ordering::Less) => wanted == "Less",
+        Some(Ordering::Equal) => wanted == "Equal",
+        Some(Ordering::Greater) => wanted == "Greater",
+        None => false,
+    }
+}
+
+fn is_sign(sign: Option<Sign>, wanted: &str) -> bool {
+    match sign {
+        Some(Sign::Minus) => wanted == "Minus",
+        Some(Sign::Zero) => wanted == "Zero",
+        Some(Sign::Plus) => wanted == "Plus",
+        None => false,
+    }
+}
+
+// Whether this is the answer to a question about two things.
+fn fits_two(verb: &str, a: &str, b: &str, wanted: &str) -> Option<bool> {
+    match verb {
+        "cross" => is_crossed(a, b, wanted),
+        "given_side" => is_given_side(a, b, wanted),
+        "order" | "way_order" | "plane_order" | "point_order" => {
+            Some(is_order(order_of_two(verb, a, b), wanted))
+        }
+        _ => Some(is_sign(sign_of_two(verb, a, b), wanted)),
+    }
+}
+
+fn met(a: &str, b: &str, c: &str) -> Option<Option<Point>> {
+    Some(meet(&plane(a)?, &plane(b)?, &plane(c)?))
+}
+
+fn is_met(a: &str, b: &str, c: &str, wanted: &str) -> bool {
+    match met(a, b, c) {
+        Some(Some(p)) => is_point(&p, wanted),
+        Some(None) => wanted == "none",
+        None => false,
+    }
+}
+
+fn triple_of(a: &str, b: &str, c: &str) -> Option<Sign> {
+    Some(triple(&way(a)?, &way(b)?, &way(c)?))
+}
+
+// The last three must be as small as directions of svertices.
+fn small_quad(a: &Dir, b: &Dir, c: &Dir, d: &Dir) -> Option<Sign> {
     let small = 1 << 23;
-    if is_at_most(&b, small) && is_at_most(&c, small) && is_at_most(&d, small) {
-        let sign = quad(&way(alloc, a)?, &b, &c, &d);
-        Ok(format!(in alloc; "{sign:?}")?)
+    if is_at_most(b, small) && is_at_most(c, small) && is_at_most(d, small) {
+        Some(quad(a, b, c, d))
     } else {
-        Err("directions of svertices".into())
+        None
     }
 }
 
-fn answer(alloc: Global, question: &str) -> Result<String, Fail> {
-    let (verb, things) = question.split_once(' ').ok_or("a question")?;
-    let things: Vec<&str> = things.split(", ").collect(alloc)?;
-    match things.as_slice() {
-        [a] => of_one(alloc, verb, a),
-        [a, b] => of_two(alloc, verb, a, b),
-        [a, b, c] => of_three(alloc, verb, a, b, c),
-        [a, b, c, d] => quad_of(alloc, a, b, c, d),
-        _ => Err("a question about at most four things".into()),
+fn quad_of(a: &str, b: &str, rest: &str) -> Option<Sign> {
+    let (c, d) = parted(rest, ", ");
+    small_quad(&way(a)?, &way(b)?, &way(c)?, &way(d)?)
+}
+
+// Whether this is the answer to a question about some things.
+fn fits(verb: &str, things: &str, wanted: &str) -> Option<bool> {
+    let (a, rest) = parted(things, ", ");
+    let (b, others) = parted(rest, ", ");
+    match verb {
+        "meet" => Some(is_met(a, b, others, wanted)),
+        "triple" => Some(is_sign(triple_of(a, b, others), wanted)),
+        "quad" => Some(is_sign(quad_of(a, b, others), wanted)),
+        _ if rest.is_empty() => fits_one(verb, a, wanted),
+        _ => fits_two(verb, a, rest, wanted),
     }
 }
 
-fn check_rows(rt: &impl Abort, alloc: Global) -> Result<(), Fail> {
-    for row in ROWS.split('\n') {
-        let (question, wanted) = row.split_once(" => ").ok_or("a row")?;
-        let given = answer(alloc, question)?;
-        assert_eq!(rt; given.as_str(), wanted, "{question}");
-    }
-    Ok(())
+fn holds(row: &str) -> bool {
+    let (question, wanted) = parted(row, " => ");
+    let (verb, things) = parted(question, " ");
+    fits(verb, things, wanted) == Some(true)
 }
 
 #[test]
-fn rows(rt: HostRuntime) -> Result<(), Fail> {
-    check_rows(&rt, rt.alloc())
+fn rows(rt: HostRuntime) {
+    for row in ROWS.split('\n') {
+        check(&rt, holds(row), row);
+    }
+}
+
+fn two_signs(alloc: Global) -> Result<List<Sign>, AllocError> {
+    let mut signs = List::new(alloc);
+    signs.push(Sign::Plus)?;
+    signs.push(Sign::Zero)?;
+    Ok(signs)
+}
+
+fn are_two_signs(signs: &List<Sign>) -> bool {
+    !signs.is_empty() && signs.len() == 2 && signs.as_slice() == [Sign::Plus, Sign::Zero].as_slice()
 }
 
 #[test]
 fn lists_grow(rt: HostRuntime) -> Result<(), Fail> {
-    let mut signs = List::new(rt.alloc());
-    assert!(rt; signs.is_empty());
-    signs.push(Sign::Plus)?;
-    signs.push(Sign::Zero)?;
-    assert_eq!(rt; signs.len(), 2);
-    assert_eq!(rt; *signs.at(1), Sign::Zero);
-    assert_eq!(rt; signs.as_slice(), [Sign::Plus, Sign::Zero].as_slice());
+    let signs = two_signs(rt.alloc())?;
+    check(&rt, are_two_signs(&signs), "two signs");
+    check(&rt, List::<Sign>::new(rt.alloc()).is_empty(), "no sign");
     Ok(())
 }

@@ -6,16 +6,13 @@ ghost use Rattle.nef_geo.specs.Hits.{IsPlaceAtMost};
 ghost use Rattle.nef_geo.specs.Shapes.{hit_place};
 ghost use Rattle.nef_geo.specs.Widths.{upright_limit, upright_weight_limit};
 
-use crate::geometry::{plane, point};
-use crate::words::{is_at_most, way};
+use crate::geometry::{is_order, plane, point};
+use crate::words::{check, is_at_most, numbers, parted, way};
 use nef_geo::{
-    Dir, FarHit, Hit, Plane, Sign, far_hit, far_order, far_side, hit_at, hit_order, hit_side,
-    ray_hit,
+    Dir, FarHit, Hit, Plane, Point, Sign, far_hit, far_order, far_side, hit_at, hit_order,
+    hit_side, ray_hit,
 };
-use std::alloc::Global;
 use std::cmp::Ordering;
-use std::process::Abort;
-use std::test::Fail;
 
 // Where a ray from the origin hits a plane, and whether it hits one before another, or after its start.
 const RAYS: &str = "hit down, 1 0 0 1 => -67108864 -8192 -1 67108864
@@ -48,12 +45,11 @@ fn is_upright(p: &Hit) -> bool
 }
 
 // The calls where their conditions hold.
-fn hit_from(alloc: Global, start: &str, d: &str, h: &str) -> Result<Option<Hit>, Fail> {
-    let d = way(alloc, d)?;
-    if is_at_most(&d, 1 << 36) {
-        Ok(ray_hit(&point(alloc, start)?, &d, &plane(alloc, h)?))
+fn ray(p: &Point, d: &Dir, h: &Plane) -> Option<Option<Hit>> {
+    if is_at_most(d, 1 << 36) {
+        Some(ray_hit(p, d, h))
     } else {
-        Err("a direction of a ray".into())
+        None
     }
 }
 
@@ -65,119 +61,145 @@ fn far(p: &Hit, d: &Dir, h: &Plane) -> Option<FarHit> {
     }
 }
 
-fn hit(alloc: Global, d: &str, h: &str) -> Result<Option<Hit>, Fail> {
-    hit_from(alloc, "0 0 0 1", d, h)
+// The hit, if there is one, where the ray can be asked.
+fn asked(start: &str, d: &str, h: &str) -> Option<Option<Hit>> {
+    ray(&point(start)?, &way(d)?, &plane(h)?)
 }
 
-fn hit_text(alloc: Global, d: &str, h: &str) -> Result<String, Fail> {
-    match hit(alloc, d, h)? {
-        Some(p) => Ok(format!(in alloc; "{} {} {} {}", p.x(), p.y(), p.z(), p.w())?),
-        None => Ok(String::from_str(alloc, "none")?),
+// The hit that must be there, from the origin.
+fn hit(d: &str, h: &str) -> Option<Hit> {
+    asked("0 0 0 1", d, h)?
+}
+
+fn has_numbers(p: &Hit, wanted: &str) -> Option<bool> {
+    let [x, y, z, w] = numbers(wanted)?;
+    Some(
+        p.x() == i128::from(x)
+            && p.y() == i128::from(y)
+            && p.z() == i128::from(z)
+            && p.w() == i128::from(w),
+    )
+}
+
+fn is_hit(d: &str, h: &str, wanted: &str) -> bool {
+    match asked("0 0 0 1", d, h) {
+        Some(Some(p)) => has_numbers(&p, wanted) == Some(true),
+        Some(None) => wanted == "none",
+        None => false,
     }
 }
 
-fn order_text(alloc: Global, p: &Hit, q: &Hit) -> Result<String, Fail> {
-    Ok(format!(in alloc; "{:?}", hit_order(p, q))?)
+// The order of the hits with two planes.
+fn order_of(d: &str, planes: &str) -> Option<Ordering> {
+    let (g, h) = parted(planes, ", ");
+    Some(hit_order(&hit(d, g)?, &hit(d, h)?))
 }
 
-fn answer(alloc: Global, question: &str) -> Result<String, Fail> {
-    let (verb, things) = question.split_once(' ').ok_or("a question")?;
-    let things: Vec<&str> = things.split(", ").collect(alloc)?;
-    match (verb, things.as_slice()) {
-        ("hit", [d, h]) => hit_text(alloc, d, h),
-        ("order", [d, g, h]) => {
-            let p = hit(alloc, d, g)?.ok_or("no hit")?;
-            let q = hit(alloc, d, h)?.ok_or("no hit")?;
-            order_text(alloc, &p, &q)
-        }
-        ("order_from_start", [d, h]) => {
-            let p = hit(alloc, d, h)?.ok_or("no hit")?;
-            order_text(alloc, &p, &hit_at(&point(alloc, "0 0 0 1")?))
-        }
-        _ => Err("a question about rays".into()),
-    }
+// The order of a hit and the origin.
+fn order_from_start(d: &str, h: &str) -> Option<Ordering> {
+    Some(hit_order(&hit(d, h)?, &hit_at(&point("0 0 0 1")?)))
 }
 
-fn check_rays(rt: &impl Abort, alloc: Global) -> Result<(), Fail> {
-    for row in RAYS.split('\n') {
-        let (question, wanted) = row.split_once(" => ").ok_or("a row")?;
-        let given = answer(alloc, question)?;
-        assert_eq!(rt; given.as_str(), wanted, "{question}");
+fn holds(row: &str) -> bool {
+    let (question, wanted) = parted(row, " => ");
+    let (verb, things) = parted(question, " ");
+    let (d, planes) = parted(things, ", ");
+    match verb {
+        "hit" => is_hit(d, planes, wanted),
+        "order" => is_order(order_of(d, planes), wanted),
+        _ => is_order(order_from_start(d, planes), wanted),
     }
-    Ok(())
 }
 
 #[test]
-fn rays_cross_planes(rt: HostRuntime) -> Result<(), Fail> {
-    check_rays(&rt, rt.alloc())
+fn rays_cross_planes(rt: HostRuntime) {
+    for row in RAYS.split('\n') {
+        check(&rt, holds(row), row);
+    }
 }
 
 // The hit of the upward ray from the point with the first plane.
-fn first_hit(alloc: Global) -> Result<Hit, Fail> {
-    let hit = hit_from(alloc, START, "up", FIRST)?.ok_or("no hit")?;
-    Ok(hit)
+fn first_hit() -> Option<Hit> {
+    asked(START, "up", FIRST)?
 }
 
 // The hit from there, in this direction, with this plane.
-fn next_hit(alloc: Global, d: &Dir, h: &str) -> Result<Option<FarHit>, Fail> {
-    Ok(far(&first_hit(alloc)?, d, &plane(alloc, h)?))
+fn next_hit(d: &Dir, h: &str) -> Option<FarHit> {
+    far(&first_hit()?, d, &plane(h)?)
 }
 
-fn next_hit_ahead(alloc: Global, h: &str) -> Result<FarHit, Fail> {
-    let hit = next_hit(alloc, &way(alloc, "2048 2048 2047")?, h)?.ok_or("no hit")?;
-    Ok(hit)
+fn next_hit_ahead(h: &str) -> Option<FarHit> {
+    next_hit(&way("2048 2048 2047")?, h)
 }
 
-// Whether the second plane is hit in exactly one of a direction and its opposite.
-fn is_hit_once(alloc: Global, d: &str) -> Result<bool, Fail> {
-    let d = way(alloc, d)?;
-    let ahead = next_hit(alloc, &d, SECOND)?.is_some();
-    Ok(ahead != next_hit(alloc, &d.back(), SECOND)?.is_some())
+// Whether the plane is hit in exactly one of the direction and its opposite.
+fn is_hit_once(d: &Dir, h: &str) -> bool {
+    next_hit(d, h).is_some() != next_hit(&d.back(), h).is_some()
+}
+
+fn is_hit_once_along(d: &str) -> Option<bool> {
+    Some(is_hit_once(&way(d)?, SECOND))
 }
 
 // Whether the first hit is at exactly this part of its ray.
-fn first_hit_is_at(alloc: Global, num: i128, den: i128) -> Result<bool, Fail> {
-    let q = first_hit(alloc)?;
-    Ok(q.num().checked_mul(den) == q.den().checked_mul(num))
+fn is_first_hit_at(num: i128, den: i128) -> Option<bool> {
+    let q = first_hit()?;
+    Some(q.num().checked_mul(den) == q.den().checked_mul(num))
 }
 
-fn next_hit_is_at(alloc: Global, num: i128, den: i128) -> Result<bool, Fail> {
-    let r = next_hit_ahead(alloc, SECOND)?;
-    Ok(r.num().checked_mul(den) == r.den().checked_mul(num))
+fn is_next_hit_at(num: i128, den: i128) -> Option<bool> {
+    let r = next_hit_ahead(SECOND)?;
+    Some(r.num().checked_mul(den) == r.den().checked_mul(num))
 }
 
-fn next_hit_is_positive(alloc: Global) -> Result<bool, Fail> {
-    let r = next_hit_ahead(alloc, SECOND)?;
-    Ok(r.x() > 0 && r.y() > 0 && r.z() > 0 && r.w() > 0)
+fn is_next_hit_positive() -> Option<bool> {
+    let r = next_hit_ahead(SECOND)?;
+    Some(r.x() > 0 && r.y() > 0 && r.z() > 0 && r.w() > 0)
 }
 
-fn first_side(alloc: Global, h: &str) -> Result<Sign, Fail> {
-    Ok(hit_side(&plane(alloc, h)?, &first_hit(alloc)?))
+fn first_side(h: &str) -> Option<Sign> {
+    Some(hit_side(&plane(h)?, &first_hit()?))
 }
 
-fn next_side(alloc: Global, h: &str) -> Result<Sign, Fail> {
-    Ok(far_side(&plane(alloc, h)?, &next_hit_ahead(alloc, SECOND)?))
+fn next_side(h: &str) -> Option<Sign> {
+    Some(far_side(&plane(h)?, &next_hit_ahead(SECOND)?))
 }
 
 // How the hit with this plane stands to that with the second one.
-fn next_order(alloc: Global, h: &str) -> Result<Ordering, Fail> {
-    let (p, q) = (next_hit_ahead(alloc, h)?, next_hit_ahead(alloc, SECOND)?);
-    Ok(far_order(&p, &q))
+fn next_order(h: &str) -> Option<Ordering> {
+    Some(far_order(&next_hit_ahead(h)?, &next_hit_ahead(SECOND)?))
+}
+
+fn are_sides_exact() -> bool {
+    first_side(FIRST) == Some(Sign::Zero)
+        && next_side(SECOND) == Some(Sign::Zero)
+        && next_side("2048 2048 2048 4194303") == Some(Sign::Plus)
+        && next_side(FIRST) == Some(Sign::Plus)
+}
+
+fn are_orders_exact() -> bool {
+    next_order(THIRD) == Some(Ordering::Less) && next_order(SECOND) == Some(Ordering::Equal)
+}
+
+fn are_steps_exact() -> bool {
+    is_first_hit_at(432345512683765761, 137455732736) == Some(true)
+        && is_next_hit_at(178270605929203793059916021760, 4192256) == Some(true)
 }
 
 // The numbers give, among all signs of the largest ones, the largest form at a far hit.
 #[test]
-fn far_hits_are_exact(rt: HostRuntime) -> Result<(), Fail> {
-    let alloc = rt.alloc();
-    assert!(rt; first_hit_is_at(alloc, 432345512683765761, 137455732736)?);
-    assert_eq!(rt; first_side(alloc, FIRST)?, Sign::Zero);
-    assert!(rt; is_hit_once(alloc, "-2048 -2048 2047")?);
-    assert!(rt; next_hit_is_at(alloc, 178270605929203793059916021760, 4192256)?);
-    assert_eq!(rt; next_side(alloc, SECOND)?, Sign::Zero);
-    assert_eq!(rt; next_side(alloc, "2048 2048 2048 4194303")?, Sign::Plus);
-    assert_eq!(rt; next_side(alloc, FIRST)?, Sign::Plus);
-    assert!(rt; next_hit_is_positive(alloc)?);
-    assert_eq!(rt; next_order(alloc, THIRD)?, Ordering::Less);
-    assert_eq!(rt; next_order(alloc, SECOND)?, Ordering::Equal);
-    Ok(())
+fn far_hits_are_exact(rt: HostRuntime) {
+    check(&rt, are_steps_exact(), "how far the hits are");
+    check(&rt, are_sides_exact(), "the sides of the hits");
+    check(&rt, are_orders_exact(), "the order of the hits");
+    check(
+        &rt,
+        is_hit_once_along("-2048 -2048 2047") == Some(true),
+        "one hit",
+    );
+    check(
+        &rt,
+        is_next_hit_positive() == Some(true),
+        "positive numbers",
+    );
 }

@@ -1,15 +1,14 @@
 //! What maps of three planes combined say of the directions of a small lattice.
 
-ghost use Rattle.std.specs.Prelude.{◌<◌, IfOk};
+ghost use Rattle.std.specs.Prelude.{◌<◌, IfSome};
 ghost use Rattle.nef_smap.specs.Maps.{IsLeastMap};
 
-use crate::made::{combined, half};
+use crate::made::{half, with};
 use crate::words::normal;
 use nef_geo::{Dir, Label, Sign, dot};
 use nef_smap::{SphereMap, label_at};
 use nef_star::Op;
 use std::alloc::Global;
-use std::test::Fail;
 
 const NORMALS: &str =
     "0 0 1, 0 1 -1, 0 1 0, 0 1 1, 1 -1 -1, 1 -1 0, 1 -1 1, 1 0 -1, 1 0 0, 1 0 1, 1 1 -1, \
@@ -20,9 +19,8 @@ const LATTICE: &str =
     0 -1 0, 0 -1 1, 0 0 -1, 0 0 1, 0 1 -1, 0 1 0, 0 1 1, 1 -1 -1, 1 -1 0, 1 -1 1, 1 0 -1, 1 0 0, 1 0 1, 1 1 -1, \
     1 1 0, 1 1 1";
 
-fn normal_of(k: usize) -> Result<&'static str, Fail> {
-    let normal = NORMALS.split(", ").nth(k % 13).ok_or("a normal")?;
-    Ok(normal)
+fn normal_of(k: usize) -> Option<&'static str> {
+    NORMALS.split(", ").nth(k % 13)
 }
 
 fn op_of(k: usize) -> Op {
@@ -42,42 +40,60 @@ struct Half {
 }
 
 // The label of a direction in the half-space.
-fn plain(alloc: Global, given: &Half, d: &Dir) -> Result<Label, Fail> {
-    match dot(&normal(alloc, normal_of(given.normal)?)?, d) {
-        Sign::Minus => Ok(Label::In),
-        Sign::Zero if given.closed => Ok(Label::In),
-        _ => Ok(Label::Not),
+fn plain(given: &Half, d: &Dir) -> Option<Label> {
+    match dot(&normal(normal_of(given.normal)?)?, d) {
+        Sign::Minus => Some(Label::In),
+        Sign::Zero if given.closed => Some(Label::In),
+        _ => Some(Label::Not),
     }
 }
 
-// Whether the map has in each direction of the lattice the label that the three half-spaces' own labels give.
-fn agrees(alloc: Global, map: &SphereMap, halves: &[Half; 3], ops: (Op, Op)) -> Result<bool, Fail>
+// The label that the three half-spaces' own labels give.
+fn plain_label(halves: &[Half; 3], ops: (Op, Op), d: &Dir) -> Option<Label> {
+    let [a, b, c] = halves;
+    let (a, b, c) = (plain(a, d)?, plain(b, d)?, plain(c, d)?);
+    Some(ops.1.label(ops.0.label(a, b), c))
+}
+
+// Whether the map has this label in the direction.
+fn agrees_at(map: &SphereMap, halves: &[Half; 3], ops: (Op, Op), d: &str) -> Option<bool>
     requires map { IsLeastMap map.now }
 {
-    let [a, b, c] = halves;
-    for d in LATTICE.split(", ") {
-        let d = normal(alloc, d)?;
-        let two = ops.0.label(plain(alloc, a, &d)?, plain(alloc, b, &d)?);
-        if label_at(map, &d) != ops.1.label(two, plain(alloc, c, &d)?) {
-            return Ok(false);
-        }
-    }
-    Ok(true)
+    let d = normal(d)?;
+    Some(label_at(map, &d) == plain_label(halves, ops, &d)?)
 }
 
-fn half_of(alloc: Global, given: &Half) -> Result<SphereMap, Fail>
-    ensures least { IfOk result IsLeastMap }
+// Whether it has it in each direction of the lattice.
+fn agrees(map: &SphereMap, halves: &[Half; 3], ops: (Op, Op)) -> bool
+    requires map { IsLeastMap map.now }
+{
+    for d in LATTICE.split(", ") {
+        if agrees_at(map, halves, ops, d) != Some(true) {
+            return false;
+        }
+    }
+    true
+}
+
+fn half_of(alloc: Global, given: &Half) -> Option<SphereMap>
+    ensures least { IfSome result IsLeastMap }
 {
     half(alloc, normal_of(given.normal)?, given.closed)
 }
 
-fn made_of(alloc: Global, halves: &[Half; 3], ops: (Op, Op)) -> Result<SphereMap, Fail>
-    ensures least { IfOk result IsLeastMap }
+fn two_of(alloc: Global, a: &Half, b: &Half, op: Op) -> Option<SphereMap>
+    ensures least { IfSome result IsLeastMap }
+{
+    let first = half_of(alloc, a)?;
+    with(alloc, &first, half_of(alloc, b), op)
+}
+
+fn made_of(alloc: Global, halves: &[Half; 3], ops: (Op, Op)) -> Option<SphereMap>
+    ensures least { IfSome result IsLeastMap }
 {
     let [a, b, c] = halves;
-    let (a, b) = (half_of(alloc, a)?, half_of(alloc, b)?);
-    let two = combined(alloc, &a, &b, ops.0)?;
-    combined(alloc, &two, &half_of(alloc, c)?, ops.1)
+    let two = two_of(alloc, a, b, ops.0)?;
+    with(alloc, &two, half_of(alloc, c), ops.1)
 }
 
 fn three_halves(k: usize) -> [Half; 3]
@@ -99,14 +115,21 @@ fn three_halves(k: usize) -> [Half; 3]
     ]
 }
 
-#[test]
-fn hundred_maps(rt: HostRuntime) -> Result<(), Fail> {
-    let alloc = rt.alloc();
-    for k in 0..100 {
-        let halves = three_halves(k);
-        let ops = (op_of(k), op_of(k / 4));
-        let map = made_of(alloc, &halves, ops)?;
-        assert!(rt; agrees(alloc, &map, &halves, ops)?, "{k}");
+// Whether the map of this number agrees with the labels of its half-spaces.
+fn holds(alloc: Global, k: usize) -> bool
+    requires small { k < 100 }
+{
+    let halves = three_halves(k);
+    let ops = (op_of(k), op_of(k / 4));
+    match made_of(alloc, &halves, ops) {
+        Some(map) => agrees(&map, &halves, ops),
+        None => false,
     }
-    Ok(())
+}
+
+#[test]
+fn hundred_maps(rt: HostRuntime) {
+    for k in 0..100 {
+        assert!(rt; holds(rt.alloc(), k), "{k}");
+    }
 }

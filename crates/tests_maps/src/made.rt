@@ -1,38 +1,47 @@
 //! Sphere maps made by steps in words.
 
-ghost use Rattle.std.specs.Prelude.{IfOk};
+ghost use Rattle.std.specs.Prelude.{◌≡◌, IsTrue, IfOk, IfSome};
 ghost use Rattle.nef_space.specs.Limits.{normal_limit};
 ghost use Rattle.nef_space.specs.Vectors.{IsAtMost};
 ghost use Rattle.nef_geo.specs.Shapes.{vector_of};
 ghost use Rattle.nef_smap.specs.Maps.{IsLeastMap};
 
-use crate::words::{is_normal, label, normal, op};
+use crate::words::{label, normal, op, parted};
 use nef_geo::Label;
 use nef_smap::{SLoop, SphereMap, face_map, plane_map};
-use nef_star::Op;
+use nef_star::{Op, OutOfMemory};
 use nef_stopo::{boundary, closure, combine, complement, exchanged, interior};
 use std::alloc::Global;
-use std::test::Fail;
 
-fn plane_of(alloc: Global, sloop: SLoop) -> Result<SphereMap, Fail>
-    requires small { IsAtMost normal_limit (vector_of sloop.normal) }
-    ensures least { IfOk result IsLeastMap }
+// Whether a side has another label than the plane.
+fn differs(sloop: &SLoop) -> bool
+    ensures differs { IsTrue result → sloop.now.pos ≡ sloop.now.mark → sloop.now.neg ≡ sloop.now.mark → ⊥ }
 {
-    let flat = sloop.pos == sloop.mark && sloop.neg == sloop.mark;
-    let upright = is_normal(&sloop.normal);
-    if flat || !upright {
-        return Err("a plane".into());
+    if sloop.pos == sloop.mark {
+        sloop.neg != sloop.mark
+    } else {
+        true
     }
-    Ok(plane_map(alloc, sloop))
+}
+
+fn plane_of(alloc: Global, sloop: SLoop) -> Option<SphereMap>
+    requires small { IsAtMost normal_limit (vector_of sloop.normal) }
+    ensures least { IfSome result IsLeastMap }
+{
+    if sloop.normal.is_normal() && differs(&sloop) {
+        Some(plane_map(alloc, sloop))
+    } else {
+        None
+    }
 }
 
 // The map of a plane through the point: its labels are those on it, above it and below it.
-fn plane(alloc: Global, text: &str, labels: &str) -> Result<SphereMap, Fail>
-    ensures least { IfOk result IsLeastMap }
+fn plane(alloc: Global, text: &str, labels: &str) -> Option<SphereMap>
+    ensures least { IfSome result IsLeastMap }
 {
-    let normal = normal(alloc, text)?;
-    let (mark, sides) = labels.split_once(' ').ok_or("three labels")?;
-    let (pos, neg) = sides.split_once(' ').ok_or("three labels")?;
+    let normal = normal(text)?;
+    let (mark, sides) = parted(labels, " ");
+    let (pos, neg) = parted(sides, " ");
     let sloop = SLoop {
         normal,
         mark: label(mark)?,
@@ -43,81 +52,100 @@ fn plane(alloc: Global, text: &str, labels: &str) -> Result<SphereMap, Fail>
 }
 
 /// The half-space below a plane, with the plane or without it.
-pub(crate) fn half(alloc: Global, normal: &str, closed: bool) -> Result<SphereMap, Fail>
-    ensures least { IfOk result IsLeastMap }
+pub(crate) fn half(alloc: Global, normal: &str, closed: bool) -> Option<SphereMap>
+    ensures least { IfSome result IsLeastMap }
 {
     plane(alloc, normal, if closed { "i n i" } else { "n n i" })
 }
 
 // The closed half-space below or above a plane.
-fn closed_half(alloc: Global, side: &str, normal: &str) -> Result<SphereMap, Fail>
-    ensures least { IfOk result IsLeastMap }
+fn closed_half(alloc: Global, side: &str, normal: &str) -> Option<SphereMap>
+    ensures least { IfSome result IsLeastMap }
 {
     match side {
         "below" => plane(alloc, normal, "i n i"),
         "above" => plane(alloc, normal, "i i n"),
-        _ => Err("a side".into()),
+        _ => None,
     }
 }
 
 // One label for the point, and one for all directions.
-fn face(alloc: Global, labels: &str) -> Result<SphereMap, Fail>
-    ensures least { IfOk result IsLeastMap }
+fn face(alloc: Global, labels: &str) -> Option<SphereMap>
+    ensures least { IfSome result IsLeastMap }
 {
-    let (mark, ground) = labels.split_once(' ').ok_or("two labels")?;
-    Ok(face_map(alloc, label(mark)?, label(ground)?))
+    let (mark, side) = parted(labels, " ");
+    let (mark, side) = (label(mark)?, label(side)?);
+    Some(face_map(alloc, mark, side))
+}
+
+fn kept(map: Result<SphereMap, OutOfMemory>) -> Option<SphereMap>
+    requires map { IfOk map IsLeastMap }
+    ensures least { IfSome result IsLeastMap }
+{
+    match map {
+        Ok(map) => Some(map),
+        Err(_) => None,
+    }
 }
 
 /// The map of the operation on what two maps show.
-pub(crate) fn combined(
-    alloc: Global,
-    a: &SphereMap,
-    b: &SphereMap,
-    op: Op,
-) -> Result<SphereMap, Fail>
+pub(crate) fn combined(alloc: Global, a: &SphereMap, b: &SphereMap, op: Op) -> Option<SphereMap>
     requires first { IsLeastMap a.now }
     requires second { IsLeastMap b.now }
-    ensures least { IfOk result IsLeastMap }
+    ensures least { IfSome result IsLeastMap }
 {
-    Ok(combine(alloc, a, b, op)?)
+    kept(combine(alloc, a, b, op))
+}
+
+/// The same with a map that may not have been made.
+pub(crate) fn with(alloc: Global, a: &SphereMap, b: Option<SphereMap>, op: Op) -> Option<SphereMap>
+    requires first { IsLeastMap a.now }
+    requires second { IfSome b IsLeastMap }
+    ensures least { IfSome result IsLeastMap }
+{
+    let b = b?;
+    combined(alloc, a, &b, op)
 }
 
 // A plane through the point: what is in the closed half-spaces on both sides.
-fn wall(alloc: Global, normal: &str) -> Result<SphereMap, Fail>
-    ensures least { IfOk result IsLeastMap }
+fn wall(alloc: Global, normal: &str) -> Option<SphereMap>
+    ensures least { IfSome result IsLeastMap }
 {
     let below = closed_half(alloc, "below", normal)?;
-    let above = closed_half(alloc, "above", normal)?;
-    combined(alloc, &below, &above, Op::And)
+    with(alloc, &below, closed_half(alloc, "above", normal), Op::And)
 }
 
 // A line through the point, in two planes.
-fn line(alloc: Global, normals: &str) -> Result<SphereMap, Fail>
-    ensures least { IfOk result IsLeastMap }
+fn line(alloc: Global, normals: &str) -> Option<SphereMap>
+    ensures least { IfSome result IsLeastMap }
 {
-    let (first, second) = normals.split_once(", ").ok_or("two normals")?;
-    let (a, b) = (wall(alloc, first)?, wall(alloc, second)?);
-    combined(alloc, &a, &b, Op::And)
+    let (first, second) = parted(normals, ", ");
+    let wall_of_first = wall(alloc, first)?;
+    with(alloc, &wall_of_first, wall(alloc, second), Op::And)
 }
 
 // The part of a line that is in a closed half-space.
-fn ray(alloc: Global, words: &str) -> Result<SphereMap, Fail>
-    ensures least { IfOk result IsLeastMap }
+fn ray(alloc: Global, words: &str) -> Option<SphereMap>
+    ensures least { IfSome result IsLeastMap }
 {
-    let (normals, side) = words.split_once("; ").ok_or("a line and a half")?;
-    let (side, normal) = side.split_once(' ').ok_or("a side and a normal")?;
-    let (line, half) = (line(alloc, normals)?, closed_half(alloc, side, normal)?);
-    combined(alloc, &line, &half, Op::And)
+    let (normals, half) = parted(words, "; ");
+    let (side, normal) = parted(half, " ");
+    let line = line(alloc, normals)?;
+    with(alloc, &line, closed_half(alloc, side, normal), Op::And)
 }
 
-fn named(alloc: Global, name: &str, words: &str) -> Result<SphereMap, Fail>
-    ensures least { IfOk result IsLeastMap }
+fn labelled_plane(alloc: Global, words: &str) -> Option<SphereMap>
+    ensures least { IfSome result IsLeastMap }
+{
+    let (normal, labels) = parted(words, "; ");
+    plane(alloc, normal, labels)
+}
+
+fn named(alloc: Global, name: &str, words: &str) -> Option<SphereMap>
+    ensures least { IfSome result IsLeastMap }
 {
     match name {
-        "plane" => {
-            let (normal, labels) = words.split_once("; ").ok_or("a normal and labels")?;
-            plane(alloc, normal, labels)
-        }
+        "plane" => labelled_plane(alloc, words),
         "face" => face(alloc, words),
         "wall" => wall(alloc, words),
         "line" => line(alloc, words),
@@ -126,43 +154,60 @@ fn named(alloc: Global, name: &str, words: &str) -> Result<SphereMap, Fail>
     }
 }
 
-fn changed(alloc: Global, map: SphereMap, word: &str) -> Result<SphereMap, Fail>
-    requires map { IsLeastMap map }
-    ensures least { IfOk result IsLeastMap }
+fn changed(alloc: Global, map: &SphereMap, word: &str) -> Option<SphereMap>
+    requires map { IsLeastMap map.now }
+    ensures least { IfSome result IsLeastMap }
 {
     match word {
-        "interior" => Ok(interior(alloc, &map)?),
-        "closure" => Ok(closure(alloc, &map)?),
-        "boundary" => Ok(boundary(alloc, &map)?),
-        "complement" => Ok(complement(alloc, &map)?),
-        "exchanged" => Ok(exchanged(map)),
-        _ => Err("a change".into()),
+        "interior" => kept(interior(alloc, map)),
+        "closure" => kept(closure(alloc, map)),
+        "boundary" => kept(boundary(alloc, map)),
+        "complement" => kept(complement(alloc, map)),
+        _ => None,
+    }
+}
+
+// A named map, or the map combined with one.
+fn next(alloc: Global, map: &SphereMap, words: &str, rest: &str) -> Option<SphereMap>
+    requires map { IsLeastMap map.now }
+    ensures least { IfSome result IsLeastMap }
+{
+    match words.split_once(' ') {
+        Some((how, name)) => with(alloc, map, named(alloc, name, rest), op(how)?),
+        None => named(alloc, words, rest),
     }
 }
 
 // The map after a step: a named one, the map combined with that, or what becomes of it.
-fn after(alloc: Global, map: SphereMap, step: &str) -> Result<SphereMap, Fail>
-    requires map { IsLeastMap map }
-    ensures least { IfOk result IsLeastMap }
+fn after(alloc: Global, map: &SphereMap, step: &str) -> Option<SphereMap>
+    requires map { IsLeastMap map.now }
+    ensures least { IfSome result IsLeastMap }
 {
-    let Some((words, rest)) = step.split_once(": ") else {
-        return changed(alloc, map, step);
-    };
-    let Some((how, name)) = words.split_once(' ') else {
-        return named(alloc, words, rest);
-    };
-    let op = op(how).ok_or("an operation")?;
-    let other = named(alloc, name, rest)?;
-    combined(alloc, &map, &other, op)
+    match step.split_once(": ") {
+        Some((words, rest)) => next(alloc, map, words, rest),
+        None => changed(alloc, map, step),
+    }
+}
+
+// The same of a map that is let go, so that a loop over steps owns none where it returns early.
+fn stepped(alloc: Global, map: SphereMap, step: &str) -> Option<SphereMap>
+    requires map { IsLeastMap map }
+    ensures least { IfSome result IsLeastMap }
+{
+    if step == "exchanged" {
+        Some(exchanged(map))
+    } else {
+        after(alloc, &map, step)
+    }
 }
 
 /// The map that the steps make.
-pub(crate) fn made(alloc: Global, steps: &str) -> Result<SphereMap, Fail>
-    ensures least { IfOk result IsLeastMap }
+pub(crate) fn made(alloc: Global, steps: &str) -> Option<SphereMap>
+    ensures least { IfSome result IsLeastMap }
 {
     let mut map = face_map(alloc, Label::Not, Label::Not);
     for step in steps.split(" / ") {
-        map = after(alloc, map, step)?;
+        map = stepped(alloc, map, step)?;
     }
-    Ok(map)
+    Some(map)
 }

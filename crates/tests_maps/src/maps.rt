@@ -1,17 +1,20 @@
 //! Maps made from planes by overlaying and combining, by interior, closure, boundary and complement; and where directions
 //! lie on them.
 
+ghost use Rattle.nef_space.specs.Limits.{normal_limit};
+ghost use Rattle.nef_space.specs.Vectors.{IsAtMost};
+ghost use Rattle.nef_geo.specs.Shapes.{vector_of};
 ghost use Rattle.nef_smap.specs.Maps.{IsLeastMap};
 
 use crate::made::{combined, made};
-use crate::texts::{map_text, numbers_text, raw_text, star_text};
-use crate::words::{letter, normal, op};
+use crate::texts::{is_text, map_text, numbers_text, raw_text, star_text};
+use crate::words::{check, letter, normal, op, parted};
 use nef_geo::Dir;
 use nef_smap::{RawStars, SPlace, SphereMap, at, label_at, sfaces, sides, star_at};
 use nef_sover::overlay;
-use std::alloc::Global;
+use nef_star::Op;
+use std::alloc::{AllocError, Global};
 use std::process::Abort;
-use std::test::Fail;
 
 // Steps that make a map, and questions about it; or two maps with `||` between them, and questions about the raw stars
 // and the map of an operation on them. A step is a plane with its labels, which are those on it, above it and below it;
@@ -92,128 +95,215 @@ at -1 -1 -1 = face 1 n ; at -1 1 1 = face 1 n ; star 1 -1 0 = i 2 rays o n ; fac
 through 1 1 -1, 1 0 1 = item 0 ; through 1 1 -1, 1 0 0 = none ; through 0 0 1, 1 0 0 = none
 face: i n => sides = 1 ; at -1 2 3 = face 0 n ; faces = 0";
 
-fn first_star(alloc: Global, raw: &RawStars) -> Result<String, Fail> {
-    let star = raw.stars.as_slice().first().ok_or("a star")?;
-    star_text(alloc, star)
-}
-
-fn raw_answer(alloc: Global, verb: &str, raw: &RawStars) -> Result<String, Fail> {
-    match verb {
-        "raw" => raw_text(alloc, raw),
-        "first" => first_star(alloc, raw),
-        _ => Err("a question about raw stars".into()),
+fn is_first_star(alloc: Global, raw: &RawStars, wanted: &str) -> bool {
+    match raw.stars.as_slice().first() {
+        Some(star) => is_text(star_text(alloc, star), wanted),
+        None => false,
     }
 }
 
-fn place_text(alloc: Global, map: &SphereMap, d: &Dir) -> Result<String, Fail>
+fn fits_raw(alloc: Global, raw: &RawStars, verb: &str, wanted: &str) -> bool {
+    match verb {
+        "raw" => is_text(raw_text(alloc, raw), wanted),
+        "first" => is_first_star(alloc, raw, wanted),
+        _ => false,
+    }
+}
+
+fn place_text(alloc: Global, map: &SphereMap, d: &Dir) -> Result<String, AllocError>
     requires map { IsLeastMap map.now }
 {
     let label = letter(label_at(map, d));
-    let (word, number) = match at(map, d) {
-        SPlace::SVertex(k) => ("svertex", k),
-        SPlace::Arc(k) => ("arc", k),
-        SPlace::Loop => return Ok(format!(in alloc; "loop {label}")?),
-        SPlace::Face(k) => ("face", k),
-    };
-    Ok(format!(in alloc; "{word} {number} {label}")?)
-}
-
-fn through_text(alloc: Global, map: &SphereMap, things: &str) -> Result<String, Fail>
-    requires map { IsLeastMap map.now }
-{
-    let (first, second) = things.split_once(", ").ok_or("a normal and a direction")?;
-    match map.item_through(&normal(alloc, first)?, &normal(alloc, second)?) {
-        Some(number) => Ok(format!(in alloc; "item {number}")?),
-        None => Ok(String::from_str(alloc, "none")?),
+    match at(map, d) {
+        SPlace::SVertex(k) => format!(in alloc; "svertex {k} {label}"),
+        SPlace::Arc(k) => format!(in alloc; "arc {k} {label}"),
+        SPlace::Loop => format!(in alloc; "loop {label}"),
+        SPlace::Face(k) => format!(in alloc; "face {k} {label}"),
     }
 }
 
-fn faces_text(alloc: Global, map: &SphereMap) -> Result<String, Fail>
+fn is_place(alloc: Global, map: &SphereMap, d: &str, wanted: &str) -> bool
+    requires map { IsLeastMap map.now }
+{
+    match normal(d) {
+        Some(d) => is_text(place_text(alloc, map, &d), wanted),
+        None => false,
+    }
+}
+
+fn item_through(map: &SphereMap, things: &str) -> Option<Option<usize>>
+    requires map { IsLeastMap map.now }
+{
+    let (first, second) = parted(things, ", ");
+    Some(map.item_through(&normal(first)?, &normal(second)?))
+}
+
+fn is_item_through(map: &SphereMap, things: &str, wanted: &str) -> bool
+    requires map { IsLeastMap map.now }
+{
+    match item_through(map, things) {
+        Some(Some(number)) => parted(wanted, " ").1.parse() == Ok(number),
+        Some(None) => wanted == "none",
+        None => false,
+    }
+}
+
+fn faces_text(alloc: Global, map: &SphereMap) -> Result<String, AllocError>
     requires map { IsLeastMap map.now }
 {
     let faces = sfaces(alloc, map)?;
     numbers_text(alloc, faces.as_slice())
 }
 
-fn star_around(alloc: Global, map: &SphereMap, d: &str) -> Result<String, Fail>
+fn star_around(alloc: Global, map: &SphereMap, d: &Dir) -> Result<String, AllocError>
     requires map { IsLeastMap map.now }
+    requires small { IsAtMost normal_limit (vector_of d.now) }
 {
-    let star = star_at(alloc, map, &normal(alloc, d)?)?;
+    let star = star_at(alloc, map, d)?;
     star_text(alloc, &star)
 }
 
-// The answer to a question about a map.
-fn of_one(alloc: Global, map: &SphereMap, question: &str) -> Result<String, Fail>
+fn is_star(alloc: Global, map: &SphereMap, d: &str, wanted: &str) -> bool
     requires map { IsLeastMap map.now }
 {
-    let (verb, words) = question.split_once(' ').unwrap_or((question, ""));
-    match verb {
-        "map" => map_text(alloc, map),
-        "faces" => faces_text(alloc, map),
-        "sides" => Ok(sides(map).to_string(alloc)?),
-        "at" => place_text(alloc, map, &normal(alloc, words)?),
-        "star" => star_around(alloc, map, words),
-        "through" => through_text(alloc, map, words),
-        _ => Err("a question about a map".into()),
+    match normal(d) {
+        Some(d) => is_text(star_around(alloc, map, &d), wanted),
+        None => false,
     }
 }
 
-// The answer to a question about an operation on two maps.
-fn of_two(alloc: Global, a: &SphereMap, b: &SphereMap, question: &str) -> Result<String, Fail>
+// Whether this is the answer to a question about a map.
+fn fits_one(alloc: Global, map: &SphereMap, question: &str, wanted: &str) -> bool
+    requires map { IsLeastMap map.now }
+{
+    let (verb, words) = parted(question, " ");
+    match verb {
+        "map" => is_text(map_text(alloc, map), wanted),
+        "faces" => is_text(faces_text(alloc, map), wanted),
+        "sides" => wanted.parse() == Ok(sides(map)),
+        "at" => is_place(alloc, map, words, wanted),
+        "star" => is_star(alloc, map, words, wanted),
+        "through" => is_item_through(map, words, wanted),
+        _ => false,
+    }
+}
+
+fn fits_combined(
+    alloc: Global,
+    a: &SphereMap,
+    b: &SphereMap,
+    op: Op,
+    verb: &str,
+    wanted: &str,
+) -> bool
     requires first { IsLeastMap a.now }
     requires second { IsLeastMap b.now }
 {
-    let (verb, how) = question.split_once(' ').ok_or("a question")?;
-    let op = op(how).ok_or("an operation")?;
-    match verb {
-        "map" | "faces" => {
-            let map = combined(alloc, a, b, op)?;
-            of_one(alloc, &map, verb)
-        }
-        _ => {
-            let raw = overlay(alloc, a, b, op)?;
-            raw_answer(alloc, verb, &raw)
-        }
+    match combined(alloc, a, b, op) {
+        Some(map) => fits_one(alloc, &map, verb, wanted),
+        None => false,
     }
 }
 
-// The answer about the map of the steps, or about those of two lists of steps.
-fn answer(alloc: Global, steps: &str, question: &str) -> Result<String, Fail> {
-    match steps.split_once(" || ") {
-        Some((left, right)) => {
-            let (a, b) = (made(alloc, left)?, made(alloc, right)?);
-            of_two(alloc, &a, &b, question)
-        }
-        None => {
-            let map = made(alloc, steps)?;
-            of_one(alloc, &map, question)
-        }
+fn fits_overlaid(
+    alloc: Global,
+    a: &SphereMap,
+    b: &SphereMap,
+    op: Op,
+    verb: &str,
+    wanted: &str,
+) -> bool
+    requires first { IsLeastMap a.now }
+    requires second { IsLeastMap b.now }
+{
+    match overlay(alloc, a, b, op) {
+        Ok(raw) => fits_raw(alloc, &raw, verb, wanted),
+        Err(_) => false,
     }
 }
 
-fn check_row(rt: &impl Abort, alloc: Global, row: &str) -> Result<(), Fail> {
-    let (steps, answers) = row.split_once(" => ").ok_or("a row")?;
+// Whether this is the answer to a question about an operation on two maps.
+fn fits_two(alloc: Global, a: &SphereMap, b: &SphereMap, question: &str, wanted: &str) -> bool
+    requires first { IsLeastMap a.now }
+    requires second { IsLeastMap b.now }
+{
+    let (verb, how) = parted(question, " ");
+    match op(how) {
+        Some(op) if verb == "raw" || verb == "first" => {
+            fits_overlaid(alloc, a, b, op, verb, wanted)
+        }
+        Some(op) => fits_combined(alloc, a, b, op, verb, wanted),
+        None => false,
+    }
+}
+
+fn all_fit_one(alloc: Global, map: &SphereMap, answers: &str) -> bool
+    requires map { IsLeastMap map.now }
+{
     for part in answers.split(" ; ") {
-        let (question, wanted) = part.split_once(" = ").ok_or("an answer")?;
-        let given = answer(alloc, steps, question)?;
-        assert_eq!(rt; given.as_str(), wanted, "{row}");
+        let (question, wanted) = parted(part, " = ");
+        if !fits_one(alloc, map, question, wanted) {
+            return false;
+        }
     }
-    Ok(())
+    true
 }
 
-fn check_rows(rt: &impl Abort, alloc: Global, table: &str) -> Result<(), Fail> {
-    for row in table.split('\n') {
-        check_row(rt, alloc, row)?;
+fn all_fit_two(alloc: Global, a: &SphereMap, b: &SphereMap, answers: &str) -> bool
+    requires first { IsLeastMap a.now }
+    requires second { IsLeastMap b.now }
+{
+    for part in answers.split(" ; ") {
+        let (question, wanted) = parted(part, " = ");
+        if !fits_two(alloc, a, b, question, wanted) {
+            return false;
+        }
     }
-    Ok(())
+    true
+}
+
+fn fits_with(alloc: Global, a: &SphereMap, steps: &str, answers: &str) -> bool
+    requires first { IsLeastMap a.now }
+{
+    match made(alloc, steps) {
+        Some(b) => all_fit_two(alloc, a, &b, answers),
+        None => false,
+    }
+}
+
+// About the map of the steps, or about those of two lists of steps.
+fn fits(alloc: Global, map: &SphereMap, steps: &str, answers: &str) -> bool
+    requires map { IsLeastMap map.now }
+{
+    if steps.is_empty() {
+        all_fit_one(alloc, map, answers)
+    } else {
+        fits_with(alloc, map, steps, answers)
+    }
+}
+
+fn holds(alloc: Global, row: &str) -> bool {
+    let (steps, answers) = parted(row, " => ");
+    let (first, second) = parted(steps, " || ");
+    match made(alloc, first) {
+        Some(map) => fits(alloc, &map, second, answers),
+        None => false,
+    }
+}
+
+fn check_rows(rt: &impl Abort, alloc: Global, table: &str) {
+    for row in table.split('\n') {
+        check(rt, holds(alloc, row), row);
+    }
 }
 
 #[test]
-fn maps(rt: HostRuntime) -> Result<(), Fail> {
-    check_rows(&rt, rt.alloc(), COMBINED)?;
-    check_rows(&rt, rt.alloc(), ARCS)?;
-    check_rows(&rt, rt.alloc(), BUILT)?;
-    check_rows(&rt, rt.alloc(), OVERLAID)?;
-    check_rows(&rt, rt.alloc(), TOPOLOGY)?;
-    check_rows(&rt, rt.alloc(), PLACES)
+fn maps(rt: HostRuntime) {
+    let alloc = rt.alloc();
+    check_rows(&rt, alloc, COMBINED);
+    check_rows(&rt, alloc, ARCS);
+    check_rows(&rt, alloc, BUILT);
+    check_rows(&rt, alloc, OVERLAID);
+    check_rows(&rt, alloc, TOPOLOGY);
+    check_rows(&rt, alloc, PLACES);
 }

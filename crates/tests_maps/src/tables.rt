@@ -1,15 +1,14 @@
 //! The rule's own examples.
 
-ghost use Rattle.std.specs.Prelude.{◌<◌, All, IfOk};
+ghost use Rattle.std.specs.Prelude.{◌<◌, All, IfSome};
 ghost use Rattle.nef_case.specs.Keys.{IsSign};
 
+use crate::words::{check, numbers, parted};
 use nef_case::{
     arc_closure, arc_interior, between, op_and, op_diff, op_or, op_xor, turn_compose, turn_inverse,
     turn_row,
 };
-use std::alloc::Global;
 use std::process::Abort;
-use std::test::Fail;
 
 // On the circle about (0, 0, 1): from (1, 0, 0) three quarters round to (0, -1, 0), half round to (-1, 0, 0), and the
 // whole way round to (1, 0, 0).
@@ -63,100 +62,116 @@ fn sign(word: &str) -> i8
     }
 }
 
-fn of_two(verb: &str, key: &[i8; 2]) -> Result<i8, Fail>
+fn of_two(verb: &str, key: &[i8; 2]) -> Option<i8>
     requires signs { All IsSign key.now }
 {
     match verb {
-        "and" => Ok(op_and(key)),
-        "or" => Ok(op_or(key)),
-        "diff" => Ok(op_diff(key)),
-        "xor" => Ok(op_xor(key)),
-        _ => Err("an operation".into()),
+        "and" => Some(op_and(key)),
+        "or" => Some(op_or(key)),
+        "diff" => Some(op_diff(key)),
+        "xor" => Some(op_xor(key)),
+        _ => None,
     }
 }
 
-fn of_three(verb: &str, key: &[i8; 3]) -> Result<i8, Fail>
+fn of_three(verb: &str, key: &[i8; 3]) -> Option<i8>
     requires signs { All IsSign key.now }
 {
     match verb {
-        "interior" => Ok(arc_interior(key)),
-        "closure" => Ok(arc_closure(key)),
-        _ => Err("a part of a set".into()),
+        "interior" => Some(arc_interior(key)),
+        "closure" => Some(arc_closure(key)),
+        _ => None,
     }
 }
 
-fn of_five(a: i8, b: i8, c: i8, d: i8, e: i8) -> i8
-    requires first { IsSign a }
-    requires second { IsSign b }
-    requires third { IsSign c }
-    requires fourth { IsSign d }
-    requires fifth { IsSign e }
-{
-    i8::from(between(&[a, b, c, d, e]))
+fn of_two_words(verb: &str, words: &str) -> Option<i8> {
+    let (a, b) = parted(words, " ");
+    of_two(verb, &[sign(a), sign(b)])
 }
 
-fn of_signs(verb: &str, signs: &[&str]) -> Result<i8, Fail> {
-    match signs {
-        [a, b] => of_two(verb, &[sign(a), sign(b)]),
-        [a, b, c] => of_three(verb, &[sign(a), sign(b), sign(c)]),
-        [a, b, c, d, e] => Ok(of_five(sign(a), sign(b), sign(c), sign(d), sign(e))),
-        _ => Err("two, three or five signs".into()),
-    }
+fn of_three_words(verb: &str, words: &str) -> Option<i8> {
+    let (a, rest) = parted(words, " ");
+    let (b, c) = parted(rest, " ");
+    of_three(verb, &[sign(a), sign(b), sign(c)])
 }
 
-fn turn(word: &str) -> Result<usize, Fail>
-    ensures below { IfOk result (λ k. k < 48) }
-{
-    let turn: usize = word.parse()?;
-    if turn < 48 {
-        Ok(turn)
-    } else {
-        Err("the number of a turn".into())
-    }
+fn of_five_words(words: &str) -> i8 {
+    let (a, rest) = parted(words, " ");
+    let (b, rest) = parted(rest, " ");
+    let (c, rest) = parted(rest, " ");
+    let (d, e) = parted(rest, " ");
+    i8::from(between(&[sign(a), sign(b), sign(c), sign(d), sign(e)]))
 }
 
-fn of_turns(verb: &str, turns: &[&str]) -> Result<usize, Fail> {
-    match (verb, turns) {
-        ("inverse", [k]) => Ok(turn_inverse(turn(k)?)),
-        ("compose", [j, k]) => Ok(turn_compose(turn(j)?, turn(k)?)),
-        ("back_and_forth", [k]) => {
-            let turn = turn(k)?;
-            Ok(turn_compose(turn_inverse(turn), turn))
-        }
-        _ => Err("a question about turns".into()),
-    }
-}
-
-fn row_text(alloc: Global, turn: &str) -> Result<String, Fail> {
-    let [x, y, z] = turn_row(self::turn(turn)?);
-    Ok(format!(in alloc; "{x} {y} {z}")?)
-}
-
-fn answer(alloc: Global, question: &str) -> Result<String, Fail> {
-    let (verb, words) = question.split_once(' ').ok_or("a question")?;
-    let list: Vec<&str> = words.split(' ').collect(alloc)?;
+// The answer to a question about signs.
+fn of_signs(verb: &str, words: &str) -> Option<i8> {
     match verb {
-        "row" => row_text(alloc, words),
+        "between" => Some(of_five_words(words)),
+        "interior" | "closure" => of_three_words(verb, words),
+        _ => of_two_words(verb, words),
+    }
+}
+
+fn turn(word: &str) -> Option<usize>
+    ensures below { IfSome result (λ k. k < 48) }
+{
+    let turn: usize = word.parse().ok()?;
+    if turn < 48 { Some(turn) } else { None }
+}
+
+fn composed(words: &str) -> Option<usize> {
+    let (j, k) = parted(words, " ");
+    Some(turn_compose(turn(j)?, turn(k)?))
+}
+
+fn back_and_forth(word: &str) -> Option<usize> {
+    let turn = turn(word)?;
+    Some(turn_compose(turn_inverse(turn), turn))
+}
+
+// The answer to a question about the numbers of turns.
+fn of_turns(verb: &str, words: &str) -> Option<usize> {
+    match verb {
+        "inverse" => Some(turn_inverse(turn(words)?)),
+        "compose" => composed(words),
+        _ => back_and_forth(words),
+    }
+}
+
+// Whether the turn has this row.
+fn has_row(word: &str, wanted: &str) -> Option<bool> {
+    let [x, y, z] = turn_row(turn(word)?);
+    Some(numbers(wanted)? == [i64::from(x), i64::from(y), i64::from(z), 0])
+}
+
+// Whether a question has the answer that stands behind it.
+fn has_answer(question: &str, wanted: &str) -> Option<bool> {
+    let (verb, words) = parted(question, " ");
+    match verb {
+        "row" => has_row(words, wanted),
         "inverse" | "compose" | "back_and_forth" => {
-            Ok(of_turns(verb, list.as_slice())?.to_string(alloc)?)
+            Some(of_turns(verb, words)? == wanted.parse().ok()?)
         }
-        _ => Ok(of_signs(verb, list.as_slice())?.to_string(alloc)?),
+        _ => Some(of_signs(verb, words)? == wanted.parse().ok()?),
     }
 }
 
-fn check_rows(rt: &impl Abort, alloc: Global, table: &str) -> Result<(), Fail> {
+// Whether the row, behind its name, holds.
+fn holds(row: &str) -> bool {
+    let (_, rest) = parted(row, ": ");
+    let (question, wanted) = parted(rest, " => ");
+    has_answer(question, wanted) == Some(true)
+}
+
+fn check_rows(rt: &impl Abort, table: &str) {
     for row in table.split('\n') {
-        let (name, rest) = row.split_once(": ").ok_or("a name")?;
-        let (question, wanted) = rest.split_once(" => ").ok_or("a row")?;
-        let given = answer(alloc, question)?;
-        assert_eq!(rt; given.as_str(), wanted, "{name}");
+        check(rt, holds(row), row);
     }
-    Ok(())
 }
 
 #[test]
-fn tables(rt: HostRuntime) -> Result<(), Fail> {
-    check_rows(&rt, rt.alloc(), PASSES)?;
-    check_rows(&rt, rt.alloc(), LABELS)?;
-    check_rows(&rt, rt.alloc(), TURNS)
+fn tables(rt: HostRuntime) {
+    check_rows(&rt, PASSES);
+    check_rows(&rt, LABELS);
+    check_rows(&rt, TURNS);
 }

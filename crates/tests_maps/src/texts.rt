@@ -1,123 +1,190 @@
-//! Sphere maps and raw stars as texts.
+//! Sphere maps and raw stars as texts. Each function adds to one text: a text of its own for each thing would cost more to
+//! prove.
 
 ghost use Rattle.nef_smap.specs.Maps.{IsLeastMap};
 
-use crate::words::{letter, maybe_letter, way_text};
-use nef_geo::Label;
+use crate::words::letter;
+use nef_geo::{Dir, Label};
 use nef_smap::{RawStars, SArc, SLoop, SVertex, SphereMap};
 use nef_spair::{Kind, kind};
 use nef_star::Star;
-use std::alloc::Global;
-use std::test::Fail;
+use std::alloc::{AllocError, Global};
 
-fn svertex_text(alloc: Global, v: &SVertex) -> Result<String, Fail> {
-    let (d, mark, around) = (
-        way_text(alloc, &v.dir)?,
-        letter(v.mark),
-        maybe_letter(v.around),
-    );
-    Ok(format!(in alloc; " / s {d} {mark} {around}")?)
+/// Whether the text could be made, and is this one, but for blanks before it.
+pub(crate) fn is_text(text: Result<String, AllocError>, wanted: &str) -> bool {
+    match text {
+        Ok(text) => text.as_str().trim_start() == wanted,
+        Err(_) => false,
+    }
 }
 
-fn arc_text(alloc: Global, a: &SArc) -> Result<String, Fail> {
-    let (normal, mark) = (way_text(alloc, &a.normal)?, letter(a.mark));
-    let (source, target) = (a.source, a.target);
-    let (pos, neg) = (letter(a.pos), letter(a.neg));
-    Ok(format!(in alloc; " / a {source} {target} {normal} {mark} {pos} {neg}")?)
+fn add_way(text: &mut String, d: &Dir) -> Result<(), AllocError> {
+    write!(text, " {} {} {}", d.x(), d.y(), d.z())
 }
 
-/// The sloop, if there is one.
-pub(crate) fn sloop_text(alloc: Global, sloop: &Option<SLoop>) -> Result<String, Fail> {
-    let Some(l) = sloop else {
-        return Ok(String::new(alloc));
-    };
-    let (normal, mark) = (way_text(alloc, &l.normal)?, letter(l.mark));
-    let (pos, neg) = (letter(l.pos), letter(l.neg));
-    Ok(format!(in alloc; " / l {normal} {mark} {pos} {neg}")?)
+fn add_label(text: &mut String, label: Label) -> Result<(), AllocError> {
+    text.push_str(" ")?;
+    text.push_str(letter(label))
 }
 
-fn kind_text(alloc: Global, map: &SphereMap) -> Result<String, Fail>
+fn add_labels(text: &mut String, labels: &[Label]) -> Result<(), AllocError> {
+    for label in labels {
+        add_label(text, *label)?;
+    }
+    Ok(())
+}
+
+// The letter, or a dash.
+fn add_maybe_label(text: &mut String, label: Option<Label>) -> Result<(), AllocError> {
+    match label {
+        Some(label) => add_label(text, label),
+        None => text.push_str(" -"),
+    }
+}
+
+fn add_svertex(text: &mut String, v: &SVertex) -> Result<(), AllocError> {
+    text.push_str(" / s")?;
+    add_way(text, &v.dir)?;
+    add_label(text, v.mark)?;
+    add_maybe_label(text, v.around)
+}
+
+fn add_arc(text: &mut String, a: &SArc) -> Result<(), AllocError> {
+    write!(text, " / a {} {}", a.source, a.target)?;
+    add_way(text, &a.normal)?;
+    add_labels(text, &[a.mark, a.pos, a.neg])
+}
+
+fn add_loop(text: &mut String, l: &SLoop) -> Result<(), AllocError> {
+    text.push_str(" / l")?;
+    add_way(text, &l.normal)?;
+    add_labels(text, &[l.mark, l.pos, l.neg])
+}
+
+fn add_maybe_loop(text: &mut String, sloop: &Option<SLoop>) -> Result<(), AllocError> {
+    match sloop {
+        Some(l) => add_loop(text, l),
+        None => Ok(()),
+    }
+}
+
+fn add_ground(text: &mut String, ground: Option<Label>) -> Result<(), AllocError> {
+    match ground {
+        Some(label) => {
+            text.push_str(" / g")?;
+            add_label(text, label)
+        }
+        None => Ok(()),
+    }
+}
+
+fn add_kind(text: &mut String, kind: &Kind) -> Result<(), AllocError> {
+    match kind {
+        Kind::Vertex => text.push_str(" / vertex"),
+        Kind::InVolume => text.push_str(" / volume"),
+        Kind::OnEdge(d) => {
+            text.push_str(" / edge")?;
+            add_way(text, d)
+        }
+        Kind::InFacet(d) => {
+            text.push_str(" / facet")?;
+            add_way(text, d)
+        }
+    }
+}
+
+fn add_svertices(text: &mut String, svertices: &[SVertex]) -> Result<(), AllocError> {
+    for v in svertices {
+        add_svertex(text, v)?;
+    }
+    Ok(())
+}
+
+fn add_arcs(text: &mut String, arcs: &[SArc]) -> Result<(), AllocError> {
+    for a in arcs {
+        add_arc(text, a)?;
+    }
+    Ok(())
+}
+
+// Svertices, arcs and the sloop.
+fn add_items(text: &mut String, map: &SphereMap) -> Result<(), AllocError> {
+    add_svertices(text, map.svertices.as_slice())?;
+    add_arcs(text, map.arcs.as_slice())?;
+    add_maybe_loop(text, &map.sloop)
+}
+
+/// Svertices, arcs and the sloop of the map.
+pub(crate) fn items_text(alloc: Global, map: &SphereMap) -> Result<String, AllocError> {
+    let mut text = String::new(alloc);
+    add_items(&mut text, map)?;
+    Ok(text)
+}
+
+fn add_map(text: &mut String, map: &SphereMap) -> Result<(), AllocError>
     requires map { IsLeastMap map.now }
 {
-    let (word, d) = match kind(map) {
-        Kind::Vertex => return Ok(String::from_str(alloc, "vertex")?),
-        Kind::InVolume => return Ok(String::from_str(alloc, "volume")?),
-        Kind::OnEdge(d) => ("edge", d),
-        Kind::InFacet(d) => ("facet", d),
-    };
-    let d = way_text(alloc, &d)?;
-    Ok(format!(in alloc; "{word} {d}")?)
-}
-
-fn ground_text(alloc: Global, ground: Option<Label>) -> Result<String, Fail> {
-    match ground {
-        Some(label) => Ok(format!(in alloc; " / g {}", letter(label))?),
-        None => Ok(String::new(alloc)),
-    }
-}
-
-/// Svertices, and then arcs.
-pub(crate) fn items_text(
-    alloc: Global,
-    svertices: &[SVertex],
-    arcs: &[SArc],
-) -> Result<String, Fail> {
-    let mut text = String::new(alloc);
-    for v in svertices {
-        text.push_str(svertex_text(alloc, v)?.as_str())?;
-    }
-    for a in arcs {
-        text.push_str(arc_text(alloc, a)?.as_str())?;
-    }
-    Ok(text)
+    text.push_str(letter(map.mark))?;
+    add_items(text, map)?;
+    add_ground(text, map.ground)?;
+    add_kind(text, &kind(map))
 }
 
 /// What stands in a map, and what the point is there.
-pub(crate) fn map_text(alloc: Global, map: &SphereMap) -> Result<String, Fail>
+pub(crate) fn map_text(alloc: Global, map: &SphereMap) -> Result<String, AllocError>
     requires map { IsLeastMap map.now }
 {
-    let items = items_text(alloc, map.svertices.as_slice(), map.arcs.as_slice())?;
-    let sloop = sloop_text(alloc, &map.sloop)?;
-    let ground = ground_text(alloc, map.ground)?;
-    let (mark, kind) = (letter(map.mark), kind_text(alloc, map)?);
-    Ok(format!(in alloc; "{mark}{items}{sloop}{ground} / {kind}")?)
-}
-
-/// The numbers, with blanks between them.
-pub(crate) fn numbers_text(alloc: Global, numbers: &[usize]) -> Result<String, Fail> {
     let mut text = String::new(alloc);
-    for number in numbers {
-        text.push_str(if text.is_empty() { "" } else { " " })?;
-        text.push_str(number.to_string(alloc)?.as_str())?;
-    }
+    add_map(&mut text, map)?;
     Ok(text)
 }
 
-/// The letters of the labels, with blanks between them.
-pub(crate) fn labels_text(alloc: Global, labels: &[Label]) -> Result<String, Fail> {
-    let mut text = String::new(alloc);
-    for label in labels {
-        text.push_str(if text.is_empty() { "" } else { " " })?;
-        text.push_str(letter(*label))?;
+fn add_numbers(text: &mut String, numbers: &[usize]) -> Result<(), AllocError> {
+    for number in numbers {
+        write!(text, " {number}")?;
     }
+    Ok(())
+}
+
+/// The numbers, each after a blank.
+pub(crate) fn numbers_text(alloc: Global, numbers: &[usize]) -> Result<String, AllocError> {
+    let mut text = String::new(alloc);
+    add_numbers(&mut text, numbers)?;
+    Ok(text)
+}
+
+/// The letters of the labels, each after a blank.
+pub(crate) fn labels_text(alloc: Global, labels: &[Label]) -> Result<String, AllocError> {
+    let mut text = String::new(alloc);
+    add_labels(&mut text, labels)?;
     Ok(text)
 }
 
 /// The mark of a star, the number of its rays, and its sectors.
-pub(crate) fn star_text(alloc: Global, star: &Star) -> Result<String, Fail> {
-    let (mark, rays) = (letter(star.mark()), star.rays().len());
-    let sectors = labels_text(alloc, star.sectors())?;
-    Ok(format!(in alloc; "{mark} {rays} rays {sectors}")?)
+pub(crate) fn star_text(alloc: Global, star: &Star) -> Result<String, AllocError> {
+    let mut text = format!(in alloc; "{} {} rays", letter(star.mark()), star.rays().len())?;
+    add_labels(&mut text, star.sectors())?;
+    Ok(text)
+}
+
+fn add_axes(text: &mut String, stars: &[Star]) -> Result<(), AllocError> {
+    for star in stars {
+        text.push_str(" / t")?;
+        add_way(text, star.axis())?;
+    }
+    Ok(())
+}
+
+fn add_raw(text: &mut String, raw: &RawStars) -> Result<(), AllocError> {
+    text.push_str(letter(raw.mark))?;
+    add_axes(text, raw.stars.as_slice())?;
+    add_maybe_loop(text, &raw.sloop)?;
+    add_ground(text, raw.ground)
 }
 
 /// What stands among raw stars, of each star its axis alone.
-pub(crate) fn raw_text(alloc: Global, raw: &RawStars) -> Result<String, Fail> {
-    let mut text = String::from_str(alloc, letter(raw.mark))?;
-    for star in raw.stars.as_slice() {
-        text.push_str(" / t ")?;
-        text.push_str(way_text(alloc, star.axis())?.as_str())?;
-    }
-    text.push_str(sloop_text(alloc, &raw.sloop)?.as_str())?;
-    text.push_str(ground_text(alloc, raw.ground)?.as_str())?;
+pub(crate) fn raw_text(alloc: Global, raw: &RawStars) -> Result<String, AllocError> {
+    let mut text = String::new(alloc);
+    add_raw(&mut text, raw)?;
     Ok(text)
 }

@@ -1,22 +1,36 @@
-//! Numbers, directions, labels and operations by their words.
+//! Numbers, directions, labels and operations by their words, and rows that must hold.
+//!
+//! What a row asks is told by `Option` alone: none stands for a row that can't be read, or has no answer. A text made for each
+//! answer, or a failure, would make the tests dear to prove.
 
-ghost use Rattle.std.specs.Prelude.{◌↔◌, IsTrue, IfOk};
+ghost use Rattle.std.specs.Prelude.{◌↔◌, IsTrue, IfSome};
 ghost use Rattle.nef_space.specs.Limits.{direction_limit, normal_limit};
-ghost use Rattle.nef_space.specs.Vectors.{IsAtMost, IsNormal, vector};
+ghost use Rattle.nef_space.specs.Vectors.{IsAtMost, vector};
 ghost use Rattle.nef_geo.specs.Shapes.{vector_of};
 
 use nef_geo::{Dir, Label, up};
 use nef_star::Op;
-use std::alloc::Global;
-use std::test::Fail;
+use std::process::Abort;
 
-/// The numbers between the blanks.
-pub(crate) fn numbers(alloc: Global, text: &str) -> Result<Vec<i64>, Fail> {
-    let mut numbers = Vec::new(alloc);
-    for word in text.split(' ') {
-        numbers.push(word.parse::<i64>()?)?;
+/// Stops the test where this doesn't hold.
+pub(crate) fn check(rt: &impl Abort, holds: bool, what: &str) {
+    assert!(rt; holds, "{what}");
+}
+
+/// The text before the separator, and the text behind it. Where it isn't there, nothing is behind.
+pub(crate) fn parted<'a>(text: &'a str, separator: &str) -> (&'a str, &'a str) {
+    text.split_once(separator).unwrap_or((text, ""))
+}
+
+/// The first four numbers between the blanks. Zero stands for one that isn't there.
+pub(crate) fn numbers(text: &str) -> Option<[i64; 4]> {
+    let mut numbers = [0; 4];
+    for (place, word) in text.split(' ').enumerate() {
+        if place < 4 {
+            numbers[place] = word.parse().ok()?;
+        }
     }
-    Ok(numbers)
+    Some(numbers)
 }
 
 fn are_small(x: i64, y: i64, z: i64) -> bool
@@ -26,24 +40,22 @@ fn are_small(x: i64, y: i64, z: i64) -> bool
     x.unsigned_abs() <= limit && y.unsigned_abs() <= limit && z.unsigned_abs() <= limit
 }
 
-/// The direction of three numbers, or the upward or the downward one.
-pub(crate) fn direction(alloc: Global, text: &str) -> Result<Option<Dir>, Fail> {
-    match text {
-        "up" => return Ok(Some(up())),
-        "down" => return Ok(Some(up().back())),
-        _ => {}
-    }
-    let numbers = numbers(alloc, text)?;
-    match numbers.as_slice() {
-        [x, y, z] if are_small(*x, *y, *z) => Ok(Dir::of(*x, *y, *z)),
-        _ => Err("three numbers of a direction".into()),
+fn direction_of(text: &str) -> Option<Dir> {
+    let [x, y, z, _] = numbers(text)?;
+    if are_small(x, y, z) {
+        Dir::of(x, y, z)
+    } else {
+        None
     }
 }
 
-/// The same, which must be there.
-pub(crate) fn way(alloc: Global, text: &str) -> Result<Dir, Fail> {
-    let way = direction(alloc, text)?.ok_or("zero is no direction")?;
-    Ok(way)
+/// The direction of three numbers, or the upward or the downward one.
+pub(crate) fn way(text: &str) -> Option<Dir> {
+    match text {
+        "up" => Some(up()),
+        "down" => Some(up().back()),
+        _ => direction_of(text),
+    }
 }
 
 /// Whether no number is larger than the limit.
@@ -54,42 +66,24 @@ pub(crate) fn is_at_most(d: &Dir, limit: u64) -> bool
 }
 
 /// A direction with numbers as small as those of normals.
-pub(crate) fn normal(alloc: Global, text: &str) -> Result<Dir, Fail>
-    ensures small { IfOk result (λ d. IsAtMost normal_limit (vector_of d)) }
+pub(crate) fn normal(text: &str) -> Option<Dir>
+    ensures small { IfSome result (λ d. IsAtMost normal_limit (vector_of d)) }
 {
-    let way = way(alloc, text)?;
+    let way = way(text)?;
     if is_at_most(&way, 1 << 11) {
-        Ok(way)
+        Some(way)
     } else {
-        Err("small numbers".into())
+        None
     }
-}
-
-/// Whether the first number that is not zero is positive.
-pub(crate) fn is_normal(d: &Dir) -> bool
-    ensures normal { IsTrue result ↔ IsNormal (vector_of d.now) }
-{
-    if d.x() != 0 {
-        d.x() > 0
-    } else if d.y() != 0 {
-        d.y() > 0
-    } else {
-        d.z() > 0
-    }
-}
-
-/// The three numbers.
-pub(crate) fn way_text(alloc: Global, d: &Dir) -> Result<String, Fail> {
-    Ok(format!(in alloc; "{} {} {}", d.x(), d.y(), d.z())?)
 }
 
 /// The label with this letter.
-pub(crate) fn label(letter: &str) -> Result<Label, Fail> {
+pub(crate) fn label(letter: &str) -> Option<Label> {
     match letter {
-        "o" => Ok(Label::Out),
-        "n" => Ok(Label::Not),
-        "i" => Ok(Label::In),
-        _ => Err("a label".into()),
+        "o" => Some(Label::Out),
+        "n" => Some(Label::Not),
+        "i" => Some(Label::In),
+        _ => None,
     }
 }
 
@@ -99,14 +93,6 @@ pub(crate) fn letter(label: Label) -> &'static str {
         Label::Out => "o",
         Label::Not => "n",
         Label::In => "i",
-    }
-}
-
-/// The letter, or a dash.
-pub(crate) fn maybe_letter(label: Option<Label>) -> &'static str {
-    match label {
-        Some(label) => letter(label),
-        None => "-",
     }
 }
 
