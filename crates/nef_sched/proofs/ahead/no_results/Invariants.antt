@@ -1,9 +1,10 @@
-use Rattle.std.proofs.Common.{◌≡◌, ℕ, None}
-use Rattle.nef_sched.specs.Results.{kept, AreSound}
+use Rattle.std.proofs.Common.{◌≡◌, ◌≤◌, ℕ, None, vec_len, vec_capacity}
+use Rattle.nef_sched.specs.Results.{kept}
 use Rattle.nef_sched.proofs.ahead.no_results.Given as goal
 
 abbrev pub invariant-loop : goal.invariant-loop
 invariant-loop g l = record {
-  sound : AreSound l.counter (g.T.Stage.fits l.stage) l.list.items;
+  len : vec_len l.list ≡ l.counter;
+  room : l.count ≤ vec_capacity l.list;
   none : (k : ℕ) → kept l.list.items k ≡ None;
 }
