@@ -7,7 +7,7 @@ use Rattle.std.proofs.lemmas.Bool.{ne_eqb}
 use Rattle.nef_sched.specs.declared.pass.RoundPass.{RoundPass}
 use Rattle.nef_sched.specs.declared.worked.Worked.{Worked}
 use Rattle.nef_sched.specs.Counts.{one, times, Differ}
-use Rattle.nef_sched.specs.Results.{kept, IsKept, IsReady, AreSound, AreReady, HasWorked}
+use Rattle.nef_sched.specs.Results.{flat, kept, IsKept, IsReady, AreSound, AreReady, HasWorked}
 use Rattle.nef_sched.specs.Rounds.{parts, total_parts}
 use Rattle.nef_sched.specs.Workers.{total_worked}
 use Rattle.nef_sched.proofs.Totals.{counts, counts_itself, same_or_not}
@@ -17,12 +17,21 @@ none_differs : {X : Type 0} (x : X) → None ≡ Some x → ⊥
 none_differs x e = cc
 
 module _ {X : Type 0} where
-  -- a place more, without a result
-  pub none_none : (list : List (Option X)) (k : ℕ) → ((j : ℕ) → kept list j ≡ None) → kept (list ++ None ∷ []) k ≡ None
-  none_none [] zero h = refl
-  none_none [] (suc k) h = refl
-  none_none (x ∷ xs) zero h = h 0
-  none_none (x ∷ xs) (suc k) h = none_none xs k (λ j. h (suc j))
+  -- a place more, with nothing there
+  pub none_more : (list : List (Option X)) → ((k : ℕ) (x : X) → slice_get list k ≡ Some (Some x) → ⊥) → (k : ℕ) (x : X) → slice_get (list ++ None ∷ []) k ≡ Some (Some x) → ⊥
+  none_more [] none zero x e = cc
+  none_more [] none (suc k) x e = cc
+  none_more (y ∷ ys) none zero x e = none 0 x e
+  none_more (y ∷ ys) none (suc k) x e = none_more ys (λ j z h. none (suc j) z h) k x e
+
+  -- where nothing is there no result is kept
+  pub none_kept : (list : List (Option X)) → ((k : ℕ) (x : X) → slice_get list k ≡ Some (Some x) → ⊥) → (k : ℕ) → kept list k ≡ None
+  none_kept list none k = of (slice_get list k) (none k)
+    where
+      of : (o : Option (Option X)) → ((x : X) → o ≡ Some (Some x) → ⊥) → flat o ≡ None
+      of None h = refl
+      of (Some None) h = refl
+      of (Some (Some x)) h = absurd (h x refl)
 
   pub sound_none : (size : ℕ) (fits : ℕ → X → Type 0) (list : List (Option X)) → length list ≡ size → ((k : ℕ) → kept list k ≡ None) → AreSound size fits list
   sound_none size fits list len none = (len, λ i out e. absurd (none_differs out (sym (none i) ∙ e)))

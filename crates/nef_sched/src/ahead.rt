@@ -13,6 +13,7 @@ ghost use Rattle.nef_sched.specs.Workers.{total_worked};
 use crate::OutOfMemory;
 use crate::lean::let_go;
 use crate::pass::{Round, RoundPass};
+use crate::places::empty_places;
 use crate::plan::{Plan, plan_of};
 use crate::stage::{Results, Stage};
 use crate::worked::Worked;
@@ -68,22 +69,11 @@ pub fn run_lean<R: Threads + Wait + Sync, T: Stage>(
     ensures lean { IfOk result (λ v. (i : ℕ) → IsUnmarked wanted.now i → kept v.items i ≡ None) }
 {
     let plan = plan_of(alloc, stage)?;
-    let mut done = no_results::<T>(alloc, stage)?;
+    let mut done = Results {
+        list: empty_places(alloc, stage.count())?,
+    };
     work_rounds(rt, alloc, stage, workers, wanted, &plan, &mut done)?;
     Ok(done.list)
-}
-
-// No number has a result.
-fn no_results<T: Stage>(alloc: Global, stage: &T) -> Result<Results<T::Out>, OutOfMemory>
-    ensures len { IfOk result (λ r. vec_len r.list ≡ T.size stage.now) }
-    ensures none { IfOk result (λ r. (k : ℕ) → kept r.list.items k ≡ None) }
-{
-    let count = stage.count();
-    let mut list = Vec::with_capacity(alloc, count)?;
-    for _ in 0..count {
-        list.push_reserved(None);
-    }
-    Ok(Results { list })
 }
 
 // Works the rounds of the plan, and after each lets the results go that aren't wanted and that no later one needs.
@@ -101,7 +91,7 @@ fn work_rounds<R: Threads + Wait + Sync, T: Stage>(
     requires wanted { length wanted.now ≡ T.size stage.now }
     requires plan { IsPlan (T.size stage.now) (T.first stage.now) (T.second stage.now) plan.now }
     requires len { vec_len done.old.list ≡ T.size stage.now }
-    requires none { (k : ℕ) → kept done.old.list.items k ≡ None }
+    requires none { (k : ℕ) (out : T.Out) → slice_get done.old.list.items k ≡ Some (Some out) → ⊥ }
     ensures fits { AreSound (T.size stage.now) (T.fits stage.now) done.new.list.items }
     ensures wanted { OnOk result ((i : ℕ) → IsMarked wanted.now i → IsKept done.new.list.items i) }
     ensures lean { OnOk result ((i : ℕ) → IsUnmarked wanted.now i → kept done.new.list.items i ≡ None) }

@@ -2,16 +2,18 @@ use Rattle.std.proofs.Common.{◌≡◌, ℕ, ◌<◌, arith, inl, ◌∙◌, le
 use Rattle.std.specs.Prelude.{slice_get}
 use Rattle.std.proofs.lemmas.Option.{slice_get_within}
 use Rattle.nef_sched.specs.Plans.{IsGroup}
-use Rattle.nef_sched.proofs.Outs.{sound_none}
+use Rattle.nef_sched.proofs.Outs.{none_kept, sound_none}
 use Rattle.nef_sched.proofs.Planning.{group_at, group_differs, all_listed, round_ready, there_next, gone_next, last_low}
 use Rattle.nef_sched.proofs.ahead.work_rounds.Goals as goal
 
 pub loop-round-init : goal.loop-round-init
-loop-round-init g c = record {
-  sound = sound_none _ _ _ (let ok = c.args.done.now.list.ok in let len = c.requires.len in omega arith) c.requires.none;
-  there = λ k low early asked. absurd (omega arith);
-  gone = λ k away late. c.requires.none k;
-}
+loop-round-init g c =
+    let none = none_kept c.args.done.now.list.items c.requires.none in
+    record {
+      sound = sound_none _ _ _ (let ok = c.args.done.now.list.ok in let len = c.requires.len in omega arith) none;
+      there = λ k low early asked. absurd (omega arith);
+      gone = λ k away late. none k;
+    }
 
 pub work_ready-requires-clause-differ : goal.work_ready-requires-clause-differ
 work_ready-requires-clause-differ g c κs within =
