@@ -1,6 +1,5 @@
 //! Works a stage round after round.
 ghost use Rattle.std.specs.Prelude.{◌≡◌, ℕ, ◌<◌, ◌≤◌, length, All, IfOk, OnOk, None, Some, [], ◌∷◌, slice_get, slice_index_or, vec_len};
-ghost use Rattle.nef_core.specs.Work.{crew_of};
 ghost use Rattle.nef_sched.specs.declared.pass.RoundPass.{RoundPass};
 ghost use Rattle.nef_sched.specs.declared.worked.Worked.{Worked};
 ghost use Rattle.nef_sched.specs.Counts.{Differ};
@@ -135,13 +134,6 @@ fn total_load<T: Stage>(stage: &T, numbers: &[usize], done: &Results<T::Out>) ->
     total
 }
 
-// How many of the workers share a round of so many numbers, which together are taken to last so many microseconds.
-fn crew(workers: u32, numbers: usize, load: u64) -> u32
-    ensures { result ≡ crew_of (Work.Round numbers load) workers }
-{
-    Work::Round(numbers, load).crew(workers)
-}
-
 // Works the numbers by as many of the workers as they pay for, until none is left or each of them ran out of memory. Where
 // they pay for none but the caller, nothing is worked.
 fn work_by<R: Threads + Wait + Sync, T: Stage>(
@@ -157,7 +149,8 @@ fn work_by<R: Threads + Wait + Sync, T: Stage>(
     requires ready { AreReady (T.size stage.now) (T.fits stage.now) (T.first stage.now) (T.second stage.now) numbers.now done.old.list.items }
     ensures worked { HasWorked (T.size stage.now) (T.fits stage.now) numbers.now done.old.list.items done.new.list.items }
 {
-    let crew = crew(workers, numbers.len(), total_load(stage, numbers, done));
+    let load = total_load(stage, numbers, done);
+    let crew = Work::Round(numbers.len(), load).crew(workers);
     if crew < 2 {
         return Ok(());
     }
@@ -289,10 +282,11 @@ fn work_one<T: Stage>(
     ensures worked { HasWorked (T.size stage.now) (T.fits stage.now) (number ∷ []) done.old.list.items done.new.list.items }
     ensures there { OnOk result (IsKept done.new.list.items number) }
 {
-    if done.get(number).is_none() {
-        let out = stage.work(alloc, number, alone, done)?;
-        done.set(number, Some(out));
+    if done.get(number).is_some() {
+        return Ok(());
     }
+    let out = stage.work(alloc, number, alone, done)?;
+    done.set(number, Some(out));
     Ok(())
 }
 

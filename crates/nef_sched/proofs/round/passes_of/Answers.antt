@@ -48,3 +48,12 @@ returns-clause-every c =
     let last : parts c.in_ok-last.last ≡ (view c.loop.pass).parts = ap (λ p. (view {V = View} p).parts) c.in_ok-last.ensures.pass in
     let q = c.loop.invariant.every in
     omega arith
+
+pub returns-clause-of : goal.returns-clause-of
+returns-clause-of c = rw c.push_reserved-2.ensures.items (All-push (λ (p : RoundPass). IsPassOf c.args.queue.now p.pass) _ _ c.loop.invariant.each (rw c.in_ok-last.ensures.pass c.loop.invariant.of))
+
+pub returns-clause-fresh : goal.returns-clause-fresh
+returns-clause-fresh c =
+    let i = c.loop.invariant in
+    let e = c.in_ok-last.ensures in
+    rw c.push_reserved-2.ensures.items (All-push (IsFresh (view c.args.pass).known) _ _ i.fresh (ap (λ p. (view {V = View} p).known) e.pass ∙ i.knows, e.fresh, ap (λ p. (view {V = View} p).ended) e.pass ∙ i.none.1))
