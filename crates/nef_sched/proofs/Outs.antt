@@ -7,30 +7,34 @@ use Rattle.std.proofs.lemmas.Bool.{ne_eqb}
 use Rattle.nef_sched.specs.declared.pass.RoundPass.{RoundPass}
 use Rattle.nef_sched.specs.declared.worked.Worked.{Worked}
 use Rattle.nef_sched.specs.Counts.{one, times, Differ}
-use Rattle.nef_sched.specs.Results.{kept, IsKept, IsReady, AreSound}
+use Rattle.nef_sched.specs.Results.{flat, kept, IsKept, IsReady, AreSound, AreReady, HasWorked}
 use Rattle.nef_sched.specs.Rounds.{parts, total_parts}
 use Rattle.nef_sched.specs.Workers.{total_worked}
 use Rattle.nef_sched.proofs.Totals.{counts, counts_itself, same_or_not}
+use Rattle.nef_sched.proofs.Marking.{set_other}
 
 none_differs : {X : Type 0} (x : X) → None ≡ Some x → ⊥
 none_differs x e = cc
 
 module _ {X : Type 0} where
-  -- a place more, without a result
-  kept_none : (list : List (Option X)) (i : ℕ) (out : X) → kept (list ++ None ∷ []) i ≡ Some out → kept list i ≡ Some out
-  kept_none [] zero out e = e
-  kept_none [] (suc i) out e = e
-  kept_none (x ∷ xs) zero out e = e
-  kept_none (x ∷ xs) (suc i) out e = kept_none xs i out e
+  -- a place more, with nothing there
+  pub none_more : (list : List (Option X)) → ((k : ℕ) (x : X) → slice_get list k ≡ Some (Some x) → ⊥) → (k : ℕ) (x : X) → slice_get (list ++ None ∷ []) k ≡ Some (Some x) → ⊥
+  none_more [] none zero x e = cc
+  none_more [] none (suc k) x e = cc
+  none_more (y ∷ ys) none zero x e = none 0 x e
+  none_more (y ∷ ys) none (suc k) x e = none_more ys (λ j z h. none (suc j) z h) k x e
 
-  pub none_none : (list : List (Option X)) (k : ℕ) → ((j : ℕ) → kept list j ≡ None) → kept (list ++ None ∷ []) k ≡ None
-  none_none [] zero h = refl
-  none_none [] (suc k) h = refl
-  none_none (x ∷ xs) zero h = h 0
-  none_none (x ∷ xs) (suc k) h = none_none xs k (λ j. h (suc j))
+  -- where nothing is there no result is kept
+  pub none_kept : (list : List (Option X)) → ((k : ℕ) (x : X) → slice_get list k ≡ Some (Some x) → ⊥) → (k : ℕ) → kept list k ≡ None
+  none_kept list none k = of (slice_get list k) (none k)
+    where
+      of : (o : Option (Option X)) → ((x : X) → o ≡ Some (Some x) → ⊥) → flat o ≡ None
+      of None h = refl
+      of (Some None) h = refl
+      of (Some (Some x)) h = absurd (h x refl)
 
-  pub sound_none : (size : ℕ) (fits : ℕ → X → Type 0) (list : List (Option X)) → AreSound size fits list → AreSound (size + 1) fits (list ++ None ∷ [])
-  sound_none size fits list s = ((let l = s.0 in omega (arith, length-append list (None ∷ []))), λ i out e. s.1 i out (kept_none list i out e))
+  pub sound_none : (size : ℕ) (fits : ℕ → X → Type 0) (list : List (Option X)) → length list ≡ size → ((k : ℕ) → kept list k ≡ None) → AreSound size fits list
+  sound_none size fits list len none = (len, λ i out e. absurd (none_differs out (sym (none i) ∙ e)))
 
   -- the place j gets a result
   kept_set : (list : List (Option X)) (j : ℕ) (new : X) (i : ℕ) (out : X) → kept (slice_set list j (Some new)) i ≡ Some out → ((i ≡ j) × (new ≡ out)) ⊎ (kept list i ≡ Some out)
@@ -80,12 +84,38 @@ module _ {X : Type 0} where
       each None h = h
       each (Some k) h = and_fits size fits list s k h
 
-  pub ready_still : (size : ℕ) (fits : ℕ → X → Type 0) (first second : Option ℕ) (old new : List (Option X)) → AreSound size fits new → ((k : ℕ) → IsKept old k → IsKept new k) → IsReady fits first second old → IsReady fits first second new
+  ready_still : (size : ℕ) (fits : ℕ → X → Type 0) (first second : Option ℕ) (old new : List (Option X)) → AreSound size fits new → ((k : ℕ) → IsKept old k → IsKept new k) → IsReady fits first second old → IsReady fits first second new
   ready_still size fits first second old new s still r = ready_of size fits first second new s (each first r.0) (each second r.1)
     where
       each : (need : Option ℕ) → IfSome need (λ k. IsSomeAnd (kept old k) (fits k)) → IfSome need (IsKept new)
       each None h = h
       each (Some k) h = still k (was_kept (fits k) (kept old k) h)
+
+  -- what work leaves: after none, after one work and another, and where one number's result is kept
+  pub worked_none : (size : ℕ) (fits : ℕ → X → Type 0) (numbers : List ℕ) (list : List (Option X)) → AreSound size fits list → HasWorked size fits numbers list list
+  worked_none size fits numbers list s = record { sound = s; still = λ k h. h; only = λ k none. refl }
+
+  pub worked_both : (size : ℕ) (fits : ℕ → X → Type 0) (numbers : List ℕ) (a b c : List (Option X)) → HasWorked size fits numbers a b → HasWorked size fits numbers b c → HasWorked size fits numbers a c
+  worked_both size fits numbers a b c m n = record { sound = n.sound; still = λ k h. n.still k (m.still k h); only = λ k none. n.only k none ∙ m.only k none }
+
+  pub worked_set : (size : ℕ) (fits : ℕ → X → Type 0) (numbers : List ℕ) (list : List (Option X)) (j : ℕ) (new : X) → fits j new → 0 < times j numbers → AreSound size fits list → HasWorked size fits numbers list (slice_set list j (Some new))
+  worked_set size fits numbers list j new f some s = record {
+    sound = sound_set size fits list j new f s;
+    still = still_set list j new;
+    only = λ k none. set_other list j (Some new) k (λ e. let same : times k numbers ≡ times j numbers = ap (λ z. times z numbers) e in omega arith);
+  }
+
+  -- what was done of one number among others
+  pub worked_among : (size : ℕ) (fits : ℕ → X → Type 0) (numbers : List ℕ) (j : ℕ) (old new : List (Option X)) → 0 < times j numbers → HasWorked size fits (j ∷ []) old new → HasWorked size fits numbers old new
+  worked_among size fits numbers j old new some w = record {
+    sound = w.sound;
+    still = w.still;
+    only = λ k none. w.only k (elim (counts j k) [ inl e ↦ absurd (let same : times j numbers ≡ times k numbers = ap (λ z. times z numbers) e.0 in omega arith) | inr z ↦ omega arith ]);
+  }
+
+  -- numbers that have what they need have it after work
+  pub ready_after : (size : ℕ) (fits : ℕ → X → Type 0) (first second : ℕ → Option ℕ) (numbers more : List ℕ) (old new : List (Option X)) → AreReady size fits first second numbers old → HasWorked size fits more old new → AreReady size fits first second numbers new
+  ready_after size fits first second numbers more old new r w = record { sound = w.sound; each = λ k d low. let e = r.each k d low in (e.0, ready_still size fits (first _) (second _) old new w.sound w.still e.1) }
 
   -- where a result is kept, the place holds one
   pub kept_holds : (list : List (Option X)) (i : ℕ) (d : Option X) → IsKept list i → slice_index_or list i d ≡ None → ⊥
@@ -131,10 +161,6 @@ module _ {X : Type 0} where
   worked_snoc [] w = omega arith
   worked_snoc (v ∷ vs) w = let e = worked_snoc vs w in omega arith
 
--- a slice that was lent whole stands in the list again
-pub put_back : {A : Type 0} (new rest : List A) (n : ℕ) → n ≡ length new → take n (new ++ rest) ≡ new
-put_back new rest n e = ap (λ k. take k (new ++ rest)) e ∙ take-append_seam new rest
-
 -- after a call that made room there is room for one more
 pub room_of : {A B : Type 0} (r : Result A B) (used room : ℕ) → is_err r ≡ false → OnOk r (used + 1 ≤ room) → used < room
 room_of (Ok a) used room is h = omega arith
@@ -166,11 +192,6 @@ times_at (x ∷ xs) (suc i) d low = let h = times_at xs i d (omega arith) in ome
 
 pub not_listed : (xs : List ℕ) (i d k : ℕ) → i < length xs → times k xs ≡ 0 → k ≢ slice_index_or xs i d
 not_listed xs i d k low none e = let h = times_at xs i d low in let same : times k xs ≡ times (slice_index_or xs i d) xs = ap (λ z. times z xs) e in omega arith
-
--- what holds of the one number of a list holds of all
-pub all_of_one : (P : ℕ → Type 0) (xs : List ℕ) → length xs ≡ 1 → P (slice_index_or xs 0 0) → All P xs
-all_of_one P xs e p zero d low = subst P (sym (any_default xs 0 d low)) p
-all_of_one P xs e p (suc k) d low = absurd (omega arith)
 
 pub found : (k : ℕ) (xs : List ℕ) → 0 < times k xs → (i : ℕ) × (i < length xs) × (slice_index_or xs i 0 ≡ k)
 found k [] some = absurd (omega arith)

@@ -1,7 +1,9 @@
 -- In which round a number is worked, and after which its result is let go.
-use Rattle.std.specs.Prelude.{◌≡◌, ℕ, ◌+◌, ◌<◌, ◌≤◌, ◌⊎◌, max, List, Option, Some, None, length, slice_index}
+use Rattle.std.specs.Prelude.{◌≡◌, ℕ, ◌+◌, ◌<◌, ◌≤◌, ◌⊎◌, max, List, Option, Some, None, length, slice_get, slice_index}
+use Rattle.std.specs.declared.vec.Vec.{Vec}
 use Rattle.nef_sched.specs.Counts.{times}
 use Rattle.nef_sched.specs.Marks.{NeedsOf}
+use Rattle.nef_sched.specs.declared.plan.Plan.{Plan}
 
 -- the round after that of a number, or the first one where there is no number
 abbrev pub after : List ℕ → Option ℕ → ℕ
@@ -25,3 +27,14 @@ pub record AreLasts (size : ℕ) (first second : ℕ → Option ℕ) (rounds las
 -- the list has each of the first numbers whose round is r exactly once, and no other
 abbrev pub IsGroup : ℕ → List ℕ → ℕ → List ℕ → Type 0
 IsGroup count rounds r xs = ((k : ℕ) → k < count → slice_index rounds k ≡ r → times k xs ≡ 1) × ((k : ℕ) → 0 < times k xs → (k < count) × (slice_index rounds k ≡ r))
+
+-- there are so many groups, and the r-th has those of so many numbers whose round is r
+abbrev pub AreGroups : {Z : Type 0} → ℕ → List ℕ → List (Vec ℕ Z) → Type 0
+AreGroups {Z} count rounds groups = (length groups ≡ count) × ((r : ℕ) (group : Vec ℕ Z) → slice_get groups r ≡ Some group → IsGroup count rounds r group.items)
+
+-- what a plan says of the numbers
+pub record IsPlan (size : ℕ) (first second : ℕ → Option ℕ) (plan : Plan) : Type 0 where
+  pub rounds : AreRounds size first second plan.rounds.items
+  pub lasts : AreLasts size first second plan.rounds.items plan.lasts.items
+  pub begins : AreGroups size plan.rounds.items plan.begins.items
+  pub ends : AreGroups size plan.lasts.items plan.ends.items

@@ -26,6 +26,17 @@ HasNeeds size fits first second list i = (i < size) × IsReady fits (first i) (s
 abbrev pub AreSound : {X : Type 0} → ℕ → (ℕ → X → Type 0) → List (Option X) → Type 0
 AreSound {X} size fits list = (length list ≡ size) × ((i : ℕ) (out : X) → kept list i ≡ Some out → fits i out)
 
+-- the results that are there fit, and each of the numbers has what it needs
+pub record AreReady {X : Type 0} (size : ℕ) (fits : ℕ → X → Type 0) (first second : ℕ → Option ℕ) (numbers : List ℕ) (list : List (Option X)) : Type 0 where
+  pub sound : AreSound size fits list
+  pub each : All (HasNeeds size fits first second list) numbers
+
+-- what work on the numbers leaves: fitting results, all that were there, and of other numbers no more
+pub record HasWorked {X : Type 0} (size : ℕ) (fits : ℕ → X → Type 0) (numbers : List ℕ) (old new : List (Option X)) : Type 0 where
+  pub sound : AreSound size fits new
+  pub still : (k : ℕ) → IsKept old k → IsKept new k
+  pub only : (k : ℕ) → times k numbers ≡ 0 → kept new k ≡ kept old k
+
 -- each number is one of these, and stands beside a result that fits it
 abbrev pub AreFitting : {X : Type 0} → ℕ → (ℕ → X → Type 0) → List ℕ → List (ℕ × X) → Type 0
 AreFitting size fits numbers outs = All (λ o. (o.0 < size) × (times o.0 numbers ≡ 1) × fits o.0 o.1) outs

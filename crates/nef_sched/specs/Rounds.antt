@@ -23,6 +23,10 @@ ended p = (view p.pass).ended
 abbrev pub Belongs : Round → RoundPass → Type 0
 Belongs round p = IsPassOf round.queue p.pass × (length (known p) ≤ vec_capacity round.left)
 
+-- the pass knows these numbers, took none, and hasn't ended
+abbrev pub IsFresh : List ℕ → RoundPass → Type 0
+IsFresh numbers p = (known p ≡ numbers) × (taken p ≡ []) × (ended p ≡ false)
+
 abbrev pub total_parts : List RoundPass → ℕ
 total_parts [] = 0
 total_parts (p ∷ ps) = parts p + total_parts ps

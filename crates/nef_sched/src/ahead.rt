@@ -1,18 +1,19 @@
 //! Works a stage round after round.
-ghost use Rattle.std.specs.Prelude.{◌≡◌, ◌≢◌, ℕ, ◌<◌, ◌≤◌, length, All, IfOk, None, Some, slice_get, slice_index_or, vec_len};
-ghost use Rattle.nef_core.specs.Work.{crew_of};
+ghost use Rattle.std.specs.Prelude.{◌≡◌, ℕ, ◌<◌, ◌≤◌, length, All, IfOk, OnOk, None, Some, [], ◌∷◌, slice_get, slice_index_or, vec_len};
 ghost use Rattle.nef_sched.specs.declared.pass.RoundPass.{RoundPass};
 ghost use Rattle.nef_sched.specs.declared.worked.Worked.{Worked};
-ghost use Rattle.nef_sched.specs.Counts.{times, Differ};
+ghost use Rattle.nef_sched.specs.Counts.{Differ};
 ghost use Rattle.nef_sched.specs.Marks.{IsMarked, IsUnmarked};
+ghost use Rattle.nef_sched.specs.Plans.{IsPlan};
 ghost use Rattle.nef_sched.specs.Rounds.{Belongs, parts, known, total_parts};
-ghost use Rattle.nef_sched.specs.Results.{kept, IsKept, HasNeeds, AreSound, AreFitting};
+ghost use Rattle.nef_sched.specs.Results.{kept, IsKept, HasNeeds, AreSound, AreFitting, AreReady, HasWorked};
 ghost use Rattle.nef_sched.specs.Workers.{total_worked};
 
 use crate::OutOfMemory;
 use crate::lean::let_go;
 use crate::pass::{Round, RoundPass};
-use crate::plan::plan_of;
+use crate::places::empty_places;
+use crate::plan::{Plan, plan_of};
 use crate::stage::{Results, Stage};
 use crate::worked::Worked;
 use nef_core::Work;
@@ -67,24 +68,97 @@ pub fn run_lean<R: Threads + Wait + Sync, T: Stage>(
     ensures lean { IfOk result (λ v. (i : ℕ) → IsUnmarked wanted.now i → kept v.items i ≡ None) }
 {
     let plan = plan_of(alloc, stage)?;
-    let mut done = no_results::<T>(alloc, stage)?;
-    for round in 0..plan.begins.len() {
-        done = work_ready(rt, alloc, stage, workers, &plan.begins[round], done)?;
-        done = let_go(&plan.ends[round], wanted, done);
-    }
+    let mut done = Results {
+        list: empty_places(alloc, stage.count())?,
+    };
+    work_rounds(rt, alloc, stage, workers, wanted, &plan, &mut done)?;
     Ok(done.list)
 }
 
-// No number has a result.
-fn no_results<T: Stage>(alloc: Global, stage: &T) -> Result<Results<T::Out>, OutOfMemory>
-    ensures sound { IfOk result (λ r. AreSound (T.size stage.now) (T.fits stage.now) r.list.items) }
-    ensures none { IfOk result (λ r. (k : ℕ) → kept r.list.items k ≡ None) }
+// Works the rounds of the plan, and after each lets the results go that aren't wanted and that no later one needs.
+fn work_rounds<R: Threads + Wait + Sync, T: Stage>(
+    rt: &R,
+    alloc: Global,
+    stage: &T,
+    workers: u32,
+    wanted: &[bool],
+    plan: &Plan,
+    done: &mut Results<T::Out>,
+) -> Result<(), OutOfMemory>
+    requires workers { 1 ≤ workers }
+    requires workable { T.workable stage.now }
+    requires wanted { length wanted.now ≡ T.size stage.now }
+    requires plan { IsPlan (T.size stage.now) (T.first stage.now) (T.second stage.now) plan.now }
+    requires len { vec_len done.old.list ≡ T.size stage.now }
+    requires none { (k : ℕ) (out : T.Out) → slice_get done.old.list.items k ≡ Some (Some out) → ⊥ }
+    ensures fits { AreSound (T.size stage.now) (T.fits stage.now) done.new.list.items }
+    ensures wanted { OnOk result ((i : ℕ) → IsMarked wanted.now i → IsKept done.new.list.items i) }
+    ensures lean { OnOk result ((i : ℕ) → IsUnmarked wanted.now i → kept done.new.list.items i ≡ None) }
 {
-    let mut list = Vec::with_capacity(alloc, stage.count())?;
-    for _ in 0..stage.count() {
-        list.push(None)?;
+    for round in 0..plan.begins.len() {
+        work_ready(rt, alloc, stage, workers, &plan.begins[round], done)?;
+        let_go(&plan.ends[round], wanted, done);
     }
-    Ok(Results { list })
+    Ok(())
+}
+
+// Works the numbers of a round: by workers, as far as they pay for several, and then, by the caller, those that have no
+// result. A single number is told that it is alone.
+fn work_ready<R: Threads + Wait + Sync, T: Stage>(
+    rt: &R,
+    alloc: Global,
+    stage: &T,
+    workers: u32,
+    numbers: &[usize],
+    done: &mut Results<T::Out>,
+) -> Result<(), OutOfMemory>
+    requires workable { T.workable stage.now }
+    requires differ { Differ numbers.now }
+    requires ready { AreReady (T.size stage.now) (T.fits stage.now) (T.first stage.now) (T.second stage.now) numbers.now done.old.list.items }
+    ensures worked { HasWorked (T.size stage.now) (T.fits stage.now) numbers.now done.old.list.items done.new.list.items }
+    ensures there { OnOk result (All (IsKept done.new.list.items) numbers.now) }
+{
+    work_by(rt, alloc, stage, workers, numbers, done)?;
+    work_rest(alloc, stage, numbers, numbers.len() == 1, done)
+}
+
+// What the numbers together are taken to cost.
+fn total_load<T: Stage>(stage: &T, numbers: &[usize], done: &Results<T::Out>) -> u64
+    requires workable { T.workable stage.now }
+    requires ready { AreReady (T.size stage.now) (T.fits stage.now) (T.first stage.now) (T.second stage.now) numbers.now done.now.list.items }
+{
+    let mut total: u64 = 0;
+    for number in numbers {
+        total = total.saturating_add(stage.load(*number, done));
+    }
+    total
+}
+
+// Works the numbers by as many of the workers as they pay for, until none is left or each of them ran out of memory. Where
+// they pay for none but the caller, nothing is worked.
+fn work_by<R: Threads + Wait + Sync, T: Stage>(
+    rt: &R,
+    alloc: Global,
+    stage: &T,
+    workers: u32,
+    numbers: &[usize],
+    done: &mut Results<T::Out>,
+) -> Result<(), OutOfMemory>
+    requires workable { T.workable stage.now }
+    requires differ { Differ numbers.now }
+    requires ready { AreReady (T.size stage.now) (T.fits stage.now) (T.first stage.now) (T.second stage.now) numbers.now done.old.list.items }
+    ensures worked { HasWorked (T.size stage.now) (T.fits stage.now) numbers.now done.old.list.items done.new.list.items }
+{
+    let load = total_load(stage, numbers, done);
+    let crew = Work::Round(numbers.len(), load).crew(workers);
+    if crew < 2 {
+        return Ok(());
+    }
+    let (round, passes) = Round::new(rt, alloc, numbers, crew)?;
+    let worked = work_apart(rt, alloc, stage, done, numbers, &round, passes)?;
+    let passes = gathered(alloc, stage, numbers, &round, done, worked)?;
+    let _ = round.close(rt, passes);
+    Ok(())
 }
 
 // What one thread does: it takes numbers until none is left or memory runs out. A pass takes no number
@@ -101,7 +175,7 @@ fn work_all<R: Wait, T: Stage>(
     requires workable { T.workable stage.now }
     requires of { Belongs round.now pass }
     requires knows { known pass ≡ numbers.now }
-    requires each { All (HasNeeds (T.size stage.now) (T.fits stage.now) (T.first stage.now) (T.second stage.now) done.now.list.items) numbers.now }
+    requires ready { AreReady (T.size stage.now) (T.fits stage.now) (T.first stage.now) (T.second stage.now) numbers.now done.now.list.items }
     ensures of { Belongs round.now result.pass }
     ensures parts { parts result.pass ≡ parts pass }
     ensures outs { AreFitting (T.size stage.now) (T.fits stage.now) numbers.now result.outs.items }
@@ -136,7 +210,7 @@ fn work_apart<R: Threads + Wait + Sync, T: Stage>(
     requires workable { T.workable stage.now }
     requires of { All (λ p. Belongs round.now p) passes.items }
     requires knows { All (λ p. known p ≡ numbers.now) passes.items }
-    requires each { All (HasNeeds (T.size stage.now) (T.fits stage.now) (T.first stage.now) (T.second stage.now) done.now.list.items) numbers.now }
+    requires ready { AreReady (T.size stage.now) (T.fits stage.now) (T.first stage.now) (T.second stage.now) numbers.now done.now.list.items }
     ensures of { IfOk result (λ v. All (λ w. Belongs round.now w.pass) v.items) }
     ensures len { IfOk result (λ v. vec_len v ≡ vec_len passes) }
     ensures parts { IfOk result (λ v. (i : ℕ) (d : Worked T.Out) (e : RoundPass) → i < length passes.items → parts (slice_index_or v.items i d).pass ≡ parts (slice_index_or passes.items i e)) }
@@ -146,30 +220,27 @@ fn work_apart<R: Threads + Wait + Sync, T: Stage>(
         rt,
         passes,
         &|mine: RoundPass| -> Worked<T::Out>
-            requires { T.workable stage.now × Belongs round.now mine × (known mine ≡ numbers.now) × All (HasNeeds (T.size stage.now) (T.fits stage.now) (T.first stage.now) (T.second stage.now) done.now.list.items) numbers.now }
+            requires { T.workable stage.now × Belongs round.now mine × (known mine ≡ numbers.now) × AreReady (T.size stage.now) (T.fits stage.now) (T.first stage.now) (T.second stage.now) numbers.now done.now.list.items }
             ensures { Belongs round.entry.now result.pass × (parts result.pass ≡ parts mine) × AreFitting (T.size stage.entry.now) (T.fits stage.entry.now) numbers.entry.now result.outs.items }
         { work_all(rt, alloc, stage, done, numbers, round, mine) },
     )
 }
 
 // Keeps these results, which are some of these numbers'.
-fn with_outs<T: Stage>(
+fn keep_outs<T: Stage>(
     stage: &T,
     numbers: &[usize],
-    mut done: Results<T::Out>,
+    done: &mut Results<T::Out>,
     mut outs: Vec<(usize, T::Out)>,
-) -> Results<T::Out>
-    requires sound { AreSound (T.size stage.now) (T.fits stage.now) done.list.items }
+)
+    requires sound { AreSound (T.size stage.now) (T.fits stage.now) done.old.list.items }
     requires each { AreFitting (T.size stage.now) (T.fits stage.now) numbers.now outs.items }
-    ensures sound { AreSound (T.size stage.now) (T.fits stage.now) result.list.items }
-    ensures still { (k : ℕ) → IsKept done.list.items k → IsKept result.list.items k }
-    ensures only { (k : ℕ) → times k numbers.now ≡ 0 → kept result.list.items k ≡ kept done.list.items k }
+    ensures worked { HasWorked (T.size stage.now) (T.fits stage.now) numbers.now done.old.list.items done.new.list.items }
 {
     let _numbers = numbers;
     while let Some((number, out)) = outs.pop() {
-        done.list[number] = Some(out);
+        done.set(number, Some(out));
     }
-    done
 }
 
 // The passes, once the results are kept.
@@ -178,25 +249,23 @@ fn gathered<T: Stage>(
     stage: &T,
     numbers: &[usize],
     round: &Round,
-    mut done: Results<T::Out>,
+    done: &mut Results<T::Out>,
     mut worked: Vec<Worked<T::Out>>,
-) -> Result<(Results<T::Out>, Vec<RoundPass>), OutOfMemory>
-    requires sound { AreSound (T.size stage.now) (T.fits stage.now) done.list.items }
+) -> Result<Vec<RoundPass>, OutOfMemory>
+    requires sound { AreSound (T.size stage.now) (T.fits stage.now) done.old.list.items }
     requires of { All (λ w. Belongs round.now w.pass) worked.items }
     requires each { All (λ w. AreFitting (T.size stage.now) (T.fits stage.now) numbers.now w.outs.items) worked.items }
-    ensures sound { IfOk result (λ r. AreSound (T.size stage.now) (T.fits stage.now) r.0.list.items) }
-    ensures still { IfOk result (λ r. (k : ℕ) → IsKept done.list.items k → IsKept r.0.list.items k) }
-    ensures only { IfOk result (λ r. (k : ℕ) → times k numbers.now ≡ 0 → kept r.0.list.items k ≡ kept done.list.items k) }
-    ensures of { IfOk result (λ r. All (λ p. Belongs round.now p) r.1.items) }
-    ensures parts { IfOk result (λ r. total_parts r.1.items ≡ total_worked worked.items) }
+    ensures worked { HasWorked (T.size stage.now) (T.fits stage.now) numbers.now done.old.list.items done.new.list.items }
+    ensures of { IfOk result (λ v. All (λ p. Belongs round.now p) v.items) }
+    ensures parts { IfOk result (λ v. total_parts v.items ≡ total_worked worked.items) }
 {
     let _round = round;
     let mut passes = Vec::with_capacity(alloc, worked.len())?;
     while let Some(Worked { pass, outs }) = worked.pop() {
-        done = with_outs(stage, numbers, done, outs);
-        passes.push(pass)?;
+        keep_outs(stage, numbers, done, outs);
+        passes.push_reserved(pass);
     }
-    Ok((done, passes))
+    Ok(passes)
 }
 
 // Works a number where it has no result, and keeps its result.
@@ -205,22 +274,20 @@ fn work_one<T: Stage>(
     stage: &T,
     number: usize,
     alone: bool,
-    mut done: Results<T::Out>,
-) -> Result<Results<T::Out>, OutOfMemory>
+    done: &mut Results<T::Out>,
+) -> Result<(), OutOfMemory>
     requires workable { T.workable stage.now }
-    requires sound { AreSound (T.size stage.now) (T.fits stage.now) done.list.items }
-    requires needs { HasNeeds (T.size stage.now) (T.fits stage.now) (T.first stage.now) (T.second stage.now) done.list.items number }
-    ensures sound { IfOk result (λ r. AreSound (T.size stage.now) (T.fits stage.now) r.list.items) }
-    ensures still { IfOk result (λ r. (k : ℕ) → IsKept done.list.items k → IsKept r.list.items k) }
-    ensures there { IfOk result (λ r. IsKept r.list.items number) }
-    ensures only { IfOk result (λ r. (k : ℕ) → k ≢ number → kept r.list.items k ≡ kept done.list.items k) }
+    requires sound { AreSound (T.size stage.now) (T.fits stage.now) done.old.list.items }
+    requires needs { HasNeeds (T.size stage.now) (T.fits stage.now) (T.first stage.now) (T.second stage.now) done.old.list.items number }
+    ensures worked { HasWorked (T.size stage.now) (T.fits stage.now) (number ∷ []) done.old.list.items done.new.list.items }
+    ensures there { OnOk result (IsKept done.new.list.items number) }
 {
     if done.get(number).is_some() {
-        return Ok(done);
+        return Ok(());
     }
-    let out = stage.work(alloc, number, alone, &done)?;
-    done.list[number] = Some(out);
-    Ok(done)
+    let out = stage.work(alloc, number, alone, done)?;
+    done.set(number, Some(out));
+    Ok(())
 }
 
 // Works each of the numbers that has no result.
@@ -228,91 +295,18 @@ fn work_rest<T: Stage>(
     alloc: Global,
     stage: &T,
     numbers: &[usize],
-    mut done: Results<T::Out>,
-) -> Result<Results<T::Out>, OutOfMemory>
+    alone: bool,
+    done: &mut Results<T::Out>,
+) -> Result<(), OutOfMemory>
     requires workable { T.workable stage.now }
-    requires sound { AreSound (T.size stage.now) (T.fits stage.now) done.list.items }
-    requires each { All (HasNeeds (T.size stage.now) (T.fits stage.now) (T.first stage.now) (T.second stage.now) done.list.items) numbers.now }
-    ensures sound { IfOk result (λ r. AreSound (T.size stage.now) (T.fits stage.now) r.list.items) }
-    ensures still { IfOk result (λ r. (k : ℕ) → IsKept done.list.items k → IsKept r.list.items k) }
-    ensures there { IfOk result (λ r. All (IsKept r.list.items) numbers.now) }
-    ensures only { IfOk result (λ r. (k : ℕ) → times k numbers.now ≡ 0 → kept r.list.items k ≡ kept done.list.items k) }
+    requires ready { AreReady (T.size stage.now) (T.fits stage.now) (T.first stage.now) (T.second stage.now) numbers.now done.old.list.items }
+    ensures worked { HasWorked (T.size stage.now) (T.fits stage.now) numbers.now done.old.list.items done.new.list.items }
+    ensures there { OnOk result (All (IsKept done.new.list.items) numbers.now) }
 {
     for number in numbers {
-        done = work_one(alloc, stage, *number, false, done)?;
+        work_one(alloc, stage, *number, alone, done)?;
     }
-    Ok(done)
-}
-
-// What the numbers together are taken to cost.
-fn total_load<T: Stage>(stage: &T, numbers: &[usize], done: &Results<T::Out>) -> u64
-    requires workable { T.workable stage.now }
-    requires each { All (HasNeeds (T.size stage.now) (T.fits stage.now) (T.first stage.now) (T.second stage.now) done.now.list.items) numbers.now }
-{
-    let mut total: u64 = 0;
-    for number in numbers {
-        total = total.saturating_add(stage.load(*number, done));
-    }
-    total
-}
-
-// How many of the workers share a round of so many numbers, which together are taken to last so many microseconds.
-fn crew(workers: u32, numbers: usize, load: u64) -> u32
-    ensures { result ≡ crew_of (Work.Round numbers load) workers }
-{
-    Work::Round(numbers, load).crew(workers)
-}
-
-// Works the numbers of a round by the caller. A single one is told that it is alone.
-fn work_few<T: Stage>(
-    alloc: Global,
-    stage: &T,
-    numbers: &[usize],
-    done: Results<T::Out>,
-) -> Result<Results<T::Out>, OutOfMemory>
-    requires workable { T.workable stage.now }
-    requires sound { AreSound (T.size stage.now) (T.fits stage.now) done.list.items }
-    requires each { All (HasNeeds (T.size stage.now) (T.fits stage.now) (T.first stage.now) (T.second stage.now) done.list.items) numbers.now }
-    ensures sound { IfOk result (λ r. AreSound (T.size stage.now) (T.fits stage.now) r.list.items) }
-    ensures still { IfOk result (λ r. (k : ℕ) → IsKept done.list.items k → IsKept r.list.items k) }
-    ensures there { IfOk result (λ r. All (IsKept r.list.items) numbers.now) }
-    ensures only { IfOk result (λ r. (k : ℕ) → times k numbers.now ≡ 0 → kept r.list.items k ≡ kept done.list.items k) }
-{
-    if numbers.len() == 1 {
-        work_one(alloc, stage, numbers[0], true, done)
-    } else {
-        work_rest(alloc, stage, numbers, done)
-    }
-}
-
-// Works the numbers of a round: by the caller alone where they pay for no other worker, and else by
-// workers, after which the caller works those that they left.
-fn work_ready<R: Threads + Wait + Sync, T: Stage>(
-    rt: &R,
-    alloc: Global,
-    stage: &T,
-    workers: u32,
-    numbers: &[usize],
-    done: Results<T::Out>,
-) -> Result<Results<T::Out>, OutOfMemory>
-    requires workable { T.workable stage.now }
-    requires sound { AreSound (T.size stage.now) (T.fits stage.now) done.list.items }
-    requires differ { Differ numbers.now }
-    requires each { All (HasNeeds (T.size stage.now) (T.fits stage.now) (T.first stage.now) (T.second stage.now) done.list.items) numbers.now }
-    ensures sound { IfOk result (λ r. AreSound (T.size stage.now) (T.fits stage.now) r.list.items) }
-    ensures still { IfOk result (λ r. (k : ℕ) → IsKept done.list.items k → IsKept r.list.items k) }
-    ensures there { IfOk result (λ r. All (IsKept r.list.items) numbers.now) }
-    ensures only { IfOk result (λ r. (k : ℕ) → times k numbers.now ≡ 0 → kept r.list.items k ≡ kept done.list.items k) }
-{
-    let crew = crew(workers, numbers.len(), total_load(stage, numbers, &done));
-    if crew < 2 {
-        return work_few(alloc, stage, numbers, done);
-    }
-    let (round, passes) = Round::new(rt, alloc, numbers, crew)?;
-    let worked = work_apart(rt, alloc, stage, &done, numbers, &round, passes)?;
-    let (done, passes) = gathered(alloc, stage, numbers, &round, done, worked)?;
-    let _ = round.close(rt, passes);
-    work_rest(alloc, stage, numbers, done)
+    Ok(())
 }
 
 // Every number has its result: the results alone.

@@ -1,6 +1,6 @@
 //! In which round each number is worked, and after which its result is let go.
 ghost use Rattle.std.specs.Prelude.{◌≡◌, ◌≢◌, ◌++◌, ◌∷◌, [], ℕ, ◌<◌, ◌≤◌, ◌⊎◌, Some, IfOk, IfSome, OnOk, length, slice_get, slice_index, vec_len};
-ghost use Rattle.nef_sched.specs.Plans.{after, AreRounds, AreLasts, IsGroup};
+ghost use Rattle.nef_sched.specs.Plans.{after, AreRounds, AreLasts, AreGroups, IsPlan};
 
 use crate::OutOfMemory;
 use crate::stage::Stage;
@@ -80,7 +80,7 @@ fn no_groups(alloc: Global, count: usize) -> Result<Vec<Vec<usize>>, OutOfMemory
 {
     let mut groups = Vec::with_capacity(alloc, count)?;
     for _ in 0..count {
-        groups.push(Vec::new(alloc))?;
+        groups.push_reserved(Vec::new(alloc));
     }
     Ok(groups)
 }
@@ -99,8 +99,7 @@ fn add_to(groups: &mut [Vec<usize>], place: usize, number: usize) -> Result<(), 
 // For each number up to how many rounds there are, those that have it as their round.
 fn grouped(alloc: Global, rounds: &[usize]) -> Result<Vec<Vec<usize>>, OutOfMemory>
     requires low { (k : ℕ) → k < length rounds.now → slice_index rounds.now k < length rounds.now }
-    ensures len { IfOk result (λ v. vec_len v ≡ length rounds.now) }
-    ensures each { IfOk result (λ v. (r : ℕ) (group : _) → slice_get v.items r ≡ Some group → IsGroup (length rounds.now) rounds.now r group.items) }
+    ensures groups { IfOk result (λ v. AreGroups (length rounds.now) rounds.now v.items) }
 {
     let mut groups = no_groups(alloc, rounds.len())?;
     let list = groups.as_mut_slice();
@@ -116,11 +115,7 @@ fn grouped(alloc: Global, rounds: &[usize]) -> Result<Vec<Vec<usize>>, OutOfMemo
 /// `OutOfMemory` says that memory was wanted and not found.
 pub(crate) fn plan_of<T: Stage>(alloc: Global, stage: &T) -> Result<Plan, OutOfMemory>
     requires workable { T.workable stage.now }
-    ensures rounds { IfOk result (λ p. AreRounds (T.size stage.now) (T.first stage.now) (T.second stage.now) p.rounds.items) }
-    ensures lasts { IfOk result (λ p. AreLasts (T.size stage.now) (T.first stage.now) (T.second stage.now) p.rounds.items p.lasts.items) }
-    ensures len { IfOk result (λ p. (vec_len p.begins ≡ T.size stage.now) × (vec_len p.ends ≡ T.size stage.now)) }
-    ensures begins { IfOk result (λ p. (r : ℕ) (group : _) → slice_get p.begins.items r ≡ Some group → IsGroup (T.size stage.now) p.rounds.items r group.items) }
-    ensures ends { IfOk result (λ p. (r : ℕ) (group : _) → slice_get p.ends.items r ≡ Some group → IsGroup (T.size stage.now) p.lasts.items r group.items) }
+    ensures plan { IfOk result (IsPlan (T.size stage.now) (T.first stage.now) (T.second stage.now)) }
 {
     let rounds = rounds_of(alloc, stage)?;
     let lasts = lasts_of(alloc, stage, &rounds)?;

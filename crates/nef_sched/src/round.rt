@@ -2,7 +2,7 @@
 ghost use Rattle.std.specs.Prelude.{◌≡◌, ℕ, true, false, ◌+◌, ◌^◌, ◌<◌, ◌≤◌, ◌||◌, None, [], ◌∷◌, ◌++◌, length, All, IfOk, MatchOption, vec_len, vec_capacity};
 ghost use Rattle.crossbeam_queue.specs.Passes.{view, IsSamePass, IsPassOf, ruled_capacity};
 ghost use Rattle.nef_sched.specs.Counts.{times, Differ, IsDealt};
-ghost use Rattle.nef_sched.specs.Rounds.{Belongs, parts, known, taken, ended, any_ended, total_parts, times_taken, numbers_of, TookAll};
+ghost use Rattle.nef_sched.specs.Rounds.{Belongs, parts, known, taken, ended, any_ended, total_parts, times_taken, numbers_of, TookAll, IsFresh};
 ghost use Rattle.nef_sched.specs.Views.{first_view, whole};
 
 use crate::OutOfMemory;
@@ -160,6 +160,27 @@ fn put_ends<R: Wait>(
     pass
 }
 
+// A pass of the round that took nothing, with room for so many numbers.
+fn pass_of(
+    alloc: Global,
+    pass: Pass<Option<usize>, View>,
+    room: usize,
+) -> Result<RoundPass, OutOfMemory>
+    requires part { 0 < (view pass).parts }
+    requires fresh { ((view pass).taken ≡ []) × ((view pass).ended ≡ false) }
+    requires due { 0 < (view pass).due }
+    requires room { length (view pass).known ≤ room }
+    ensures pass { IfOk result (λ p. p.pass ≡ pass) }
+    ensures fresh { IfOk result (λ p. taken p ≡ []) }
+{
+    let taken = Vec::with_capacity(alloc, room)?;
+    Ok(RoundPass {
+        pass,
+        taken,
+        ended: false,
+    })
+}
+
 // Makes the other passes, each with room for all numbers.
 fn passes_of(
     alloc: Global,
@@ -175,26 +196,18 @@ fn passes_of(
     requires room { length (view pass).known ≡ room }
     requires passes { 1 ≤ passes }
     ensures of { IfOk result (λ v. All (λ p. IsPassOf queue.now p.pass) v.items) }
-    ensures fresh { IfOk result (λ v. All (λ p. (known p ≡ (view pass).known) × (taken p ≡ []) × (ended p ≡ false)) v.items) }
+    ensures fresh { IfOk result (λ v. All (IsFresh (view pass).known) v.items) }
     ensures every { IfOk result (λ v. total_parts v.items ≡ 2 ^ 32) }
     ensures len { IfOk result (λ v. vec_len v ≡ passes) }
 {
     let mut list = Vec::with_capacity(alloc, passes as usize)?;
     for _ in 1..passes {
-        let taken = Vec::with_capacity(alloc, room)?;
         let other = queue.another::<Cut>(&mut pass);
-        list.push(RoundPass {
-            pass: other,
-            taken,
-            ended: false,
-        })?;
+        let more = pass_of(alloc, other, room)?;
+        list.push_reserved(more);
     }
-    let taken = Vec::with_capacity(alloc, room)?;
-    list.push(RoundPass {
-        pass,
-        taken,
-        ended: false,
-    })?;
+    let last = pass_of(alloc, pass, room)?;
+    list.push_reserved(last);
     Ok(list)
 }
 

@@ -1,5 +1,5 @@
 //! What is to be worked, number by number, and the results that are there.
-ghost use Rattle.std.specs.Prelude.{◌≡◌, ℕ, ◌<◌, Option, IfOk, IfSome, option_map};
+ghost use Rattle.std.specs.Prelude.{◌≡◌, ℕ, ◌<◌, Option, IfOk, IfSome, length, option_map, slice_set};
 ghost use Rattle.nef_sched.specs.Results.{kept, IsReady};
 
 use crate::OutOfMemory;
@@ -24,6 +24,16 @@ impl<T> Results<T> {
         ensures { option_map (λ out. out.now) result ≡ kept self.now.list.items i }
     {
         self.list.get(i)?.as_ref()
+    }
+}
+
+impl<T: Drop> Results<T> {
+    // Puts this result to its number's place, or lets go what stands there.
+    pub(crate) fn set(&mut self, i: usize, out: Option<T>)
+        requires number { i < length self.old.list.items }
+        ensures set { self.new.list.items ≡ slice_set self.old.list.items i out }
+    {
+        self.list[i] = out;
     }
 }
 

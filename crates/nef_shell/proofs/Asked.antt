@@ -1,12 +1,11 @@
 -- The complexes of the nodes that questions ask about.
-use Rattle.std.proofs.Common.{◌≡◌, ◌⊎◌, ◌∙◌, ℕ, Bool, true, false, zero, suc, ◌+◌, ◌<◌, ◌≤◌, ap, arith, refl, sym, subst, List, [], ◌∷◌, append-nil, length, Option, Some, None, IfSome, slice_get, inl, inr}
+use Rattle.std.proofs.Common.{◌≡◌, ◌⊎◌, ◌∙◌, ℕ, Bool, true, false, zero, suc, ◌+◌, ◌<◌, ◌≤◌, ap, arith, refl, sym, subst, List, [], ◌∷◌, ◌++◌, append-nil, length, Option, Some, None, IfSome, slice_get, inl, inr}
 use Rattle.std.specs.Prelude.{slice_set, is_some}
 use Rattle.std.proofs.lemmas.Bool.{cases_eq, cases_lt}
 use Rattle.std.proofs.lemmas.Option.{slice_get_within}
 use Rattle.nef_complex.specs.declared.complex.Complex.{Complex}
 use Rattle.nef_complex.specs.Complexes.{ShowsSet}
 use Rattle.nef_core.proofs.Places.{get_set_here, get_set_other}
-use Rattle.nef_core.specs.declared.how.TextVersion.{TextVersion}
 use Rattle.nef_expr.specs.declared.nodes.Node.{Node}
 use Rattle.nef_expr.specs.Nodes.{node_set}
 use Rattle.nef_sched.specs.Marks.{IsMarked, IsUnmarked}
@@ -14,11 +13,10 @@ use Rattle.nef_sched.specs.Results.{flat, kept, IsKept as HasResult, AreSound}
 use Rattle.nef_io.specs.Bytes.{Grows}
 use Rattle.nef_script.specs.declared.script.Command.{Command}
 use Rattle.nef_script.specs.declared.script.Command.TheVariants.{Bind, Turn, Has, Joined, Ray, Same, Count, Print}
-use Rattle.nef_script.specs.Commands.{Binds, AreBoundBefore}
+use Rattle.nef_script.specs.Commands.{Binds, LooksAt, AreBoundBefore}
 use Rattle.nef_shell.specs.declared.bindings.Binding.{Binding}
-use Rattle.nef_shell.specs.Bindings.{IsBoundAt, IsAskedAbout, AreMarkedAsked, AreAllBound, Fits, ArePlaced, AreFirst}
+use Rattle.nef_shell.specs.Bindings.{IsBoundAt, IsQuestion, AsksAbout, IsAskedAbout, AreMarkedAsked, AreAllBound, Fits, ArePlaced, AreFirst}
 use Rattle.nef_shell.specs.Operations.{AreShown, IsKept, IsGone, AreBound}
-use Rattle.nef_shell.specs.Output.{IsPiece}
 use Rattle.nef_shell.proofs.Complexes.{shown-put}
 
 pub none-some : (k : ℕ) → (None ≡ Some k) ⊎ (None ≡ Some k) → ⊥
@@ -28,11 +26,12 @@ pub true-or-false : (b : Bool) → (b ≡ true) ⊎ (b ≡ false)
 true-or-false true = inl refl
 true-or-false false = inr refl
 
--- where each place is empty nothing is there
-pub none-there : {X : Type 0} (list : List (Option X)) (n : ℕ) → length list ≡ n → ((k : ℕ) → k < n → slice_get list k ≡ Some None) → (k : ℕ) (x : X) → slice_get list k ≡ Some (Some x) → ⊥
-none-there list n count gone k x at =
-    let below = slice_get_within list k (Some x) at in
-    let f : Some None ≡ Some (Some x) = sym (gone k (omega (arith, count, below))) ∙ at in cc
+-- a place more, with nothing there
+pub none-more : {X : Type 0} (list : List (Option X)) → ((k : ℕ) (x : X) → slice_get list k ≡ Some (Some x) → ⊥) → (k : ℕ) (x : X) → slice_get (list ++ None ∷ []) k ≡ Some (Some x) → ⊥
+none-more [] none zero x e = cc
+none-more [] none (suc k) x e = cc
+none-more (y ∷ ys) none zero x e = none 0 x e
+none-more (y ∷ ys) none (suc k) x e = none-more ys (λ j z h. none (suc j) z h) k x e
 
 pub gone-or-there : (list : List (Option Complex)) (k : ℕ) → k < length list → IsGone list k ⊎ ((c : Complex) × (slice_get list k ≡ Some (Some c)))
 gone-or-there [] k within = absurd (omega arith)
@@ -79,16 +78,16 @@ marked-first nodes commands bindings wanted list before all marks placed = recor
       subst (IsAskedAbout nodes commands) is ((marks n b here).0 marked);
 }
 
--- a command that binds a node writes nothing
-pub bound-nothing : (version : TextVersion) (nodes : List Node) (c : Command) (k : ℕ) → Binds c k → IsPiece version nodes c []
-bound-nothing version nodes (Bind line n) k binds = refl
-bound-nothing version nodes (Turn line n j t) k binds = refl
-bound-nothing version nodes (Has line n p) k binds = absurd binds
-bound-nothing version nodes (Joined line n p q) k binds = absurd binds
-bound-nothing version nodes (Ray line n p d) k binds = absurd binds
-bound-nothing version nodes (Same line i j) k binds = absurd binds
-bound-nothing version nodes (Count line n) k binds = absurd binds
-bound-nothing version nodes (Print line n name) k binds = absurd binds
+-- a command that asks is a question, and looks at what it asks about
+pub asks-looks : (nodes : List Node) (c : Command) (k : ℕ) → AsksAbout nodes c k → IsQuestion c × LooksAt nodes c k
+asks-looks nodes (Bind line n) k asks = absurd asks
+asks-looks nodes (Turn line n j t) k asks = absurd asks
+asks-looks nodes (Has line n p) k asks = (λ j binds. binds, asks)
+asks-looks nodes (Joined line n p q) k asks = (λ j binds. binds, asks)
+asks-looks nodes (Ray line n p d) k asks = (λ j binds. binds, asks)
+asks-looks nodes (Same line i j) k asks = (λ m binds. binds, asks)
+asks-looks nodes (Count line n) k asks = (λ j binds. binds, asks)
+asks-looks nodes (Print line n name) k asks = (λ j binds. binds, asks)
 
 -- where no node is in question nothing changes
 pub unbound : (nodes : List Node) (InQuestion : ℕ → Type 0) (list : List (Option Complex)) → ((k : ℕ) → InQuestion k → ⊥) → AreBound nodes InQuestion list list

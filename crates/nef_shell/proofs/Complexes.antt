@@ -132,7 +132,7 @@ pub there-of : {X : Type 0} (o : Option (Option X)) (x : Option X) → o ≡ Som
 there-of o None e is = absurd (let f : false ≡ true = is in cc)
 there-of o (Some c) e is = (c, e)
 
-pub none-of : (o : Option (Option Complex)) (x : Option Complex) → o ≡ Some x → is_some x ≡ false → o ≡ Some None
+pub none-of : {X : Type 0} (o : Option (Option X)) (x : Option X) → o ≡ Some x → is_some x ≡ false → o ≡ Some None
 none-of o None e is = e
 none-of o (Some c) e is = absurd (let f : true ≡ false = is in cc)
 

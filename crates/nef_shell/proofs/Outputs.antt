@@ -12,7 +12,7 @@ use Rattle.nef_expr.specs.declared.nodes.Node.{Node}
 use Rattle.nef_script.specs.declared.script.Command.{Command}
 use Rattle.nef_shell.specs.declared.stop.Stop.{Stop}
 use Rattle.nef_shell.specs.declared.stop.Stop.TheVariants.{WriteFault, OutOfMemory}
-use Rattle.nef_shell.specs.Working.{FrontOf, WorkEnds}
+use Rattle.nef_shell.specs.Working.{FrontOf, PieceEnds, WorkEnds}
 use Rattle.nef_shell.specs.Stops.{MatchStop}
 use Rattle.nef_statement.specs.Output.{same_answer, joined_answer, IsSameAnswer, IsJoinedAnswer}
 use Rattle.nef_statement.proofs.Grown.{grows_within-all, grows_within-none}
@@ -60,6 +60,10 @@ stop-rose OutOfMemory first old new P Q le same = tt
 -- the work ended before its first command, for want of memory
 pub ends-before : {A : Type 0} (version : TextVersion) (nodes : List Node) (cs : List Command) (before : Option (List ℕ)) (faults : ℕ) (r : Result A Stop) → r ≡ Err OutOfMemory → WorkEnds version nodes cs before before faults faults r
 ends-before version nodes cs before faults r is = rw is (record { done = tt; quiet = tt; stopped = tt; front = (0, [], refl, grows_within-none before []) })
+
+-- the work of one command ended before its piece, for want of memory
+pub piece-before : {A : Type 0} (version : TextVersion) (nodes : List Node) (c : Command) (before : Option (List ℕ)) (faults : ℕ) (r : Result A Stop) → r ≡ Err OutOfMemory → PieceEnds version nodes c before before faults faults r
+piece-before version nodes c before faults r is = rw is (record { done = tt; quiet = tt; stopped = refl; count = omega arith })
 
 -- the answer says whether the two sets are one
 pub same-piece : (s t : Set) (same : Bool) → IsTrue same ↔ SameSet s t → IsSameAnswer s t (same_answer same)

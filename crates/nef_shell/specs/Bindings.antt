@@ -7,6 +7,7 @@ use Rattle.nef_expr.specs.Nodes.{node_set, sets_after}
 use Rattle.nef_sched.specs.Marks.{IsMarked}
 use Rattle.nef_sched.specs.Results.{kept}
 use Rattle.nef_script.specs.declared.script.Command.{Command}
+use Rattle.nef_script.specs.declared.script.Command.TheVariants.{Bind, Turn}
 use Rattle.nef_script.specs.Commands.{LooksAt, Binds}
 use Rattle.nef_shell.specs.declared.bindings.Binding.{Binding}
 use Rattle.nef_shell.specs.declared.operation.Operation.{Operation}
@@ -76,6 +77,12 @@ IsQuestion c = (k : ℕ) → Binds c k → ⊥
 -- the command is worked in its turn: each one is, but only questions where all bindings are worked ahead
 abbrev pub IsWorked : Bool → Command → Type 0
 IsWorked ahead c = ahead ≡ true → IsQuestion c
+
+-- the command asks about the set of node k
+abbrev pub AsksAbout : List Node → Command → ℕ → Type 0
+AsksAbout nodes (Bind line n) k = ⊥
+AsksAbout nodes (Turn line n j t) k = ⊥
+AsksAbout nodes c k = LooksAt nodes c k
 
 -- one of the commands asks about the set of node k
 abbrev pub IsAskedAbout : List Node → List Command → ℕ → Type 0

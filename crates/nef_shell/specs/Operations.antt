@@ -77,7 +77,7 @@ abbrev pub IsKept : List Node → List (Option Complex) → ℕ → Type 0
 IsKept nodes list k = (c : Complex) × (slice_get list k ≡ Some (Some c)) × ShowsSet (node_set nodes k) c
 
 -- it isn't there: not yet, or no longer
-abbrev pub IsGone : List (Option Complex) → ℕ → Type 0
+abbrev pub IsGone : {X : Type 0} → List (Option X) → ℕ → Type 0
 IsGone list k = slice_get list k ≡ Some None
 
 -- no complex is kept whose last use is among the first n commands

@@ -1,10 +1,15 @@
 -- What is written while commands are worked.
-use Rattle.std.specs.Prelude.{◌≡◌, ℕ, List, Option, Result, OnOk, IfErr, take}
+use Rattle.std.specs.Prelude.{◌≡◌, ◌≤◌, ℕ, Bool, List, Option, Result, OnOk, IfErr, length, take}
+use Rattle.nef_complex.specs.declared.complex.Complex.{Complex}
 use Rattle.nef_core.specs.declared.how.TextVersion.{TextVersion}
 use Rattle.nef_expr.specs.declared.nodes.Node.{Node}
 use Rattle.nef_io.specs.Bytes.{Rose, Grows, GrowsWithin}
 use Rattle.nef_script.specs.declared.script.Command.{Command}
+use Rattle.nef_script.specs.Commands.{LooksAt, TurnsRight}
+use Rattle.nef_script.specs.Meaning.{IsWithin}
 use Rattle.nef_shell.specs.declared.stop.Stop.{Stop}
+use Rattle.nef_shell.specs.Bindings.{IsWorked}
+use Rattle.nef_shell.specs.Operations.{IsKept}
 use Rattle.nef_shell.specs.Output.{IsPiece, IsOutput}
 use Rattle.nef_shell.specs.Stops.{MatchStop}
 
@@ -17,6 +22,19 @@ abbrev pub HasStopped : TextVersion → List Node → Command → Option (List �
 HasStopped version nodes c before after faults faults' stop = MatchStop stop
     (Rose faults faults' × ((piece : List ℕ) × IsPiece version nodes c piece × GrowsWithin before after piece))
     (after ≡ before)
+
+-- how the work of one command ends: its piece was written, and no count of faults rose; or the work stopped at it
+pub record PieceEnds {A : Type 0} (version : TextVersion) (nodes : List Node) (c : Command) (before after : Option (List ℕ)) (faults faults' : ℕ) (result : Result A Stop) : Type 0 where
+  pub done : OnOk result (HasWritten version nodes c before after)
+  pub quiet : OnOk result (faults' ≡ faults)
+  pub stopped : IfErr result (HasStopped version nodes c before after faults faults')
+  pub count : faults ≤ faults'
+
+-- what is known of a command that comes next: it is within the nodes, turns what it says, and what it looks at is there, if it is worked in its turn
+pub record IsDue (ahead : Bool) (nodes : List Node) (list : List (Option Complex)) (c : Command) : Type 0 where
+  pub within : IsWithin (length nodes) c
+  pub turned : TurnsRight nodes c
+  pub kept : IsWorked ahead c → (k : ℕ) → LooksAt nodes c k → IsKept nodes list k
 
 -- the output of all commands was written
 abbrev pub HasWrittenAll : TextVersion → List Node → List Command → Option (List ℕ) → Option (List ℕ) → Type 0

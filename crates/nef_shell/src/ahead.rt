@@ -14,7 +14,7 @@ ghost use Rattle.nef_shell.specs.Operations.{AreMeans, AreShown, IsKept};
 
 use crate::bindings::{Binding, bindings_of};
 use crate::operation::Means;
-use crate::sets::empty_places;
+use crate::places::empty_places;
 use crate::stage::work_bindings;
 use crate::uses::{bound_node, looked_at};
 use nef_complex::Complex;

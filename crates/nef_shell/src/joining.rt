@@ -32,7 +32,6 @@ pub(crate) fn joined_piece<R: Threads + Sync>(
     ensures list { sets.new.list ≡ sets.old.list }
     ensures texts { sets.new.texts ≡ sets.old.texts }
     ensures nodes { sets.new.nodes ≡ sets.old.nodes }
-    ensures uses { sets.new.last_uses ≡ sets.old.last_uses }
 {
     if !first.in_frame() {
         return Ok(answer(Label::Out));

@@ -18,6 +18,7 @@ mod line;
 mod listing;
 mod operation;
 mod piece;
+mod places;
 mod ray_end;
 mod script;
 mod sets;

@@ -60,7 +60,6 @@ pub(crate) fn count_piece<R: Threads + Sync>(
     ensures list { sets.new.list ≡ sets.old.list }
     ensures texts { sets.new.texts ≡ sets.old.texts }
     ensures nodes { sets.new.nodes ≡ sets.old.nodes }
-    ensures uses { sets.new.last_uses ≡ sets.old.last_uses }
 {
     sets.work_parts(rt, alloc, node, workers)?;
     let (complex, parts) = sets.get_with_parts(node);
@@ -84,7 +83,6 @@ pub(crate) fn print_piece<R: Threads + Sync>(
     ensures held { OnOk result (AreHeld version sets.old.nodes.now sets.old.list.items sets.new.parts.items sets.new.texts.items) }
     ensures list { sets.new.list ≡ sets.old.list }
     ensures nodes { sets.new.nodes ≡ sets.old.nodes }
-    ensures uses { sets.new.last_uses ≡ sets.old.last_uses }
 {
     sets.work_text(rt, alloc, node, version, workers)?;
     printed(alloc, name, sets.text(node))

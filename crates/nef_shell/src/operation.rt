@@ -1,6 +1,6 @@
 //! The operation that makes a node's set.
 
-ghost use Rattle.std.specs.Prelude.{◌≡◌, ◌<◌, ◌↔◌, ℕ, List, Some, IfOk, IsSome, length, slice_index_or, []};
+ghost use Rattle.std.specs.Prelude.{◌≡◌, ◌<◌, ◌↔◌, ℕ, List, IfOk, length, slice_index_or, []};
 ghost use Rattle.std.specs.Option.{option_copied};
 ghost use Rattle.nef_space.specs.Sets.{Set};
 ghost use Rattle.nef_complex.specs.Complexes.{ShowsSet};
@@ -9,6 +9,7 @@ ghost use Rattle.nef_expr.specs.Turns.{TurnOf};
 ghost use Rattle.nef_expr.specs.declared.nodes.Node.TheVariants as variant;
 ghost use Rattle.nef_shell.specs.Operations.{set_by, first_operand, second_operand, HasOperand, HasTurn, AreLent, AreMeans};
 
+use crate::places::given;
 use nef_complex::Complex;
 use nef_core::How;
 use nef_expr::{Node, Nodes};
@@ -98,17 +99,6 @@ pub(crate) fn turned_operation(nodes: &Nodes, from: usize, turn: u8) -> Operatio
     // Each node names earlier ones, so the image of a node has the turned set.
     let _count = nodes.len();
     Operation::Turned(usize::from(turn), from)
-}
-
-// The complex of an operand that there is.
-fn given<'a>(complex: Option<&'a Complex>) -> &'a Complex
-    requires there { IsSome (option_copied complex) }
-    ensures same { option_copied complex.entry ≡ Some result.now }
-{
-    match complex {
-        Some(complex) => complex,
-        None => unreachable!(),
-    }
 }
 
 /// The complex that the operation makes of those of its operands. `AllocError` says that memory was

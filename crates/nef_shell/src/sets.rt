@@ -1,6 +1,6 @@
 //! The complexes of the nodes, with their parts and their texts.
 
-ghost use Rattle.std.specs.Prelude.{◌≡◌, ◌+◌, ◌≤◌, ◌<◌, ◌↔◌, ◌⊎◌, ℕ, Some, IfOk, IfSome, IsTrue, OnOk, All, length, slice_get, slice_index, vec_len, []};
+ghost use Rattle.std.specs.Prelude.{◌≡◌, ◌+◌, ◌≤◌, ◌<◌, ◌↔◌, ◌⊎◌, ℕ, Some, IfOk, IfSome, IsTrue, OnOk, length, slice_get, slice_index, vec_len, []};
 ghost use Rattle.std.specs.Option.{option_copied};
 ghost use Rattle.nef_space.specs.Local.{SameSet};
 ghost use Rattle.nef_complex.specs.declared.complex.Complex.{Complex};
@@ -11,12 +11,12 @@ ghost use Rattle.nef_parts.specs.Numbers.{IsParts};
 ghost use Rattle.nef_parts.specs.Text.{text};
 ghost use Rattle.nef_script.specs.Commands.{LooksAt, Binds};
 ghost use Rattle.nef_script.specs.Meaning.{IsWithin};
-ghost use Rattle.nef_shell.specs.Commands.{AreLastUses, AreUses};
-ghost use Rattle.nef_shell.specs.Operations.{set_by, HasOperand, HasTurn, AreMeans, IsLent, AreShown, IsKept, IsGone, IsLean, AreBound, ArePartsOf, AreTextsOf, IsThere, HasParts, HasText, AreHeld};
+ghost use Rattle.nef_shell.specs.Operations.{set_by, HasOperand, HasTurn, AreMeans, IsLent, AreShown, IsKept, IsGone, IsLean, AreBound, ArePartsOf, AreTextsOf, HasParts, HasText, AreHeld};
 ghost use Rattle.nef_statement.specs.Texts.{IsWrittenOf};
 
 use crate::operation::{Means, Operation, made};
-use crate::uses::{bound_node, last_uses, looked_at};
+use crate::places::{empty_places, is_there, put_at, thing_at};
+use crate::uses::{bound_node, looked_at};
 use nef_canon::write_text;
 use nef_complex::Complex;
 use nef_core::TextVersion;
@@ -24,7 +24,7 @@ use nef_expr::Nodes;
 use nef_io::Gate;
 use nef_ops::same;
 use nef_parts::Parts;
-use nef_script::{Command, Script};
+use nef_script::Command;
 use nef_volumes::parts_by_threads;
 use std::alloc::{AllocError, Global};
 use std::sync::Wait;
@@ -35,65 +35,31 @@ use std::thread::Threads;
 #[derive(Drop)]
 pub(crate) struct Sets<'a> {
     pub(crate) nodes: &'a Nodes,
-    last_uses: Vec<usize>,
     // A place for each node, in their order, and so in the next two lists.
     list: Vec<Option<Complex>>,
     parts: Vec<Option<Parts>>,
     texts: Vec<Option<Vec<u8>>>,
-    ghost counted: { (vec_len last_uses ≡ length nodes.now) × (vec_len list ≡ length nodes.now) },
+    ghost counted: { vec_len list ≡ length nodes.now },
     ghost beside: { (vec_len parts ≡ length nodes.now) × (vec_len texts ≡ length nodes.now) },
 }
 
-/// So many places with nothing there. `AllocError` says that memory was wanted and not found.
-pub(crate) fn empty_places<X: Drop>(
-    alloc: Global,
-    count: usize,
-) -> Result<Vec<Option<X>>, AllocError>
-    ensures count { IfOk result (λ v. vec_len v ≡ count) }
-    ensures empty { IfOk result (λ v. (k : ℕ) (x : X) → slice_get v.items k ≡ Some (Some x) → ⊥) }
-{
-    let mut list = Vec::with_capacity(alloc, count)?;
-    for _ in 0..count {
-        list.push(None)?;
-    }
-    Ok(list)
-}
-
-// What is there at the place.
-fn thing_at<X>(places: &[Option<X>], k: usize) -> &X
-    requires there { IsThere places.now k }
-    ensures at { slice_get places.now k ≡ Some (Some result.now) }
-{
-    match &places[k] {
-        Some(thing) => thing,
-        None => unreachable!(),
-    }
-}
-
 impl<'a> Sets<'a> {
-    /// These complexes of the script's nodes, at the nodes' places. `AllocError` says that memory was
-    /// wanted and not found.
+    /// These complexes of the nodes, at the nodes' places. `AllocError` says that memory was wanted and not found.
     pub(crate) fn of(
         alloc: Global,
-        script: &'a Script,
+        nodes: &'a Nodes,
         list: Vec<Option<Complex>>,
     ) -> Result<Sets<'a>, AllocError>
-        requires within { All (IsWithin (length script.now.nodes)) script.now.commands }
-        requires count { vec_len list ≡ length script.now.nodes }
-        ensures nodes { IfOk result (λ t. t.nodes.now ≡ script.entry.now.nodes) }
+        requires count { vec_len list ≡ length nodes.now }
+        ensures nodes { IfOk result (λ t. t.nodes.now ≡ nodes.entry.now) }
         ensures list { IfOk result (λ t. t.list ≡ list) }
         ensures parts { IfOk result (λ t. ArePartsOf t.list.items t.parts.items) }
         ensures texts { IfOk result (λ t. (version : TextVersion) → AreTextsOf version t.list.items t.texts.items) }
-        ensures last { IfOk result (λ t. AreLastUses script.entry.now.nodes script.entry.now.commands t.last_uses.items) }
-        ensures used { IfOk result (λ t. AreUses script.entry.now.nodes script.entry.now.commands t.last_uses.items) }
     {
-        let nodes = script.nodes();
-        let last_uses = last_uses(alloc, script)?;
         let parts = empty_places(alloc, nodes.len())?;
         let texts = empty_places(alloc, nodes.len())?;
         Ok(Sets {
             nodes,
-            last_uses,
             list,
             parts,
             texts,
@@ -165,18 +131,17 @@ impl<'a> Sets<'a> {
         requires set { node_set self.old.nodes.now node ≡ set_by (sets_after [] self.old.nodes.now) operation }
         requires shown { AreShown self.old.nodes.now self.old.list.items }
         requires operands { (k : ℕ) → HasOperand operation k → IsKept self.old.nodes.now self.old.list.items k }
-        ensures shown { OnOk result (AreShown self.new.nodes.now self.new.list.items) }
+        ensures shown { OnOk result (AreShown self.old.nodes.now self.new.list.items) }
         ensures bound { OnOk result (AreBound self.old.nodes.now (λ k. k ≡ node) self.old.list.items self.new.list.items) }
         ensures parts { self.new.parts ≡ self.old.parts }
         ensures texts { self.new.texts ≡ self.old.texts }
         ensures nodes { self.new.nodes ≡ self.old.nodes }
-        ensures uses { self.new.last_uses ≡ self.old.last_uses }
     {
-        if self.list[node].is_some() {
+        if is_there(&self.list, node) {
             return Ok(());
         }
         let complex = self.made_by(rt, alloc, operation, means, gate)?;
-        self.list[node] = Some(complex);
+        put_at(&mut self.list, node, Some(complex));
         Ok(())
     }
 
@@ -196,13 +161,12 @@ impl<'a> Sets<'a> {
         ensures list { self.new.list ≡ self.old.list }
         ensures texts { self.new.texts ≡ self.old.texts }
         ensures nodes { self.new.nodes ≡ self.old.nodes }
-        ensures uses { self.new.last_uses ≡ self.old.last_uses }
     {
-        if self.parts[node].is_some() {
+        if is_there(&self.parts, node) {
             return Ok(());
         }
         let parts = parts_by_threads(rt, alloc, self.get(node), workers)?;
-        self.parts[node] = Some(parts);
+        put_at(&mut self.parts, node, Some(parts));
         Ok(())
     }
 
@@ -232,15 +196,14 @@ impl<'a> Sets<'a> {
         ensures held { OnOk result (AreHeld version self.old.nodes.now self.old.list.items self.new.parts.items self.new.texts.items) }
         ensures list { self.new.list ≡ self.old.list }
         ensures nodes { self.new.nodes ≡ self.old.nodes }
-        ensures uses { self.new.last_uses ≡ self.old.last_uses }
     {
-        if self.texts[node].is_some() {
+        if is_there(&self.texts, node) {
             return Ok(());
         }
         self.work_parts(rt, alloc, node, workers)?;
         let (complex, parts) = self.get_with_parts(node);
         let text = write_text(alloc, complex, parts, version)?;
-        self.texts[node] = Some(text);
+        put_at(&mut self.texts, node, Some(text));
         Ok(())
     }
 
@@ -254,40 +217,40 @@ impl<'a> Sets<'a> {
 
     // Lets the complex of the node go, with its parts and its text, if there is a node and no command after this one
     // looks at it.
-    fn release_one(&mut self, node: Option<usize>, now: usize)
+    fn release_one(&mut self, node: Option<usize>, now: usize, uses: &[usize])
         requires within { IfSome node (λ k. k < length self.old.nodes.now) }
+        requires uses { length uses.now ≡ length self.old.nodes.now }
         ensures count { length self.new.list.items ≡ length self.old.list.items }
         ensures held { (version : TextVersion) → AreHeld version self.old.nodes.now self.old.list.items self.old.parts.items self.old.texts.items → AreHeld version self.new.nodes.now self.new.list.items self.new.parts.items self.new.texts.items }
-        ensures kept { (k : ℕ) → now < slice_index self.old.last_uses.items k → IsKept self.old.nodes.now self.old.list.items k → IsKept self.new.nodes.now self.new.list.items k }
-        ensures gone { (k : ℕ) → node ≡ Some k → slice_index self.old.last_uses.items k ≤ now → IsGone self.new.list.items k }
+        ensures kept { (k : ℕ) → now < slice_index uses.now k → IsKept self.old.nodes.now self.old.list.items k → IsKept self.new.nodes.now self.new.list.items k }
+        ensures gone { (k : ℕ) → node ≡ Some k → slice_index uses.now k ≤ now → IsGone self.new.list.items k }
         ensures stays { (k : ℕ) → IsGone self.old.list.items k → IsGone self.new.list.items k }
         ensures nodes { self.new.nodes ≡ self.old.nodes }
-        ensures uses { self.new.last_uses ≡ self.old.last_uses }
     {
         if let Some(k) = node
-            && self.last_uses[k] <= now
+            && uses[k] <= now
         {
-            self.list[k] = None;
-            self.parts[k] = None;
-            self.texts[k] = None;
+            put_at(&mut self.list, k, None);
+            put_at(&mut self.parts, k, None);
+            put_at(&mut self.texts, k, None);
         }
     }
 
     /// Lets the complexes go, with their parts and texts, that no command after this one looks at. `now` is the number
-    /// of the command, counted from 0.
-    pub(crate) fn release(&mut self, command: &Command, now: usize)
+    /// of the command, counted from 0, and `uses` has the last uses.
+    pub(crate) fn release(&mut self, command: &Command, now: usize, uses: &[usize])
         requires within { IsWithin (length self.old.nodes.now) command.now }
-        requires used { (k : ℕ) → k < length self.old.list.items → slice_index self.old.last_uses.items k < now + 1 → IsGone self.old.list.items k ⊎ (LooksAt self.old.nodes.now command.now k ⊎ Binds command.now k) }
+        requires uses { length uses.now ≡ length self.old.nodes.now }
+        requires used { (k : ℕ) → k < length self.old.list.items → slice_index uses.now k < now + 1 → IsGone self.old.list.items k ⊎ (LooksAt self.old.nodes.now command.now k ⊎ Binds command.now k) }
         ensures count { length self.new.list.items ≡ length self.old.list.items }
         ensures held { (version : TextVersion) → AreHeld version self.old.nodes.now self.old.list.items self.old.parts.items self.old.texts.items → AreHeld version self.new.nodes.now self.new.list.items self.new.parts.items self.new.texts.items }
-        ensures kept { (k : ℕ) → now < slice_index self.old.last_uses.items k → IsKept self.old.nodes.now self.old.list.items k → IsKept self.new.nodes.now self.new.list.items k }
-        ensures lean { IsLean self.old.last_uses.items (now + 1) self.new.list.items }
+        ensures kept { (k : ℕ) → now < slice_index uses.now k → IsKept self.old.nodes.now self.old.list.items k → IsKept self.new.nodes.now self.new.list.items k }
+        ensures lean { IsLean uses.now (now + 1) self.new.list.items }
         ensures nodes { self.new.nodes ≡ self.old.nodes }
-        ensures uses { self.new.last_uses ≡ self.old.last_uses }
     {
         let (first, second) = looked_at(self.nodes, command);
-        self.release_one(first, now);
-        self.release_one(second, now);
-        self.release_one(bound_node(command), now);
+        self.release_one(first, now, uses);
+        self.release_one(second, now, uses);
+        self.release_one(bound_node(command), now, uses);
     }
 }

@@ -1,19 +1,20 @@
 //! Works a script's commands.
 
-ghost use Rattle.std.specs.Prelude.{◌≡◌, ◌+◌, ◌≤◌, ◌<◌, ◌⊎◌, ℕ, false, IfOk, OnOk, IfErr, length, slice_index, vec_len};
-ghost use Rattle.nef_script.specs.Commands.{LooksAt, Binds, TurnsRight};
+ghost use Rattle.std.specs.Prelude.{◌≡◌, ◌+◌, ◌<◌, ◌⊎◌, ℕ, false, IfOk, OnOk, length, slice_index, vec_len};
+ghost use Rattle.nef_script.specs.Commands.{LooksAt, Binds};
 ghost use Rattle.nef_script.specs.Meaning.{IsWithin};
-ghost use Rattle.nef_shell.specs.Bindings.{IsWorked, AreFirst};
+ghost use Rattle.nef_shell.specs.Bindings.{AsksAbout, AreFirst};
 ghost use Rattle.nef_shell.specs.Commands.{AreWorkable, AreLastUses, AreUses};
-ghost use Rattle.nef_shell.specs.Operations.{AreMeans, IsKept, IsGone, IsLean, AreBound, AreHeld};
-ghost use Rattle.nef_shell.specs.Working.{HasWritten, HasStopped, WorkEnds};
+ghost use Rattle.nef_shell.specs.Operations.{AreMeans, AreShown, IsKept, IsGone, IsLean, AreBound, AreHeld};
+ghost use Rattle.nef_shell.specs.Working.{IsDue, PieceEnds, WorkEnds};
 
 use crate::ahead::worked_ahead;
 use crate::operation::Means;
 use crate::piece::piece_of;
-use crate::sets::{Sets, empty_places};
+use crate::places::empty_places;
+use crate::sets::Sets;
 use crate::stop::Stop;
-use crate::uses::bound;
+use crate::uses::{bound, last_uses};
 use nef_complex::Complex;
 use nef_core::TextVersion;
 use nef_io::{Gate, Sink, put_all};
@@ -23,6 +24,34 @@ use nef_words::Options;
 use std::alloc::{AllocError, Global};
 use std::sync::Wait;
 use std::thread::Threads;
+
+// Works the node that the command binds, if it binds one, unless all bindings have been worked ahead.
+fn bind_command<R: Threads + Wait + Sync, G: Gate + Sync>(
+    rt: &R,
+    alloc: Global,
+    sets: &mut Sets,
+    command: &Command,
+    ahead: bool,
+    means: &Means,
+    gate: &G,
+) -> Result<(), AllocError>
+    requires means { AreMeans means.now }
+    requires due { IsDue ahead sets.old.nodes.now sets.old.list.items command.now }
+    requires shown { AreShown sets.old.nodes.now sets.old.list.items }
+    ensures shown { OnOk result (AreShown sets.old.nodes.now sets.new.list.items) }
+    ensures bound { OnOk result (AreBound sets.old.nodes.now (λ k. (ahead ≡ false) × Binds command.now k) sets.old.list.items sets.new.list.items) }
+    ensures parts { sets.new.parts ≡ sets.old.parts }
+    ensures texts { sets.new.texts ≡ sets.old.texts }
+    ensures nodes { sets.new.nodes ≡ sets.old.nodes }
+{
+    if ahead {
+        return Ok(());
+    }
+    match bound(sets.nodes, command) {
+        Some((node, operation)) => sets.bind(rt, alloc, node, operation, means, gate),
+        None => Ok(()),
+    }
+}
 
 // Writes the command's piece, with a text of this version.
 fn write_piece<R: Threads + Sync, K: Sink>(
@@ -35,69 +64,27 @@ fn write_piece<R: Threads + Sync, K: Sink>(
     sink: &mut K,
 ) -> Result<(), Stop>
     requires within { IsWithin (length sets.old.nodes.now) command.now }
-    requires kept { (k : ℕ) → LooksAt sets.old.nodes.now command.now k → IsKept sets.old.nodes.now sets.old.list.items k }
+    requires kept { (k : ℕ) → AsksAbout sets.old.nodes.now command.now k → IsKept sets.old.nodes.now sets.old.list.items k }
     requires held { AreHeld text sets.old.nodes.now sets.old.list.items sets.old.parts.items sets.old.texts.items }
-    ensures done { OnOk result (HasWritten text sets.old.nodes.now command.now (K.written sink.old) (K.written sink.new)) }
+    ensures ends { PieceEnds text sets.old.nodes.now command.now (K.written sink.old) (K.written sink.new) (K.faults sink.old) (K.faults sink.new) result }
     ensures held { OnOk result (AreHeld text sets.old.nodes.now sets.old.list.items sets.new.parts.items sets.new.texts.items) }
     ensures list { sets.new.list ≡ sets.old.list }
     ensures nodes { sets.new.nodes ≡ sets.old.nodes }
-    ensures uses { sets.new.last_uses ≡ sets.old.last_uses }
-    ensures stopped { IfErr result (HasStopped text sets.old.nodes.now command.now (K.written sink.old) (K.written sink.new) (K.faults sink.old) (K.faults sink.new)) }
-    ensures quiet { OnOk result (K.faults sink.new ≡ K.faults sink.old) }
-    ensures count { K.faults sink.old ≤ K.faults sink.new }
 {
     let piece = piece_of(rt, alloc, sets, command, text, workers)?;
     put_all(sink, piece.as_bytes())?;
     Ok(())
 }
 
-// Works the command, unless it binds a node and all bindings have been worked ahead, and writes its piece, with a text
-// of this version.
-fn work_command<R: Threads + Wait + Sync, K: Sink, G: Gate + Sync>(
-    rt: &R,
-    alloc: Global,
-    sets: &mut Sets,
-    command: &Command,
-    ahead: bool,
-    means: &Means,
-    text: TextVersion,
-    sink: &mut K,
-    gate: &G,
-) -> Result<(), Stop>
-    requires means { AreMeans means.now }
-    requires within { IsWithin (length sets.old.nodes.now) command.now }
-    requires turned { TurnsRight sets.old.nodes.now command.now }
-    requires held { AreHeld text sets.old.nodes.now sets.old.list.items sets.old.parts.items sets.old.texts.items }
-    requires kept { IsWorked ahead command.now → (k : ℕ) → LooksAt sets.old.nodes.now command.now k → IsKept sets.old.nodes.now sets.old.list.items k }
-    ensures done { OnOk result (HasWritten text sets.old.nodes.now command.now (K.written sink.old) (K.written sink.new)) }
-    ensures held { OnOk result (AreHeld text sets.old.nodes.now sets.new.list.items sets.new.parts.items sets.new.texts.items) }
-    ensures bound { OnOk result (AreBound sets.old.nodes.now (λ k. (ahead ≡ false) × Binds command.now k) sets.old.list.items sets.new.list.items) }
-    ensures nodes { sets.new.nodes ≡ sets.old.nodes }
-    ensures uses { sets.new.last_uses ≡ sets.old.last_uses }
-    ensures stopped { IfErr result (HasStopped text sets.old.nodes.now command.now (K.written sink.old) (K.written sink.new) (K.faults sink.old) (K.faults sink.new)) }
-    ensures quiet { OnOk result (K.faults sink.new ≡ K.faults sink.old) }
-    ensures count { K.faults sink.old ≤ K.faults sink.new }
-{
-    match bound(sets.nodes, command) {
-        None => write_piece(rt, alloc, sets, command, text, means.how.workers, sink),
-        Some((node, operation)) => {
-            if ahead {
-                return Ok(());
-            }
-            sets.bind(rt, alloc, node, operation, means, gate)?;
-            Ok(())
-        }
-    }
-}
-
-// Works the command with this number, counted from 0, and then lets go what no later command looks at. No set is kept
-// before whose last use has come, and none after.
+// Works the command with this number, counted from 0, writes its piece, with a text of this version, and then lets go what
+// no later command looks at. No set is kept before whose last use has come, and none after.
 fn step<R: Threads + Wait + Sync, K: Sink, G: Gate + Sync>(
     rt: &R,
     alloc: Global,
     sets: &mut Sets,
     command: &Command,
     now: usize,
+    uses: &[usize],
     ahead: bool,
     means: &Means,
     text: TextVersion,
@@ -105,25 +92,21 @@ fn step<R: Threads + Wait + Sync, K: Sink, G: Gate + Sync>(
     gate: &G,
 ) -> Result<(), Stop>
     requires means { AreMeans means.now }
-    requires within { IsWithin (length sets.old.nodes.now) command.now }
-    requires turned { TurnsRight sets.old.nodes.now command.now }
+    requires due { IsDue ahead sets.old.nodes.now sets.old.list.items command.now }
     requires held { AreHeld text sets.old.nodes.now sets.old.list.items sets.old.parts.items sets.old.texts.items }
-    requires kept { IsWorked ahead command.now → (k : ℕ) → LooksAt sets.old.nodes.now command.now k → IsKept sets.old.nodes.now sets.old.list.items k }
-    requires lean { IsLean sets.old.last_uses.items now sets.old.list.items }
-    requires used { (k : ℕ) → k < length sets.old.list.items → slice_index sets.old.last_uses.items k ≡ now → IsGone sets.old.list.items k ⊎ LooksAt sets.old.nodes.now command.now k }
-    ensures done { OnOk result (HasWritten text sets.old.nodes.now command.now (K.written sink.old) (K.written sink.new)) }
+    requires uses { length uses.now ≡ length sets.old.nodes.now }
+    requires lean { IsLean uses.now now sets.old.list.items }
+    requires used { (k : ℕ) → k < length sets.old.list.items → slice_index uses.now k ≡ now → IsGone sets.old.list.items k ⊎ LooksAt sets.old.nodes.now command.now k }
+    ensures ends { PieceEnds text sets.old.nodes.now command.now (K.written sink.old) (K.written sink.new) (K.faults sink.old) (K.faults sink.new) result }
     ensures held { OnOk result (AreHeld text sets.old.nodes.now sets.new.list.items sets.new.parts.items sets.new.texts.items) }
-    ensures lean { OnOk result (IsLean sets.old.last_uses.items (now + 1) sets.new.list.items) }
-    ensures kept { OnOk result ((k : ℕ) → now < slice_index sets.old.last_uses.items k → IsKept sets.old.nodes.now sets.old.list.items k → IsKept sets.old.nodes.now sets.new.list.items k) }
-    ensures bound { OnOk result ((k : ℕ) → now < slice_index sets.old.last_uses.items k → ahead ≡ false → Binds command.now k → IsKept sets.old.nodes.now sets.new.list.items k) }
+    ensures lean { OnOk result (IsLean uses.now (now + 1) sets.new.list.items) }
+    ensures kept { OnOk result ((k : ℕ) → now < slice_index uses.now k → IsKept sets.old.nodes.now sets.old.list.items k → IsKept sets.old.nodes.now sets.new.list.items k) }
+    ensures bound { OnOk result ((k : ℕ) → now < slice_index uses.now k → ahead ≡ false → Binds command.now k → IsKept sets.old.nodes.now sets.new.list.items k) }
     ensures nodes { sets.new.nodes ≡ sets.old.nodes }
-    ensures uses { sets.new.last_uses ≡ sets.old.last_uses }
-    ensures stopped { IfErr result (HasStopped text sets.old.nodes.now command.now (K.written sink.old) (K.written sink.new) (K.faults sink.old) (K.faults sink.new)) }
-    ensures quiet { OnOk result (K.faults sink.new ≡ K.faults sink.old) }
-    ensures count { K.faults sink.old ≤ K.faults sink.new }
 {
-    work_command(rt, alloc, sets, command, ahead, means, text, sink, gate)?;
-    sets.release(command, now);
+    bind_command(rt, alloc, sets, command, ahead, means, gate)?;
+    write_piece(rt, alloc, sets, command, text, means.how.workers, sink)?;
+    sets.release(command, now, uses);
     Ok(())
 }
 
@@ -156,6 +139,7 @@ fn work_commands<R: Threads + Wait + Sync, K: Sink, G: Gate + Sync>(
     alloc: Global,
     sets: &mut Sets,
     script: &Script,
+    uses: &[usize],
     ahead: bool,
     means: &Means,
     text: TextVersion,
@@ -165,16 +149,17 @@ fn work_commands<R: Threads + Wait + Sync, K: Sink, G: Gate + Sync>(
     requires means { AreMeans means.now }
     requires workable { AreWorkable script.now.nodes script.now.commands }
     requires nodes { sets.old.nodes.now ≡ script.now.nodes }
-    requires last { AreLastUses script.now.nodes script.now.commands sets.old.last_uses.items }
-    requires used { AreUses script.now.nodes script.now.commands sets.old.last_uses.items }
+    requires uses { length uses.now ≡ length script.now.nodes }
+    requires last { AreLastUses script.now.nodes script.now.commands uses.now }
+    requires used { AreUses script.now.nodes script.now.commands uses.now }
     requires first { AreFirst script.now.nodes script.now.commands ahead sets.old.list.items }
     requires held { AreHeld text script.now.nodes sets.old.list.items sets.old.parts.items sets.old.texts.items }
     ensures ends { WorkEnds text script.now.nodes script.now.commands (K.written sink.old) (K.written sink.new) (K.faults sink.old) (K.faults sink.new) result }
-    ensures lean { OnOk result (IsLean sets.old.last_uses.items (length script.now.commands) sets.new.list.items) }
+    ensures lean { OnOk result (IsLean uses.now (length script.now.commands) sets.new.list.items) }
 {
     for (now, command) in script.commands().iter().enumerate() {
         step(
-            rt, alloc, sets, command, now, ahead, means, text, sink, gate,
+            rt, alloc, sets, command, now, uses, ahead, means, text, sink, gate,
         )?;
     }
     Ok(())
@@ -195,9 +180,12 @@ fn work_all<R: Threads + Wait + Sync, K: Sink, G: Gate + Sync>(
     requires workable { AreWorkable script.now.nodes script.now.commands }
     ensures ends { WorkEnds text script.now.nodes script.now.commands (K.written sink.old) (K.written sink.new) (K.faults sink.old) (K.faults sink.new) result }
 {
+    let uses = last_uses(alloc, script)?;
     let list = first_complexes(rt, alloc, script, ahead, means, gate)?;
-    let mut sets = Sets::of(alloc, script, list)?;
-    work_commands(rt, alloc, &mut sets, script, ahead, means, text, sink, gate)
+    let mut sets = Sets::of(alloc, script.nodes(), list)?;
+    work_commands(
+        rt, alloc, &mut sets, script, &uses, ahead, means, text, sink, gate,
+    )
 }
 
 /// Works the commands, and writes the piece of each in their order. Where the options say so, all bindings are worked
@@ -218,7 +206,7 @@ pub(crate) fn work<R: Threads + Wait + Sync, K: Sink, G: Gate + Sync>(
         whole: &whole,
         how: options.how,
     };
-    work_all(
+    let ended = work_all(
         rt,
         alloc,
         script,
@@ -227,5 +215,7 @@ pub(crate) fn work<R: Threads + Wait + Sync, K: Sink, G: Gate + Sync>(
         options.text,
         sink,
         gate,
-    )
+    );
+    drop(whole);
+    ended
 }

@@ -1,4 +1,4 @@
-use Rattle.std.proofs.Common.{Some, ap, ◌∙◌, arith}
+use Rattle.std.proofs.Common.{Some, ap, ◌∙◌, arith, length}
 use Rattle.std.proofs.lemmas.List.Elements.{All-pop, All-push}
 use Rattle.nef_sched.specs.declared.pass.RoundPass.{RoundPass}
 use Rattle.nef_sched.specs.declared.worked.Worked.{Worked}
@@ -6,7 +6,7 @@ use Rattle.nef_sched.specs.Rounds.{Belongs, total_parts}
 use Rattle.nef_sched.specs.Results.{AreFitting}
 use Rattle.nef_sched.specs.Workers.{total_worked}
 use Rattle.nef_sched.proofs.Steps.{parts_snoc}
-use Rattle.nef_sched.proofs.Outs.{worked_snoc}
+use Rattle.nef_sched.proofs.Outs.{worked_none, worked_both, worked_snoc}
 use Rattle.nef_sched.proofs.ahead.gathered.Goals as goal
 
 pub loop-pass-preserved : goal.loop-pass-preserved
@@ -16,15 +16,16 @@ loop-pass-preserved g c =
     let last = c.in-Some.ensures.items in
     let own = All-pop (λ (w : Worked _). Belongs c.args.round.now w.pass) _ _ (Some c.in-Some.field-0) last i.worked in
     let fit = All-pop (λ (w : Worked _). AreFitting (g.T.Stage.size t) (g.T.Stage.fits t) c.args.numbers.now w.outs.items) _ _ (Some c.in-Some.field-0) last i.outs in
-    let more = ap total_parts c.in_ok-push.ensures.items ∙ parts_snoc _ _ in
+    let e = c.push_reserved.ensures in
+    let more = ap total_parts e.items ∙ parts_snoc _ _ in
     let less = ap total_worked last ∙ worked_snoc _ _ in
     let p = i.parts in
+    let room = i.room in
     record {
-      sound = c.with_outs-done.ensures.sound;
-      still = λ k h. c.with_outs-done.ensures.still k (i.still k h);
-      only = λ k none. c.with_outs-done.ensures.only k none ∙ i.only k none;
+      made = worked_both _ _ _ _ _ _ i.made c.keep_outs.ensures.worked;
       worked = own.0;
       outs = fit.0;
-      of = rw c.in_ok-push.ensures.items (All-push (λ (q : RoundPass). Belongs c.args.round.now q) _ _ i.of own.1);
+      of = rw e.items (All-push (λ (q : RoundPass). Belongs c.args.round.now q) _ _ i.of own.1);
       parts = omega arith;
+      room = omega (arith, e.len, e.capacity, c.in-Some.ensures.len, room);
     }

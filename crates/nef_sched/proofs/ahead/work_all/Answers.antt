@@ -11,14 +11,14 @@ work-requires-clause-number g c =
     let t = c.args.stage.now in
     let s = g.T.Stage in
     let knows = c.loop.invariant.knows ∙ c.requires.knows in
-    (all_in (HasNeeds (s.size t) (s.fits t) (s.first t) (s.second t) c.args.done.now.list.items) _ _ (ap (times c.in-Some.number) (sym knows) ∙ c.in-Some.ensures.number.1) c.requires.each).0
+    (all_in (HasNeeds (s.size t) (s.fits t) (s.first t) (s.second t) c.args.done.now.list.items) _ _ (ap (times c.in-Some.number) (sym knows) ∙ c.in-Some.ensures.number.1) c.requires.ready.each).0
 
 pub work-requires-clause-there : goal.work-requires-clause-there
 work-requires-clause-there g c =
     let t = c.args.stage.now in
     let s = g.T.Stage in
     let knows = c.loop.invariant.knows ∙ c.requires.knows in
-    (all_in (HasNeeds (s.size t) (s.fits t) (s.first t) (s.second t) c.args.done.now.list.items) _ _ (ap (times c.in-Some.number) (sym knows) ∙ c.in-Some.ensures.number.1) c.requires.each).1
+    (all_in (HasNeeds (s.size t) (s.fits t) (s.first t) (s.second t) c.args.done.now.list.items) _ _ (ap (times c.in-Some.number) (sym knows) ∙ c.in-Some.ensures.number.1) c.requires.ready.each).1
 
 pub loop-preserved : goal.loop-preserved
 loop-preserved g c =
@@ -27,7 +27,7 @@ loop-preserved g c =
     let i = c.loop.invariant in
     let n = c.in-Some.number in
     let among = ap (times n) (sym (i.knows ∙ c.requires.knows)) ∙ c.in-Some.ensures.number.1 in
-    let due = all_in (HasNeeds (s.size t) (s.fits t) (s.first t) (s.second t) c.args.done.now.list.items) _ _ among c.requires.each in
+    let due = all_in (HasNeeds (s.size t) (s.fits t) (s.first t) (s.second t) c.args.done.now.list.items) _ _ among c.requires.ready.each in
     record {
       of = c.take.ensures.of;
       parts = c.take.ensures.same.0 ∙ i.parts;

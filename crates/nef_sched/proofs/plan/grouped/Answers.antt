@@ -22,11 +22,12 @@ loop-number-preserved c =
       ];
     }
 
-pub returns-clause-each : goal.returns-clause-each
-returns-clause-each c =
+pub returns : goal.returns
+returns c =
     let list = c.loop-number.list in
     let end = c.loop-number-test.false in
     let low = c.loop-number.auto.number-end in
+    let i = c.loop-number.invariant in
     let all : c.loop-number.number ≡ length c.args.rounds.now = omega arith in
     let count : c.in_ok-groups.groups.len ≡ length list = omega (arith, c.loop-number.auto.list, c.as_mut_slice-list.ensures.len) in
-    rw (count, take-append_seam list (drop (length list) c.in_ok-groups.groups.items)) (λ r group at. subst (λ n. IsGroup n c.args.rounds.now r group.items) all (c.loop-number.invariant.each r group at))
+    record { groups = rw (count, take-append_seam list (drop (length list) c.in_ok-groups.groups.items)) (i.len, λ r group at. subst (λ n. IsGroup n c.args.rounds.now r group.items) all (i.each r group at)) }

@@ -1,6 +1,6 @@
 use Rattle.std.proofs.Common.{◌∙◌, ◌<◌, ap, arith, length, subst, sym, ℕ}
 use Rattle.std.specs.Prelude.{slice_index}
-use Rattle.nef_sched.specs.Plans.{AreLasts, IsGroup}
+use Rattle.nef_sched.specs.Plans.{AreLasts, AreGroups}
 use Rattle.nef_sched.proofs.Planning.{last_low}
 use Rattle.nef_sched.proofs.plan.plan_of.Goals as goal
 
@@ -27,11 +27,10 @@ returns g c =
     let a = c.in_ok-rounds.ensures.rounds in
     let b = subst (λ z. AreLasts size (g.T.Stage.first t) (g.T.Stage.second t) z c.in_ok-lasts.lasts.items) c.deref.ensures.value c.in_ok-lasts.ensures.lasts in
     record {
-      rounds = a;
-      lasts = b;
-      len = (c.in_ok-begins.ensures.len ∙ ap length c.deref-2.ensures.value ∙ a.len, c.in_ok-ends.ensures.len ∙ ap length c.deref-3.ensures.value ∙ b.len);
-      begins = λ r group at.
-          subst (λ (z : ℕ). IsGroup z c.in_ok-rounds.rounds.items r group.items) a.len (subst (λ z. IsGroup (length z) z r group.items) c.deref-2.ensures.value (c.in_ok-begins.ensures.each r group at));
-      ends = λ r group at.
-          subst (λ (z : ℕ). IsGroup z c.in_ok-lasts.lasts.items r group.items) b.len (subst (λ z. IsGroup (length z) z r group.items) c.deref-3.ensures.value (c.in_ok-ends.ensures.each r group at));
+      plan = record {
+        rounds = a;
+        lasts = b;
+        begins = subst (λ (z : ℕ). AreGroups z c.in_ok-rounds.rounds.items c.in_ok-begins.begins.items) a.len (subst (λ z. AreGroups (length z) z c.in_ok-begins.begins.items) c.deref-2.ensures.value c.in_ok-begins.ensures.groups);
+        ends = subst (λ (z : ℕ). AreGroups z c.in_ok-lasts.lasts.items c.in_ok-ends.ends.items) b.len (subst (λ z. AreGroups (length z) z c.in_ok-ends.ends.items) c.deref-3.ensures.value c.in_ok-ends.ensures.groups);
+      };
     }

@@ -3,7 +3,7 @@ use Rattle.std.proofs.lemmas.List.Elements.{All-push}
 use Rattle.crossbeam_queue.specs.Passes.{view, IsPassOf}
 use Rattle.nef_sched.specs.declared.view.View.{View}
 use Rattle.nef_sched.specs.declared.pass.RoundPass.{RoundPass}
-use Rattle.nef_sched.specs.Rounds.{known, taken, ended, total_parts}
+use Rattle.nef_sched.specs.Rounds.{parts, total_parts, IsFresh}
 use Rattle.nef_sched.proofs.Steps.{forks, parts_snoc}
 use Rattle.nef_sched.proofs.round.passes_of.Goals as goal
 
@@ -20,7 +20,10 @@ loop-preserved c =
     let fewer : (view c.another-other.new.pass).parts ≡ (view c.loop.pass).parts - 1 = ap (λ (v : View). v.parts) made.0 in
     let less : (view c.another-other.new.pass).due ≡ (view c.loop.pass).due - 1 = ap (λ (v : View). v.due) made.0 in
     let other_part : (view c.another-other.result).parts ≡ 1 = ap (λ (v : View). v.parts) made.1 in
-    let all = ap total_parts c.in_ok-push.ensures.items ∙ parts_snoc _ _ in
+    let made_of = c.in_ok-more.ensures in
+    let put = c.push_reserved.ensures in
+    let same : parts c.in_ok-more.more ≡ 1 = ap (λ p. (view {V = View} p).parts) made_of.pass ∙ other_part in
+    let all = ap total_parts put.items ∙ parts_snoc _ _ in
     let p = i.parts in
     let q = i.every in
     let d = i.due in
@@ -33,11 +36,24 @@ loop-preserved c =
       none = (ap (λ (v : View). v.taken) made.0 ∙ i.none.0, ap (λ (v : View). v.ended) made.0 ∙ i.none.1);
       knows = search rules;
       every = omega arith;
-      len = search rules;
-      each = rw c.in_ok-push.ensures.items (All-push (λ (p : RoundPass). IsPassOf c.args.queue.now p.pass) _ _ i.each (search rules));
-      fresh = rw c.in_ok-push.ensures.items
-          (All-push (λ (p : RoundPass). (known p ≡ (view c.args.pass).known) × (taken p ≡ []) × (ended p ≡ false)) _ _ i.fresh (ap (λ (v : View). v.known) made.1 ∙ i.knows, c.in_ok-taken.ensures.items, ap (λ (v : View). v.ended) made.1));
+      len = let l = i.len in omega (arith, put.len, l);
+      each = rw put.items (All-push (λ (p : RoundPass). IsPassOf c.args.queue.now p.pass) _ _ i.each (rw made_of.pass (search rules)));
+      fresh = rw put.items (All-push (IsFresh (view c.args.pass).known) _ _ i.fresh (ap (λ p. (view {V = View} p).known) made_of.pass ∙ ap (λ (v : View). v.known) made.1 ∙ i.knows, made_of.fresh, ap (λ p. (view {V = View} p).ended) made_of.pass ∙ ap (λ (v : View). v.ended) made.1));
+      space = rw put.capacity i.space;
     }
 
 pub returns-clause-every : goal.returns-clause-every
-returns-clause-every c = let e = ap total_parts c.in_ok-push-2.ensures.items ∙ parts_snoc _ _ in let q = c.loop.invariant.every in omega arith
+returns-clause-every c =
+    let all = ap total_parts c.push_reserved-2.ensures.items ∙ parts_snoc _ _ in
+    let last : parts c.in_ok-last.last ≡ (view c.loop.pass).parts = ap (λ p. (view {V = View} p).parts) c.in_ok-last.ensures.pass in
+    let q = c.loop.invariant.every in
+    omega arith
+
+pub returns-clause-of : goal.returns-clause-of
+returns-clause-of c = rw c.push_reserved-2.ensures.items (All-push (λ (p : RoundPass). IsPassOf c.args.queue.now p.pass) _ _ c.loop.invariant.each (rw c.in_ok-last.ensures.pass c.loop.invariant.of))
+
+pub returns-clause-fresh : goal.returns-clause-fresh
+returns-clause-fresh c =
+    let i = c.loop.invariant in
+    let e = c.in_ok-last.ensures in
+    rw c.push_reserved-2.ensures.items (All-push (IsFresh (view c.args.pass).known) _ _ i.fresh (ap (λ p. (view {V = View} p).known) e.pass ∙ i.knows, e.fresh, ap (λ p. (view {V = View} p).ended) e.pass ∙ i.none.1))

@@ -1,6 +1,6 @@
-use Rattle.std.proofs.Common.{◌≡◌, ◌+◌, ◌^◌, [], false, All, vec_len}
+use Rattle.std.proofs.Common.{◌≡◌, ◌+◌, ◌^◌, ◌≤◌, [], false, All, vec_len, vec_capacity}
 use Rattle.crossbeam_queue.specs.Passes.{view, IsPassOf}
-use Rattle.nef_sched.specs.Rounds.{known, taken, ended, total_parts}
+use Rattle.nef_sched.specs.Rounds.{total_parts, IsFresh}
 use Rattle.nef_sched.proofs.round.passes_of.Given as goal
 
 abbrev pub invariant-loop : goal.invariant-loop
@@ -13,5 +13,6 @@ invariant-loop l = record {
   every : total_parts l.list.items + (view l.pass).parts ≡ 2 ^ 32;
   len : vec_len l.list + 1 ≡ l.counter;
   each : All (λ p. IsPassOf l.queue p.pass) l.list.items;
-  fresh : All (λ p. (known p ≡ (view l.initial.pass).known) × (taken p ≡ []) × (ended p ≡ false)) l.list.items;
+  fresh : All (IsFresh (view l.initial.pass).known) l.list.items;
+  space : l.passes ≤ vec_capacity l.list;
 }

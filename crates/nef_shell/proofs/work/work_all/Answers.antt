@@ -6,13 +6,18 @@ use Rattle.nef_shell.proofs.work.work_all.Goals as goal
 
 pub returns-in_err-list : goal.returns-in_err-list
 returns-in_err-list g c =
-    let p = err_from_is_err_and c.from_residual.result c.from_residual.ensures.1 in
-    record { ends = ends-before _ _ _ _ _ c.from_residual.result (p.1 ∙ ap (λ z. Err z) p.2) }
+    let p = err_from_is_err_and c.from_residual-in_err-list.result c.from_residual-in_err-list.ensures.1 in
+    record { ends = ends-before _ _ _ _ _ c.from_residual-in_err-list.result (p.1 ∙ ap (λ z. Err z) p.2) }
 
 pub returns-in_err-sets : goal.returns-in_err-sets
 returns-in_err-sets g c =
     let p = err_from_is_err_and c.from_residual-in_err-sets.result c.from_residual-in_err-sets.ensures.1 in
     record { ends = ends-before _ _ _ _ _ c.from_residual-in_err-sets.result (p.1 ∙ ap (λ z. Err z) p.2) }
+
+pub returns-in_err-uses : goal.returns-in_err-uses
+returns-in_err-uses g c =
+    let p = err_from_is_err_and c.from_residual.result c.from_residual.ensures.1 in
+    record { ends = ends-before _ _ _ _ _ c.from_residual.result (p.1 ∙ ap (λ z. Err z) p.2) }
 
 pub work_commands-requires-clause-held : goal.work_commands-requires-clause-held
 work_commands-requires-clause-held g c κs within =

@@ -1,11 +1,12 @@
 use Rattle.std.proofs.Common.{◌≡◌, ◌+◌, ◌<◌, ◌++◌, [], ◌∙◌, ap, sym, refl, subst, arith, length, Some, inl, inr}
 use Rattle.std.specs.Prelude.{slice_get, slice_index}
 use Rattle.std.proofs.lemmas.Bool.{cases_lt}
-use Rattle.std.proofs.lemmas.Option.{slice_get_read}
+use Rattle.std.proofs.lemmas.Option.{slice_get_read, slice_get_within, get_or_from_slice_get}
 use Rattle.std.proofs.lemmas.Result.{err_from_is_err_and}
-use Rattle.nef_script.specs.Commands.{LooksAt, Binds}
-use Rattle.nef_shell.specs.Commands.{AreLastUses, AreUses}
-use Rattle.nef_shell.specs.Operations.{IsKept, IsLean, AreHeld}
+use Rattle.nef_script.specs.Commands.{LooksAt, Binds, TurnsRight}
+use Rattle.nef_script.specs.Meaning.{IsWithin}
+use Rattle.nef_shell.specs.Operations.{IsKept, AreHeld}
+use Rattle.nef_shell.specs.Working.{IsDue}
 use Rattle.nef_shell.proofs.Asked.{gone-or-there, grows-none, true-or-false}
 use Rattle.nef_shell.proofs.Outputs.{output-next, grows-more, front-at, stop-rose}
 use Rattle.nef_shell.proofs.work.work_commands.Goals as goal
@@ -15,19 +16,25 @@ step-requires-clause-held g c scopes within =
     let sets = c.loop-now.sets in
     subst (λ z. AreHeld c.args.text z sets.list.items sets.parts.items sets.texts.items) (sym c.loop-now.invariant.nodes) c.loop-now.invariant.held
 
-pub step-requires-clause-kept : goal.step-requires-clause-kept
-step-requires-clause-kept g c scopes within works k looks =
+pub step-requires-clause-due : goal.step-requires-clause-due
+step-requires-clause-due g c scopes inside =
     let items = c.commands-command-items.result.now in
     let item = c.command-item.result in
     let now = c.loop-now.now in
     let so_far = c.loop-now.invariant in
+    let nodes = c.args.script.now.nodes in
     let all = c.commands-command-items.ensures.commands in
     let at : slice_get c.args.script.now.commands now ≡ Some item = subst (λ z. slice_get z now ≡ Some item) all (slice_get_read items _ now item refl (omega arith) c.command-item.is) in
-    let here : LooksAt c.args.script.now.nodes item k = subst (λ z. LooksAt z item k) so_far.nodes looks in
-    elim (so_far.kept now k item (omega arith) at works here) [
-      | inl kept ↦ subst (λ z. IsKept z c.loop-now.sets.list.items k) (sym so_far.nodes) kept
-      | inr (e, j, d, low, below, seen, binds) ↦ absurd (omega arith)
-    ]
+    let low = slice_get_within c.args.script.now.commands now item at in
+    let is = get_or_from_slice_get c.args.script.now.commands now item item at in
+    subst (λ z. IsDue c.args.ahead z c.loop-now.sets.list.items item) (sym so_far.nodes) (record {
+      within = subst (IsWithin (length nodes)) is (c.requires.workable.within now item low);
+      turned = subst (TurnsRight nodes) is (c.requires.workable.turned now item low);
+      kept = λ works k looks. elim (so_far.kept now k item (omega arith) at works looks) [
+        | inl kept ↦ kept
+        | inr (e, j, d, low, below, seen, binds) ↦ absurd (omega arith)
+      ];
+    })
 
 pub step-requires-clause-used : goal.step-requires-clause-used
 step-requires-clause-used g c scopes within k below here =
@@ -40,23 +47,27 @@ step-requires-clause-used g c scopes within k below here =
     let at : slice_get c.args.script.now.commands now ≡ Some item = subst (λ z. slice_get z now ≡ Some item) all (slice_get_read items _ now item refl (omega arith) c.command-item.is) in
     let old = c.loop-now.sets in
     let counted = old.counted in
+    let ok = old.list.ok in
     let seen_at : (d : _) → slice_get c.args.script.now.commands now ≡ Some d → LooksAt nodes d k → LooksAt old.nodes.now item k =
     λ d seen looks. (
     let found : Some d ≡ Some item = sym seen ∙ at in
     let one : d ≡ item = cc in
     subst (λ z. LooksAt z item k) (sym so_far.nodes) (subst (λ z. LooksAt nodes z k) one looks)
     ) in
-    elim (so_far.used k (omega (arith, counted.1, ap length so_far.nodes))) [
+    elim (c.requires.used k (omega (arith, counted, ap length so_far.nodes))) [
       | inl zero ↦ elim (gone-or-there old.list.items k below) [
         | inl gone ↦ inl gone
         | inr (x, there) ↦
             let (i, d, seen, asks, looks) = so_far.only (omega (arith, zero, here)) k x there in
-            let first = so_far.last i k d seen looks in
+            let first = c.requires.last i k d seen looks in
             let first_at : i ≡ now = omega (arith, zero, here) in
             inr (seen_at d (subst (λ z. slice_get c.args.script.now.commands z ≡ Some d) first_at seen) looks)
       ]
       | inr (d, seen, looks) ↦ inr (seen_at d (subst (λ z. slice_get c.args.script.now.commands z ≡ Some d) here seen) looks)
     ]
+
+pub step-requires-clause-uses : goal.step-requires-clause-uses
+step-requires-clause-uses g c scopes within = c.requires.uses ∙ ap length (sym c.loop-now.invariant.nodes)
 
 pub returns-in_err-step-clause-ends : goal.returns-in_err-step-clause-ends
 returns-in_err-step-clause-ends g c =
@@ -64,7 +75,7 @@ returns-in_err-step-clause-ends g c =
     let so_far = c.loop-now.invariant in
     let items = c.commands-command-items.result.now in
     let output = so_far.written in
-    let stopped = rw so_far.nodes at c.in_err-step.ensures.stopped in
+    let stopped = rw so_far.nodes at c.in_err-step.ensures.ends.stopped in
     let front = front-at c.args.text _ c.args.script.now.nodes items c.loop-now.now c.command-item.result _ _ _ _ _ output.0 (omega arith) c.command-item.is output.1 output.2 stopped in
     rw p.1 (record {
       done = tt;
@@ -89,24 +100,22 @@ loop-now-preserved g c =
     let old = c.loop-now.sets in
     let new = c.step.new.sets in
     let same : old.nodes.now ≡ nodes = so_far.nodes in
-    let uses : new.last_uses.items ≡ old.last_uses.items = ap (λ z. z.items) stepped.uses in
-    let done = rw so_far.nodes at stepped.done in
+    let ends = stepped.ends in
+    let done = rw so_far.nodes at ends.done in
     record {
-      count = omega (arith, stepped.count);
-      quiet = stepped.quiet ∙ so_far.quiet;
+      count = omega (arith, ends.count, so_far.count);
+      quiet = ends.quiet ∙ so_far.quiet;
       written = (
         so_far.written.0 ++ done.0,
         output-next c.args.text nodes items now item _ _ c.loop-now-test.true c.command-item.is so_far.written.1 done.1,
         grows-more _ _ _ _ _ so_far.written.2 done.2,
       );
       nodes = ap (λ z. z.now) stepped.nodes ∙ same;
-      last = subst (AreLastUses nodes c.args.script.now.commands) (sym uses) so_far.last;
-      used = subst (AreUses nodes c.args.script.now.commands) (sym uses) so_far.used;
-      lean = subst (λ z. IsLean z (now + 1) new.list.items) (sym uses) stepped.lean;
+      lean = stepped.lean;
       only = λ zero. absurd (omega arith);
       kept = λ i k d later found works looks.
-          let last = so_far.last i k d found looks in
-          let far : now < slice_index old.last_uses.items k = omega (arith, last) in
+          let last = c.requires.last i k d found looks in
+          let far : now < slice_index c.args.uses.now k = omega (arith, last) in
           elim (so_far.kept i k d (omega arith) found works looks) [
             | inl kept ↦ inl (subst (λ z. IsKept z new.list.items k) same (stepped.kept k far (subst (λ z. IsKept z old.list.items k) (sym same) kept)))
             | inr (e, j, b, low, below, seen, binds) ↦ elim (cases_lt now j) [
@@ -127,8 +136,6 @@ loop-now-init g c = record {
   quiet = refl;
   written = ([], refl, grows-none _);
   nodes = c.requires.nodes;
-  last = c.requires.last;
-  used = c.requires.used;
   lean = λ k within below. absurd (omega arith);
   only = λ zero k x there. c.requires.first.only k x there;
   kept = λ i k d later found works looks. elim (true-or-false c.args.ahead) [

@@ -1,29 +1,29 @@
-use Rattle.std.proofs.Common.{◌∙◌, arith, refl, subst, sym}
-use Rattle.std.proofs.lemmas.Option.{slice_get_read}
+use Rattle.std.proofs.Common.{◌∙◌, arith, subst, sym}
 use Rattle.nef_complex.specs.Complexes.{ShowsSet}
 use Rattle.nef_expr.specs.Nodes.{node_set}
-use Rattle.nef_shell.proofs.Complexes.{bound-put, bound-there, none-of, shown-put, there-of}
+use Rattle.nef_shell.proofs.Complexes.{bound-put, bound-there, shown-put}
 use Rattle.nef_shell.proofs.sets.Sets.bind.Goals as goal
 
-pub returns-then-is_some-clause-bound : goal.returns-then-is_some-clause-bound
-returns-then-is_some-clause-bound g c =
-    let list = c.args.self.now.list.items in
-    let counted = c.args.self.now.counted in
-    let there = there-of _ c.index.result.now (slice_get_read list _ c.args.node c.index.result.now refl (omega arith) c.index.ensures) (sym c.is_some.ensures ∙ c.if-is_some.true) in
-    bound-there c.args.self.now.nodes.now list c.args.node there.0 there.1 c.requires.shown
+pub returns-then-is_there-clause-bound : goal.returns-then-is_there-clause-bound
+returns-then-is_there-clause-bound g c =
+    let there = c.is_there.ensures.there c.if-is_there.true in
+    bound-there c.args.self.now.nodes.now c.args.self.now.list.items c.args.node there.0 there.1 c.requires.shown
 
 pub returns-clause-shown : goal.returns-clause-shown
 returns-clause-shown g c =
     let nodes = c.args.self.now.nodes.now in
     let counted = c.args.self.now.counted in
+    let ok = c.args.self.now.list.ok in
+    let node = c.requires.node in
     let shows : ShowsSet (node_set nodes c.args.node) c.in_ok-complex.complex = subst (λ s. ShowsSet s c.in_ok-complex.complex) (sym c.requires.set) c.in_ok-complex.ensures.shows in
-    shown-put nodes c.args.self.now.list.items c.args.node c.in_ok-complex.complex (omega arith) c.requires.shown shows
+    rw c.put_at.ensures.put (shown-put nodes c.args.self.now.list.items c.args.node c.in_ok-complex.complex (omega arith) c.requires.shown shows)
 
 pub returns-clause-bound : goal.returns-clause-bound
 returns-clause-bound g c =
     let nodes = c.args.self.now.nodes.now in
     let list = c.args.self.now.list.items in
     let counted = c.args.self.now.counted in
+    let ok = c.args.self.now.list.ok in
+    let node = c.requires.node in
     let shows : ShowsSet (node_set nodes c.args.node) c.in_ok-complex.complex = subst (λ s. ShowsSet s c.in_ok-complex.complex) (sym c.requires.set) c.in_ok-complex.ensures.shows in
-    let none = none-of _ c.index.result.now (slice_get_read list _ c.args.node c.index.result.now refl (omega arith) c.index.ensures) (sym c.is_some.ensures ∙ c.if-is_some.false) in
-    bound-put nodes list c.args.node c.in_ok-complex.complex (omega arith) none shows
+    rw c.put_at.ensures.put (bound-put nodes list c.args.node c.in_ok-complex.complex (omega arith) (c.is_there.ensures.gone c.if-is_there.false) shows)

@@ -1,5 +1,4 @@
-use Rattle.std.proofs.Common.{◌∙◌, ap, arith, inl, inr}
-use Rattle.std.specs.Prelude.{slice_index}
+use Rattle.std.proofs.Common.{◌∙◌, arith, inl, inr}
 use Rattle.nef_shell.proofs.sets.Sets.release.Goals as goal
 
 pub returns-clause-lean : goal.returns-clause-lean
@@ -7,16 +6,14 @@ returns-clause-lean c k within used =
     let one = c.release_one.ensures in
     let two = c.release_one-2.ensures in
     let three = c.release_one-3.ensures in
-    let second_uses = ap (λ z. slice_index z.items k) one.uses in
-    let third_uses = ap (λ z. slice_index z.items k) two.uses ∙ second_uses in
     elim (c.requires.used k (omega (arith, one.count, two.count, three.count)) used) [
       | inl gone ↦ three.stays k (two.stays k (one.stays k gone))
       | inr more ↦ elim more [
         | inl looks ↦ elim ((c.looked_at-first.ensures.looked_at k).0 looks) [
           | inl first ↦ three.stays k (two.stays k (one.gone k first (omega arith)))
-          | inr second ↦ three.stays k (two.gone k second (omega (arith, second_uses)))
+          | inr second ↦ three.stays k (two.gone k second (omega arith))
         ]
-        | inr binds ↦ three.gone k ((c.bound_node.ensures.bound k).0 binds) (omega (arith, third_uses))
+        | inr binds ↦ three.gone k ((c.bound_node.ensures.bound k).0 binds) (omega arith)
       ]
     ]
 

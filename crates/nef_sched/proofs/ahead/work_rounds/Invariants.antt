@@ -1,6 +1,6 @@
 use Rattle.nef_sched.specs.Results.{AreSound}
 use Rattle.nef_sched.proofs.Planning.{AreThere, AreGone}
-use Rattle.nef_sched.proofs.ahead.run_lean.Given as goal
+use Rattle.nef_sched.proofs.ahead.work_rounds.Given as goal
 
 abbrev pub invariant-loop-round : goal.invariant-loop-round
 invariant-loop-round g l = record {
