@@ -8,7 +8,7 @@ use Rattle.nef_geo.specs.declared.reading.PlaneFault.TheVariants as fault
 use Rattle.nef_script.specs.Tests.{number_or_zero}
 use Rattle.nef_script.specs.Outcome.{IsRead, both, some_fails, is_normal, is_direction, are_zero}
 use Rattle.nef_script.specs.declared.fault.ScriptKind.TheVariants as kind
-use Rattle.nef_script.specs.declared.table.Role.TheVariants.{Coefficient}
+use Rattle.nef_script.specs.Table.{Coefficient}
 use Rattle.nef_script.proofs.Firsts.{IsRead-three, IsRead-four, IsRead-unless, place-number, zeros-none}
 use Rattle.nef_script.proofs.Values.{passed, same_form, same_vector, zero-are, not-zero}
 use Rattle.nef_script.proofs.arguments.direction.Goals as goal
