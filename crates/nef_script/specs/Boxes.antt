@@ -1,5 +1,5 @@
 -- The script of stairs as it is written: templates, and words in place of some of their bytes.
-use Rattle.std.specs.Prelude.{ℕ, ◌+◌, nat_eq, if◌then◌else◌, List, [], ◌∷◌, ◌++◌, codes, take, drop, flat_map}
+use Rattle.std.specs.Prelude.{ℕ, nat_eq, if◌then◌else◌, List, [], ◌∷◌, ◌++◌, codes, take, drop, flat_map}
 use Rattle.std.specs.Fmt.{decimal}
 use Rattle.nef_script.specs.Stairs.{step_lines}
 use Rattle.nef_script.specs.declared.steps.Word.{Word}

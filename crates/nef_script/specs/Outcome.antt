@@ -13,7 +13,6 @@ use Rattle.nef_script.specs.declared.table.Verb.TheVariants as verb
 use Rattle.nef_script.specs.Table.{Role}
 use Rattle.nef_script.specs.declared.fault.ScriptKind.{ScriptKind}
 use Rattle.nef_script.specs.declared.fault.ScriptKind.TheVariants as kind
-use Rattle.nef_script.specs.declared.script.Command.{Command}
 use Rattle.nef_script.specs.declared.script.Command.TheVariants as command
 use Rattle.nef_script.specs.declared.statement.Statement.{Statement}
 use Rattle.nef_script.specs.declared.statement.Statement.TheVariants.{Bind, Turn, Ask, Print}

@@ -1,4 +1,4 @@
-use Rattle.std.proofs.Common.{◌≡◌, List, [], ◌∷◌, length, Ok, refl, sym, subst, arith}
+use Rattle.std.proofs.Common.{◌≡◌, [], ◌∷◌, length, Ok, refl, sym, subst, arith}
 use Rattle.nef_script.specs.Outcome.{IsRead, BindsNew, roles_test}
 use Rattle.nef_script.specs.Table.{NewName}
 use Rattle.nef_script.specs.declared.statement.Statement.TheVariants as statement

@@ -1,13 +1,12 @@
-use Rattle.std.proofs.Common.{◌≡◌, ◌∙◌, ℕ, List, [], ◌∷◌, length, Ok, Err, pos, codes, refl, sym, ap, subst, arith}
+use Rattle.std.proofs.Common.{◌≡◌, length, Ok, refl, sym, subst, arith}
 use Rattle.nef_script.specs.Checks.{command_test}
 use Rattle.nef_script.specs.Outcome.{IsRead, IsStatement}
 use Rattle.nef_script.specs.declared.statement.Statement.TheVariants as statement
 use Rattle.nef_script.specs.declared.script.Command.TheVariants as command
-use Rattle.nef_expr.specs.declared.nodes.Node.TheVariants as node
 use Rattle.nef_script.specs.declared.table.Verb.TheVariants as verb
-use Rattle.nef_script.proofs.Firsts.{IsRead-both, IsRead-made, IsRead-returned, is-new}
+use Rattle.nef_script.proofs.Firsts.{IsRead-made, IsRead-returned}
 use Rattle.nef_script.proofs.CommandTests as tests
-use Rattle.nef_script.proofs.Shapes.{no_word, word_at, one_word}
+use Rattle.nef_script.proofs.Shapes.{word_at, one_word}
 use Rattle.nef_script.proofs.statement.count.Goals as goal
 
 pub returns-in_err-node : goal.returns-in_err-node

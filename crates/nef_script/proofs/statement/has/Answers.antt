@@ -1,18 +1,9 @@
-use Rattle.std.proofs.Common.{◌≡◌, ℕ, List, [], ◌∷◌, length, Result, Ok, refl, sym, ap, subst, arith}
-use Rattle.nef_space.specs.Limits.{query_limit, query_weight_limit}
-use Rattle.nef_geo.specs.Hits.{IsPlaceAtMost}
-use Rattle.nef_geo.specs.Shapes.{place_of}
-use Rattle.nef_script.specs.Tests.{word_test, number_or_zero}
+use Rattle.std.proofs.Common.{◌≡◌, length, Ok, refl, sym, subst, arith}
 use Rattle.nef_script.specs.Checks.{command_test}
-use Rattle.nef_script.specs.Names.{pointed}
-use Rattle.nef_script.specs.Meaning.{Names, IsQuotient}
-use Rattle.nef_script.specs.Outcome.{IsRead, IsStatement, some_fails, both}
+use Rattle.nef_script.specs.Outcome.{IsRead, IsStatement}
 use Rattle.nef_script.specs.declared.script.Command.TheVariants.{Has}
-use Rattle.nef_script.specs.declared.statement.Statement.{Statement}
 use Rattle.nef_script.specs.declared.statement.Statement.TheVariants.{Ask}
-use Rattle.nef_script.specs.declared.fault.ScriptKind.{ScriptKind}
 use Rattle.nef_script.specs.declared.table.Verb.TheVariants as verb
-use Rattle.nef_script.specs.Table.{Operand, Coefficient, Weight}
 use Rattle.nef_script.proofs.Firsts.{IsRead-both, IsRead-made, IsRead-returned}
 use Rattle.nef_script.proofs.CommandTests.{of-Has}
 use Rattle.nef_script.proofs.Shapes.{word_at, five_words}

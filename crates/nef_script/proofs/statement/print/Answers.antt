@@ -1,11 +1,9 @@
-use Rattle.std.proofs.Common.{◌≡◌, ◌∙◌, ℕ, List, [], ◌∷◌, length, get_or, Ok, Err, pos, codes, refl, sym, ap, subst, arith}
+use Rattle.std.proofs.Common.{◌≡◌, length, get_or, Ok, refl, sym, subst, arith}
 use Rattle.nef_script.specs.Checks.{command_test}
 use Rattle.nef_script.specs.Outcome.{IsRead, IsStatement}
 use Rattle.nef_script.specs.declared.statement.Statement.TheVariants as statement
-use Rattle.nef_script.specs.declared.script.Command.TheVariants as command
-use Rattle.nef_expr.specs.declared.nodes.Node.TheVariants as node
 use Rattle.nef_script.specs.declared.table.Verb.TheVariants as verb
-use Rattle.nef_script.proofs.Firsts.{IsRead-both, IsRead-made, IsRead-returned, is-new}
+use Rattle.nef_script.proofs.Firsts.{IsRead-made, IsRead-returned}
 use Rattle.nef_script.proofs.CommandTests as tests
 use Rattle.nef_script.proofs.Shapes.{no_word, word_at, one_word}
 use Rattle.nef_script.proofs.statement.print.Goals as goal

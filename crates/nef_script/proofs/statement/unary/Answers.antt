@@ -1,10 +1,10 @@
-use Rattle.std.proofs.Common.{◌≡◌, ◌∙◌, ℕ, List, [], ◌∷◌, length, Ok, Err, refl, sym, ap, subst, arith}
+use Rattle.std.proofs.Common.{◌≡◌, ℕ, [], ◌∷◌, length, Ok, sym, subst, arith}
 use Rattle.nef_script.specs.Outcome.{IsRead, BindsNew, roles_test}
 use Rattle.nef_script.specs.declared.statement.Statement.TheVariants as statement
 use Rattle.nef_script.proofs.Firsts.{IsRead-both, IsRead-made, IsRead-returned, is-new}
 use Rattle.nef_script.proofs.CommandTests as tests
-use Rattle.nef_script.proofs.Shapes.{no_word, word_at, two_words, three_words}
-use Rattle.nef_script.specs.Reading.{SecondIs, LastTwoAre}
+use Rattle.nef_script.proofs.Shapes.{word_at, two_words}
+use Rattle.nef_script.specs.Reading.{SecondIs}
 use Rattle.nef_script.specs.Table.{NewName, Operand}
 use Rattle.nef_script.proofs.statement.unary.Goals as goal
 

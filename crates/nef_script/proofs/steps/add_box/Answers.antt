@@ -1,4 +1,4 @@
-use Rattle.std.proofs.Common.{◌≡◌, ◌++◌, List, ℕ, ◌+◌, ◌*◌, ◌∙◌, sym, ap}
+use Rattle.std.proofs.Common.{◌++◌, ◌+◌, ◌*◌, ◌∙◌, sym, ap}
 use Rattle.std.specs.Fmt.{decimal}
 use Rattle.std.proofs.lemmas.Result.{on_ok_weaker}
 use Rattle.nef_script.specs.Boxes.{filled}

@@ -1,6 +1,5 @@
-use Rattle.std.proofs.Common.{◌≡◌, ◌++◌, List, ℕ, ◌-◌, ◌∙◌, codes, ap}
+use Rattle.std.proofs.Common.{◌++◌, ◌∙◌, ap}
 use Rattle.std.proofs.lemmas.Result.{on_ok_weaker}
-use Rattle.nef_script.specs.Boxes.{bytes_of, filled}
 use Rattle.nef_script.proofs.Writing.{join-filled}
 use Rattle.nef_script.proofs.steps.add_join.Goals as goal
 
