@@ -47,6 +47,10 @@ two_pairs o s t a b c d e f = more-words o [] s t (a ∷ b ∷ []) (c ∷ d ∷ 
 pub paired : (o s : List ℕ) (m n k l : ℤ) → s ≡ o ++ blanked (signed_decimal m ∷ signed_decimal n ∷ []) → m ≡ k → n ≡ l → s ≡ o ++ blanked (signed_decimal k ∷ signed_decimal l ∷ [])
 paired o s m n k l e f g = e ∙ ap (λ (x : ℤ). o ++ blanked (signed_decimal x ∷ signed_decimal n ∷ [])) f ∙ ap (λ (x : ℤ). o ++ blanked (signed_decimal k ∷ signed_decimal x ∷ [])) g
 
+-- a pair and a number more
+pub pair_more : (o s t : List ℕ) (a b c : Word) → s ≡ o ++ blanked (a ∷ b ∷ []) → t ≡ s ++ blanked (c ∷ []) → t ≡ o ++ blanked (a ∷ b ∷ c ∷ [])
+pair_more o s t a b c e f = more-words o [] s t (a ∷ b ∷ []) (c ∷ []) e f
+
 -- ---- elements with their rows
 length-with_rows : {X Y : Type 0} (xs : List X) (rows : List (List Y)) → length (with_rows xs rows) ≡ length xs
 length-with_rows [] rows = refl

@@ -66,21 +66,21 @@ pub(crate) fn add_option(text: &mut Vec<u8>, label: Option<Label>) -> Result<(),
     Ok(())
 }
 
-/// Adds the three numbers of the direction, each behind a blank.
-pub(crate) fn add_dir(text: &mut Vec<u8>, d: &Dir) -> Result<(), OutOfMemory>
-    ensures added { OnOk result (text.new.items ≡ text.old.items ++ blanked (dir_words d.now)) }
-{
-    add_number(text, d.x())?;
-    add_number(text, d.y())?;
-    add_number(text, d.z())
-}
-
 // Adds two numbers, each behind a blank.
 fn add_pair(text: &mut Vec<u8>, m: i64, n: i64) -> Result<(), OutOfMemory>
     ensures added { OnOk result (text.new.items ≡ text.old.items ++ blanked (signed_decimal m ∷ signed_decimal n ∷ [])) }
 {
     add_number(text, m)?;
     add_number(text, n)
+}
+
+/// Adds the three numbers of the direction, each behind a blank.
+pub(crate) fn add_dir(text: &mut Vec<u8>, d: &Dir) -> Result<(), OutOfMemory>
+    ensures added { OnOk result (text.new.items ≡ text.old.items ++ blanked (dir_words d.now)) }
+{
+    add_pair(text, d.x(), d.y())?;
+    add_number(text, d.z())?;
+    Ok(())
 }
 
 /// Adds the four numbers of the point, each behind a blank.

@@ -1,5 +1,5 @@
 -- What one line adds.
-use Rattle.std.proofs.Common.{◌≡◌, ℕ, ◌+◌, ◌<◌, ◌≤◌, ◌⊎◌, pos, inl, inr, Bool, true, false, not, cond, nat_eq, List, [], ◌∷◌, ◌++◌, length, take, get_or, Option, Some, None, is_some, slice_get, if◌then◌else◌, refl, sym, ◌∙◌, ap, subst, arith, append-nil, length-append}
+use Rattle.std.proofs.Common.{◌≡◌, ℕ, ◌+◌, ◌<◌, ◌≤◌, ◌⊎◌, pos, inl, inr, Bool, true, false, not, nat_eq, List, [], ◌∷◌, ◌++◌, length, take, get_or, Some, None, slice_get, if◌then◌else◌, refl, sym, ◌∙◌, ap, subst, arith, append-nil, length-append}
 use Rattle.std.proofs.Math.Dec.{eqb-suc-zero}
 use Rattle.std.proofs.lemmas.Option.{slice_get_within, get_or_from_slice_get}
 use Rattle.nef_lex.specs.Words.{words_of}
@@ -12,7 +12,7 @@ use Rattle.nef_expr.specs.Copying.{Extends, Stays}
 use Rattle.nef_expr.proofs.Places.{slice_get-seam, place-push}
 use Rattle.nef_expr.proofs.Chains.{pair-of}
 use Rattle.nef_expr.proofs.Tables.{extends-length}
-use Rattle.nef_script.specs.Table.{verb_of, roles, binds, is_own}
+use Rattle.nef_script.specs.Table.{verb_of, binds, is_own}
 use Rattle.nef_script.specs.Limits.{KeepsRayLimits}
 use Rattle.nef_script.specs.Tests.{on_verb}
 use Rattle.nef_script.specs.Refusal.{line_refusal, bound_name}

@@ -1,5 +1,5 @@
 -- The first kinds that hold.
-use Rattle.std.proofs.Common.{◌≡◌, ℕ, ◌+◌, ◌<◌, ◌≤◌, Bool, true, false, ◌||◌, ◌&&◌, not, cond, nat_eq, nat_le, find, List, [], ◌∷◌, drop, length, Option, Some, None, Result, Ok, Err, IfOk, refl, sym, ◌∙◌, ap, subst, arith, inl, inr}
+use Rattle.std.proofs.Common.{◌≡◌, ℕ, ◌+◌, ◌<◌, ◌≤◌, Bool, true, false, ◌||◌, ◌&&◌, not, cond, nat_eq, nat_le, find, List, [], ◌∷◌, drop, length, Option, Some, None, Result, Ok, Err, IfOk, refl, sym, ◌∙◌, ap, subst, arith}
 use Rattle.std.proofs.lemmas.Bool.{le-leb, leb-true, ltb-true, ne_eqb}
 use Rattle.std.specs.Prelude.{IsErrAnd, nat_lt}
 use Rattle.std.proofs.lemmas.Result.{err_from_is_err_and}
@@ -9,14 +9,13 @@ use Rattle.nef_lex.specs.Names.{is_name}
 use Rattle.nef_script.specs.Checks.{kinds, command_test}
 use Rattle.nef_script.specs.Table.{roles, begins_new, is_own}
 use Rattle.nef_script.specs.Tests.{name_count_limit, word_test, has_zero_normal, has_zero_direction}
-use Rattle.nef_script.specs.Outcome.{place, first_of, earlier, both, refused, IsRead, is_normal, is_direction, some_fails, no_room, roles_test, IsNew, BindsNew, IsStatement}
+use Rattle.nef_script.specs.Outcome.{place, first_of, earlier, both, IsRead, is_normal, is_direction, some_fails, no_room, roles_test, IsNew, BindsNew, IsStatement}
 use Rattle.nef_expr.specs.declared.nodes.Node.{Node}
 use Rattle.nef_script.specs.Meaning.{IsNode}
 use Rattle.nef_script.specs.declared.statement.Statement.{Statement}
 use Rattle.nef_script.specs.declared.statement.Statement.TheVariants.{Bind, Turn, Ask, Print}
 use Rattle.nef_script.specs.declared.table.Verb.{Verb}
-use Rattle.nef_script.specs.declared.table.Role.{Role}
-use Rattle.nef_script.specs.declared.table.Role.TheVariants.{NewName, Operand}
+use Rattle.nef_script.specs.Table.{Role, NewName, Operand}
 use Rattle.nef_script.specs.declared.fault.ScriptKind.{ScriptKind}
 use Rattle.nef_script.specs.declared.fault.ScriptKind.TheVariants as kind
 

@@ -1,5 +1,5 @@
 -- The nodes that lines bind names to, by the command.
-use Rattle.std.proofs.Common.{◌≡◌, ℕ, Bool, List, [], ◌∷◌, length, get_or, codes, refl, sym, ap, subst, arith}
+use Rattle.std.proofs.Common.{◌≡◌, ℕ, List, [], ◌∷◌, length, refl, arith}
 use Rattle.nef_expr.specs.declared.nodes.Node.TheVariants as node
 use Rattle.nef_script.specs.Meaning.{IsNode}
 use Rattle.nef_script.specs.Reading.{SecondIs, LastTwoAre}

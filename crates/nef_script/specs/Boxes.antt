@@ -1,26 +1,26 @@
--- The parts of the script of stairs, as they are written one after the other.
-use Rattle.std.specs.Prelude.{ℕ, List, [], ◌++◌, codes, take, drop}
-use Rattle.nef_script.specs.Stairs.{box_lines, step_lines}
+-- The script of stairs as it is written: templates, and words in place of some of their bytes.
+use Rattle.std.specs.Prelude.{ℕ, nat_eq, if◌then◌else◌, List, [], ◌∷◌, ◌++◌, codes, take, drop, flat_map}
+use Rattle.std.specs.Fmt.{decimal}
+use Rattle.nef_script.specs.Stairs.{step_lines}
+use Rattle.nef_script.specs.declared.steps.Word.{Word}
 
--- the line of a half-space, of an intersection and of a union, and the question for a set's numbers. The names of a box's parts are its name with a letter
-abbrev pub half_line : List ℕ → List ℕ → List ℕ → List ℕ → List ℕ
-half_line name letter normal offset = codes "half " ++ name ++ letter ++ codes " " ++ normal ++ codes " " ++ offset ++ codes " closed"
+-- the bytes in front, and the number after them
+abbrev pub bytes_of : Word → List ℕ
+bytes_of w = w.front.now ++ decimal w.number
 
-abbrev pub and_line : List ℕ → List ℕ → List ℕ → List ℕ → List ℕ
-and_line name letter left right = codes "and " ++ name ++ letter ++ codes " " ++ name ++ left ++ codes " " ++ name ++ right
+-- what stands in place of a byte: a word for @, < and >, and for another byte the byte
+abbrev pub filled_byte : List ℕ → List ℕ → List ℕ → ℕ → List ℕ
+filled_byte at low high b = if nat_eq b 64 then at else if nat_eq b 60 then low else if nat_eq b 62 then high else b ∷ []
 
+abbrev pub filled : List ℕ → List ℕ → List ℕ → List ℕ → List ℕ
+filled at low high template = flat_map (filled_byte at low high) template
+
+-- the line of a union, and the question for a set's numbers
 abbrev pub or_line : List ℕ → List ℕ → List ℕ → List ℕ
 or_line name left right = codes "or " ++ name ++ codes " " ++ left ++ codes " " ++ right
 
 abbrev pub count_line : List ℕ → List ℕ
 count_line name = codes "count " ++ name
-
--- the first six lines of a box, and the five after them, in which no number stands
-abbrev pub half_lines : List ℕ → List ℕ → List ℕ → List (List ℕ)
-half_lines name low high = take 6 (box_lines name low high)
-
-abbrev pub and_lines : List ℕ → List (List ℕ)
-and_lines name = drop 6 (box_lines name [] [])
 
 -- the eleven lines of the box i, and the line after them that joins it to those before it, if there are any
 abbrev pub step_box : ℕ → List (List ℕ)

@@ -5,15 +5,14 @@ use Rattle.std.specs.Str.{bytes_eq}
 use Rattle.nef_expr.specs.declared.nodes.Node.{Node}
 use Rattle.nef_script.specs.Table.{begins_new, binds, is_own, verb_of}
 use Rattle.nef_script.specs.Tests.{name_count_limit, number_or_zero, is_zero, word_test}
-use Rattle.nef_script.specs.Checks.{kinds}
+use Rattle.nef_script.specs.Checks.{command_test, kinds}
 use Rattle.nef_script.specs.Limits.{KeepsRayLimits}
 use Rattle.nef_script.specs.Meaning.{Names, IsNode, IsQuestion}
 use Rattle.nef_script.specs.declared.table.Verb.{Verb}
 use Rattle.nef_script.specs.declared.table.Verb.TheVariants as verb
-use Rattle.nef_script.specs.declared.table.Role.{Role}
+use Rattle.nef_script.specs.Table.{Role}
 use Rattle.nef_script.specs.declared.fault.ScriptKind.{ScriptKind}
 use Rattle.nef_script.specs.declared.fault.ScriptKind.TheVariants as kind
-use Rattle.nef_script.specs.declared.script.Command.{Command}
 use Rattle.nef_script.specs.declared.script.Command.TheVariants as command
 use Rattle.nef_script.specs.declared.statement.Statement.{Statement}
 use Rattle.nef_script.specs.declared.statement.Statement.TheVariants.{Bind, Turn, Ask, Print}
@@ -122,6 +121,10 @@ IsStatement names bound line v args (Bind name n) = (is_own v ≡ true) × IsNew
 IsStatement names bound line v args (Turn name from t) = (v ≡ verb.Turn) × IsNew names args name.now × IsTurned names bound args from t
 IsStatement names bound line v args (Ask c) = (binds v ≡ false) × IsQuestion names bound line v args c × KeepsRayLimits c
 IsStatement names bound line v args (Print k name) = (binds v ≡ false) × IsQuestion names bound line v args (command.Print line k name.now)
+
+-- the first test of the command that holds for the words after it is refused, and where none holds the statement is what they mean
+abbrev pub Reads : List (List ℕ) → List ℕ → ℕ → Verb → List (List ℕ) → Result Statement ScriptKind → Type 0
+Reads names bound line v args r = IsRead (λ k. command_test k names v args) (IsStatement names bound line v args) r
 
 -- and what a line with these words says, if it has words
 abbrev pub LineSays : List (List ℕ) → List ℕ → ℕ → List (List ℕ) → Option Statement → Type 0

@@ -8,8 +8,7 @@ use Rattle.nef_lex.specs.Names.{is_name}
 use Rattle.nef_script.specs.Table.{verb_of, roles, binds}
 use Rattle.nef_script.specs.declared.table.Verb.{Verb}
 use Rattle.nef_script.specs.declared.table.Verb.TheVariants as verb
-use Rattle.nef_script.specs.declared.table.Role.{Role}
-use Rattle.nef_script.specs.declared.table.Role.TheVariants.{NewName, Operand, Coefficient, Mode, Weight, Index}
+use Rattle.nef_script.specs.Table.{Role, NewName, Operand, Coefficient, Mode, Weight, Index}
 use Rattle.nef_script.specs.declared.fault.ScriptKind.{ScriptKind}
 use Rattle.nef_script.specs.declared.fault.ScriptKind.TheVariants as kind
 

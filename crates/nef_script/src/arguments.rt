@@ -10,7 +10,7 @@ ghost use Rattle.nef_geo.specs.Shapes.{place_of, vector_of};
 ghost use Rattle.nef_script.specs.Meaning.{Names as IsNamed, IsGiven, IsQuotient, IsToward};
 ghost use Rattle.nef_script.specs.Tests.{name_count_limit, number_or_zero, word_test};
 ghost use Rattle.nef_script.specs.Outcome.{earlier, both, IsRead, is_normal, is_direction, are_zero, no_room, some_fails};
-ghost use Rattle.nef_script.specs.declared.table.Role.TheVariants as role;
+ghost use Rattle.nef_script.specs.Table as role;
 
 use crate::fault::ScriptKind;
 use crate::names::Names;

@@ -7,11 +7,10 @@ ghost use Rattle.nef_lex.specs.Words.{words_of};
 ghost use Rattle.nef_script.specs.Table.{roles};
 ghost use Rattle.nef_script.specs.Tests.{is_bad_byte};
 ghost use Rattle.nef_script.specs.Refusal.{line_refusal};
-ghost use Rattle.nef_script.specs.Checks.{command_test};
 ghost use Rattle.nef_script.specs.Names.{pointed};
 ghost use Rattle.nef_script.specs.Reading.{SecondIs, LastTwoAre};
-ghost use Rattle.nef_script.specs.Outcome.{refused, IsRead, roles_test, BindsNew, IsStatement, LineSays};
-ghost use Rattle.nef_script.specs.declared.table.Role.TheVariants as role;
+ghost use Rattle.nef_script.specs.Outcome.{refused, IsRead, Reads, roles_test, BindsNew, LineSays};
+ghost use Rattle.nef_script.specs.Table as role;
 ghost use Rattle.nef_script.specs.declared.table.Verb.TheVariants as verb;
 
 use crate::arguments::{both, direction, is_closed, new_name, operand, plane, point, turn_number};
@@ -53,35 +52,31 @@ pub(crate) enum Statement<'a> {
     },
 }
 
+// What is read, or the first kind of refusal.
+type Said<'a> = Result<Statement<'a>, ScriptKind>;
+
 // The name is bound to the node, which has no operands.
-fn constant<'a>(names: &Names, args: &[&'a [u8]], node: Node) -> Result<Statement<'a>, ScriptKind>
+fn constant<'a>(names: &Names, args: &[&'a [u8]], node: Node) -> Said<'a>
     ensures read { IsRead (roles_test names.now (role.NewName ∷ []) (pointed args.now)) (BindsNew names.now (pointed args.now) (λ n. (length args.now ≡ 1) × (n ≡ node))) result }
 {
-    match args {
-        [name] => {
-            let name = new_name(names, name)?;
-            Ok(Statement::Bind { name, node })
-        }
-        _ => Err(ScriptKind::WordCount),
-    }
+    let [name] = args else {
+        return Err(ScriptKind::WordCount);
+    };
+    let name = new_name(names, name)?;
+    Ok(Statement::Bind { name, node })
 }
 
 // The name is bound to the half-space of the numbers and the mode.
-fn half_space<'a>(names: &Names, args: &[&'a [u8]]) -> Result<Statement<'a>, ScriptKind>
-    ensures read { (bound : List ℕ) (line : ℕ) → IsRead (λ k. command_test k names.now verb.Half (pointed args.now)) (IsStatement names.now bound line verb.Half (pointed args.now)) result }
+fn half_space<'a>(names: &Names, args: &[&'a [u8]]) -> Said<'a>
+    ensures read { (bound : List ℕ) (line : ℕ) → Reads names.now bound line verb.Half (pointed args.now) result }
 {
-    match args {
-        [name, a, b, c, d, mode] => {
-            let parts = both(
-                new_name(names, name),
-                both(plane(a, b, c, d), is_closed(mode)),
-            );
-            let (name, (oriented, closed)) = parts?;
-            let node = Node::Half { oriented, closed };
-            Ok(Statement::Bind { name, node })
-        }
-        _ => Err(ScriptKind::WordCount),
-    }
+    let [name, a, b, c, d, mode] = args else {
+        return Err(ScriptKind::WordCount);
+    };
+    let numbers = both(plane(a, b, c, d), is_closed(mode));
+    let (name, (oriented, closed)) = both(new_name(names, name), numbers)?;
+    let node = Node::Half { oriented, closed };
+    Ok(Statement::Bind { name, node })
 }
 
 // The name is bound to the node that is made of one operand.
@@ -90,22 +85,17 @@ fn unary<'a, F: Fn(usize) -> Node>(
     bound: &[usize],
     args: &[&'a [u8]],
     node: F,
-) -> Result<Statement<'a>, ScriptKind>
+) -> Said<'a>
     requires level { length bound.now ≡ length names.now }
     requires callable { F.IsAlwaysCallable node }
     ensures read { IsRead (roles_test names.now (role.NewName ∷ role.Operand ∷ []) (pointed args.now)) (BindsNew names.now (pointed args.now) (λ n. (i : ℕ) × SecondIs names.now bound.now (pointed args.now) i × F.post node i n)) result }
 {
-    match args {
-        [name, word] => {
-            let parts = both(new_name(names, name), operand(names, bound, word));
-            let (name, i) = parts?;
-            Ok(Statement::Bind {
-                name,
-                node: node(i),
-            })
-        }
-        _ => Err(ScriptKind::WordCount),
-    }
+    let [name, word] = args else {
+        return Err(ScriptKind::WordCount);
+    };
+    let (name, i) = both(new_name(names, name), operand(names, bound, word))?;
+    let node = node(i);
+    Ok(Statement::Bind { name, node })
 }
 
 // The name is bound to the node that is made of two operands.
@@ -114,176 +104,115 @@ fn binary<'a, F: Fn(usize, usize) -> Node>(
     bound: &[usize],
     args: &[&'a [u8]],
     node: F,
-) -> Result<Statement<'a>, ScriptKind>
+) -> Said<'a>
     requires level { length bound.now ≡ length names.now }
     requires callable { F.IsAlwaysCallable node }
     ensures read { IsRead (roles_test names.now (role.NewName ∷ role.Operand ∷ role.Operand ∷ []) (pointed args.now)) (BindsNew names.now (pointed args.now) (λ n. (i : ℕ) × (j : ℕ) × LastTwoAre names.now bound.now (pointed args.now) i j × F.post node i j n)) result }
 {
-    match args {
-        [name, left, right] => {
-            let parts = both(
-                new_name(names, name),
-                both(operand(names, bound, left), operand(names, bound, right)),
-            );
-            let (name, (i, j)) = parts?;
-            Ok(Statement::Bind {
-                name,
-                node: node(i, j),
-            })
-        }
-        _ => Err(ScriptKind::WordCount),
-    }
+    let [name, left, right] = args else {
+        return Err(ScriptKind::WordCount);
+    };
+    let operands = both(operand(names, bound, left), operand(names, bound, right));
+    let (name, (i, j)) = both(new_name(names, name), operands)?;
+    let node = node(i, j);
+    Ok(Statement::Bind { name, node })
 }
 
 // The name is bound to the turned image of the operand.
-fn turned<'a>(
-    names: &Names,
-    bound: &[usize],
-    args: &[&'a [u8]],
-) -> Result<Statement<'a>, ScriptKind>
+fn turned<'a>(names: &Names, bound: &[usize], args: &[&'a [u8]]) -> Said<'a>
     requires level { length bound.now ≡ length names.now }
-    ensures read { (line : ℕ) → IsRead (λ k. command_test k names.now verb.Turn (pointed args.now)) (IsStatement names.now bound.now line verb.Turn (pointed args.now)) result }
+    ensures read { (line : ℕ) → Reads names.now bound.now line verb.Turn (pointed args.now) result }
 {
-    match args {
-        [name, from, turn] => {
-            let parts = both(
-                new_name(names, name),
-                both(operand(names, bound, from), turn_number(turn)),
-            );
-            let (name, (from, turn)) = parts?;
-            Ok(Statement::Turn { name, from, turn })
-        }
-        _ => Err(ScriptKind::WordCount),
-    }
+    let [name, from, turn] = args else {
+        return Err(ScriptKind::WordCount);
+    };
+    let turned = both(operand(names, bound, from), turn_number(turn));
+    let (name, (from, turn)) = both(new_name(names, name), turned)?;
+    Ok(Statement::Turn { name, from, turn })
 }
 
 // Where the point lies is asked.
-fn has<'a>(
-    line: u64,
-    names: &Names,
-    bound: &[usize],
-    args: &[&'a [u8]],
-) -> Result<Statement<'a>, ScriptKind>
+fn has<'a>(line: u64, names: &Names, bound: &[usize], args: &[&'a [u8]]) -> Said<'a>
     requires level { length bound.now ≡ length names.now }
-    ensures read { IsRead (λ k. command_test k names.now verb.Has (pointed args.now)) (IsStatement names.now bound.now line verb.Has (pointed args.now)) result }
+    ensures read { Reads names.now bound.now line verb.Has (pointed args.now) result }
 {
-    match args {
-        [name, x, y, z, w] => {
-            let parts = both(operand(names, bound, name), point(QUERY, x, y, z, w));
-            let (node, point) = parts?;
-            Ok(Statement::Ask(Command::Has { line, node, point }))
-        }
-        _ => Err(ScriptKind::WordCount),
-    }
+    let [name, x, y, z, w] = args else {
+        return Err(ScriptKind::WordCount);
+    };
+    let (node, point) = both(operand(names, bound, name), point(QUERY, x, y, z, w))?;
+    Ok(Statement::Ask(Command::Has { line, node, point }))
 }
 
 // Whether the two points are joined is asked.
-fn joined<'a>(
-    line: u64,
-    names: &Names,
-    bound: &[usize],
-    args: &[&'a [u8]],
-) -> Result<Statement<'a>, ScriptKind>
+fn joined<'a>(line: u64, names: &Names, bound: &[usize], args: &[&'a [u8]]) -> Said<'a>
     requires level { length bound.now ≡ length names.now }
-    ensures read { IsRead (λ k. command_test k names.now verb.Joined (pointed args.now)) (IsStatement names.now bound.now line verb.Joined (pointed args.now)) result }
+    ensures read { Reads names.now bound.now line verb.Joined (pointed args.now) result }
 {
-    match args {
-        [name, x, y, z, w, x2, y2, z2, w2] => {
-            let parts = both(
-                operand(names, bound, name),
-                both(point(QUERY, x, y, z, w), point(QUERY, x2, y2, z2, w2)),
-            );
-            let (node, (first, second)) = parts?;
-            Ok(Statement::Ask(Command::Joined {
-                line,
-                node,
-                first,
-                second,
-            }))
-        }
-        _ => Err(ScriptKind::WordCount),
-    }
+    let [name, x, y, z, w, x2, y2, z2, w2] = args else {
+        return Err(ScriptKind::WordCount);
+    };
+    let points = both(point(QUERY, x, y, z, w), point(QUERY, x2, y2, z2, w2));
+    let (node, (first, second)) = both(operand(names, bound, name), points)?;
+    Ok(Statement::Ask(Command::Joined {
+        line,
+        node,
+        first,
+        second,
+    }))
 }
 
 // The end of the ray is asked.
-fn ray<'a>(
-    line: u64,
-    names: &Names,
-    bound: &[usize],
-    args: &[&'a [u8]],
-) -> Result<Statement<'a>, ScriptKind>
+fn ray<'a>(line: u64, names: &Names, bound: &[usize], args: &[&'a [u8]]) -> Said<'a>
     requires level { length bound.now ≡ length names.now }
-    ensures read { IsRead (λ k. command_test k names.now verb.Ray (pointed args.now)) (IsStatement names.now bound.now line verb.Ray (pointed args.now)) result }
+    ensures read { Reads names.now bound.now line verb.Ray (pointed args.now) result }
 {
-    match args {
-        [name, x, y, z, w, dx, dy, dz] => {
-            let parts = both(
-                operand(names, bound, name),
-                both(point(RAY_START, x, y, z, w), direction(dx, dy, dz)),
-            );
-            let (node, (point, dir)) = parts?;
-            Ok(Statement::Ask(Command::Ray {
-                line,
-                node,
-                point,
-                dir,
-            }))
-        }
-        _ => Err(ScriptKind::WordCount),
-    }
+    let [name, x, y, z, w, dx, dy, dz] = args else {
+        return Err(ScriptKind::WordCount);
+    };
+    let ray = both(point(RAY_START, x, y, z, w), direction(dx, dy, dz));
+    let (node, (point, dir)) = both(operand(names, bound, name), ray)?;
+    Ok(Statement::Ask(Command::Ray {
+        line,
+        node,
+        point,
+        dir,
+    }))
 }
 
 // Whether the two sets are the same is asked.
-fn same<'a>(
-    line: u64,
-    names: &Names,
-    bound: &[usize],
-    args: &[&'a [u8]],
-) -> Result<Statement<'a>, ScriptKind>
+fn same<'a>(line: u64, names: &Names, bound: &[usize], args: &[&'a [u8]]) -> Said<'a>
     requires level { length bound.now ≡ length names.now }
-    ensures read { IsRead (λ k. command_test k names.now verb.Same (pointed args.now)) (IsStatement names.now bound.now line verb.Same (pointed args.now)) result }
+    ensures read { Reads names.now bound.now line verb.Same (pointed args.now) result }
 {
-    match args {
-        [left, right] => {
-            let parts = both(operand(names, bound, left), operand(names, bound, right));
-            let (left, right) = parts?;
-            Ok(Statement::Ask(Command::Same { line, left, right }))
-        }
-        _ => Err(ScriptKind::WordCount),
-    }
+    let [left, right] = args else {
+        return Err(ScriptKind::WordCount);
+    };
+    let (left, right) = both(operand(names, bound, left), operand(names, bound, right))?;
+    Ok(Statement::Ask(Command::Same { line, left, right }))
 }
 
 // The numbers of the set's parts are asked.
-fn count<'a>(
-    line: u64,
-    names: &Names,
-    bound: &[usize],
-    args: &[&'a [u8]],
-) -> Result<Statement<'a>, ScriptKind>
+fn count<'a>(line: u64, names: &Names, bound: &[usize], args: &[&'a [u8]]) -> Said<'a>
     requires level { length bound.now ≡ length names.now }
-    ensures read { IsRead (λ k. command_test k names.now verb.Count (pointed args.now)) (IsStatement names.now bound.now line verb.Count (pointed args.now)) result }
+    ensures read { Reads names.now bound.now line verb.Count (pointed args.now) result }
 {
-    match args {
-        [name] => {
-            let node = operand(names, bound, name)?;
-            Ok(Statement::Ask(Command::Count { line, node }))
-        }
-        _ => Err(ScriptKind::WordCount),
-    }
+    let [name] = args else {
+        return Err(ScriptKind::WordCount);
+    };
+    let node = operand(names, bound, name)?;
+    Ok(Statement::Ask(Command::Count { line, node }))
 }
 
 // The text of the set is asked.
-fn print<'a>(names: &Names, bound: &[usize], args: &[&'a [u8]]) -> Result<Statement<'a>, ScriptKind>
+fn print<'a>(names: &Names, bound: &[usize], args: &[&'a [u8]]) -> Said<'a>
     requires level { length bound.now ≡ length names.now }
-    ensures read { (line : ℕ) → IsRead (λ k. command_test k names.now verb.Print (pointed args.now)) (IsStatement names.now bound.now line verb.Print (pointed args.now)) result }
+    ensures read { (line : ℕ) → Reads names.now bound.now line verb.Print (pointed args.now) result }
 {
-    match args {
-        [name] => {
-            let node = operand(names, bound, name)?;
-            Ok(Statement::Print { node, name })
-        }
-        _ => Err(ScriptKind::WordCount),
-    }
+    let [name] = args else {
+        return Err(ScriptKind::WordCount);
+    };
+    let node = operand(names, bound, name)?;
+    Ok(Statement::Print { node, name })
 }
 
 // What a command and the words after it say.
@@ -293,9 +222,9 @@ fn command_statement<'a>(
     bound: &[usize],
     verb: Verb,
     args: &[&'a [u8]],
-) -> Result<Statement<'a>, ScriptKind>
+) -> Said<'a>
     requires level { length bound.now ≡ length names.now }
-    ensures read { IsRead (λ k. command_test k names.now verb (pointed args.now)) (IsStatement names.now bound.now line verb (pointed args.now)) result }
+    ensures read { Reads names.now bound.now line verb (pointed args.now) result }
 {
     match verb {
         Verb::Half => half_space(names, args),

@@ -1,162 +1,138 @@
 //! The script of boxes that stand as stairs.
 
-ghost use Rattle.std.specs.Prelude.{◌≡◌, ℕ, ◌+◌, ◌*◌, ◌<◌, ◌≤◌, [], ◌∷◌, ◌++◌, decimal, IfOk, OnOk};
-ghost use Rattle.std.specs.List.{concat};
+ghost use Rattle.std.specs.Prelude.{◌≡◌, ◌<◌, ◌≤◌, [], ◌∷◌, ◌++◌, IfOk, OnOk};
 ghost use Rattle.nef_space.specs.Limits.{most_stairs};
-ghost use Rattle.nef_script.specs.Names.{pointed};
 ghost use Rattle.nef_script.specs.Laws.{script_of};
 ghost use Rattle.nef_script.specs.Refusal.{IsAccepted};
-ghost use Rattle.nef_script.specs.Stairs.{whole_name, step_lines, stairs_text};
-ghost use Rattle.nef_script.specs.Boxes.{half_line, and_line, count_line, half_lines, and_lines, step_box, join_lines};
+ghost use Rattle.nef_script.specs.Stairs.{box_name, whole_name, step_lines, stairs_text};
+ghost use Rattle.nef_script.specs.Boxes.{bytes_of, filled, count_line, step_box, join_lines};
 
 use crate::OutOfMemory;
 use itoa::Buffer;
 use std::alloc::Global;
 
-// Adds the pieces, one after the other.
-fn add_pieces(text: &mut Vec<u8>, pieces: &[&[u8]]) -> Result<(), OutOfMemory>
-    ensures added { OnOk result (text.new.items ≡ text.old.items ++ concat (pointed pieces.now)) }
-{
-    for piece in pieces {
-        text.extend_from_slice(piece)?;
-    }
-    Ok(())
+// A box: its half-spaces, and the intersections of the first two of them, of the first three, and so on.
+const BOX: &[u8] = b"half @a -1 0 0 < closed\n\
+    half @b 1 0 0 -> closed\n\
+    half @c 0 -1 0 < closed\n\
+    half @d 0 1 0 -> closed\n\
+    half @e 0 0 -1 < closed\n\
+    half @f 0 0 1 -> closed\n\
+    and @g @a @b\n\
+    and @h @g @c\n\
+    and @i @h @d\n\
+    and @j @i @e\n\
+    and @ @j @f\n";
+
+// The line that joins a box to those before it.
+const JOIN: &[u8] = b"or < > @\n";
+
+// The question for the numbers of a set's parts.
+const COUNT: &[u8] = b"count @\n";
+
+// A word: some bytes, and a number after them.
+#[derive(Clone, Copy)]
+struct Word<'a> {
+    front: &'a [u8],
+    number: u32,
 }
 
-// The bytes in front, and the number after them.
-fn numbered(alloc: Global, front: &[u8], number: u32) -> Result<Vec<u8>, OutOfMemory>
-    ensures bytes { IfOk result (λ v. v.items ≡ front.now ++ decimal number) }
+// The name of the box i.
+fn box_name(i: u32) -> Word<'static>
+    ensures name { bytes_of result ≡ box_name i }
 {
-    let mut buffer = Buffer::new();
-    let mut word = Vec::from_slice(alloc, front)?;
-    word.extend_from_slice(buffer.format(number).as_bytes())?;
-    Ok(word)
+    Word {
+        front: b"b",
+        number: i,
+    }
 }
 
 // The name of the first i + 1 boxes together.
-fn whole_name(alloc: Global, i: u32) -> Result<Vec<u8>, OutOfMemory>
-    ensures name { IfOk result (λ v. v.items ≡ whole_name i) }
+fn whole_name(i: u32) -> Word<'static>
+    ensures name { bytes_of result ≡ whole_name i }
 {
     if i == 0 {
-        numbered(alloc, b"b", i)
+        box_name(i)
     } else {
-        numbered(alloc, b"u", i)
+        Word {
+            front: b"u",
+            number: i,
+        }
     }
 }
 
-// Adds the line of a closed half-space: the box's name with a letter after it, the three numbers of
-// the normal, and the offset.
-fn add_half(
+// Adds the word.
+fn add_word(text: &mut Vec<u8>, word: Word) -> Result<(), OutOfMemory>
+    ensures added { OnOk result (text.new.items ≡ text.old.items ++ bytes_of word.entry) }
+{
+    let mut buffer = Buffer::new();
+    text.extend_from_slice(word.front)?;
+    text.extend_from_slice(buffer.format(word.number).as_bytes())
+}
+
+// Adds the template, with these words in place of its bytes `@`, `<` and `>`.
+fn add_filled(
     text: &mut Vec<u8>,
-    name: &[u8],
-    letter: &[u8],
-    normal: &[u8],
-    offset: &[u8],
+    template: &[u8],
+    at: Word,
+    low: Word,
+    high: Word,
 ) -> Result<(), OutOfMemory>
-    ensures added { OnOk result (text.new.items ≡ text.old.items ++ script_of (half_line name.now letter.now normal.now offset.now ∷ [])) }
+    ensures added { OnOk result (text.new.items ≡ text.old.items ++ filled (bytes_of at.entry) (bytes_of low.entry) (bytes_of high.entry) template.now) }
 {
-    add_pieces(
-        text,
-        &[
-            b"half ",
-            name,
-            letter,
-            b" ",
-            normal,
-            b" ",
-            offset,
-            b" closed\n",
-        ],
-    )
-}
-
-// Adds the line of an intersection: the box's name with a letter or nothing after it, and the same
-// for each of the two sets.
-fn add_and(
-    text: &mut Vec<u8>,
-    name: &[u8],
-    letter: &[u8],
-    left: &[u8],
-    right: &[u8],
-) -> Result<(), OutOfMemory>
-    ensures added { OnOk result (text.new.items ≡ text.old.items ++ script_of (and_line name.now letter.now left.now right.now ∷ [])) }
-{
-    add_pieces(
-        text,
-        &[
-            b"and ", name, letter, b" ", name, left, b" ", name, right, b"\n",
-        ],
-    )
-}
-
-// Adds the six half-spaces of the box i, under this name.
-fn add_halves(alloc: Global, text: &mut Vec<u8>, name: &[u8], i: u32) -> Result<(), OutOfMemory>
-    requires small { i < most_stairs }
-    ensures added { OnOk result (text.new.items ≡ text.old.items ++ script_of (half_lines name.now (decimal (8 * i)) (decimal (8 * i + 12)))) }
-{
-    let low = numbered(alloc, b"", 8 * i)?;
-    let high = numbered(alloc, b"-", 8 * i + 12)?;
-    add_half(text, name, b"a", b"-1 0 0", &low)?;
-    add_half(text, name, b"b", b"1 0 0", &high)?;
-    add_half(text, name, b"c", b"0 -1 0", &low)?;
-    add_half(text, name, b"d", b"0 1 0", &high)?;
-    add_half(text, name, b"e", b"0 0 -1", &low)?;
-    add_half(text, name, b"f", b"0 0 1", &high)?;
-    Ok(())
-}
-
-// Adds the intersections of a box's half-spaces.
-fn add_ands(text: &mut Vec<u8>, name: &[u8]) -> Result<(), OutOfMemory>
-    ensures added { OnOk result (text.new.items ≡ text.old.items ++ script_of (and_lines name.now)) }
-{
-    add_and(text, name, b"g", b"a", b"b")?;
-    add_and(text, name, b"h", b"g", b"c")?;
-    add_and(text, name, b"i", b"h", b"d")?;
-    add_and(text, name, b"j", b"i", b"e")?;
-    add_and(text, name, b"", b"j", b"f")?;
+    for byte in template {
+        match *byte {
+            b'@' => add_word(text, at)?,
+            b'<' => add_word(text, low)?,
+            b'>' => add_word(text, high)?,
+            other => text.push(other)?,
+        }
+    }
     Ok(())
 }
 
 // Adds the box i.
-fn add_box(alloc: Global, text: &mut Vec<u8>, i: u32) -> Result<(), OutOfMemory>
+fn add_box(text: &mut Vec<u8>, i: u32) -> Result<(), OutOfMemory>
     requires small { i < most_stairs }
     ensures added { OnOk result (text.new.items ≡ text.old.items ++ script_of (step_box i)) }
 {
-    let name = numbered(alloc, b"b", i)?;
-    add_halves(alloc, text, &name, i)?;
-    add_ands(text, &name)?;
-    Ok(())
+    let low = Word {
+        front: b"",
+        number: 8 * i,
+    };
+    let high = Word {
+        front: b"",
+        number: 8 * i + 12,
+    };
+    add_filled(text, BOX, box_name(i), low, high)
 }
 
 // Adds the line that joins the box i to those before it, if there are any.
-fn add_join(alloc: Global, text: &mut Vec<u8>, i: u32) -> Result<(), OutOfMemory>
+fn add_join(text: &mut Vec<u8>, i: u32) -> Result<(), OutOfMemory>
     ensures added { OnOk result (text.new.items ≡ text.old.items ++ script_of (join_lines i)) }
 {
     if i == 0 {
         return Ok(());
     }
-    let whole = whole_name(alloc, i)?;
-    let before = whole_name(alloc, i - 1)?;
-    let name = numbered(alloc, b"b", i)?;
-    add_pieces(text, &[b"or ", &whole, b" ", &before, b" ", &name, b"\n"])
+    add_filled(text, JOIN, box_name(i), whole_name(i), whole_name(i - 1))
 }
 
 // Adds the box i, and after it the line that joins it to those before it.
-fn add_step(alloc: Global, text: &mut Vec<u8>, i: u32) -> Result<(), OutOfMemory>
+fn add_step(text: &mut Vec<u8>, i: u32) -> Result<(), OutOfMemory>
     requires small { i < most_stairs }
     ensures added { OnOk result (text.new.items ≡ text.old.items ++ script_of (step_lines i)) }
 {
-    add_box(alloc, text, i)?;
-    add_join(alloc, text, i)?;
+    add_box(text, i)?;
+    add_join(text, i)?;
     Ok(())
 }
 
 // Adds the question for the numbers of the first i + 1 boxes together.
-fn add_count(alloc: Global, text: &mut Vec<u8>, i: u32) -> Result<(), OutOfMemory>
+fn add_count(text: &mut Vec<u8>, i: u32) -> Result<(), OutOfMemory>
     ensures added { OnOk result (text.new.items ≡ text.old.items ++ script_of (count_line (whole_name i) ∷ [])) }
 {
-    let whole = whole_name(alloc, i)?;
-    add_pieces(text, &[b"count ", &whole, b"\n"])
+    let whole = whole_name(i);
+    add_filled(text, COUNT, whole, whole, whole)
 }
 
 // The script of n boxes.
@@ -167,9 +143,9 @@ fn written(alloc: Global, n: u32) -> Result<Vec<u8>, OutOfMemory>
 {
     let mut text = Vec::new(alloc);
     for i in 0..n {
-        add_step(alloc, &mut text, i)?;
+        add_step(&mut text, i)?;
     }
-    add_count(alloc, &mut text, n - 1)?;
+    add_count(&mut text, n - 1)?;
     Ok(text)
 }
 

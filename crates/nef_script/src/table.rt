@@ -7,7 +7,7 @@ ghost use Rattle.std.specs.Str.{bytes_eq};
 ghost use Rattle.nef_script.specs.Table.{verb_of};
 
 /// The first word of a line.
-#[derive(Debug, Clone, Copy, PartialEq, Eq)]
+#[derive(Clone, Copy)]
 pub enum Verb {
     Half,
     Empty,
@@ -28,23 +28,6 @@ pub enum Verb {
     Same,
     Count,
     Print,
-}
-
-/// What a word after the command is.
-#[derive(Debug, Clone, Copy, PartialEq, Eq)]
-pub enum Role {
-    /// The name to be bound.
-    NewName,
-    /// The name of a set that an earlier line bound.
-    Operand,
-    /// A whole number of at most this size.
-    Coefficient(u64),
-    /// `open` or `closed`.
-    Mode,
-    /// A whole number from 1 to this one.
-    Weight(u64),
-    /// A whole number from 0 to this one.
-    Index(u64),
 }
 
 // Each command's word.

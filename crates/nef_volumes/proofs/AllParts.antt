@@ -99,3 +99,12 @@ first-item C xs (j, (y, a, b), h) x k e f =
     let one = is-at_one xs 0 y x a e in
     let same = is-at_one x.corners 0 j k (subst (λ (z : Cycle). IsAt z.corners 0 j) one b) f in
     subst (λ (i : ProgramCorner). HasItem C (corner_of i)) same h
+
+-- the volumes beside the first corner are those of the facet
+pub beside-first : (C : Complex) (rows : List (List ℕ)) (xs : List Cycle) (x : Cycle) (k : ProgramCorner) (p n : ℕ) → IsAt xs 0 x → IsAt x.corners 0 k
+    → IsVolumeOf C rows (pos_of (corner_of k)) p → IsVolumeOf C rows (neg_of (corner_of k)) n
+    → (j : ProgramCorner) → IsFirstCorner xs j → IsVolumeOf C rows (pos_of (corner_of j)) p × IsVolumeOf C rows (neg_of (corner_of j)) n
+beside-first C rows xs x k p n e f P N j (y, a, b) =
+    let one = is-at_one xs 0 x y e a in
+    let same = is-at_one x.corners 0 k j f (subst (λ (z : Cycle). IsAt z.corners 0 j) (sym one) b) in
+    subst (λ (i : ProgramCorner). IsVolumeOf C rows (pos_of (corner_of i)) p × IsVolumeOf C rows (neg_of (corner_of i)) n) same (P, N)

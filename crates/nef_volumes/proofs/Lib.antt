@@ -1,3 +1,4 @@
+pub mod BothFound
 pub mod Agree
 pub mod ReadVertex
 pub mod SideCells

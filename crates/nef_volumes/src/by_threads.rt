@@ -1,6 +1,6 @@
 //! All parts of a complex, made by several threads.
 
-ghost use Rattle.std.specs.Prelude.{◌≡◌, ◌≤◌, ◌++◌, length, IfOk};
+ghost use Rattle.std.specs.Prelude.{◌≡◌, ◌≤◌, ◌++◌, length, IfOk, Ok};
 ghost use Rattle.nef_space.specs.Sets.{Set};
 ghost use Rattle.nef_complex.specs.Complexes.{complex_of, ShowsSet};
 ghost use Rattle.nef_core.specs.Work.{crew_of};
@@ -10,7 +10,7 @@ ghost use Rattle.nef_parts.specs.Numbers.{IsParts};
 ghost use Rattle.nef_parts.specs.Shells.{SfaceNumbers};
 ghost use Rattle.nef_volumes.specs.Joins.{FacetsAreComponents, VolumesAreComponents, AreCounted};
 ghost use Rattle.nef_volumes.specs.Parts.{ArePieces};
-ghost use Rattle.nef_volumes.specs.Ties.{AreItemTies, AreDownBetween};
+ghost use Rattle.nef_volumes.specs.Ties.{AreItemTies, AreDownBetween, AreTiesDown};
 
 use crate::OutOfMemory;
 use crate::all::{parts, parts_of_pieces};
@@ -26,6 +26,20 @@ use std::alloc::Global;
 use std::thread;
 use std::thread::Threads;
 
+// Both values, where memory was found for both.
+fn both<A: Drop, B: Drop>(
+    first: Result<A, OutOfMemory>,
+    second: Result<B, OutOfMemory>,
+) -> Result<(A, B), OutOfMemory>
+    ensures first { IfOk result (λ p. first ≡ Ok p.0) }
+    ensures second { IfOk result (λ p. second ≡ Ok p.1) }
+{
+    match (first, second) {
+        (Ok(a), Ok(b)) => Ok((a, b)),
+        (Err(fault), _) | (_, Err(fault)) => Err(fault),
+    }
+}
+
 // The pieces, made by two threads: one follows the rays down.
 fn pieces_by_two<R: Threads + Sync>(
     rt: &R,
@@ -36,27 +50,25 @@ fn pieces_by_two<R: Threads + Sync>(
     ensures pieces { IfOk result (λ p. ArePieces (complex_of c.now) p.facets.parts p.facets.items.items p.sface_of p.down.items) }
 {
     let count = c.vertices.len();
-    let (down, (sface_of, facets)) = thread::join(
+    let (down, rest) = thread::join(
         rt,
         || -> Result<Vec<Tie>, OutOfMemory>
             requires shows { (s : Set) × ShowsSet s c.now }
             requires within { count ≤ length c.now.vertices }
             ensures { IfOk result (λ v. AreDownBetween (complex_of c.entry.now) 0 count v.items) }
         { down_ties(alloc, c, 0, count) },
-        || -> (
-            Result<List<List<usize>>, OutOfMemory>,
-            Result<FacetPieces, OutOfMemory>,
-        )
+        || -> Result<(List<List<usize>>, FacetPieces), OutOfMemory>
             requires { (s : Set) × ShowsSet s c.now }
-            ensures sfaces { IfOk result.0 (λ rows. SfaceNumbers (complex_of c.entry.now) rows) }
-            ensures facets { IfOk result.1 (λ p. IsFacetParts (complex_of c.entry.now) p.parts) }
-            ensures items { IfOk result.1 (λ p. AreItemTies (complex_of c.entry.now) p.items.items) }
-        { (sface_numbers(alloc, c), facet_pieces(alloc, c)) },
+            ensures sfaces { IfOk result (λ p. SfaceNumbers (complex_of c.entry.now) p.0) }
+            ensures facets { IfOk result (λ p. IsFacetParts (complex_of c.entry.now) p.1.parts) }
+            ensures items { IfOk result (λ p. AreItemTies (complex_of c.entry.now) p.1.items.items) }
+        { both(sface_numbers(alloc, c), facet_pieces(alloc, c)) },
     );
+    let (down, (sface_of, facets)) = both(down, rest)?;
     Ok(Pieces {
-        facets: facets?,
-        sface_of: sface_of?,
-        down: down?,
+        facets,
+        sface_of,
+        down,
     })
 }
 
@@ -67,16 +79,13 @@ fn facets_by_two<R: Threads + Sync>(
     alloc: Global,
     c: &Complex,
     start: usize,
-) -> (
-    Result<Vec<Tie>, OutOfMemory>,
-    Result<FacetPieces, OutOfMemory>,
-)
+) -> Result<(Vec<Tie>, FacetPieces), OutOfMemory>
     requires shows { (s : Set) × ShowsSet s c.now }
-    ensures down { IfOk result.0 (λ v. AreDownBetween (complex_of c.now) start (length c.now.vertices) v.items) }
-    ensures facets { IfOk result.1 (λ p. IsFacetParts (complex_of c.now) p.parts) }
-    ensures items { IfOk result.1 (λ p. AreItemTies (complex_of c.now) p.items.items) }
+    ensures down { IfOk result (λ p. AreDownBetween (complex_of c.now) start (length c.now.vertices) p.0.items) }
+    ensures facets { IfOk result (λ p. IsFacetParts (complex_of c.now) p.1.parts) }
+    ensures items { IfOk result (λ p. AreItemTies (complex_of c.now) p.1.items.items) }
 {
-    thread::join(
+    let (down, facets) = thread::join(
         rt,
         || -> Result<Vec<Tie>, OutOfMemory>
             requires { (s : Set) × ShowsSet s c.now }
@@ -87,45 +96,8 @@ fn facets_by_two<R: Threads + Sync>(
             ensures facets { IfOk result (λ p. IsFacetParts (complex_of c.entry.now) p.parts) }
             ensures items { IfOk result (λ p. AreItemTies (complex_of c.entry.now) p.items.items) }
         { facet_pieces(alloc, c) },
-    )
-}
-
-// As `facets_by_two`, while a third thread follows the rays down from the vertices before `start`.
-fn facets_by_three<R: Threads + Sync>(
-    rt: &R,
-    alloc: Global,
-    c: &Complex,
-    start: usize,
-) -> (
-    Result<Vec<Tie>, OutOfMemory>,
-    Result<Vec<Tie>, OutOfMemory>,
-    Result<FacetPieces, OutOfMemory>,
-)
-    requires shows { (s : Set) × ShowsSet s c.now }
-    requires within { start ≤ length c.now.vertices }
-    ensures front { IfOk result.0 (λ v. AreDownBetween (complex_of c.now) 0 start v.items) }
-    ensures back { IfOk result.1 (λ v. AreDownBetween (complex_of c.now) start (length c.now.vertices) v.items) }
-    ensures facets { IfOk result.2 (λ p. IsFacetParts (complex_of c.now) p.parts) }
-    ensures items { IfOk result.2 (λ p. AreItemTies (complex_of c.now) p.items.items) }
-{
-    let (front, (back, facets)) = thread::join(
-        rt,
-        || -> Result<Vec<Tie>, OutOfMemory>
-            requires shows { (s : Set) × ShowsSet s c.now }
-            requires within { start ≤ length c.now.vertices }
-            ensures { IfOk result (λ v. AreDownBetween (complex_of c.entry.now) 0 start v.items) }
-        { down_ties(alloc, c, 0, start) },
-        || -> (
-            Result<Vec<Tie>, OutOfMemory>,
-            Result<FacetPieces, OutOfMemory>,
-        )
-            requires { (s : Set) × ShowsSet s c.now }
-            ensures down { IfOk result.0 (λ v. AreDownBetween (complex_of c.entry.now) start (length c.entry.now.vertices) v.items) }
-            ensures facets { IfOk result.1 (λ p. IsFacetParts (complex_of c.entry.now) p.parts) }
-            ensures items { IfOk result.1 (λ p. AreItemTies (complex_of c.entry.now) p.items.items) }
-        { facets_by_two(rt, alloc, c, start) },
     );
-    (front, back, facets)
+    both(down, facets)
 }
 
 // The ties of both, those of the second after those of the first.
@@ -134,6 +106,38 @@ fn appended(mut first: Vec<Tie>, second: Vec<Tie>) -> Result<Vec<Tie>, OutOfMemo
 {
     first.extend_from_slice(second.as_slice())?;
     Ok(first)
+}
+
+// The ties down the rays from all vertices, and the facets with the ties of the sides of items: as `facets_by_two` from
+// `start` on, while a third thread follows the rays down from the vertices before it.
+fn facets_by_three<R: Threads + Sync>(
+    rt: &R,
+    alloc: Global,
+    c: &Complex,
+    start: usize,
+) -> Result<(Vec<Tie>, FacetPieces), OutOfMemory>
+    requires shows { (s : Set) × ShowsSet s c.now }
+    requires within { start ≤ length c.now.vertices }
+    ensures down { IfOk result (λ p. AreTiesDown (complex_of c.now) p.0.items) }
+    ensures facets { IfOk result (λ p. IsFacetParts (complex_of c.now) p.1.parts) }
+    ensures items { IfOk result (λ p. AreItemTies (complex_of c.now) p.1.items.items) }
+{
+    let (front, rest) = thread::join(
+        rt,
+        || -> Result<Vec<Tie>, OutOfMemory>
+            requires shows { (s : Set) × ShowsSet s c.now }
+            requires within { start ≤ length c.now.vertices }
+            ensures { IfOk result (λ v. AreDownBetween (complex_of c.entry.now) 0 start v.items) }
+        { down_ties(alloc, c, 0, start) },
+        || -> Result<(Vec<Tie>, FacetPieces), OutOfMemory>
+            requires { (s : Set) × ShowsSet s c.now }
+            ensures down { IfOk result (λ p. AreDownBetween (complex_of c.entry.now) start (length c.entry.now.vertices) p.0.items) }
+            ensures facets { IfOk result (λ p. IsFacetParts (complex_of c.entry.now) p.1.parts) }
+            ensures items { IfOk result (λ p. AreItemTies (complex_of c.entry.now) p.1.items.items) }
+        { facets_by_two(rt, alloc, c, start) },
+    );
+    let (front, (back, facets)) = both(front, rest)?;
+    both(appended(front, back), Ok(facets))
 }
 
 // The pieces, made by four threads: one numbers the sfaces, and two follow the rays down, each those from half of the
@@ -148,29 +152,25 @@ fn pieces_by_four<R: Threads + Sync>(
 {
     let half = c.vertices.len() / 2;
     // The calling thread starts all others, since one that a new thread starts begins on the processor of its maker.
-    let (sface_of, (front, back, facets)) = thread::join(
+    let (sface_of, rest) = thread::join(
         rt,
         || -> Result<List<List<usize>>, OutOfMemory>
             requires { (s : Set) × ShowsSet s c.now }
             ensures { IfOk result (λ rows. SfaceNumbers (complex_of c.entry.now) rows) }
         { sface_numbers(alloc, c) },
-        || -> (
-            Result<Vec<Tie>, OutOfMemory>,
-            Result<Vec<Tie>, OutOfMemory>,
-            Result<FacetPieces, OutOfMemory>,
-        )
+        || -> Result<(Vec<Tie>, FacetPieces), OutOfMemory>
             requires shows { (s : Set) × ShowsSet s c.now }
             requires within { half ≤ length c.now.vertices }
-            ensures front { IfOk result.0 (λ v. AreDownBetween (complex_of c.entry.now) 0 half v.items) }
-            ensures back { IfOk result.1 (λ v. AreDownBetween (complex_of c.entry.now) half (length c.entry.now.vertices) v.items) }
-            ensures facets { IfOk result.2 (λ p. IsFacetParts (complex_of c.entry.now) p.parts) }
-            ensures items { IfOk result.2 (λ p. AreItemTies (complex_of c.entry.now) p.items.items) }
+            ensures down { IfOk result (λ p. AreTiesDown (complex_of c.entry.now) p.0.items) }
+            ensures facets { IfOk result (λ p. IsFacetParts (complex_of c.entry.now) p.1.parts) }
+            ensures items { IfOk result (λ p. AreItemTies (complex_of c.entry.now) p.1.items.items) }
         { facets_by_three(rt, alloc, c, half) },
     );
+    let (sface_of, (down, facets)) = both(sface_of, rest)?;
     Ok(Pieces {
-        facets: facets?,
-        sface_of: sface_of?,
-        down: appended(front?, back?)?,
+        facets,
+        sface_of,
+        down,
     })
 }
 

@@ -1,16 +1,12 @@
-use Rattle.std.proofs.Common.{◌≡◌, ◌∙◌, ℕ, ◌≤◌, Bool, true, false, cond, ◌&&◌, List, [], ◌∷◌, Ok, Err, Some, None, ℤ, pos, nat_abs, refl, sym, ap, subst, arith, rules}
-use Rattle.nef_space.specs.Limits.{normal_limit, offset_limit, direction_limit, ray_direction_limit}
-use Rattle.nef_space.specs.Place.{form}
+use Rattle.std.proofs.Common.{◌≡◌, ◌∙◌, ℕ, true, false, cond, ◌&&◌, List, [], ◌∷◌, Some, None, refl, sym, ap, subst, arith, rules}
+use Rattle.nef_space.specs.Limits.{direction_limit, ray_direction_limit}
 use Rattle.nef_space.specs.Vectors.{vector, IsAtMost, IsZero, SameDirection}
-use Rattle.nef_geo.specs.Reading.{IsInRange, IsPositiveMultiple}
-use Rattle.nef_geo.specs.Shapes.{given_form, vector_of}
-use Rattle.nef_geo.specs.declared.reading.PlaneFault.TheVariants as fault
-use Rattle.nef_script.specs.Tests.{number_or_zero}
-use Rattle.nef_script.specs.Outcome.{IsRead, both, some_fails, is_normal, is_direction, are_zero}
+use Rattle.nef_geo.specs.Shapes.{vector_of}
+use Rattle.nef_script.specs.Outcome.{IsRead, both, some_fails, is_direction, are_zero}
 use Rattle.nef_script.specs.declared.fault.ScriptKind.TheVariants as kind
-use Rattle.nef_script.specs.declared.table.Role.TheVariants.{Coefficient}
-use Rattle.nef_script.proofs.Firsts.{IsRead-three, IsRead-four, IsRead-unless, place-number, zeros-none}
-use Rattle.nef_script.proofs.Values.{passed, same_form, same_vector, zero-are, not-zero}
+use Rattle.nef_script.specs.Table.{Coefficient}
+use Rattle.nef_script.proofs.Firsts.{IsRead-three, IsRead-unless, place-number, zeros-none}
+use Rattle.nef_script.proofs.Values.{passed, same_vector, zero-are, not-zero}
 use Rattle.nef_script.proofs.arguments.direction.Goals as goal
 
 pub returns-in_err-x : goal.returns-in_err-x

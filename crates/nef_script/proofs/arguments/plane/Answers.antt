@@ -1,15 +1,13 @@
-use Rattle.std.proofs.Common.{◌≡◌, ◌∙◌, ℕ, ◌≤◌, Bool, true, false, cond, ◌&&◌, List, [], ◌∷◌, Ok, Err, Some, None, ℤ, pos, nat_abs, refl, sym, ap, subst, arith}
-use Rattle.nef_space.specs.Limits.{normal_limit, offset_limit, direction_limit, ray_direction_limit}
+use Rattle.std.proofs.Common.{◌≡◌, ◌∙◌, ℕ, true, false, cond, ◌&&◌, List, [], ◌∷◌, Err, Some, None, refl, sym, ap, subst, arith}
+use Rattle.nef_space.specs.Limits.{normal_limit, offset_limit}
 use Rattle.nef_space.specs.Place.{form}
-use Rattle.nef_space.specs.Vectors.{vector, IsAtMost, IsZero, SameDirection}
+use Rattle.nef_space.specs.Vectors.{IsZero}
 use Rattle.nef_geo.specs.Reading.{IsInRange, IsPositiveMultiple}
-use Rattle.nef_geo.specs.Shapes.{given_form, vector_of}
-use Rattle.nef_geo.specs.declared.reading.PlaneFault.TheVariants as fault
-use Rattle.nef_script.specs.Tests.{number_or_zero}
-use Rattle.nef_script.specs.Outcome.{IsRead, both, some_fails, is_normal, is_direction, are_zero}
+use Rattle.nef_geo.specs.Shapes.{given_form}
+use Rattle.nef_script.specs.Outcome.{IsRead, both, some_fails, is_normal, are_zero}
 use Rattle.nef_script.specs.declared.fault.ScriptKind.TheVariants as kind
-use Rattle.nef_script.specs.declared.table.Role.TheVariants.{Coefficient}
-use Rattle.nef_script.proofs.Firsts.{IsRead-three, IsRead-four, IsRead-unless, place-number, zeros-none}
+use Rattle.nef_script.specs.Table.{Coefficient}
+use Rattle.nef_script.proofs.Firsts.{IsRead-four, IsRead-unless, place-number, zeros-none}
 use Rattle.nef_script.proofs.Values.{passed, same_form, same_vector, zero-are, not-zero}
 use Rattle.nef_script.proofs.arguments.plane.Goals as goal
 

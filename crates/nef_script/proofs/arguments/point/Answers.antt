@@ -1,4 +1,4 @@
-use Rattle.std.proofs.Common.{◌≡◌, ◌∙◌, ℕ, ◌≤◌, List, [], ◌∷◌, Ok, Err, ℤ, pos, ◌<ℤ◌, nat_abs, refl, sym, ap, subst, arith}
+use Rattle.std.proofs.Common.{◌∙◌, ℕ, ◌≤◌, List, [], ℤ, pos, ◌<ℤ◌, nat_abs, refl, sym, ap, subst, arith}
 use Rattle.nef_space.specs.Limits.{point_limit, weight_limit, query_limit, query_weight_limit}
 use Rattle.nef_script.specs.Outcome.{IsRead, both}
 use Rattle.nef_script.proofs.Firsts.{IsRead-four, IsRead-made, IsRead-returned}

@@ -1,11 +1,9 @@
-use Rattle.std.proofs.Common.{◌≡◌, ◌∙◌, ℕ, List, [], ◌∷◌, Bool, true, length, Result, refl, sym, ap, subst, rules}
-use Rattle.nef_expr.specs.declared.nodes.Node.{Node}
+use Rattle.std.proofs.Common.{◌≡◌, ◌∙◌, ℕ, List, Result, refl, sym, subst}
 use Rattle.nef_expr.specs.declared.nodes.Node.TheVariants as node
 use Rattle.nef_script.specs.Names.{pointed}
-use Rattle.nef_script.specs.Table.{roles, is_own}
 use Rattle.nef_script.specs.Meaning.{IsNode}
 use Rattle.nef_script.specs.Checks.{command_test}
-use Rattle.nef_script.specs.Outcome.{IsRead, BindsNew, IsStatement, roles_test}
+use Rattle.nef_script.specs.Outcome.{IsRead, IsStatement}
 use Rattle.nef_script.specs.declared.table.Verb.{Verb}
 use Rattle.nef_script.specs.declared.table.Verb.TheVariants as verb
 use Rattle.nef_script.specs.declared.fault.ScriptKind.{ScriptKind}

@@ -1,43 +1,34 @@
-use Rattle.std.proofs.Common.{◌≡◌, ℕ, List, [], ◌∷◌, length, Result, Ok, refl, sym, ap, subst, arith}
-use Rattle.nef_space.specs.Limits.{query_limit, query_weight_limit}
-use Rattle.nef_geo.specs.Hits.{IsPlaceAtMost}
-use Rattle.nef_geo.specs.Shapes.{place_of}
-use Rattle.nef_script.specs.Tests.{word_test, number_or_zero}
+use Rattle.std.proofs.Common.{◌≡◌, length, Ok, refl, sym, subst, arith}
 use Rattle.nef_script.specs.Checks.{command_test}
-use Rattle.nef_script.specs.Names.{pointed}
-use Rattle.nef_script.specs.Meaning.{Names, IsQuotient}
-use Rattle.nef_script.specs.Outcome.{IsRead, IsStatement, some_fails, both}
+use Rattle.nef_script.specs.Outcome.{IsRead, IsStatement}
 use Rattle.nef_script.specs.declared.script.Command.TheVariants.{Has}
-use Rattle.nef_script.specs.declared.statement.Statement.{Statement}
 use Rattle.nef_script.specs.declared.statement.Statement.TheVariants.{Ask}
-use Rattle.nef_script.specs.declared.fault.ScriptKind.{ScriptKind}
 use Rattle.nef_script.specs.declared.table.Verb.TheVariants as verb
-use Rattle.nef_script.specs.declared.table.Role.TheVariants.{Operand, Coefficient, Weight}
 use Rattle.nef_script.proofs.Firsts.{IsRead-both, IsRead-made, IsRead-returned}
 use Rattle.nef_script.proofs.CommandTests.{of-Has}
 use Rattle.nef_script.proofs.Shapes.{word_at, five_words}
 use Rattle.nef_script.proofs.statement.has.Goals as goal
 
-pub returns-in_err-node-in-len5 : goal.returns-in_err-node-in-len5
-returns-in_err-node-in-len5 c =
+pub returns-in_err-node : goal.returns-in_err-node
+returns-in_err-node c =
     let names = c.args.names.now in
     let ws = c.args.args.now in
     let count : length ws ≡ 5 = omega (arith, c.in-len5.len_at_least, c.in-len5.len_below) in
     let parts = IsRead-both _ _ _ _ c.operand.result c.point.result c.operand.ensures.read (c.point.ensures.read names) in
-    let read = subst (IsRead _ _) (sym c.both-parts.ensures.both) parts in
+    let read = subst (IsRead _ _) (sym c.both.ensures.both) parts in
     record {
       read = subst (λ l. IsRead (λ k. command_test k names verb.Has l) (IsStatement names c.args.bound.now c.args.line verb.Has l) c.from_residual.result) (sym (five_words ws count))
-          (IsRead-returned _ _ _ _ c.both-parts.result read (λ k. of-Has k names (word_at ws 0) (word_at ws 1) (word_at ws 2) (word_at ws 3) (word_at ws 4)) _ c.from_residual.result c.in_err-node-in-len5.was c.from_residual.ensures.1);
+          (IsRead-returned _ _ _ _ c.both.result read (λ k. of-Has k names (word_at ws 0) (word_at ws 1) (word_at ws 2) (word_at ws 3) (word_at ws 4)) _ c.from_residual.result c.in_err-node.was c.from_residual.ensures.1);
     }
 
-pub returns-in_ok-node-in-len5 : goal.returns-in_ok-node-in-len5
-returns-in_ok-node-in-len5 c =
+pub returns : goal.returns
+returns c =
     let names = c.args.names.now in
     let ws = c.args.args.now in
     let count : length ws ≡ 5 = omega (arith, c.in-len5.len_at_least, c.in-len5.len_below) in
     let parts = IsRead-both _ _ _ _ c.operand.result c.point.result c.operand.ensures.read (c.point.ensures.read names) in
-    let read = subst (IsRead _ _) (sym c.both-parts.ensures.both) parts in
+    let read = subst (IsRead _ _) (sym c.both.ensures.both) parts in
     record {
-      read = subst (λ l. IsRead (λ k. command_test k names verb.Has l) (IsStatement names c.args.bound.now c.args.line verb.Has l) (Ok (Ask (Has c.args.line c.in_ok-node-in-len5.node c.in_ok-node-in-len5.point)))) (sym (five_words ws count))
-          (IsRead-made _ _ _ _ c.both-parts.result read (λ k. of-Has k names (word_at ws 0) (word_at ws 1) (word_at ws 2) (word_at ws 3) (word_at ws 4)) (c.in_ok-node-in-len5.node, c.in_ok-node-in-len5.point) (Ask (Has c.args.line c.in_ok-node-in-len5.node c.in_ok-node-in-len5.point)) c.in_ok-node-in-len5.was (λ h. (refl, (c.in_ok-node-in-len5.node, c.in_ok-node-in-len5.point, h.0, h.1.0, refl), tt)));
+      read = subst (λ l. IsRead (λ k. command_test k names verb.Has l) (IsStatement names c.args.bound.now c.args.line verb.Has l) (Ok (Ask (Has c.args.line c.in_ok-node.node c.in_ok-node.point)))) (sym (five_words ws count))
+          (IsRead-made _ _ _ _ c.both.result read (λ k. of-Has k names (word_at ws 0) (word_at ws 1) (word_at ws 2) (word_at ws 3) (word_at ws 4)) (c.in_ok-node.node, c.in_ok-node.point) (Ask (Has c.args.line c.in_ok-node.node c.in_ok-node.point)) c.in_ok-node.was (λ h. (refl, (c.in_ok-node.node, c.in_ok-node.point, h.0, h.1.0, refl), tt)));
     }

@@ -1,33 +1,33 @@
-use Rattle.std.proofs.Common.{◌≡◌, ◌∙◌, ℕ, List, [], ◌∷◌, length, Ok, Err, refl, sym, ap, subst, arith}
+use Rattle.std.proofs.Common.{◌≡◌, ℕ, [], ◌∷◌, length, Ok, sym, subst, arith}
 use Rattle.nef_script.specs.Outcome.{IsRead, BindsNew, roles_test}
 use Rattle.nef_script.specs.declared.statement.Statement.TheVariants as statement
 use Rattle.nef_script.proofs.Firsts.{IsRead-both, IsRead-made, IsRead-returned, is-new}
 use Rattle.nef_script.proofs.CommandTests as tests
-use Rattle.nef_script.proofs.Shapes.{no_word, word_at, two_words, three_words}
-use Rattle.nef_script.specs.Reading.{SecondIs, LastTwoAre}
-use Rattle.nef_script.specs.declared.table.Role.TheVariants.{NewName, Operand}
+use Rattle.nef_script.proofs.Shapes.{word_at, two_words}
+use Rattle.nef_script.specs.Reading.{SecondIs}
+use Rattle.nef_script.specs.Table.{NewName, Operand}
 use Rattle.nef_script.proofs.statement.unary.Goals as goal
 
-pub returns-in_err-name-in-len2 : goal.returns-in_err-name-in-len2
-returns-in_err-name-in-len2 g c =
+pub returns-in_err-name : goal.returns-in_err-name
+returns-in_err-name g c =
     let names = c.args.names.now in
     let bound = c.args.bound.now in
     let ws = c.args.args.now in
     let count : length ws ≡ 2 = omega (arith, c.in-len2.len_at_least, c.in-len2.len_below) in
-    let read = subst (IsRead _ _) (sym c.both-parts.ensures.both) (IsRead-both _ _ _ _ c.new_name.result c.operand.result c.new_name.ensures.read c.operand.ensures.read) in
+    let read = subst (IsRead _ _) (sym c.both.ensures.both) (IsRead-both _ _ _ _ c.new_name.result c.operand.result c.new_name.ensures.read c.operand.ensures.read) in
     record {
       read = subst (λ l. IsRead (roles_test names (NewName ∷ Operand ∷ []) l) (BindsNew names l (λ m. (i : ℕ) × SecondIs names bound l i × g.F.Fn.post c.args.node (i, tt) m)) c.from_residual.result) (sym (two_words ws count))
-          (IsRead-returned _ _ _ _ c.both-parts.result read (λ k. tests.of-unary k names (word_at ws 0) (word_at ws 1)) _ c.from_residual.result c.in_err-name-in-len2.was c.from_residual.ensures.1);
+          (IsRead-returned _ _ _ _ c.both.result read (λ k. tests.of-unary k names (word_at ws 0) (word_at ws 1)) _ c.from_residual.result c.in_err-name.was c.from_residual.ensures.1);
     }
 
-pub returns-in-len2 : goal.returns-in-len2
-returns-in-len2 g c =
+pub returns : goal.returns
+returns g c =
     let names = c.args.names.now in
     let bound = c.args.bound.now in
     let ws = c.args.args.now in
     let count : length ws ≡ 2 = omega (arith, c.in-len2.len_at_least, c.in-len2.len_below) in
-    let read = subst (IsRead _ _) (sym c.both-parts.ensures.both) (IsRead-both _ _ _ _ c.new_name.result c.operand.result c.new_name.ensures.read c.operand.ensures.read) in
+    let read = subst (IsRead _ _) (sym c.both.ensures.both) (IsRead-both _ _ _ _ c.new_name.result c.operand.result c.new_name.ensures.read c.operand.ensures.read) in
     record {
-      read = subst (λ l. IsRead (roles_test names (NewName ∷ Operand ∷ []) l) (BindsNew names l (λ m. (i : ℕ) × SecondIs names bound l i × g.F.Fn.post c.args.node (i, tt) m)) (Ok (statement.Bind c.in_ok-name-in-len2.name c.node.result))) (sym (two_words ws count))
-          (IsRead-made _ _ _ _ c.both-parts.result read (λ k. tests.of-unary k names (word_at ws 0) (word_at ws 1)) (c.in_ok-name-in-len2.name, c.in_ok-name-in-len2.i) (statement.Bind c.in_ok-name-in-len2.name c.node.result) c.in_ok-name-in-len2.was (λ h. (is-new names _ _ _ h.0.0 h.0.1 h.0.2, (c.in_ok-name-in-len2.i, h.1, c.node.ensures))));
+      read = subst (λ l. IsRead (roles_test names (NewName ∷ Operand ∷ []) l) (BindsNew names l (λ m. (i : ℕ) × SecondIs names bound l i × g.F.Fn.post c.args.node (i, tt) m)) (Ok (statement.Bind c.in_ok-name.name c.node-node.result))) (sym (two_words ws count))
+          (IsRead-made _ _ _ _ c.both.result read (λ k. tests.of-unary k names (word_at ws 0) (word_at ws 1)) (c.in_ok-name.name, c.in_ok-name.i) (statement.Bind c.in_ok-name.name c.node-node.result) c.in_ok-name.was (λ h. (is-new names _ _ _ h.0.0 h.0.1 h.0.2, (c.in_ok-name.i, h.1, c.node-node.ensures))));
     }

@@ -1,10 +1,17 @@
-use Rattle.std.proofs.Common.{◌∙◌}
-use Rattle.nef_script.proofs.Writing.{box-written}
+use Rattle.std.proofs.Common.{◌++◌, ◌+◌, ◌*◌, ◌∙◌, sym, ap}
+use Rattle.std.specs.Fmt.{decimal}
+use Rattle.std.proofs.lemmas.Result.{on_ok_weaker}
+use Rattle.nef_script.specs.Boxes.{filled}
+use Rattle.nef_script.specs.Stairs.{box_name}
+use Rattle.nef_script.proofs.Writing.{box_template, box-filled}
 use Rattle.nef_script.proofs.steps.add_box.Goals as goal
 
 pub returns : goal.returns
 returns c =
-    let name = c.in_ok-name.ensures.bytes in
+    let i = c.args.i in
+    let o = c.args.text.now.items in
+    let low = decimal (8 * i) in
+    let high = decimal (8 * i + 12) in
     record {
-      added = box-written c.args.text.now.items _ _ _ _ c.args.i (c.deref.ensures.value ∙ name) (c.deref-2.ensures.value ∙ name) c.in_ok-add_halves.ensures.added c.in_ok-add_ands.ensures.added;
+      added = on_ok_weaker c.add_filled.result (λ e. e ∙ ap (λ l. o ++ filled l low high box_template) c.box_name.ensures.name ∙ ap (λ l. o ++ l) (sym (box-filled (box_name i) low high))) c.add_filled.ensures.added;
     }

@@ -10,14 +10,15 @@ use Rattle.nef_volumes.proofs.by_threads.pieces_by_two.Goals as goal
 pub returns : goal.returns
 returns g c =
     let C = complex_of c.args.c.now in
-    let ts = c.in_ok-down.field-0.items in
+    let ts = c.in_ok-down.down.items in
+    let found = c.in_ok-down.ensures in
     let rest = c.join-down.ensures.second in
-    let down = IfOk-at_ok (λ v. AreDownBetween C 0 c.len-count.result v.items) c.in_ok-down.was c.join-down.ensures.first in
+    let down = IfOk-at_ok (λ v. AreDownBetween C 0 c.len-count.result v.items) found.first c.join-down.ensures.first in
     record {
       pieces = record {
-        facets = IfOk-at_ok (λ p. IsFacetParts C p.parts) c.in_ok-facets.was rest.1.0;
-        items = IfOk-at_ok (λ p. AreItemTies C p.items.items) c.in_ok-facets.was rest.1.1;
-        sfaces = IfOk-at_ok (SfaceNumbers C) c.in_ok-sface_of.was rest.0;
+        facets = IfOk-at_ok (λ p. IsFacetParts C p.1.parts) found.second rest.1.0;
+        items = IfOk-at_ok (λ p. AreItemTies C p.1.items.items) found.second rest.1.1;
+        sfaces = IfOk-at_ok (λ p. SfaceNumbers C p.0) found.second rest.0;
         down = down-all c.args.c.now ts (subst (λ (n : ℕ). AreDownBetween C 0 n ts) c.len-count.ensures.len down);
       };
     }

@@ -1,5 +1,5 @@
 -- What a line says is added.
-use Rattle.std.proofs.Common.{◌≡◌, ℕ, ◌<◌, List, [], ◌∷◌, ◌++◌, length, refl, sym, subst, arith}
+use Rattle.std.proofs.Common.{◌≡◌, ℕ, List, [], ◌∷◌, ◌++◌, length, refl, sym, subst, arith}
 use Rattle.nef_expr.specs.Turns.{TurnOf}
 use Rattle.nef_expr.specs.Table.{IsCopyOf}
 use Rattle.nef_expr.proofs.Operands.{names-from}
@@ -8,8 +8,6 @@ use Rattle.nef_script.specs.Outcome.{IsStatement}
 use Rattle.nef_script.specs.Reading.{state, AddsWords}
 use Rattle.nef_script.specs.declared.table.Verb.{Verb}
 use Rattle.nef_script.specs.declared.table.Verb.TheVariants as verb
-use Rattle.nef_script.specs.declared.statement.Statement.{Statement}
-use Rattle.nef_script.specs.declared.statement.Statement.TheVariants as statement
 use Rattle.nef_script.specs.declared.script.Command.TheVariants as command
 use Rattle.nef_script.proofs.Adding.{AddsWords-node, AddsWords-turn, AddsWords-ask}
 use Rattle.nef_script.proofs.Looking.{node-operands}
