@@ -16,3 +16,6 @@ pub mod Turned
 pub mod Spanning
 pub mod Grouped
 pub mod Spanned
+pub mod Walking
+pub mod SamePoints
+pub mod TakenRows

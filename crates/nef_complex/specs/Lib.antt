@@ -5,3 +5,4 @@ pub mod Index
 pub mod Indexing
 pub mod Runs
 pub mod Tables
+pub mod Taken

@@ -14,6 +14,8 @@ mod runs;
 mod sorted_carriers;
 mod spans;
 mod table;
+mod taken;
+mod taken_rows;
 mod turning;
 mod vertices;
 
@@ -29,4 +31,5 @@ pub use sorted_carriers::SortedCarriers;
 pub use spans::{Bounds, Span};
 pub use std::alloc::AllocError as OutOfMemory;
 pub use table::Table;
+pub use taken_rows::vertex_rows_from;
 pub use vertices::{find_vertex, vertex_at};

@@ -57,6 +57,14 @@ impl SortedCarriers {
         Ok(())
     }
 
+    /// The carriers as a slice.
+    pub(crate) fn planes(&self) -> &[Plane]
+        ensures planes { result.now ≡ self.now }
+        ensures ordered { AreInOrder self.now }
+    {
+        self.planes.as_slice()
+    }
+
     /// The carriers alone.
     pub fn into_planes(self) -> List<Plane>
         ensures planes { result ≡ self }

@@ -11,5 +11,5 @@ mod moment;
 mod order;
 mod pairing;
 
-pub use pairing::pair;
+pub use pairing::{pair, pair_from};
 pub use std::alloc::AllocError as OutOfMemory;

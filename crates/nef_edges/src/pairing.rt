@@ -13,7 +13,7 @@ ghost use Rattle.nef_edges.specs.Pairs.{AreJoined, AreEdges};
 use crate::OutOfMemory;
 use crate::arriving::{next_after, sorted_arriving};
 use crate::edge_end::EdgeEnd;
-use nef_complex::{Complex, Edge, SortedCarriers, Table, Vertex, vertex_rows};
+use nef_complex::{Complex, Edge, SortedCarriers, Table, Vertex, vertex_rows, vertex_rows_from};
 use nef_geo::{List, Plane};
 use std::alloc::Global;
 
@@ -93,5 +93,25 @@ pub fn pair(
 {
     let carriers = SortedCarriers::of(alloc, carriers)?;
     let rows = vertex_rows(alloc, &carriers, vertices.as_slice())?;
+    pair_held(alloc, carriers.into_planes(), vertices, rows)
+}
+
+/// As `pair`, for a set that is made of those of two complexes: what these say of their vertices is taken over.
+pub fn pair_from(
+    alloc: Global,
+    carriers: List<Plane>,
+    vertices: List<Vertex>,
+    first: &Complex,
+    second: &Complex,
+) -> Result<Complex, OutOfMemory>
+    requires vertices { (s : Set) × AreVerticesOf s carriers vertices }
+    requires first { (s : Set) × ShowsSet s first.now }
+    requires second { (s : Set) × ShowsSet s second.now }
+    ensures kept { IfOk result (λ c. (c.carriers ≡ carriers) × (c.vertices ≡ vertices)) }
+    ensures edges { IfOk result (λ c. Edges (map vertex_of c.vertices) (map edge_of c.edges)) }
+    ensures shows { IfOk result (λ c. (s : Set) → AreVerticesOf s carriers vertices → ShowsSet s c) }
+{
+    let carriers = SortedCarriers::of(alloc, carriers)?;
+    let rows = vertex_rows_from(alloc, &carriers, vertices.as_slice(), first, second)?;
     pair_held(alloc, carriers.into_planes(), vertices, rows)
 }

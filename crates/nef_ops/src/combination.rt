@@ -107,6 +107,6 @@ pub fn binary<R: Threads + Wait + Sync, G: Gate + Sync>(
     };
     let work = work_of(a, b, job.jobs(), how.board);
     let carriers = merge_carriers(alloc, a, b)?;
-    let complex = complex_by_jobs(rt, alloc, &job, work, points, carriers, how, gate)?;
+    let complex = complex_by_jobs(rt, alloc, &job, work, points, carriers, a, b, how, gate)?;
     Ok(complex)
 }

@@ -61,7 +61,7 @@ fn finished<R: Threads + Wait + Sync, J: Job, G: Gate + Sync>(
 }
 
 /// The complex of a set with these carriers. The points are its candidates, and each job makes its least map at one of
-/// them. The jobs are this work, and so many workers share them.
+/// them. The jobs are this work, and so many workers share them. What two complexes say of their vertices is taken over.
 pub(crate) fn complex_by_jobs<R: Threads + Wait + Sync, J: Job<Out = CandidateMap>, G: Gate + Sync>(
     rt: &R,
     alloc: Global,
@@ -69,9 +69,13 @@ pub(crate) fn complex_by_jobs<R: Threads + Wait + Sync, J: Job<Out = CandidateMa
     work: Work,
     points: &[Point],
     carriers: List<Plane>,
+    first: &Complex,
+    second: &Complex,
     how: &How,
     gate: &G,
 ) -> Result<Complex, OutOfMemory>
+    requires first { (s : Set) × ShowsSet s first.now }
+    requires second { (s : Set) × ShowsSet s second.now }
     requires workable { J.workable job.now }
     requires alike { J.count job.now ≡ length points.now }
     requires set { (s : Set) × IsWorkedBy (J.right job.now) s carriers points.now }
@@ -79,6 +83,6 @@ pub(crate) fn complex_by_jobs<R: Threads + Wait + Sync, J: Job<Out = CandidateMa
 {
     let workers = crew(how, work, gate.holds());
     let maps = finished(rt, alloc, job, how.board, workers, gate)?;
-    let complex = assemble(rt, alloc, carriers, points, maps, workers)?;
+    let complex = assemble(rt, alloc, carriers, points, maps, first, second, workers)?;
     Ok(complex)
 }

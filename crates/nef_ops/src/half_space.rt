@@ -78,7 +78,9 @@ pub fn half_within<R: Threads + Wait + Sync, G: Gate + Sync>(
     };
     let work = Work::LightJobs(how.board, job.jobs());
     let carriers = add_carrier(alloc, whole, &plane)?;
-    let complex = complex_by_jobs(rt, alloc, &job, work, points, carriers, how, gate)?;
+    let complex = complex_by_jobs(
+        rt, alloc, &job, work, points, carriers, whole, whole, how, gate,
+    )?;
     Ok(complex)
 }
 

@@ -93,6 +93,6 @@ pub fn unary<R: Threads + Wait + Sync, G: Gate + Sync>(
     let work = Work::HeavyJobs(job.jobs());
     let carriers = copy_carriers(alloc, a)?;
     let points = points.as_slice();
-    let complex = complex_by_jobs(rt, alloc, &job, work, points, carriers, how, gate)?;
+    let complex = complex_by_jobs(rt, alloc, &job, work, points, carriers, a, a, how, gate)?;
     Ok(complex)
 }

@@ -45,6 +45,8 @@ mod sets;
 #[cfg(test)]
 mod tables;
 #[cfg(test)]
+mod taken;
+#[cfg(test)]
 mod turns;
 #[cfg(test)]
 mod walls;

@@ -9,6 +9,12 @@ use Rattle.nef_ops.proofs.half_space.half_within.Goals as goal
 pub complex_by_jobs-requires-clause-workable : goal.complex_by_jobs-requires-clause-workable
 complex_by_jobs-requires-clause-workable g c = λ κs within. (c.requires.whole, subst AreFramed (sym c.as_slice-points.ensures.value) c.in_ok-listed.ensures.framed)
 
+pub complex_by_jobs-requires-clause-first : goal.complex_by_jobs-requires-clause-first
+complex_by_jobs-requires-clause-first g c = λ κs within. (Set.full, c.requires.whole)
+
+pub complex_by_jobs-requires-clause-second : goal.complex_by_jobs-requires-clause-second
+complex_by_jobs-requires-clause-second g c = λ κs within. (Set.full, c.requires.whole)
+
 pub complex_by_jobs-requires-clause-set : goal.complex_by_jobs-requires-clause-set
 complex_by_jobs-requires-clause-set g c = λ κs within.
     let h = c.plane-plane.result in let f = given_form c.args.oriented.now in (

@@ -1,0 +1,103 @@
+-- The carriers of a complex among others, and the row of a vertex that is renumbered.
+use Rattle.std.proofs.Common.{◌≡◌, ℕ, ◌+◌, ◌<◌, ◌≤◌, ◌⊎◌, inl, inr, ⊎_elim, List, [], ◌∷◌, ◌++◌, length, length-append, arith, refl, sym, subst, ◌∙◌}
+use Rattle.nef_space.specs.Lists.{IsAt}
+use Rattle.nef_space.specs.Numbers.{IsBelow}
+use Rattle.nef_space.specs.Place.{form_numbers}
+use Rattle.nef_geo.specs.Shapes.{form_of}
+use Rattle.nef_geo.specs.declared.plane.Plane.{Plane}
+use Rattle.nef_classes.proofs.ClassLists.{less-or-last, is-at_one, is-at_within, is-at_some, is-at_left, is-at_last, Either, earlier, last, is-at_either}
+use Rattle.nef_complex.specs.Index.{AreInOrder}
+use Rattle.nef_complex.specs.Taken.{HasEntry, StandsAmong, AreTaken, AreWalked, AreAdded}
+
+-- ---- entries
+pub entry-left : (ns : List ℕ) (n k : ℕ) → HasEntry ns k → HasEntry (ns ++ n ∷ []) k
+entry-left ns n k (i, a) = (i, is-at_left ns (n ∷ []) i k a)
+
+pub entry-last : (ns : List ℕ) (n : ℕ) → HasEntry (ns ++ n ∷ []) n
+entry-last ns n = (length ns, is-at_last ns n)
+
+-- ---- the walk
+pub walked-none : (gs hs : List Plane) → AreWalked gs hs 0 [] [] []
+walked-none gs hs = record {
+  each = λ i k a. cc;
+  others_enough = refl;
+  others_each = λ i k a. cc;
+  all = λ k l. absurd (omega arith);
+  ordered = λ i j g h l a b. cc;
+}
+
+module _ (gs hs : List Plane) (n : ℕ) (ns : List ℕ) (others : List Plane) (ks : List ℕ) (W : AreWalked gs hs n ns others ks) (h : Plane) (here : IsAt hs n h) where
+  -- the next of all is the next of gs
+  pub walked-taken : IsAt gs (length ns) h → AreWalked gs hs (n + 1) (ns ++ n ∷ []) others ks
+  walked-taken there = record {
+    each = λ i k a. each i k (is-at_either ns i k n a);
+    others_enough = W.others_enough;
+    others_each = λ i k a. let o = W.others_each i k a in (omega arith, o.1);
+    all = λ k l. ⊎_elim (λ m. ⊎_elim (λ e. inl (entry-left ns n k e)) (λ e. inr e) (W.all k m))
+        (λ e. inl (subst (HasEntry (ns ++ n ∷ [])) (sym e) (entry-last ns n))) (less-or-last k n l);
+    ordered = W.ordered;
+  }
+    where
+      each : (i k : ℕ) → Either ns i k n → StandsAmong gs hs i k
+      each i k (earlier a) = W.each i k a
+      each i k (last e f) = (h, subst (λ (j : ℕ). IsAt gs j h) (sym e) there, subst (λ (j : ℕ). IsAt hs j h) (sym f) here)
+
+  -- it is one of the others
+  pub walked-other : AreInOrder hs → AreWalked gs hs (n + 1) ns (others ++ h ∷ []) (ks ++ n ∷ [])
+  walked-other order = record {
+    each = W.each;
+    others_enough = let e = W.others_enough in let a = length-append ks (n ∷ []) in let b = length-append others (h ∷ []) in omega arith;
+    others_each = λ i k a. each i k (is-at_either ks i k n a);
+    all = λ k l. ⊎_elim (λ m. ⊎_elim (λ e. inl e) (λ e. inr (entry-left ks n k e)) (W.all k m))
+        (λ e. inr (subst (HasEntry (ks ++ n ∷ [])) (sym e) (entry-last ks n))) (less-or-last k n l);
+    ordered = λ i j a b l p q. ordered i j a b l (is-at_either others i a h p) (is-at_either others j b h q);
+  }
+    where
+      each : (i k : ℕ) → Either ks i k n → (k < n + 1) × StandsAmong (others ++ h ∷ []) hs i k
+      each i k (earlier a) = let o = W.others_each i k a in (omega arith, (o.1.0, is-at_left others (h ∷ []) i o.1.0 o.1.1, o.1.2))
+      each i k (last e f) =
+          (omega arith, (h, subst (λ (j : ℕ). IsAt (others ++ h ∷ []) j h) (sym (e ∙ W.others_enough)) (is-at_last others h), subst (λ (j : ℕ). IsAt hs j h) (sym f) here))
+
+      -- each of the others stands before number n
+      before : (i : ℕ) (g : Plane) → IsAt others i g → (k : ℕ) × (k < n) × IsAt hs k g
+      before i g a =
+          let within = is-at_within others i g a in
+          let k = is-at_some ks i (let e = W.others_enough in omega arith) in
+          let o = W.others_each i k.0 k.1 in
+          (k.0, o.0, subst (IsAt hs k.0) (is-at_one others i o.1.0 g o.1.1 a) o.1.2)
+
+      ordered : (i j : ℕ) (a b : Plane) → i < j → Either others i a h → Either others j b h → IsBelow (form_numbers (form_of a)) (form_numbers (form_of b))
+      ordered i j a b l (earlier p) (earlier q) = W.ordered i j a b l p q
+      ordered i j a b l (earlier p) (last e f) = let o = before i a p in subst (λ (r : Plane). IsBelow (form_numbers (form_of a)) (form_numbers (form_of r))) (sym f) (order o.0 n a h o.1 o.2 here)
+      ordered i j a b l (last e f) (earlier q) = let o = is-at_within others j b q in absurd (omega arith)
+      ordered i j a b l (last e f) (last g m) = absurd (omega arith)
+
+-- none of gs was missed
+pub taken-all : (gs hs : List Plane) (n : ℕ) (ns : List ℕ) (others : List Plane) (ks : List ℕ) → AreWalked gs hs n ns others ks → length hs ≤ n → length gs ≤ length ns → AreTaken gs hs ns others ks
+taken-all gs hs n ns others ks W le enough = record {
+  enough = enough;
+  each = W.each;
+  others_enough = let e = W.others_enough in omega arith;
+  others_each = λ i k a. (W.others_each i k a).1;
+  all = λ k l. W.all k (omega arith);
+}
+
+-- ---- numbers that are added
+pub added-none : (table places old : List ℕ) → AreAdded table places 0 old old
+added-none table places old = record { kept = λ k e. e; added = λ i j k l a b. absurd (omega arith); only = λ k e. inl e }
+
+pub added-more : (table places : List ℕ) (n j m : ℕ) (old new : List ℕ) → IsAt places n j → IsAt table j m → AreAdded table places n old new → AreAdded table places (n + 1) old (new ++ m ∷ [])
+added-more table places n j m old new here there A = record {
+  kept = λ k e. entry-left new m k (A.kept k e);
+  added = λ i q k l a b. ⊎_elim (λ o. entry-left new m k (A.added i q k o a b))
+      (λ e.
+      let same : q ≡ j = is-at_one places n q j (subst (λ (r : ℕ). IsAt places r q) e a) here in
+      let one : k ≡ m = is-at_one table j k m (subst (λ (r : ℕ). IsAt table r k) same b) there in
+      subst (HasEntry (new ++ m ∷ [])) (sym one) (entry-last new m))
+      (less-or-last i n l);
+  only = λ k (i, a). only k i (is-at_either new i k m a);
+}
+  where
+    only : (k i : ℕ) → Either new i k m → HasEntry old k ⊎ ((i : ℕ) × (j : ℕ) × (i < n + 1) × IsAt places i j × IsAt table j k)
+    only k i (earlier a) = ⊎_elim (λ e. inl e) (λ (r, q, l, x, y). inr (r, q, omega arith, x, y)) (A.only k (i, a))
+    only k i (last e f) = inr (n, j, omega arith, here, subst (IsAt table j) (sym f) there)

@@ -1,0 +1,35 @@
+-- The carriers of a complex among others.
+use Rattle.std.specs.Prelude.{◌≡◌, ◌⊎◌, ℕ, ◌<◌, ◌≤◌, List, length}
+use Rattle.nef_space.specs.Lists.{IsAt}
+use Rattle.nef_geo.specs.declared.plane.Plane.{Plane}
+use Rattle.nef_complex.specs.Index.{AreInOrder}
+
+-- the number stands in the list
+abbrev pub HasEntry : List ℕ → ℕ → Type 0
+HasEntry ns k = (i : ℕ) × IsAt ns i k
+
+-- the plane of gs at this place has the number k among hs
+abbrev pub StandsAmong : List Plane → List Plane → ℕ → ℕ → Type 0
+StandsAmong gs hs i k = (g : Plane) × IsAt gs i g × IsAt hs k g
+
+-- ns has for each plane of gs its number among hs, ks for each of the others, and each plane of hs has a number there
+pub record AreTaken (gs hs : List Plane) (ns : List ℕ) (others : List Plane) (ks : List ℕ) : Type 0 where
+  pub enough : length gs ≤ length ns
+  pub each : (i k : ℕ) → IsAt ns i k → StandsAmong gs hs i k
+  pub others_enough : length others ≤ length ks
+  pub others_each : (i k : ℕ) → IsAt ks i k → StandsAmong others hs i k
+  pub all : (k : ℕ) → k < length hs → HasEntry ns k ⊎ HasEntry ks k
+
+-- so it is of the first n of hs, but there may be more planes of gs
+pub record AreWalked (gs hs : List Plane) (n : ℕ) (ns : List ℕ) (others : List Plane) (ks : List ℕ) : Type 0 where
+  pub each : (i k : ℕ) → IsAt ns i k → StandsAmong gs hs i k
+  pub others_enough : length ks ≡ length others
+  pub others_each : (i k : ℕ) → IsAt ks i k → (k < n) × StandsAmong others hs i k
+  pub all : (k : ℕ) → k < n → HasEntry ns k ⊎ HasEntry ks k
+  pub ordered : AreInOrder others
+
+-- the new list has what the old one has and the numbers that stand in the table at the first n of the places, and no others
+pub record AreAdded (table places : List ℕ) (n : ℕ) (old new : List ℕ) : Type 0 where
+  pub kept : (k : ℕ) → HasEntry old k → HasEntry new k
+  pub added : (i j k : ℕ) → i < n → IsAt places i j → IsAt table j k → HasEntry new k
+  pub only : (k : ℕ) → HasEntry new k → HasEntry old k ⊎ ((i : ℕ) × (j : ℕ) × (i < n) × IsAt places i j × IsAt table j k)

@@ -1,0 +1,27 @@
+use Rattle.std.proofs.Common.{List, IfOk, sym, subst, ◌∙◌}
+use Rattle.nef_space.specs.Sets.{Set}
+use Rattle.nef_geo.specs.declared.plane.Plane.{Plane}
+use Rattle.nef_complex.specs.Complexes.{AreVerticesOf, ShowsSet}
+use Rattle.nef_complex.specs.Index.{AreVertexHolders}
+use Rattle.nef_complex.specs.declared.complex.Complex.{Complex}
+use Rattle.nef_complex.specs.declared.complex.Vertex.{Vertex}
+use Rattle.nef_edges.proofs.Joined.{carriers-ordered}
+use Rattle.nef_edges.proofs.pairing.pair_from.Goals as goal
+
+pub of-requires : goal.of-requires
+of-requires c = record { ordered = let V = c.requires.vertices in carriers-ordered V.0 c.args.carriers c.args.vertices V.1 }
+
+pub pair_held-requires-clause-vertices : goal.pair_held-requires-clause-vertices
+pair_held-requires-clause-vertices c =
+    let V = c.requires.vertices in
+    (V.0, subst (λ (hs : List Plane). AreVerticesOf V.0 hs c.args.vertices) (sym (c.into_planes.ensures.planes ∙ c.in_ok-carriers.ensures.kept)) V.1)
+
+pub pair_held-requires-clause-holders : goal.pair_held-requires-clause-holders
+pair_held-requires-clause-holders c =
+    subst (λ (hs : List Plane). AreVertexHolders hs c.args.vertices c.in_ok-rows.rows) (sym c.into_planes.ensures.planes)
+    (subst (λ (vs : List Vertex). AreVertexHolders c.in_ok-carriers.carriers vs c.in_ok-rows.rows) c.as_slice.ensures.all c.in_ok-rows.ensures.rows)
+
+pub returns-clause-shows : goal.returns-clause-shows
+returns-clause-shows c =
+    subst (λ (hs : List Plane). IfOk c.pair_held.result (λ (d : Complex). (s : Set) → AreVerticesOf s hs c.args.vertices → ShowsSet s d)) (c.into_planes.ensures.planes ∙ c.in_ok-carriers.ensures.kept)
+    c.pair_held.ensures.shows

@@ -1,0 +1,10 @@
+use Rattle.std.proofs.Common.{List, sym, subst}
+use Rattle.nef_geo.specs.declared.plane.Plane.{Plane}
+use Rattle.nef_complex.specs.Index.{AreInOrder}
+use Rattle.nef_cand.proofs.Held.{carriers-ordered}
+use Rattle.tests_places.proofs.taken.row_at.Goals as goal
+
+pub of-requires : goal.of-requires
+of-requires c = record {
+  ordered = let S = c.requires.shows in subst (λ (hs : List Plane). AreInOrder hs) (sym c.in_ok-copy_carriers.ensures.same) (carriers-ordered S.0 c.args.c.now S.1);
+}
