@@ -1,5 +1,5 @@
 -- The signs of directions close to one on the forms that say what lies over them, as the program computes them.
-use Rattle.std.proofs.Common.{◌≡◌, ℕ, zero, suc, ℤ, pos, negsuc, ◌<ℤ◌, arith, refl, ap, sym, ◌∙◌, inl, inr, ⊎_elim, List, [], ◌∷◌, map, slice_get, Some, ◌↔◌}
+use Rattle.std.proofs.Common.{◌≡◌, ℕ, zero, suc, ℤ, pos, negsuc, ◌<ℤ◌, arith, refl, ap, sym, ◌∙◌, inl, inr, ⊎_elim, List, [], ◌∷◌, map, slice_get, Some, ◌↔◌, subst, Bool, IsTrue}
 use Rattle.std.proofs.lemmas.Int.{ints}
 use Rattle.law_arithmetic.proofs.Ring.{ring, at, num, ◌⊕◌, ◌⊖◌, ◌⊗◌}
 use Rattle.law_arithmetic.proofs.Order.{Sign, minus, nought, plus, sign, sign-plus, sign-minus}
@@ -7,12 +7,12 @@ use Rattle.nef_space.specs.Vectors.{Vector, dot, cross, triple, opposite, up}
 use Rattle.nef_geo.specs.Signs.{sign_of}
 use Rattle.nef_geo.specs.Shapes.{vector_of}
 use Rattle.nef_geo.specs.declared.sign.Sign.{Sign as GeoSign}
-use Rattle.nef_geo.specs.declared.sign.Sign.TheVariants.{Minus, Plus}
+use Rattle.nef_geo.specs.declared.sign.Sign.TheVariants.{Minus, Zero, Plus}
 use Rattle.nef_smap.specs.declared.above.Close.{Close}
 use Rattle.nef_smap.specs.declared.above.Lean.{Lean}
 use Rattle.nef_smap.specs.declared.above.Lean.TheVariants.{Down, Up, Along}
 use Rattle.nef_smap.specs.Above.{rise_form, first_sign}
-use Rattle.nef_smap.specs.Close.{geo_sign, toward, then_toward, close_sign, ArcPasses}
+use Rattle.nef_smap.specs.Close.{geo_sign, toward, then_toward, beyond_sign, close_sign, ArcPasses}
 use Rattle.law_sphere.specs.Maps.{dir_of}
 use Rattle.nef_smap.specs.declared.map.SVertex.{SVertex}
 use Rattle.nef_smap.specs.Maps.{svertex_of}
@@ -64,9 +64,6 @@ read-turn r d a u e f = e ∙ geo-of (triple d a u) ∙ ap (λ (z : ℤ). geo_si
 pub read-meeting : (r : GeoSign) (a n m u : Vector) → r ≡ sign_of (dot (cross u a) (cross n m)) → u ≡ up → r ≡ geo_sign (sign (dot (rise_form up n m) a))
 read-meeting r a n m u e f = e ∙ geo-of (dot (cross u a) (cross n m)) ∙ ap (λ (z : ℤ). geo_sign (sign z)) (ap (λ (v : Vector). dot (cross v a) (cross n m)) f ∙ meeting-form up a n m)
 
-abbrev beyond_sign : Vector → Lean → Vector → Sign
-beyond_sign n l a = first_sign (sign (dot n (toward l a))) (sign (dot n (then_toward l a)))
-
 pub beyond-down : (n a : Vector) (l : Lean) (b : GeoSign) → pos 0 <ℤ dot n up → l ≡ Down → b ≡ Minus → b ≡ geo_sign (beyond_sign n l a)
 beyond-down n a l b h e f = f ∙ sym (ap geo_sign (ap (λ (k : Lean). beyond_sign n k a) e ∙ side-down n a h))
 
@@ -87,10 +84,35 @@ geo-one plus minus e = absurd cc
 geo-one plus nought e = absurd cc
 geo-one plus plus e = refl
 
+-- two signs, of which the first decides unless it is nought
+pub first-minus : (r : GeoSign) (s t : Sign) → r ≡ geo_sign s → r ≡ Minus → Minus ≡ geo_sign (first_sign s t)
+first-minus r s t e f = sym (ap (λ (x : Sign). geo_sign (first_sign x t)) (geo-one s minus (sym e ∙ f)))
+
+pub first-plus : (r : GeoSign) (s t : Sign) → r ≡ geo_sign s → r ≡ Plus → Plus ≡ geo_sign (first_sign s t)
+first-plus r s t e f = sym (ap (λ (x : Sign). geo_sign (first_sign x t)) (geo-one s plus (sym e ∙ f)))
+
+pub first-nought : (r q : GeoSign) (s t : Sign) → r ≡ geo_sign s → r ≡ Zero → q ≡ geo_sign t → q ≡ geo_sign (first_sign s t)
+first-nought r q s t e f h = h ∙ sym (ap (λ (x : Sign). geo_sign (first_sign x t)) (geo-one s nought (sym e ∙ f)))
+
 pub passes-alike : (s : Sign) (A A' B B' C C' : Type 0) → (A ↔ A') → (B ↔ B') → (C ↔ C') → ArcPasses s A B C ↔ ArcPasses s A' B' C'
 passes-alike plus A A' B B' C C' a b c = (λ p. (a.0 p.0, b.0 p.1), λ p. (a.1 p.0, b.1 p.1))
 passes-alike minus A A' B B' C C' a b c = (λ p. ⊎_elim (λ x. inl (a.0 x)) (λ x. inr (b.0 x)) p, λ p. ⊎_elim (λ x. inl (a.1 x)) (λ x. inr (b.1 x)) p)
 passes-alike nought A A' B B' C C' a b c = (λ p. ⊎_elim (λ x. inl (c.0 x)) (λ x. inr (a.0 x)) p, λ p. ⊎_elim (λ x. inl (c.1 x)) (λ x. inr (a.1 x)) p)
+
+-- where both tests agree and the ends are not the same, the turn isn't asked
+pub passes-agreed : (s : Sign) (p q : Bool) (A B E : Type 0) → p ≡ q → (IsTrue p ↔ A) → (IsTrue q ↔ B) → (E → ⊥) → IsTrue p ↔ ArcPasses s A B E
+passes-agreed s p q A B E e a b off = by s
+  where
+    both : IsTrue p → B
+    both h = b.0 (subst (λ (r : Bool). IsTrue r) e h)
+
+    either : B → IsTrue p
+    either h = subst (λ (r : Bool). IsTrue r) (sym e) (b.1 h)
+
+    by : (s : Sign) → IsTrue p ↔ ArcPasses s A B E
+    by plus = (λ h. (a.0 h, both h), λ r. a.1 r.0)
+    by minus = (λ h. inl (a.0 h), λ r. ⊎_elim a.1 either r)
+    by nought = (λ h. inr (a.0 h), λ r. ⊎_elim (λ z. absurd (off z)) a.1 r)
 
 -- a test of a sign
 pub sign-test : (T : Type 0) (r : GeoSign) (s t : Sign) → (T ↔ (r ≡ geo_sign t)) → r ≡ geo_sign s → T ↔ (s ≡ t)

@@ -32,10 +32,13 @@ then_toward Down a = a
 then_toward Up a = a
 then_toward Along a = up
 
+-- the sign that a form has on them where it is nought on the one to which they are close
+abbrev pub beyond_sign : Vector → Lean → Vector → Sign
+beyond_sign g l a = first_sign (sign (dot g (toward l a))) (sign (dot g (then_toward l a)))
+
 -- the sign that a form has on all of them
 abbrev pub close_sign : Vector → Close → Sign
-close_sign g w = first_sign (sign (dot g (vector_of w.at)))
-    (first_sign (sign (dot g (toward w.lean (vector_of w.aside)))) (sign (dot g (then_toward w.lean (vector_of w.aside)))))
+close_sign g w = first_sign (sign (dot g (vector_of w.at))) (beyond_sign g w.lean (vector_of w.aside))
 
 -- d is one of the directions
 abbrev pub IsClose : SphereMap → Close → Vector → Type 0

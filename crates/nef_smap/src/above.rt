@@ -8,8 +8,8 @@ ghost use Rattle.nef_geo.specs.Shapes.{vector_of};
 ghost use Rattle.law_sphere.specs.Maps.{At, items};
 ghost use Rattle.nef_smap.specs.Maps.{map_of, IsSphereMap};
 ghost use Rattle.nef_smap.specs.Items.{item_of};
-ghost use Rattle.nef_smap.specs.Above.{first_sign, rise_form, IsOver, IsFirst, IsFirstOf};
-ghost use Rattle.nef_smap.specs.Close.{geo_sign, close_sign, IsClose, ArcPasses, PassesArc};
+ghost use Rattle.nef_smap.specs.Above.{rise_form, IsOver, IsFirst, IsFirstOf};
+ghost use Rattle.nef_smap.specs.Close.{geo_sign, close_sign, beyond_sign, IsClose, ArcPasses, PassesArc};
 
 use crate::item::Item;
 use crate::map::{SArc, SphereMap};
@@ -35,25 +35,34 @@ pub(crate) struct Close {
     pub(crate) lean: Lean,
 }
 
-// The first sign that isn't zero.
-fn first_of(first: Sign, second: Sign) -> Sign
-    ensures first { (s t : Signum) → first ≡ geo_sign s → second ≡ geo_sign t → result ≡ geo_sign (first_sign s t) }
-{
-    if first == Sign::Zero { second } else { first }
-}
-
+// What two signs tell of which the first decides unless it is zero is asked for one by one: it decides mostly.
 impl Close {
+    // The side of the normal's plane, which holds the direction they are close to, on which they lie.
+    fn side_beyond(&self, normal: &Dir) -> Sign
+        requires ahead { pos 0 <ℤ dot (vector_of normal.now) up }
+        ensures side { result ≡ geo_sign (beyond_sign (vector_of normal.now) self.now.lean (vector_of self.now.aside)) }
+    {
+        match self.lean {
+            Lean::Down => Sign::Minus,
+            Lean::Up => Sign::Plus,
+            Lean::Along => match dot(normal, &self.aside) {
+                Sign::Minus => Sign::Minus,
+                Sign::Zero => Sign::Plus,
+                Sign::Plus => Sign::Plus,
+            },
+        }
+    }
+
     // The side of the normal's plane on which they lie.
     fn side(&self, normal: &Dir) -> Sign
         requires ahead { pos 0 <ℤ dot (vector_of normal.now) up }
         ensures side { result ≡ geo_sign (close_sign (vector_of normal.now) self.now) }
     {
-        let beyond = match self.lean {
-            Lean::Down => Sign::Minus,
-            Lean::Up => Sign::Plus,
-            Lean::Along => first_of(dot(normal, &self.aside), Sign::Plus),
-        };
-        first_of(dot(normal, &self.at), beyond)
+        match dot(normal, &self.at) {
+            Sign::Minus => Sign::Minus,
+            Sign::Zero => self.side_beyond(normal),
+            Sign::Plus => Sign::Plus,
+        }
     }
 
     // On which side of the plane of the upward direction and d they lie.
@@ -61,7 +70,11 @@ impl Close {
         ensures turn { result ≡ geo_sign (close_sign (cross up (vector_of d.now)) self.now) }
     {
         let up = up();
-        first_of(triple(d, &self.at, &up), triple(d, &self.aside, &up))
+        match triple(d, &self.at, &up) {
+            Sign::Minus => Sign::Minus,
+            Sign::Zero => triple(d, &self.aside, &up),
+            Sign::Plus => Sign::Plus,
+        }
     }
 
     // On which side of the second normal's plane the way up from them meets the first normal's.
@@ -73,10 +86,11 @@ impl Close {
         ensures meeting { result ≡ geo_sign (close_sign (rise_form up (vector_of first.now) (vector_of second.now)) self.now) }
     {
         let up = up();
-        first_of(
-            quad(&up, &self.at, first, second),
-            quad(&up, &self.aside, first, second),
-        )
+        match quad(&up, &self.at, first, second) {
+            Sign::Minus => Sign::Minus,
+            Sign::Zero => quad(&up, &self.aside, first, second),
+            Sign::Plus => Sign::Plus,
+        }
     }
 }
 
@@ -102,8 +116,12 @@ fn passes(map: &SphereMap, arc: &SArc, way: &Close) -> bool
     let target = map.svertices.at(arc.target).dir;
     let past_source = way.turn(&source) == Sign::Plus;
     let before_target = way.turn(&target) == Sign::Minus;
+    let is_whole = arc.source == arc.target;
+    if past_source == before_target && !is_whole {
+        return past_source;
+    }
     let turn = triple(&arc.normal, &source, &target);
-    is_passed(turn, past_source, before_target, arc.source == arc.target)
+    is_passed(turn, past_source, before_target, is_whole)
 }
 
 // Whether the way up from the directions meets the item.

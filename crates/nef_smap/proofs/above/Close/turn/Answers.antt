@@ -1,17 +1,35 @@
-use Rattle.std.proofs.Common.{sym, ap, ◌∙◌}
+use Rattle.std.proofs.Common.{◌≡◌, sym, ap, ◌∙◌}
 use Rattle.law_arithmetic.specs.Signs.{sign}
 use Rattle.nef_space.specs.Vectors.{Vector, dot, cross, up}
 use Rattle.nef_geo.specs.Shapes.{vector_of}
 use Rattle.law_sphere.proofs.Direct.{cross-self}
-use Rattle.nef_smap.specs.Close.{geo_sign}
-use Rattle.nef_smap.proofs.CloseSigns.{read-turn, level-sign}
+use Rattle.nef_smap.specs.declared.above.Close.{Close}
+use Rattle.nef_smap.specs.Above.{first_sign}
+use Rattle.nef_smap.specs.Close.{geo_sign, close_sign}
+use Rattle.nef_smap.proofs.CloseSigns.{read-turn, level-sign, first-minus, first-nought, first-plus}
 use Rattle.nef_smap.proofs.above.Close.turn.Goals as goal
 
-pub returns : goal.returns
-returns c =
+level : (d : Vector) (w : Close) → geo_sign (first_sign (sign (dot (cross up d) (vector_of w.at))) (sign (dot (cross up d) (vector_of w.aside)))) ≡ geo_sign (close_sign (cross up d) w)
+level d w = sym (ap geo_sign (level-sign (cross up d) w (cross-self up d)))
+
+pub returns-in-Minus : goal.returns-in-Minus
+returns-in-Minus c =
     let d = vector_of c.args.d.now in
     let w = c.args.self.now in
-    let m : Vector = cross up d in
     let first = read-turn c.triple.result d (vector_of w.at) (vector_of c.up-up.result) c.triple.ensures.triple c.up-up.ensures.up in
-    let second = read-turn c.triple-2.result d (vector_of w.aside) (vector_of c.up-up.result) c.triple-2.ensures.triple c.up-up.ensures.up in
-    record { turn = c.first_of.ensures.first (sign (dot m (vector_of w.at))) (sign (dot m (vector_of w.aside))) first second ∙ sym (ap geo_sign (level-sign m w (cross-self up d))) }
+    record { turn = first-minus c.triple.result (sign (dot (cross up d) (vector_of w.at))) (sign (dot (cross up d) (vector_of w.aside))) first c.in-Minus.is ∙ level d w }
+
+pub returns-in-Zero : goal.returns-in-Zero
+returns-in-Zero c =
+    let d = vector_of c.args.d.now in
+    let w = c.args.self.now in
+    let first = read-turn c.triple.result d (vector_of w.at) (vector_of c.up-up.result) c.triple.ensures.triple c.up-up.ensures.up in
+    let second = read-turn c.triple-in-Zero.result d (vector_of w.aside) (vector_of c.up-up.result) c.triple-in-Zero.ensures.triple c.up-up.ensures.up in
+    record { turn = first-nought c.triple.result c.triple-in-Zero.result (sign (dot (cross up d) (vector_of w.at))) (sign (dot (cross up d) (vector_of w.aside))) first c.in-Zero.is second ∙ level d w }
+
+pub returns-in-Plus : goal.returns-in-Plus
+returns-in-Plus c =
+    let d = vector_of c.args.d.now in
+    let w = c.args.self.now in
+    let first = read-turn c.triple.result d (vector_of w.at) (vector_of c.up-up.result) c.triple.ensures.triple c.up-up.ensures.up in
+    record { turn = first-plus c.triple.result (sign (dot (cross up d) (vector_of w.at))) (sign (dot (cross up d) (vector_of w.aside))) first c.in-Plus.is ∙ level d w }
