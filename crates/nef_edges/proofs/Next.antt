@@ -1,17 +1,16 @@
 -- The place where the sorted ends of edges pass one.
-use Rattle.std.proofs.Common.{◌≡◌, ℕ, ◌<◌, ◌≤◌, ℤ, ◌<ℤ◌, ◌≤ℤ◌, List, length, get_or, true, false, Ordering, Less, Equal, Greater, arith, refl, sym, ap, ◌∙◌, ⊎_elim}
+use Rattle.std.proofs.Common.{◌≡◌, ℕ, ◌+◌, ◌<◌, ◌≤◌, List, length, get_or, true, false, Ordering, Less, Equal, Greater, arith, refl, sym, ap, ◌∙◌, ⊎_elim}
 use Rattle.std.specs.Cmp.{IsStrictWeakOrder, upto}
 use Rattle.std.specs.List.Sorted.{IsSortedBy, IsPermutation, IsPartitionedBy, IsPartitionPoint}
-use Rattle.std.specs.Ordering.{int_cmp, nat_cmp, ordering_then, ordering_reverse, is_lt, is_le, is_gt}
+use Rattle.std.specs.Ordering.{ordering_reverse, is_lt, is_le, is_gt}
 use Rattle.std.proofs.lemmas.Bool.{false≢true, cases_lt}
-use Rattle.std.proofs.lemmas.Int.{ints}
 use Rattle.std.proofs.lemmas.List.Sorted.{ranks_by, sorted_far, Contains-permutation, IsPermutation-sym}
 use Rattle.law_sphere.specs.Maps.{At}
 use Rattle.nef_complex.specs.declared.complex.Vertex.{Vertex}
 use Rattle.nef_edges.specs.declared.edge_end.EdgeEnd.{EdgeEnd}
-use Rattle.nef_edges.specs.Order.{dir_order, moment_order, end_order, end_lt}
+use Rattle.nef_edges.specs.Order.{end_order, end_lt}
 use Rattle.nef_edges.specs.EdgeEnds.{AreArriving, IsAfter, NoneAfter, AllAfter, IsNext}
-use Rattle.nef_edges.proofs.Lines.{cmp-is, cmp-less, end_total}
+use Rattle.nef_edges.proofs.Lines.{end_total}
 use Rattle.nef_edges.proofs.Places.{at-within, at-read, read-at}
 
 pub weak : IsStrictWeakOrder end_lt
@@ -42,36 +41,6 @@ gt-greater Less e = absurd (false≢true e)
 gt-greater Equal e = absurd (false≢true e)
 gt-greater Greater e = refl
 
--- ---- keys
-lt-is : (x y : ℤ) → is_lt (int_cmp x y) ≡ true → x <ℤ y
-lt-is x y = by (int_cmp x y) refl
-  where
-    by : (o : Ordering) → int_cmp x y ≡ o → is_lt o ≡ true → x <ℤ y
-    by Less e h = cmp-is x y Less e
-    by Equal e h = absurd (false≢true h)
-    by Greater e h = absurd (false≢true h)
-
-not-lt : (x y : ℤ) → is_lt (int_cmp x y) ≡ false → y ≤ℤ x
-not-lt x y = by (int_cmp x y) refl
-  where
-    by : (o : Ordering) → int_cmp x y ≡ o → is_lt o ≡ false → y ≤ℤ x
-    by Less e h = absurd (false≢true (sym h))
-    by Equal e h = let m : x ≡ y = cmp-is x y Equal e in omega (arith, ints)
-    by Greater e h = let m : y <ℤ x = cmp-is x y Greater e in omega (arith, ints)
-
-below-too : (x y z : ℤ) → is_lt (int_cmp y x) ≡ false → is_lt (int_cmp y z) ≡ true → is_lt (int_cmp x z) ≡ true
-below-too x y z n l = let h = not-lt y x n in let m = lt-is y z l in ap is_lt (cmp-less x z (omega (arith, ints)))
-
-first-no-lt : (o p q : Ordering) → is_lt (ordering_then (ordering_then o p) q) ≡ false → is_lt o ≡ false
-first-no-lt Less p q e = e
-first-no-lt Equal p q e = refl
-first-no-lt Greater p q e = refl
-
-first-lt : (o p q : Ordering) → is_lt o ≡ true → ordering_then (ordering_then o p) q ≡ Greater → ⊥
-first-lt Less p q e t = let i : Less ≡ Greater = t in cc
-first-lt Equal p q e t = false≢true e
-first-lt Greater p q e t = false≢true e
-
 module _ (hs : List EdgeEnd) (sorted : IsSortedBy end_lt hs) where
   -- of two sorted ends the later isn't less
   pub not-less : (i k : ℕ) (g h : EdgeEnd) → At hs i g → At hs k h → i ≤ k → end_lt h g ≡ false
@@ -80,17 +49,6 @@ module _ (hs : List EdgeEnd) (sorted : IsSortedBy end_lt hs) where
       ap (λ r. end_lt r g) (sym (at-read hs k g h b)) ∙ ap (end_lt (get_or hs k g)) (sym (at-read hs i g g a)) ∙ far
 
   module _ (f : EdgeEnd) where
-    -- those with a lesser key than f come first, and don't stand after it
-    pub keys-parted : IsPartitionedBy (λ (h : EdgeEnd). is_lt (int_cmp h.key f.key)) hs
-    keys-parted i j d l m e =
-        let g = get_or hs i d in let h = get_or hs j d in
-        below-too g.key h.key f.key (first-no-lt (int_cmp h.key g.key) (ordering_then (dir_order h.dir g.dir) (moment_order h g)) (nat_cmp h.vertex g.vertex) (sorted_far end_lt weak hs sorted i j d l m)) e
-
-    pub none-below : (p : ℕ) → IsPartitionPoint (λ (h : EdgeEnd). is_lt (int_cmp h.key f.key) ≡ true) (λ (h : EdgeEnd). is_lt (int_cmp h.key f.key) ≡ false) hs p → NoneAfter hs f p
-    none-below p point k h a l t =
-        first-lt (int_cmp h.key f.key) (ordering_then (dir_order h.dir f.dir) (moment_order h f)) (nat_cmp h.vertex f.vertex)
-        (sym (ap (λ (g : EdgeEnd). is_lt (int_cmp g.key f.key)) (at-read hs k h h a)) ∙ point.0 k h (omega arith) l) t
-
     -- all from one on that stands after f do
     pub all-after : (p : ℕ) (h : EdgeEnd) → At hs p h → IsAfter f h → AllAfter hs f p
     all-after p h a t k g b l = by (end_order g h) refl
@@ -99,6 +57,10 @@ module _ (hs : List EdgeEnd) (sorted : IsSortedBy end_lt hs) where
         by Less e = absurd (false≢true (sym (not-less p k h g a b l) ∙ ap is_lt e))
         by Equal e = end_total.congr g h f e ∙ t
         by Greater e = end_total.antisymm g f ∙ ap ordering_reverse (end_total.trans f h g (end_total.antisymm f h ∙ ap ordering_reverse t) (end_total.antisymm h g ∙ ap ordering_reverse e))
+
+    -- where one doesn't, none before it does
+    pub none-up_to : (n : ℕ) (h : EdgeEnd) → At hs n h → is_le (end_order h f) ≡ true → NoneAfter hs f (n + 1)
+    none-up_to n h a e k g b l t = false≢true (sym (ap is_le (all-after k g b t n h a (omega arith))) ∙ e)
 
     -- those that don't stand after f come first
     pub parted : IsPartitionedBy (λ (h : EdgeEnd). is_le (end_order h f)) hs

@@ -1,6 +1,6 @@
 //! The ends that arrive at vertices, in order.
 
-ghost use Rattle.std.specs.Prelude.{◌<◌, ◌+◌, ℕ, length, IsTrue, IfOk, OnOk};
+ghost use Rattle.std.specs.Prelude.{◌<◌, ◌≤◌, ◌+◌, ℕ, length, IsTrue, IfOk, OnOk};
 ghost use Rattle.std.specs.List.Sorted.{IsSortedBy};
 ghost use Rattle.law_sphere.specs.Maps.{At};
 ghost use Rattle.nef_edges.specs.declared.edge_end.EdgeEnd.{EdgeEnd};
@@ -66,24 +66,35 @@ fn is_after(ends: &[EdgeEnd], number: usize, from: &EdgeEnd) -> bool
     }
 }
 
-// How many of the sorted ends have a lesser key than `from`.
-fn count_below(ends: &[EdgeEnd], from: &EdgeEnd) -> usize
-    requires sorted { IsSortedBy end_lt ends.now }
-    ensures before { NoneAfter ends.now from.now result }
+// As many as `count_up_to` says, where all ends with the key of `from` lie on its line: most keys are those of one line. Where
+// several lines have the key this may be any number.
+fn guess_up_to(ends: &[EdgeEnd], from: &EdgeEnd) -> usize
+    ensures within { result ≤ length ends.now }
 {
-    ends.partition_point(|end| key_cmp(end, from).is_lt())
+    ends.partition_point(|end| key_cmp(end, from)
+        .then(end.vertex.cmp(&from.vertex))
+        .is_le())
 }
 
-// How many of the sorted ends don't stand after `from`. Where one edge alone lies on the line these are those with a
-// lesser key, which is told sooner.
+// Whether none of the sorted ends before this number stands after `from`: the last of them doesn't.
+fn is_up_to(ends: &[EdgeEnd], number: usize, from: &EdgeEnd) -> bool
+    requires sorted { IsSortedBy end_lt ends.now }
+    requires within { number ≤ length ends.now }
+    ensures before { IsTrue result → NoneAfter ends.now from.now number }
+{
+    number == 0 || end_cmp(&ends[number - 1], from).is_le()
+}
+
+// How many of the sorted ends don't stand after `from`. A guess is tried first, since two comparisons of lines tell whether
+// it is right, and halving takes one for each step among the ends on one line.
 fn count_up_to(ends: &[EdgeEnd], from: &EdgeEnd) -> usize
     requires sorted { IsSortedBy end_lt ends.now }
     ensures before { NoneAfter ends.now from.now result }
     ensures after { AllAfter ends.now from.now result }
 {
-    let below = count_below(ends, from);
-    if is_after(ends, below, from) {
-        return below;
+    let guess = guess_up_to(ends, from);
+    if is_after(ends, guess, from) && is_up_to(ends, guess, from) {
+        return guess;
     }
     ends.partition_point(|end| end_cmp(end, from).is_le())
 }

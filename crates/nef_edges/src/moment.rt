@@ -45,11 +45,14 @@ pub(crate) fn product_z(point: &Point, dir: &Dir) -> i128
     minor(point.x(), point.y(), dir.x(), dir.y())
 }
 
-// n/w rounded down, or the nearest number of 64 bits.
+// n/w rounded down, or the nearest number of 64 bits. Most numbers have 64 bits, and are divided sooner.
 fn whole(n: i128, w: i64) -> i64
     requires positive { pos 0 <ℤ w }
     ensures whole { result ≡ whole_of n w }
 {
+    if let Ok(short) = i64::try_from(n) {
+        return short.div_euclid(w);
+    }
     let floor = n.div_euclid(w as i128);
     floor.clamp(i64::MIN as i128, i64::MAX as i128) as i64
 }

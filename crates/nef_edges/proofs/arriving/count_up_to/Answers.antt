@@ -6,10 +6,10 @@ use Rattle.nef_edges.specs.Order.{end_order}
 use Rattle.nef_edges.proofs.Next.{parted, none-before, all-from, all-after}
 use Rattle.nef_edges.proofs.arriving.count_up_to.Goals as goal
 
-pub returns-then-is_after-clause-after : goal.returns-then-is_after-clause-after
-returns-then-is_after-clause-after c =
+pub returns-then-is_up_to-clause-after : goal.returns-then-is_up_to-clause-after
+returns-then-is_up_to-clause-after c =
     let h = c.is_after.ensures.after c.if-is_after.true in
-    all-after c.args.ends.now c.requires.sorted c.args.from.now c.count_below-below.result h.0 h.1 h.2
+    all-after c.args.ends.now c.requires.sorted c.args.from.now c.guess_up_to-guess.result h.0 h.1 h.2
 
 pub returns : goal.returns
 returns c =
