@@ -15,6 +15,7 @@ use Rattle.law_near.proofs.Rays.{same-place_sym}
 use Rattle.law_sphere.specs.Maps.{At}
 use Rattle.law_sphere.proofs.Lists.{at-one}
 use Rattle.nef_smap.proofs.Lists.{at-within, at-map, at-contains, contains-at}
+use Rattle.nef_smap.proofs.SideLists.{get-from_at}
 use Rattle.law_complex.specs.Laws.{IsNearCut, IsSkeletonIn, HoldsEdge}
 use Rattle.law_complex.proofs.Candidates.{candidates-suffice}
 use Rattle.nef_complex.specs.declared.complex.Complex.{Complex}
@@ -23,9 +24,10 @@ use Rattle.nef_complex.specs.declared.complex.Vertex.{Vertex}
 use Rattle.nef_complex.specs.declared.spans.Span.{Span}
 use Rattle.nef_complex.specs.Complexes.{complex_of, ShowsSet}
 use Rattle.nef_complex.specs.Index.{IsSpanOn}
-use Rattle.nef_complex.specs.Spans.{IsInSpan}
+use Rattle.nef_complex.specs.Indexing.{AreAlone}
+use Rattle.nef_complex.specs.Spans.{IsInSpan, IsNarrower}
 use Rattle.nef_complex.proofs.Reading.{got-at}
-use Rattle.nef_complex.proofs.Spanned.{span-same, spanned}
+use Rattle.nef_complex.proofs.Spanned.{span-same, span-between, spanned}
 use Rattle.nef_cand.specs.declared.named.Named.{Named}
 use Rattle.nef_cand.specs.declared.named.Operand.{Operand}
 use Rattle.nef_cand.specs.declared.named.Operand.TheVariants.{First, Second}
@@ -88,9 +90,12 @@ module _ (c : Complex) (x : Spanned) (e : Edge) (u v : Vertex) (a : At c.vertice
   near-kept p (Some m) C k = subst (λ (r : Point). CutsEdgeNear c e x (place_of r) × ((y : Place) → CutsEdgeNear c e x y → SamePlace (place_of r) y)) (sym k.0)
       (((u, v, a, b, C.0), k.1), λ y d. C.1 y (edge-crosses c x.plane e u v a b y d.0))
 
-  -- the edge's points lie within its span
-  pub edge-spanned : (s : Span) → ((y : Place) → IsBetween (place_of u.point) y (place_of v.point) → IsInSpan s y) → (y : Place) → CutsEdgeNear c e x y → IsInSpan s y
-  edge-spanned s all y d = let t = edge-crosses c x.plane e u v a b y d.0 in all y t.between
+-- the points of an edge lie within what is as wide as the spans of its ends
+pub ends-spanned : (c : Complex) (ss : List Span) → AreAlone c.vertices ss → (x : Spanned) (e : Edge) (s t r : Span) → IsAt ss e.low s → IsAt ss e.high t → IsNarrower s r → IsNarrower t r
+    → (y : Place) → CutsEdgeNear c e x y → IsInSpan r y
+ends-spanned c ss A x e s t r i j n m y ((u, v, a, b, o), k) =
+    let w = edge-crosses c x.plane e u v a b y (u, v, a, b, o) in
+    span-between s t r (place_of u.point) y (place_of v.point) w.between (A.each e.low u s (get-from_at c.vertices e.low u a) i) (A.each e.high v t (get-from_at c.vertices e.high v b) j) n m
 
 pub near-named : (o : Operand) (c : Complex) (x : Spanned) (k : ℕ) (e : Edge) → At c.edges k e → (p : Point) → CutsEdgeNear c e x (place_of p) → IsNamedIn o (complex_of c) (record { point = p; name = name.Edge o k })
 near-named o c x k e a p ((u, v, f, g, t), i) = edge-named o c x.plane k e u v a f g p t

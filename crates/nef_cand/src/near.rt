@@ -12,6 +12,7 @@ ghost use Rattle.nef_space.specs.Sets.{Set};
 ghost use Rattle.nef_geo.specs.Shapes.{place_of, form_of};
 ghost use Rattle.nef_complex.specs.declared.complex.Edge.{Edge};
 ghost use Rattle.nef_complex.specs.Complexes.{complex_of, ShowsSet};
+ghost use Rattle.nef_complex.specs.Indexing.{AreAlone};
 ghost use Rattle.nef_complex.specs.Index.{IsSpanOn};
 ghost use Rattle.nef_complex.specs.Spans.{IsInSpan};
 ghost use Rattle.nef_cand.specs.declared.near.Spanned.{Spanned as SpannedValue};
@@ -25,8 +26,8 @@ use crate::added::misses_frame;
 use crate::line::{crossing, line_through};
 use crate::listing::together;
 use crate::named::{Name, Named, Operand};
-use crate::spans::{is_in_span, may_meet, span_between};
-use nef_complex::{Complex, Span, carrier_spans};
+use crate::spans::{is_in_span, may_meet};
+use nef_complex::{Complex, Span, carrier_spans, vertex_spans};
 use nef_geo::{Plane, Point, lex_cmp};
 use std::alloc::Global;
 
@@ -115,23 +116,22 @@ fn add_near_cut(
 }
 
 // Adds the points strictly inside the edge with this number where one of the carriers crosses it, each within the
-// carrier's span. Most carriers lie far from the edge, which its span tells.
+// carrier's span. Most carriers lie far from the edge, which the spans of its ends tell.
 fn add_edge_cuts(
     listed: &mut Vec<Named>,
     c: &Complex,
     operand: Operand,
     number: usize,
+    ends: &[Span],
     near: &[Spanned],
 ) -> Result<(), OutOfMemory>
     requires shows { (s : Set) × ShowsSet s c.now }
     requires within { number < length c.now.edges }
+    requires ends { AreAlone c.now.vertices ends.now }
     ensures added { OnOk result ((e : Edge) → IsAt c.now.edges number e → Adds (CutsEdgeNearOne c.now near.now e) (IsNamedIn operand (complex_of c.now)) listed.old.items listed.new.items) }
 {
     let edge = c.edges.at(number);
-    let span = span_between(
-        &c.vertices.at(edge.low).point,
-        &c.vertices.at(edge.high).point,
-    );
+    let span = ends[edge.low].with_span(&ends[edge.high]);
     for carrier in near {
         if may_meet(&span, &carrier.span) {
             add_near_cut(listed, c, operand, number, carrier)?;
@@ -146,13 +146,15 @@ fn add_near_cuts(
     listed: &mut Vec<Named>,
     c: &Complex,
     operand: Operand,
+    ends: &[Span],
     near: &[Spanned],
 ) -> Result<(), OutOfMemory>
     requires shows { (s : Set) × ShowsSet s c.now }
+    requires ends { AreAlone c.now.vertices ends.now }
     ensures added { OnOk result (Adds (CutsNear (complex_of c.now) near.now) (IsNamedIn operand (complex_of c.now)) listed.old.items listed.new.items) }
 {
     for number in 0..c.edges.len() {
-        add_edge_cuts(listed, c, operand, number, near)?;
+        add_edge_cuts(listed, c, operand, number, ends, near)?;
     }
     Ok(())
 }
@@ -172,7 +174,8 @@ pub(crate) fn near_cuts(
     ensures cuts { IfOk result (λ v. Adds (CutsNear (complex_of c.now) near.now) (IsNamedIn operand (complex_of c.now)) [] v.items) }
 {
     let mut listed = Vec::with_capacity(alloc, near.len().saturating_mul(CUTS_OF_CARRIER))?;
-    add_near_cuts(&mut listed, c, operand, near)?;
+    let ends = vertex_spans(alloc, c.vertices.as_slice())?;
+    add_near_cuts(&mut listed, c, operand, ends.as_slice(), near)?;
     // Only speed needs the order: what is sorted is merged with the other candidates, which is cheap.
     listed.sort_unstable_by(|m, n| lex_cmp(&m.point, &n.point));
     Ok(listed)

@@ -1,37 +1,13 @@
-//! Spans of edges, and what lies within a span.
+//! What lies within a span.
 
 ghost use Rattle.std.specs.Prelude.{◌*ℤ◌, ◌≤ℤ◌, ◌≤◌, nat_abs, ◌↔◌, IsTrue};
 ghost use Rattle.nef_space.specs.Limits.{weight_limit};
-ghost use Rattle.nef_space.specs.Place.{Place, IsBetween};
+ghost use Rattle.nef_space.specs.Place.{Place};
 ghost use Rattle.nef_geo.specs.Shapes.{place_of};
-ghost use Rattle.nef_complex.specs.Spans.{IsInSpan, AreNarrower};
+ghost use Rattle.nef_complex.specs.Spans.{IsInSpan};
 
 use nef_complex::{Bounds, Span};
 use nef_geo::Point;
-
-// As wide as needed for what lies within one of these.
-fn joined(bounds: &Bounds, others: &Bounds) -> Bounds
-    ensures wider { AreNarrower bounds.now result }
-    ensures other { AreNarrower others.now result }
-{
-    Bounds {
-        low: bounds.low.min(others.low),
-        high: bounds.high.max(others.high),
-    }
-}
-
-/// A span of the points between the two.
-pub(crate) fn span_between(low: &Point, high: &Point) -> Span
-    ensures between { (y : Place) → IsBetween (place_of low.now) y (place_of high.now) → IsInSpan result y }
-{
-    let from = Span::of(low);
-    let to = Span::of(high);
-    Span {
-        x: joined(&from.x, &to.x),
-        y: joined(&from.y, &to.y),
-        z: joined(&from.z, &to.z),
-    }
-}
 
 // Whether some number may lie within both.
 fn overlap(bounds: &Bounds, others: &Bounds) -> bool

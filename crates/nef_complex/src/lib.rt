@@ -28,7 +28,7 @@ pub use index::{
     plane_items, vertex_holders,
 };
 pub use sorted_carriers::SortedCarriers;
-pub use spans::{Bounds, Span};
+pub use spans::{Bounds, Span, vertex_spans};
 pub use std::alloc::AllocError as OutOfMemory;
 pub use table::Table;
 pub use taken_rows::vertex_rows_from;

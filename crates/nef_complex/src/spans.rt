@@ -46,6 +46,9 @@ impl Bounds {
         ensures high { x ≤ℤ (result.high *ℤ w) }
         ensures small { AreSmall result }
     {
+        if w == 1 {
+            return Bounds { low: x, high: x };
+        }
         let low = x.div_euclid(w);
         let high = if low * w == x { low } else { low + 1 };
         Bounds { low, high }
@@ -85,8 +88,8 @@ impl Span {
         }
     }
 
-    // As wide as needed for what is within the other too.
-    pub(crate) fn with_span(&self, other: &Span) -> Span
+    /// As wide as needed for what is within the other too.
+    pub fn with_span(&self, other: &Span) -> Span
         ensures wider { IsNarrower self.now result }
         ensures other { IsNarrower other.now result }
     {
@@ -98,8 +101,8 @@ impl Span {
     }
 }
 
-// For each vertex the span of its point alone.
-fn alone_spans(alloc: Global, vertices: &[Vertex]) -> Result<Vec<Span>, OutOfMemory>
+/// For each vertex the span of its point alone. `OutOfMemory` says that memory was wanted and not found.
+pub fn vertex_spans(alloc: Global, vertices: &[Vertex]) -> Result<Vec<Span>, OutOfMemory>
     ensures alone { IfOk result (λ v. AreAlone vertices.now v.items) }
 {
     let mut spans = Vec::with_capacity(alloc, vertices.len())?;
@@ -132,7 +135,7 @@ pub(crate) fn spans_of(
     ensures as_many { IfOk result (λ v. length v ≡ length rows.now) }
     ensures spanned { IfOk result (λ v. (k : ℕ) (row : Sequence ℕ) (span : Span) → IsAt rows.now k row → IsAt v k span → AreInSpan vertices.now row (length row) span) }
 {
-    let alone = alone_spans(alloc, vertices)?;
+    let alone = vertex_spans(alloc, vertices)?;
     let room = Vec::with_capacity(alloc, rows.len())?;
     let mut spans = List::from_vec(room);
     for row in rows {

@@ -2,7 +2,7 @@ use Rattle.std.proofs.Common.{◌≡◌, ◌+◌, List, length, arith, refl, sym
 use Rattle.std.proofs.lemmas.Option.{slice_get_read}
 use Rattle.nef_complex.specs.declared.spans.Span.{Span}
 use Rattle.nef_complex.proofs.Spanning.{AreEachAlone, alone-more, spans-as-many}
-use Rattle.nef_complex.proofs.spans.alone_spans.Goals as goal
+use Rattle.nef_complex.proofs.spans.vertex_spans.Goals as goal
 
 pub loop-vertex-preserved : goal.loop-vertex-preserved
 loop-vertex-preserved c =
