@@ -1,7 +1,9 @@
-use Rattle.std.proofs.Common.{rules, refl, ap, sym, subst, arith, length}
-use Rattle.std.proofs.lemmas.Option.{slice_get_read}
+use Rattle.std.proofs.Common.{◌<◌, pos, get_or, rules, ap, sym, subst, arith, length}
 use Rattle.law_sphere.proofs.Lists.{at-one}
+use Rattle.nef_classes.proofs.ClassLists.{is-at_get}
 use Rattle.nef_complex.specs.declared.complex.Edge.{Edge}
+use Rattle.nef_complex.specs.declared.spans.Bounds.{Bounds}
+use Rattle.nef_complex.specs.declared.spans.Span.{Span}
 use Rattle.nef_complex.specs.Complexes.{complex_of}
 use Rattle.nef_complex.proofs.Ends.{low-within, high-within}
 use Rattle.nef_complex.proofs.Reading.{got-at}
@@ -13,15 +15,30 @@ use Rattle.nef_cand.proofs.NearCuts.{ends-spanned}
 use Rattle.nef_cand.proofs.near.add_edge_cuts.Goals.{then-may_meet+in_ok-add_near_cut, else-may_meet}
 use Rattle.nef_cand.proofs.near.add_edge_cuts.Goals as goal
 
-pub bounds-ends-edge_low : goal.bounds-ends-edge_low
-bounds-ends-edge_low c =
+abbrev none : Span
+none = let b : Bounds = record { low = pos 0; high = pos 0 } in record { x = b; y = b; z = b }
+
+pub bounds-ends-edge : goal.bounds-ends-edge
+bounds-ends-edge c =
     let S = c.requires.shows in let m = c.requires.ends.as_many in
     let l = low-within S.0 c.args.c.now S.1.shows c.args.number c.at-edge.result.now (got-at c.args.c.now.edges c.args.number c.at-edge.result.now c.at-edge.ensures.element) in omega (arith, l, m)
 
-pub bounds-ends-edge_high : goal.bounds-ends-edge_high
-bounds-ends-edge_high c =
+pub bounds-ends-edge-2 : goal.bounds-ends-edge-2
+bounds-ends-edge-2 c =
     let S = c.requires.shows in let m = c.requires.ends.as_many in
     let l = high-within S.0 c.args.c.now S.1.shows c.args.number c.at-edge.result.now (got-at c.args.c.now.edges c.args.number c.at-edge.result.now c.at-edge.ensures.element) in omega (arith, l, m)
+
+pub offset_bounds-ends-edge : goal.offset_bounds-ends-edge
+offset_bounds-ends-edge c =
+    let S = c.requires.shows in let m = c.requires.ends.as_many in
+    let l : c.at-edge.result.now.low < length c.args.ends.now = (let r = low-within S.0 c.args.c.now S.1.shows c.args.number c.at-edge.result.now (got-at c.args.c.now.edges c.args.number c.at-edge.result.now c.at-edge.ensures.element) in omega (arith, r, m)) in
+    search rules
+
+pub offset_bounds-ends-edge-2 : goal.offset_bounds-ends-edge-2
+offset_bounds-ends-edge-2 c =
+    let S = c.requires.shows in let m = c.requires.ends.as_many in
+    let l : c.at-edge.result.now.high < length c.args.ends.now = (let r = high-within S.0 c.args.c.now S.1.shows c.args.number c.at-edge.result.now (got-at c.args.c.now.edges c.args.number c.at-edge.result.now c.at-edge.ensures.element) in omega (arith, r, m)) in
+    search rules
 
 pub loop-carrier-init : goal.loop-carrier-init
 loop-carrier-init c = record { added = λ e i. adds-none _ _ _ (λ y (k, x, l, a, p). absurd (omega (arith, l))) }
@@ -36,11 +53,11 @@ loop-carrier-preserved c =
           let S = c.requires.shows in let m = c.requires.ends.as_many in
           let at = got-at C.edges k g c.at-edge.ensures.element in
           let low = low-within S.0 C S.1.shows k g at in let high = high-within S.0 C S.1.shows k g at in
-          let s = c.index-ends-edge_low.result in let t = c.index-ends-edge_high.result in
+          let s : Span = get_or c.args.ends.now g.low none in let t : Span = get_or c.args.ends.now g.high none in
           let within = ends-spanned C c.args.ends.now c.requires.ends x g s t c.with_span-span.result
-              (slice_get_read c.args.ends.now (length c.args.ends.now) g.low s refl (omega (arith, low, m)) c.index-ends-edge_low.is)
-              (slice_get_read c.args.ends.now (length c.args.ends.now) g.high t refl (omega (arith, high, m)) c.index-ends-edge_high.is)
-              c.with_span-span.ensures.wider c.with_span-span.ensures.other in
+          (is-at_get c.args.ends.now g.low none (omega (arith, low, m)))
+          (is-at_get c.args.ends.now g.high none (omega (arith, high, m)))
+          c.with_span-span.ensures.wider c.with_span-span.ensures.other in
           any-more (CutsEdgeNear C e) N c.args.near.now c.loop-carrier.carrier-index x c.args.listed.now.items old c.if-may_meet.listed.items c.loop-carrier-test.true c.carrier-item.is (c.loop-carrier.invariant.added e i)
           (elim c.if-may_meet.branch [
             | then-may_meet+in_ok-add_near_cut w ↦ subst (Adds (CutsEdgeNear C e x) N old) (sym (ap (λ v. v.items) w.listed-is)) (w.in_ok-add_near_cut.ensures.added e i)
