@@ -6,7 +6,7 @@ use Rattle.std.proofs.Math.Nat.{eq-or-lt_of_le}
 use Rattle.std.proofs.lemmas.List.Elements.{Contains-append_left, Contains-push, Contains-push_cases}
 use Rattle.nef_space.specs.Lists.{IsAt}
 use Rattle.nef_space.specs.Local.{IsVertex}
-use Rattle.nef_space.specs.Place.{Place, Form, form_at, SamePlace, IsBetween}
+use Rattle.nef_space.specs.Place.{Place, Form, form_at, SamePlace}
 use Rattle.nef_space.specs.Sets.{Set}
 use Rattle.nef_geo.specs.Shapes.{place_of, form_of}
 use Rattle.nef_geo.specs.declared.plane.Plane.{Plane}
