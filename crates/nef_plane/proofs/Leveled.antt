@@ -1,5 +1,5 @@
 -- The vertices of a plane beside a line along its axis, and what the line doesn't meet of the plane.
-use Rattle.std.proofs.Common.{◌≡◌, ℕ, zero, suc, ◌+◌, ◌≤◌, length, ℤ, pos, negsuc, Bool, true, false, ◌↔◌, IsTrue, List, arith, inl, inr, ⊎_elim, refl, subst}
+use Rattle.std.proofs.Common.{◌≡◌, ℕ, zero, suc, ◌+◌, ◌<◌, ◌≤◌, length, ℤ, pos, negsuc, Bool, true, false, ◌↔◌, IsTrue, List, arith, inl, inr, ⊎_elim, refl, subst}
 use Rattle.std.proofs.Math.Nat.{eq-or-lt_of_le}
 use Rattle.std.proofs.lemmas.Bool.{cases_lt}
 use Rattle.std.proofs.lemmas.Int.{ints}
@@ -149,3 +149,18 @@ module _ (s : Set) (c : Complex) (S : Shows s (complex_of c)) (h : Plane) (p : P
 
   pub past-missed : (m : PlaneMeet) (i j : ℕ) → AreEnds c m i j → IsPast m i j
   past-missed = by-numbers c IsPast (λ n (v, l, o) g. unparted-vertex n (v, l, o) (inr (from-first n v l o g, g))) past-edge
+
+  -- nor one whose ends both have numbers below the level's first
+  to-past : (n : ℕ) (v : Vertex) → IsAt c.vertices n v → form_at (form_of h) (place_of v.point) ≡ pos 0 → n < x.first → n < x.past
+  to-past n v l o t = ⊎_elim (λ g. g) (λ g. absurd (let y = L.before n v t l o in L.past n v g l o (omega (arith, ints)))) (cases_lt n x.past)
+
+  abbrev pub IsShortOf : PlaneMeet → ℕ → ℕ → Type 0
+  IsShortOf m i j = MeetLiesIn c (form_of h) m → i < x.first → j < x.first → IsMissed p d (AtMeet (complex_of c) (form_of h) d m)
+
+  short-edge : (n : ℕ) (e : Edge) → IsAt c.edges n e → EdgeLiesIn c.vertices c.edges (form_of h) n → e.low < x.first → e.high < x.first → IsMissed p d (AtEdgeNumber (complex_of c) (form_of h) d n)
+  short-edge n e l M f g =
+      let (v, j, r) = (lying-ends c.vertices c.edges (form_of h) n e l M).1 in
+      unparted-edge n e (got-at c.edges n e l) M (inl (f, to-past e.high v j r g))
+
+  pub first-missed : (m : PlaneMeet) (i j : ℕ) → AreEnds c m i j → IsShortOf m i j
+  first-missed = by-numbers c IsShortOf (λ n (v, l, o) f g. unparted-vertex n (v, l, o) (inl (f, to-past n v l o f))) short-edge

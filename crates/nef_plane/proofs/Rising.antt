@@ -1,5 +1,5 @@
 -- Vertices and edges stand in order of their first ends, so what is beyond a limit stays beyond it.
-use Rattle.std.proofs.Common.{◌≡◌, ℕ, ◌<◌, ◌≤◌, arith, ap, refl, ⊎_elim, subst, inl, inr}
+use Rattle.std.proofs.Common.{◌≡◌, ℕ, ◌<◌, ◌≤◌, ◌+◌, arith, ap, refl, sym, ◌∙◌, ⊎_elim, subst, inl, inr}
 use Rattle.std.proofs.Math.Nat.{eq-or-lt_of_le}
 use Rattle.std.proofs.lemmas.Int.{ints}
 use Rattle.nef_space.specs.Lists.{IsAt}
@@ -15,7 +15,7 @@ use Rattle.nef_complex.specs.declared.complex.Complex.{Complex}
 use Rattle.nef_complex.specs.declared.complex.PlaneMeet.{PlaneMeet}
 use Rattle.nef_complex.specs.declared.complex.PlaneMeet.TheVariants.{AtVertex, AtEdge}
 use Rattle.nef_complex.specs.Complexes.{edge_of, complex_of}
-use Rattle.nef_plane.specs.Asked.{IsNth, meet_at, IsBeyond}
+use Rattle.nef_plane.specs.Asked.{IsNth, meet_at, IsBelow, IsBeyond}
 use Rattle.nef_plane.specs.Ends.{MeetLiesIn, AreEnds}
 use Rattle.nef_plane.specs.declared.numbers.Kind.{Kind}
 use Rattle.nef_plane.specs.declared.numbers.Kind.TheVariants.{Vertex as KindVertex, Edge as KindEdge}
@@ -26,6 +26,11 @@ use Rattle.nef_plane.proofs.Asking.{nth-one}
 pub lying-numbers : (c : Complex) (h : Form) (m : PlaneMeet) → MeetLiesIn c h m → (i : ℕ) × (j : ℕ) × AreEnds c m i j
 lying-numbers c h (AtVertex k) l = (k, k, (refl, refl))
 lying-numbers c h (AtEdge k) (e, a, i, j) = (e.low, e.high, (e, a, refl, refl))
+
+-- those of a vertex are one
+pub one-end : (c : Complex) (t : Kind) (k i j : ℕ) → t ≡ KindVertex → AreEnds c (meet_at t k) i j → i ≡ j
+one-end c KindVertex k i j e (f, g) = f ∙ sym g
+one-end c KindEdge k i j e x = absurd cc
 
 module _ (s : Set) (c : Complex) (S : Shows s (complex_of c)) where
   -- the lower ends of edges rise
@@ -47,4 +52,10 @@ module _ (s : Set) (c : Complex) (S : Shows s (complex_of c)) where
   beyond-from t N ordered limit m k u v a E l i j x y o b F =
       let r = ends-rise t k j u v x y
       (⊎_elim (λ q. let f : k ≡ j = nth-one N i k j (subst (λ z. IsNth N z k) q a) b in omega (arith, f)) (λ q. let f = ordered m i k j q a b in omega (arith, f)) (eq-or-lt_of_le {n = m} {m = i} o)) E F in
+      omega (arith, l, r)
+
+  pub below-to : (t : Kind) (N : Numbers) → ((i j k l : ℕ) → i < j → IsNth N i k → IsNth N j l → k < l) → (limit m k u v : ℕ) → IsNth N m k → AreEnds c (meet_at t k) u v → u < limit → IsBelow c t N limit (m + 1)
+  below-to t N ordered limit m k u v a E l i j x y o b F =
+      let r = ends-rise t j k x y u v
+      (⊎_elim (λ q. let f : j ≡ k = nth-one N m j k (subst (λ z. IsNth N z j) q b) a in omega (arith, f)) (λ q. let f = ordered i m j k q b a in omega (arith, f)) (eq-or-lt_of_le {n = i} {m = m} (omega (arith, o)))) F E in
       omega (arith, l, r)

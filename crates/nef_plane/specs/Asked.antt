@@ -43,6 +43,10 @@ count_in c Edge = length c.edges
 abbrev pub AreAskedIn : {X : Type 0} → Complex → Form → Option X → Kind → Numbers → Type 0
 AreAskedIn c h g t N = AreAsked (λ k. MeetLiesIn c h (meet_at t k)) (count_in c t) g N
 
+-- the first end of each before place n is below the limit
+abbrev pub IsBelow : Complex → Kind → Numbers → ℕ → ℕ → Type 0
+IsBelow c t N limit n = (i k u v : ℕ) → i < n → IsNth N i k → AreEnds c (meet_at t k) u v → u < limit
+
 -- the first end of each from place n on is at the limit or beyond
 abbrev pub IsBeyond : Complex → Kind → Numbers → ℕ → ℕ → Type 0
 IsBeyond c t N limit n = (i k u v : ℕ) → n ≤ i → IsNth N i k → AreEnds c (meet_at t k) u v → limit ≤ u

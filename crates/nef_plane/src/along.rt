@@ -112,6 +112,10 @@ impl PlaneRay for VertexRay<'_> {
         }
     }
 
+    fn first(&self, _c: &Complex, course: &Course) -> usize {
+        course.first
+    }
+
     fn past(&self, _c: &Complex, course: &Course) -> usize {
         course.past
     }

@@ -8,7 +8,7 @@ ghost use Rattle.nef_complex.specs.declared.complex.Complex.{Complex as ComplexV
 ghost use Rattle.nef_complex.specs.declared.complex.PlaneMeet.{PlaneMeet as PlaneMeetValue};
 ghost use Rattle.nef_complex.specs.Complexes.{complex_of, ShowsSet};
 ghost use Rattle.nef_complex.specs.Index.{LiesOn, EdgeLiesIn};
-ghost use Rattle.nef_plane.specs.Asked.{count_of, IsNth, meet_at, AreAsked, AreAskedIn, IsBeyond};
+ghost use Rattle.nef_plane.specs.Asked.{count_of, IsNth, meet_at, AreAsked, AreAskedIn, IsBelow, IsBeyond};
 ghost use Rattle.nef_plane.specs.Ends.{HasMeet, MeetLiesIn, AreEnds};
 ghost use Rattle.nef_plane.specs.Meets.{HoldsRay, AtMeet, AtSome, AtVertexOrEdge, IsMissed, IsNearest, met_of};
 
@@ -52,6 +52,12 @@ pub(crate) trait PlaneRay {
         ensures told { IsTrue result → tells self.now c.now meet }
         ensures off { (IsTrue result → ⊥) → IsMissed (start self.now) (way self.now) (AtMeet (complex_of c.now) (plane self.now) (way self.now) meet) };
 
+    // A number of a vertex: the ray meets nothing of the plane between vertices of which all have smaller ones.
+    fn first(&self, c: &Complex, guide: &Self::Guide) -> usize
+        requires shows { (s : Set) × ShowsSet s c.now }
+        requires guide { guided self.now c.now guide.now }
+        ensures missed { (m : PlaneMeetValue) (i j : ℕ) → AreEnds c.now m i j → MeetLiesIn c.now (plane self.now) m → i < result → j < result → IsMissed (start self.now) (way self.now) (AtMeet (complex_of c.now) (plane self.now) (way self.now) m) };
+
     // A number of a vertex: the ray meets nothing of the plane between vertices of which none has a smaller one.
     fn past(&self, c: &Complex, guide: &Self::Guide) -> usize
         requires shows { (s : Set) × ShowsSet s c.now }
@@ -71,6 +77,7 @@ fn count_before(c: &Complex, kind: Kind, asked: &Numbers, limit: usize) -> usize
     requires has { (i k : ℕ) → IsNth asked.now i k → HasMeet c.now (meet_at kind k) }
     requires ordered { (i j k l : ℕ) → i < j → IsNth asked.now i k → IsNth asked.now j l → k < l }
     ensures within { result ≤ count_of asked.now }
+    ensures below { IsBelow c.now kind asked.now limit result }
     ensures beyond { IsBeyond c.now kind asked.now limit result }
 {
     let mut low = 0;
@@ -107,6 +114,29 @@ fn reach<R: PlaneRay>(
     }
 }
 
+// How many of those that are asked come before all that the ray may meet. Only vertices are told so: their numbers are
+// those of both their ends, while the second ends of edges stand in no order.
+fn beginning<R: PlaneRay>(
+    ray: &R,
+    c: &Complex,
+    guide: &Option<R::Guide>,
+    kind: Kind,
+    asked: &Numbers,
+) -> usize
+    requires shows { (s : Set) × ShowsSet s c.now }
+    requires guide { IfSome guide.now (R.guided ray.now c.now) }
+    requires asked { AreAskedIn c.now (R.plane ray.now) guide.now kind asked.now }
+    ensures missed { (i k : ℕ) → i < result → IsNth asked.now i k → IsMissed (R.start ray.now) (R.way ray.now) (AtMeet (complex_of c.now) (R.plane ray.now) (R.way ray.now) (meet_at kind k)) }
+{
+    match guide {
+        Some(found) => match kind {
+            Kind::Vertex => count_before(c, kind, asked, ray.first(c, found)),
+            Kind::Edge => 0,
+        },
+        None => 0,
+    }
+}
+
 // The first that the ray meets of the vertices that are asked, or of the edges that are asked, if they lie in the plane
 // and not along the ray. Where the ray meets an edge along it, it meets an end of that edge sooner.
 fn nearest<R: PlaneRay>(
@@ -122,7 +152,8 @@ fn nearest<R: PlaneRay>(
     ensures nearest { IsNearest (met_of R.At.reach) (R.start ray.now) (R.way ray.now) (AtSome (complex_of c.now) (R.plane ray.now) (R.way ray.now) kind) result }
 {
     let mut best = None;
-    for place in 0..reach(ray, c, guide, kind, asked) {
+    let first = beginning(ray, c, guide, kind, asked);
+    for place in first..reach(ray, c, guide, kind, asked) {
         let meet = kind.at(asked.at(place));
         if ray.may_meet(c, guide, meet) {
             best = nearer(best, ray.met(c, meet));

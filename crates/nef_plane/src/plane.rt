@@ -98,6 +98,10 @@ impl PlaneRay for AxisRay<'_> {
         }
     }
 
+    fn first(&self, _c: &Complex, level: &Level) -> usize {
+        level.first
+    }
+
     fn past(&self, _c: &Complex, level: &Level) -> usize {
         level.past
     }

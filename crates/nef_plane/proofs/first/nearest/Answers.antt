@@ -21,6 +21,9 @@ may_meet-requires-clause-held g c =
 pub met-requires-clause-told : goal.met-requires-clause-told
 met-requires-clause-told g c = c.may_meet.ensures.told c.if-may_meet.true
 
+pub loop-place-init : goal.loop-place-init
+loop-place-init g c = λ m q w (i, l, (k, a, x)). c.beginning-first.ensures.missed i k l a m q w x
+
 pub loop-place-preserved : goal.loop-place-preserved
 loop-place-preserved g c =
     let C = complex_of c.args.c.now in let ray = c.args.ray.now in let h = g.R.PlaneRay.plane ray in let p = g.R.PlaneRay.start ray in let d = g.R.PlaneRay.way ray in let seen = met_of g.R.At.Stepped.reach in
