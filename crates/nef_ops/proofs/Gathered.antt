@@ -46,12 +46,12 @@ pub at-listed : {X : Type 0} (xs : List X) (k : ℕ) (x : X) → At xs k x → C
 at-listed xs k x h = (k, at-within xs k x h, at-get xs k x x h)
 
 -- ---- the maps at candidates
-pub each-map : (P : ℕ → SphereMap → Type 0) (cs : List CandidateMap) → ((i : ℕ) (c : CandidateMap) → slice_get cs i ≡ Some c → P i c.map.value) → (i : ℕ) (m : SphereMap) → slice_get (maps_at cs) i ≡ Some m → P i m
-each-map P cs f i m e = by (slice_get cs i) refl (sym (slice_get-map (λ (c : CandidateMap). c.map.value) cs i) ∙ e)
+pub each-map : (P : ℕ → SphereMap → Type 0) (cs : List CandidateMap) → ((i : ℕ) (c : CandidateMap) → slice_get cs i ≡ Some c → P i c.map) → (i : ℕ) (m : SphereMap) → slice_get (maps_at cs) i ≡ Some m → P i m
+each-map P cs f i m e = by (slice_get cs i) refl (sym (slice_get-map (λ (c : CandidateMap). c.map) cs i) ∙ e)
   where
-    by : (o : Option CandidateMap) → slice_get cs i ≡ o → option_map (λ (c : CandidateMap). c.map.value) o ≡ Some m → P i m
+    by : (o : Option CandidateMap) → slice_get cs i ≡ o → option_map (λ (c : CandidateMap). c.map) o ≡ Some m → P i m
     by None h g = let g : None ≡ Some m = g in absurd (cc)
-    by (Some c) h g = let g : c.map.value ≡ m = cc in subst (P i) g (f i c h)
+    by (Some c) h g = let g : c.map ≡ m = cc in subst (P i) g (f i c h)
 
 -- ---- a right map
 pub right-at : (s : Set) (ps : List Point) (i : ℕ) (q : Point) (m : SphereMap) → i < length ps → IsLeastMap m → Cone (map_of m) s (place_of (get_or ps i q)) → IsRight s ps i m
@@ -77,7 +77,7 @@ worked-maps Right s hs ps cs W alike each =
     let right = each-map (IsRight s ps) cs (λ i c e. W.right i c (each i c e)) in
     record {
       carriers = W.carriers;
-      least_at = record { alike = length-map cs (λ (c : CandidateMap). c.map.value) ∙ alike; ordered = W.ordered; least = λ k m h. let r = right k m (at-got (maps_at cs) k m h) in r.least };
+      least_at = record { alike = length-map cs (λ (c : CandidateMap). c.map) ∙ alike; ordered = W.ordered; least = λ k m h. let r = right k m (at-got (maps_at cs) k m h) in r.least };
       cones = λ k p m a h. let r = right k m (at-got (maps_at cs) k m h) in r.cone p a;
       complete = W.complete;
     }
@@ -96,12 +96,12 @@ AreInOrder ps = InOrder (λ (p q : Point). IsPlaceBelow (place_of p) (place_of q
 -- of a combination of two sets, by the candidates ns, lent as ks and js, and their points qs, lent as ps
 pub both-worked : (op : Op) (a b : Complex) (hs : List Plane) (ns ks js : List Named) (qs ps : List Point) → ks ≡ ns → js ≡ ns → qs ≡ map named_point ks → ps ≡ qs → ListsNear a b ns
     → ((s t : Set) (o : Op) → ShowsSet s a → ShowsSet t b → Carriers (op_set o s t) (map form_of hs)) → (s t : Set) → ShowsSet s a → ShowsSet t b
-    → IsWorkedBy (λ i c. (s t : Set) → ShowsSet s a → ShowsSet t b → IsRight (op_set op s t) (map named_point js) i c.map.value) (op_set op s t) hs ps
+    → IsWorkedBy (λ i c. (s t : Set) → ShowsSet s a → ShowsSet t b → IsRight (op_set op s t) (map named_point js) i c.map) (op_set op s t) hs ps
 both-worked op a b hs ns ks js qs ps asked worked made lent L carried s t S T = record {
   carriers = carried s t op S T;
   ordered = subst AreInOrder same L.ordered;
   complete = λ y v. subst (λ (rs : List Point). IsListed rs y) same (L.complete s t y S T (vertex-of_both op s t y v));
-  right = λ i c r. subst (λ (rs : List Point). IsRight (op_set op s t) rs i c.map.value) (ap (map named_point) worked ∙ same) (r s t S T);
+  right = λ i c r. subst (λ (rs : List Point). IsRight (op_set op s t) rs i c.map) (ap (map named_point) worked ∙ same) (r s t S T);
 }
   where
     same : map named_point ns ≡ ps
@@ -114,7 +114,7 @@ both-alike ns ks js qs ps asked worked made lent = sym (length-map js named_poin
 pub half-worked : (f : Form) (closed : Bool) (h : Plane) (whole : Complex) (hs : List Plane) (vs ps : List Point) → ShowsSet Set.full whole → SamePlane (form_of h) f → ps ≡ vs → AreInOrder vs
     → ((g : Form) (c : Bool) (y : Place) → SamePlane (form_of h) g → ShowsSet Set.full whole → IsVertex (Set.half g c) y → IsListed vs y)
     → ((g : Form) (c : Bool) → ShowsSet Set.full whole → SamePlane (form_of h) g → Carriers (Set.half g c) (map form_of hs))
-    → IsWorkedBy (λ i c. IsRight (Set.half f closed) ps i c.map.value) (Set.half f closed) hs ps
+    → IsWorkedBy (λ i c. IsRight (Set.half f closed) ps i c.map) (Set.half f closed) hs ps
 half-worked f closed h whole hs vs ps S P same order complete carried = record {
   carriers = carried f closed S P;
   ordered = subst AreInOrder (sym same) order;
@@ -148,10 +148,10 @@ module _ (s : Set) (c : Complex) (S : ShowsSet s c) where
 
 -- of an operation on one set
 pub one-worked : (op : UnaryOp) (a : Complex) (hs : List Plane) (vs ps : List Point) → ps ≡ vs → vs ≡ points_of a → hs ≡ a.carriers → (s : Set) → ShowsSet s a
-    → IsWorkedBy (λ i c. (s : Set) → ShowsSet s a → IsRight (unary_set op s) (points_of a) i c.map.value) (unary_set op s) hs ps
+    → IsWorkedBy (λ i c. (s : Set) → ShowsSet s a → IsRight (unary_set op s) (points_of a) i c.map) (unary_set op s) hs ps
 one-worked op a hs vs ps same listed copied s S = record {
   carriers = subst (λ (gs : List Plane). Carriers (unary_set op s) (map form_of gs)) (sym copied) (unary-carriers op s (map form_of a.carriers) S.shows.carriers);
   ordered = subst AreInOrder (sym (same ∙ listed)) (points-ordered s a S);
   complete = λ y v. subst (λ (qs : List Point). IsListed qs y) (sym (same ∙ listed)) (vertices-listed s a S y (unary-vertex op s y v));
-  right = λ i c r. subst (λ (qs : List Point). IsRight (unary_set op s) qs i c.map.value) (sym (same ∙ listed)) (r s S);
+  right = λ i c r. subst (λ (qs : List Point). IsRight (unary_set op s) qs i c.map) (sym (same ∙ listed)) (r s S);
 }

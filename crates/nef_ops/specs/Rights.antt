@@ -25,4 +25,4 @@ pub record IsWorkedBy (Right : ℕ → CandidateMap → Type 0) (s : Set) (hs : 
   pub carriers : Carriers s (map form_of hs)
   pub ordered : ArePointsInOrder ps
   pub complete : (y : Place) → IsVertex s y → IsListed ps y
-  pub right : (i : ℕ) (c : CandidateMap) → Right i c → IsRight s ps i c.map.value
+  pub right : (i : ℕ) (c : CandidateMap) → Right i c → IsRight s ps i c.map

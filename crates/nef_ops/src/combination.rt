@@ -43,7 +43,7 @@ impl<'a> Job for BinaryJob<'a> {
 
     ghost count = { λ j. length j.listed.now };
 
-    ghost right = { λ j i m. (s t : Set) → ShowsSet s j.first.now → ShowsSet t j.second.now → IsRight (op_set j.op s t) (map named_point j.listed.now) i m.map.value };
+    ghost right = { λ j i m. (s t : Set) → ShowsSet s j.first.now → ShowsSet t j.second.now → IsRight (op_set j.op s t) (map named_point j.listed.now) i m.map };
 
     ghost workable = { λ j. ((s : Set) × ShowsSet s j.first.now) × ((t : Set) × ShowsSet t j.second.now) × AreFramed (map named_point j.listed.now) × AreNamed (complex_of j.first.now) (complex_of j.second.now) j.listed.now × AreTold j.first.now j.far_first.now × AreTold j.second.now j.far_second.now };
 
@@ -62,8 +62,7 @@ impl<'a> Job for BinaryJob<'a> {
             self.far_second,
             candidate,
         )?;
-        let found = CandidateMap::new(alloc, map)?;
-        Ok(found)
+        Ok(CandidateMap::new(map))
     }
 }
 

@@ -36,7 +36,7 @@ impl<'a> Job for HalfJob<'a> {
 
     ghost count = { λ j. length j.points.now };
 
-    ghost right = { λ j i m. IsRight (Set.half (given_form j.oriented.now) j.closed) j.points.now i m.map.value };
+    ghost right = { λ j i m. IsRight (Set.half (given_form j.oriented.now) j.closed) j.points.now i m.map };
 
     ghost workable = { λ j. ShowsSet Set.full j.whole.now × AreFramed j.points.now };
 
@@ -48,8 +48,7 @@ impl<'a> Job for HalfJob<'a> {
         let point = &self.points[job as usize];
         let whole = local_map(alloc, self.whole, point)?;
         let map = half_map(alloc, whole, self.oriented, self.closed, point)?;
-        let found = CandidateMap::new(alloc, map)?;
-        Ok(found)
+        Ok(CandidateMap::new(map))
     }
 }
 

@@ -42,7 +42,7 @@ fn label_past(c: &Complex, side: &Side, points: &[Point]) -> Option<Label>
     ensures none { IsNone result → (k : ℕ) (p : PlainPoint) → At points.now k p → IsFar side.now (place_of p) → ⊥ }
 {
     for point in points {
-        if point.in_frame() && side.has(point) {
+        if side.has(point) && point.in_frame() {
             return Some(place_label(c, &locate(c, point)));
         }
     }

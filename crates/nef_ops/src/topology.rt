@@ -57,7 +57,7 @@ impl<'a> Job for UnaryJob<'a> {
 
     ghost count = { λ j. length j.complex.now.vertices };
 
-    ghost right = { λ j i m. (s : Set) → ShowsSet s j.complex.now → IsRight (unary_set j.op s) (points_of j.complex.now) i m.map.value };
+    ghost right = { λ j i m. (s : Set) → ShowsSet s j.complex.now → IsRight (unary_set j.op s) (points_of j.complex.now) i m.map };
 
     ghost workable = { λ j. (s : Set) × ShowsSet s j.complex.now };
 
@@ -68,8 +68,7 @@ impl<'a> Job for UnaryJob<'a> {
     fn work(&self, alloc: Global, job: u64) -> Result<CandidateMap, OutOfMemory> {
         let vertex = self.complex.vertices.at(job as usize);
         let map = changed(alloc, &vertex.map, self.op)?;
-        let found = CandidateMap::new(alloc, map)?;
-        Ok(found)
+        Ok(CandidateMap::new(map))
     }
 }
 

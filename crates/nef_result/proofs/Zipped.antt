@@ -21,7 +21,7 @@ abbrev pub shown : Pair → Point × CandidateMap
 shown p = (p.0.now, p.1)
 
 abbrev pub maps_of : List Pair → List SphereMap
-maps_of xs = map (λ (p : Pair). p.1.map.value) xs
+maps_of xs = map (λ (p : Pair). p.1.map) xs
 
 at-zip : (ps : List Point) (cs : List CandidateMap) (n : ℕ) (q : Point × CandidateMap) → n < length (zip ps cs) → q ≡ get_or (zip ps cs) n q → At ps n q.0 × At cs n q.1
 at-zip [] cs n q l e = absurd (omega (arith, l))
@@ -31,7 +31,7 @@ at-zip (p ∷ ps) (c ∷ cs) (suc n) q l e = at-zip ps cs n q (omega (arith, l))
 
 seconds : (xs : List Pair) → maps_at (map (λ (q : Point × CandidateMap). q.1) (map shown xs)) ≡ maps_of xs
 seconds [] = refl
-seconds (x ∷ xs) = ap (λ ms. x.1.map.value ∷ ms) (seconds xs)
+seconds (x ∷ xs) = ap (λ ms. x.1.map ∷ ms) (seconds xs)
 
 -- at the end all maps were yielded
 pub all-yielded : (ps : List Point) (cs : List CandidateMap) (xs : List Pair) (vs : List Vertex) → length cs ≡ length ps → map shown xs ≡ zip ps cs → AreVerticesAmong ps (maps_of xs) vs → AreVerticesAmong ps (maps_at cs) vs
@@ -42,12 +42,12 @@ module _ (ps : List Point) (cs : List CandidateMap) (xs : List Pair) (x : Pair) 
   here : At ps (length xs) x.0.now × At cs (length xs) x.1
   here = at-zip ps cs (length xs) (shown x) within is
 
-  pub pair-kept : (vs ws : List Vertex) → ArePointsInOrder ps → AreVerticesAmong ps (maps_of xs) vs → IsVertexMap (map_of x.1.map.value) → ws ≡ vs ++ record { point = x.0.now; map = x.1.map.value } ∷ [] → AreVerticesAmong ps (maps_of (xs ++ x ∷ [])) ws
+  pub pair-kept : (vs ws : List Vertex) → ArePointsInOrder ps → AreVerticesAmong ps (maps_of xs) vs → IsVertexMap (map_of x.1.map) → ws ≡ vs ++ record { point = x.0.now; map = x.1.map } ∷ [] → AreVerticesAmong ps (maps_of (xs ++ x ∷ [])) ws
   pair-kept vs ws o V i e =
-      subst (λ (ls : List SphereMap). AreVerticesAmong ps ls ws) (sym (map-append (λ (p : Pair). p.1.map.value) xs (x ∷ [])))
-      (subst (AreVerticesAmong ps (maps_of xs ++ x.1.map.value ∷ [])) (sym e)
-      (vertices-kept ps (maps_of xs) vs V x.1.map.value o x.0.now (subst (λ (n : ℕ). At ps n x.0.now) (sym (length-map xs (λ (p : Pair). p.1.map.value))) here.0) i))
+      subst (λ (ls : List SphereMap). AreVerticesAmong ps ls ws) (sym (map-append (λ (p : Pair). p.1.map) xs (x ∷ [])))
+      (subst (AreVerticesAmong ps (maps_of xs ++ x.1.map ∷ [])) (sym e)
+      (vertices-kept ps (maps_of xs) vs V x.1.map o x.0.now (subst (λ (n : ℕ). At ps n x.0.now) (sym (length-map xs (λ (p : Pair). p.1.map))) here.0) i))
 
-pub pair-left : (ps : List Point) (xs : List Pair) (x : Pair) (vs : List Vertex) → AreVerticesAmong ps (maps_of xs) vs → (IsVertexMap (map_of x.1.map.value) → ⊥) → AreVerticesAmong ps (maps_of (xs ++ x ∷ [])) vs
+pub pair-left : (ps : List Point) (xs : List Pair) (x : Pair) (vs : List Vertex) → AreVerticesAmong ps (maps_of xs) vs → (IsVertexMap (map_of x.1.map) → ⊥) → AreVerticesAmong ps (maps_of (xs ++ x ∷ [])) vs
 pair-left ps xs x vs V n =
-    subst (λ (ls : List SphereMap). AreVerticesAmong ps ls vs) (sym (map-append (λ (p : Pair). p.1.map.value) xs (x ∷ []))) (vertices-left ps (maps_of xs) vs V x.1.map.value n)
+    subst (λ (ls : List SphereMap). AreVerticesAmong ps ls vs) (sym (map-append (λ (p : Pair). p.1.map) xs (x ∷ []))) (vertices-left ps (maps_of xs) vs V x.1.map n)

@@ -16,11 +16,8 @@ use std::alloc::Global;
 #[derive(Drop)]
 pub(crate) struct PartedPoints {
     pub(crate) vertices: Vec<Vertex>,
-    pub(crate) others: Vec<Box<SphereMap>>,
+    pub(crate) others: Vec<SphereMap>,
 }
-
-// Few points are mostly vertices, so there is room for so many at once; of many points most are none.
-const FIRST_ROOM: usize = 64;
 
 /// The points where no direction is flat, with their maps. The maps of the other points are kept, so that another thread
 /// may let go of them.
@@ -32,13 +29,14 @@ pub(crate) fn parted(
     requires maps { AreLeastAt points.now (maps_at maps.items) }
     ensures vertices { IfOk result (λ p. AreVerticesAmong points.now (maps_at maps.items) p.vertices.items) }
 {
-    let mut vertices = Vec::with_capacity(alloc, points.len().min(FIRST_ROOM))?;
-    let mut others = Vec::with_capacity(alloc, points.len())?;
+    // Most points are vertices, since those alone are points that may be.
+    let mut vertices = Vec::with_capacity(alloc, points.len())?;
+    let mut others = Vec::new(alloc);
     for (point, found) in points.iter().zip(maps) {
         if found.is_vertex {
             vertices.push(Vertex {
                 point: *point,
-                map: Box::into_inner(found.map),
+                map: found.map,
             })?;
         } else {
             others.push(found.map)?;

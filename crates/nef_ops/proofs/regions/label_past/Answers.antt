@@ -5,11 +5,11 @@ use Rattle.nef_smap.proofs.Lists.{at-within}
 use Rattle.nef_ops.specs.Far.{IsFar}
 use Rattle.nef_ops.proofs.FarLabels.{far-uniform}
 use Rattle.nef_ops.proofs.Lacking.{all-more}
-use Rattle.nef_ops.proofs.regions.label_past.Goals.{else-in_frame-via-then-in_frame+else-has, else-in_frame-via-else-in_frame}
+use Rattle.nef_ops.proofs.regions.label_past.Goals.{else-has-via-then-has+else-in_frame, else-has-via-else-has}
 use Rattle.nef_ops.proofs.regions.label_past.Goals as goal
 
-pub returns-then-has-clause-told : goal.returns-then-has-clause-told
-returns-then-has-clause-told c p f s S =
+pub returns-then-in_frame-clause-told : goal.returns-then-in_frame-clause-told
+returns-then-in_frame-clause-told c p f s S =
     let q = place_of c.point-item.result in
     far-uniform s c.args.c.now S c.args.side.now c.requires.clear q p c.place_label.result
     (c.in_frame.ensures.in_frame.0 c.if-in_frame.true, c.has.ensures.past.0 c.if-has.true) (c.place_label.ensures.set s q S c.locate.ensures.at) f
@@ -17,9 +17,9 @@ returns-then-has-clause-told c p f s S =
 pub loop-point-preserved : goal.loop-point-preserved
 loop-point-preserved c =
     let p = c.point-item.result in
-    let off : IsFar c.args.side.now (place_of p) → ⊥ = elim c.else-in_frame.branch [
-      | else-in_frame-via-then-in_frame+else-has w ↦ λ f. absurd (search (rules, w.has.ensures.past.1 f.1, w.if-has.false))
-      | else-in_frame-via-else-in_frame w ↦ λ f. absurd (search (rules, c.in_frame.ensures.in_frame.1 f.0, w.if-in_frame.false))
+    let off : IsFar c.args.side.now (place_of p) → ⊥ = elim c.else-has.branch [
+      | else-has-via-then-has+else-in_frame w ↦ λ f. absurd (search (rules, w.in_frame.ensures.in_frame.1 f.0, w.if-in_frame.false))
+      | else-has-via-else-has w ↦ λ f. absurd (search (rules, c.has.ensures.past.1 f.1, w.if-has.false))
     ] in
     all-more (λ (r : Point). IsFar c.args.side.now (place_of r) → ⊥) c.args.points.now c.loop-point.point-index p c.point-item.is off c.loop-point.invariant
 

@@ -15,5 +15,5 @@ combined_map-requires-clause-named c = let j = c.args.self.now in named-at (comp
 pub returns : goal.returns
 returns c = λ s t S T.
     let j = c.args.self.now in
-    subst (IsRight (op_set j.op s t) (map named_point j.listed.now) c.args.job) (sym c.in_ok-found.ensures.map)
+    subst (IsRight (op_set j.op s t) (map named_point j.listed.now) c.args.job) (sym c.new.ensures.map)
     (right-named (op_set j.op s t) j.listed.now c.args.job c.index-self-job.result c.in_ok-map.map c.requires.job c.in_ok-map.ensures.least (c.in_ok-map.ensures.cone s t S T))

@@ -11,5 +11,5 @@ half_map-requires-clause-frame c = c.in_ok-whole.ensures.cone Set.full c.require
 pub returns : goal.returns
 returns c =
     let j = c.args.self.now in
-    subst (IsRight (Set.half (given_form j.oriented.now) j.closed) j.points.now c.args.job) (sym c.in_ok-found.ensures.map)
+    subst (IsRight (Set.half (given_form j.oriented.now) j.closed) j.points.now c.args.job) (sym c.new.ensures.map)
     (right-at (Set.half (given_form j.oriented.now) j.closed) j.points.now c.args.job c.index-self-job.result c.in_ok-map.map c.requires.job c.in_ok-map.ensures.least c.in_ok-map.ensures.cone)

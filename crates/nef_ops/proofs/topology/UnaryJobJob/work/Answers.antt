@@ -15,6 +15,6 @@ changed-requires c =
 pub returns : goal.returns
 returns c = λ s S.
     let j = c.args.self.now in let v = c.at-vertex.result.now in
-    subst (IsRight (unary_set j.op s) (points_of j.complex.now) c.args.job) (sym c.in_ok-found.ensures.map)
+    subst (IsRight (unary_set j.op s) (points_of j.complex.now) c.args.job) (sym c.new.ensures.map)
     (vertex-right s j.complex.now S j.op c.args.job v c.in_ok-map.map (got-at j.complex.now.vertices c.args.job v c.at-vertex.ensures.element) c.in_ok-map.ensures.least
     (c.in_ok-map.ensures.cone s (place_of v.point)))
