@@ -1,6 +1,6 @@
 -- The part of a blend across an axis.
 use Rattle.std.proofs.Common.{◌≡◌, ℕ, ℤ, pos, ◌+ℤ◌, ◌-ℤ◌, ◌*ℤ◌, ap, ◌∙◌, [], ◌∷◌}
-use Rattle.law_arithmetic.proofs.Ring.{ring, at, num, ◌⊕◌, ◌⊖◌, ◌⊗◌}
+use Rattle.nef_space.proofs.Ring.{ring, at, num, ◌⊕◌, ◌⊖◌, ◌⊗◌}
 use Rattle.nef_space.specs.Vectors.{Vector, cross, blend}
 use Rattle.law_near.proofs.Flats.{vector-same}
 use Rattle.law_sphere.specs.Stars.{across}

@@ -14,7 +14,7 @@ use Rattle.law_near.proofs.Frames.{no-germ_out}
 use Rattle.law_near.proofs.Combine.{not-label}
 use Rattle.law_near.proofs.Decisions.{ahead, near-ahead, all-germs}
 use Rattle.law_near.proofs.Topology.{inside-at, closed-at, border-at, regular-label, label-ahead}
-use Rattle.law_forms.proofs.Directions.{zero-decided}
+use Rattle.law_near.proofs.Directions.{zero-decided}
 use Rattle.law_sphere.specs.Maps.{Map, MapLabel, NearLabel}
 use Rattle.law_sphere.specs.Forms.{forms}
 use Rattle.law_sphere.specs.Least.{Cone}

@@ -1,6 +1,6 @@
 -- A map with In and Not exchanged everywhere is valid and has the labels of the complement; it is least where the map is.
 use Rattle.std.proofs.Common.{◌≡◌, ℕ, refl, ap, sym, ◌∙◌, subst, Some}
-use Rattle.law_arithmetic.proofs.Order.{Sign, minus, nought, plus, sign}
+use Rattle.nef_space.proofs.Order.{Sign, minus, nought, plus, sign}
 use Rattle.nef_space.specs.Vectors.{Vector, IsDirection, cross, dot, blend}
 use Rattle.nef_space.specs.declared.label.Label.{Label}
 use Rattle.law_sphere.specs.Maps.{At, MapVertex, Map, Item, item_normal, item_pos, item_mark, item_neg, OnItem, IsFree, HasArc, MapLabel, at_svertex, on_item, NearLabel, Shaped, Valid}

@@ -1,11 +1,11 @@
 -- Elements of lists by their places, the sectors of stars, and what an option was made of.
 use Rattle.std.proofs.Common.{◌≡◌, ℕ, zero, suc, arith, refl, ap, inl, inr, List, [], ◌∷◌, length, Option, Some, None}
 use Rattle.std.specs.Prelude.{option_map}
-use Rattle.law_arithmetic.specs.Signs.{Lies}
+use Rattle.nef_space.specs.Signs.{Lies}
 use Rattle.nef_space.specs.declared.label.Label.{Label}
 use Rattle.law_sphere.specs.Maps.{At}
 use Rattle.law_sphere.specs.Stars.{Ray}
-use Rattle.law_build.specs.Raw.{sector_count}
+use Rattle.law_sphere.specs.Raw.{sector_count}
 
 pub at-lies : {A : Type 0} (xs : List A) (k : ℕ) (x : A) → At xs k x → Lies xs x
 at-lies [] k x a = absurd a

@@ -1,6 +1,6 @@
 -- The label that the tables give, from a list of the labels close by; there is one only, and it goes over to what has the same labels.
 use Rattle.std.proofs.Common.{◌≡◌, refl, sym, ◌∙◌, ◌⊎◌, inl, inr, ⊎_elim, List, [], ◌∷◌, ◌++◌, subst, Bool, true, false, cond, not, ◌&&◌, ◌||◌}
-use Rattle.law_arithmetic.specs.Signs.{Lies}
+use Rattle.nef_space.specs.Signs.{Lies}
 use Rattle.nef_space.specs.declared.label.Label.{Label}
 use Rattle.nef_space.specs.declared.label.Label.TheVariants.{Out, Not, In}
 use Rattle.law_border.specs.Topology.{Topology, interior, closure, boundary, complement, IsInside, IsClosed, IsInBy, ByTopology}

@@ -1,12 +1,12 @@
 -- The mark that a map gets, from the labels that the map lists.
 use Rattle.std.proofs.Common.{◌≡◌, ℕ, zero, suc, pos, ◌<ℤ◌, arith, refl, ap, sym, ◌∙◌, ◌⊎◌, inl, inr, ⊎_elim, List, [], ◌∷◌, ◌++◌, subst, Option, Some, None}
 use Rattle.std.proofs.lemmas.Int.{ints}
-use Rattle.law_arithmetic.specs.Signs.{Lies}
-use Rattle.law_arithmetic.proofs.Lists.{lies-left, lies-right, lies-append}
-use Rattle.law_arithmetic.proofs.Order.{sign, sign-plus, sign-minus}
+use Rattle.nef_space.specs.Signs.{Lies}
+use Rattle.nef_space.proofs.Lists.{lies-left, lies-right, lies-append}
+use Rattle.nef_space.proofs.Order.{sign, sign-plus, sign-minus}
 use Rattle.nef_space.specs.Vectors.{Vector, IsDirection, dot, blend}
 use Rattle.nef_space.specs.declared.label.Label.{Label}
-use Rattle.law_forms.proofs.Directions.{zero-decided, self-pos}
+use Rattle.law_near.proofs.Directions.{zero-decided, self-pos}
 use Rattle.law_sphere.specs.Maps.{At, MapVertex, MapSloop, Map, Item, arc_item, sloop_item, items, item_normal, item_pos, item_mark, item_neg, OnItem, Side, around_svertex, pos_item, neg_item, whole, HasSide, MapLabel, at_svertex, on_item, seen, Valid}
 use Rattle.law_sphere.specs.Forms.{gather, axis_x}
 use Rattle.law_sphere.specs.Least.{by_side}

@@ -1,13 +1,13 @@
 -- The label that each direction of a valid map gets: there is one, the signs on the map's forms determine it, and on items and in faces the tables give it.
 use Rattle.std.proofs.Common.{◌≡◌, ℕ, ◌+◌, ◌≤◌, pos, ◌<ℤ◌, arith, refl, ap, sym, ◌∙◌, ◌⊎◌, inl, inr, ⊎_elim, List, [], ◌∷◌, subst}
 use Rattle.std.proofs.lemmas.Int.{ints}
-use Rattle.law_arithmetic.specs.Signs.{Lies}
-use Rattle.law_arithmetic.proofs.Order.{Sign, minus, nought, plus, sign, sign-plus, sign-minus}
+use Rattle.nef_space.specs.Signs.{Lies}
+use Rattle.nef_space.proofs.Order.{Sign, minus, nought, plus, sign, sign-plus, sign-minus}
 use Rattle.nef_space.specs.Vectors.{Vector, IsDirection, dot, blend}
 use Rattle.nef_space.specs.declared.label.Label.{Label}
-use Rattle.law_forms.proofs.Far.{nought-or}
-use Rattle.law_forms.proofs.Directions.{self-pos}
-use Rattle.law_forms.proofs.Representatives.{representative, representative_directions}
+use Rattle.law_near.proofs.Far.{nought-or}
+use Rattle.law_near.proofs.Directions.{self-pos}
+use Rattle.law_near.proofs.Representatives.{representative, representative_directions}
 use Rattle.law_sphere.specs.Maps.{At, Map, Item, items, item_normal, item_pos, item_mark, item_neg, OnItem, IsFree, MapLabel, on_item, NearLabel, Valid}
 use Rattle.law_sphere.specs.Forms.{SameSigns, forms}
 use Rattle.law_sphere.specs.Least.{by_side}

@@ -2,7 +2,7 @@
 use Rattle.std.proofs.Common.{◌≡◌, ℕ, ◌≤◌, pos, arith, refl, ap, sym, ◌∙◌, [], ◌∷◌, subst, Some, None}
 use Rattle.std.proofs.lemmas.Int.{ints}
 use Rattle.std.specs.Prelude.{option_map}
-use Rattle.law_arithmetic.proofs.Order.{Sign, sign, sign-plus, sign-minus, by_order}
+use Rattle.nef_space.proofs.Order.{Sign, sign, sign-plus, sign-minus, by_order}
 use Rattle.nef_space.specs.Vectors.{Vector, IsDirection, dot, SameDirection, IsNormal, blend}
 use Rattle.nef_space.specs.declared.label.Label.{Label}
 use Rattle.law_cyclic.specs.Arcs.{IsOnCircle}
@@ -23,7 +23,7 @@ use Rattle.law_sphere.proofs.Compare.{dir-self, SameDirection-turned, normals-sa
 use Rattle.law_sphere.proofs.Arcs.{at-sloop, level-same}
 use Rattle.law_sphere.proofs.Along.{not-even}
 use Rattle.law_sphere.proofs.Flips.{directed-by, far_directed-by, planes-parallel}
-use Rattle.law_build.specs.Raw.{RawMap, Of, IsLabelling, ShowsLabels, IsBare, IsRawOf}
+use Rattle.law_sphere.specs.Raw.{RawMap, Of, IsLabelling, ShowsLabels, IsBare, IsRawOf}
 use Rattle.law_build.specs.Overlays.{OnSvertex}
 use Rattle.law_build.proofs.Chosen.{chosen, chosen-is, chosen-labelling}
 use Rattle.law_build.proofs.LoneSloops.{item-sloop, sloop-normal}

@@ -11,7 +11,7 @@ use Rattle.law_sphere.proofs.Generic.{amount}
 use Rattle.law_sphere.proofs.Lists.{at-one}
 use Rattle.law_sphere.proofs.Forms.{axes-forms}
 use Rattle.law_sphere.proofs.Flips.{far_directed-by}
-use Rattle.law_build.specs.Raw.{Of, RayBelow, IsWellFormed, ShowsLabels}
+use Rattle.law_sphere.specs.Raw.{Of, RayBelow, IsWellFormed, ShowsLabels}
 use Rattle.law_border.specs.Topology.{Topology, TopologyLabel}
 use Rattle.law_border.specs.Marks.{label_from, face_label, marked, IsRemarked}
 use Rattle.law_border.proofs.Listed.{count-same, sector-one}

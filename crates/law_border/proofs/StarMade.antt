@@ -1,13 +1,13 @@
 -- The labels that directions close to the axis of a star get: on the axis by all rays and sectors, on a ray by the two sectors beside it, in a sector by the sector alone.
 use Rattle.std.proofs.Common.{◌≡◌, ℕ, zero, suc, ◌+◌, ◌≤◌, ℤ, pos, ◌<ℤ◌, arith, refl, ap, sym, ◌∙◌, ◌⊎◌, inl, inr, ⊎_elim, List, [], ◌∷◌, subst, length, map}
 use Rattle.std.proofs.lemmas.Int.{ints}
-use Rattle.law_arithmetic.specs.Signs.{Lies}
-use Rattle.law_arithmetic.proofs.Lists.{lies-left, lies-right, lies-append}
-use Rattle.law_arithmetic.proofs.Order.{Sign, minus, nought, plus, sign, sign-plus, sign-minus, sign-scaled}
+use Rattle.nef_space.specs.Signs.{Lies}
+use Rattle.nef_space.proofs.Lists.{lies-left, lies-right, lies-append}
+use Rattle.nef_space.proofs.Order.{Sign, minus, nought, plus, sign, sign-plus, sign-minus, sign-scaled}
 use Rattle.nef_space.specs.Vectors.{Vector, IsDirection, triple, cross, dot, IsZero, blend}
 use Rattle.nef_space.specs.declared.label.Label.{Label}
-use Rattle.law_forms.proofs.Far.{nought-or}
-use Rattle.law_forms.proofs.Directions.{self-pos, zero-decided}
+use Rattle.law_near.proofs.Far.{nought-or}
+use Rattle.law_near.proofs.Directions.{self-pos, zero-decided}
 use Rattle.law_near.proofs.FlatDecided.{triple-dot}
 use Rattle.law_sphere.specs.Maps.{At, Map, NearLabel, Valid}
 use Rattle.law_sphere.specs.Forms.{SameSigns, axes, forms, arc_forms}
@@ -25,7 +25,7 @@ use Rattle.law_sphere.proofs.Turn.{IsStrictlyOn-same}
 use Rattle.law_sphere.proofs.Kind.{away, away-dot}
 use Rattle.law_sphere.proofs.KindFlats.{in-span}
 use Rattle.law_sphere.proofs.Flips.{far_directed-by}
-use Rattle.law_build.specs.Raw.{sector_count, IsWellFormed}
+use Rattle.law_sphere.specs.Raw.{sector_count, IsWellFormed}
 use Rattle.law_build.proofs.KeptStars.{at-other}
 use Rattle.law_build.proofs.BuiltAxes.{at-map, map-at}
 use Rattle.law_build.proofs.BuiltAround.{sector-there}

@@ -7,7 +7,7 @@ use Rattle.nef_space.specs.declared.label.Label.{Label}
 use Rattle.law_sphere.specs.Maps.{Map, Valid}
 use Rattle.law_sphere.specs.Forms.{forms}
 use Rattle.law_sphere.specs.Least.{Least, Ordered, Cone}
-use Rattle.law_build.specs.Raw.{RawMap, IsLabelling, IsRawOf}
+use Rattle.law_sphere.specs.Raw.{RawMap, IsLabelling, IsRawOf}
 use Rattle.law_border.specs.Topology.{Topology, complement, set_by, TopologyLabel, MarkLabel, IsTopologyMap}
 use Rattle.law_border.specs.Marks.{all_in, some_in, label_from, map_labels, IsTopologyRaw, exchanged_map}
 

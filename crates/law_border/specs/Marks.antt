@@ -6,7 +6,7 @@ use Rattle.nef_space.specs.declared.label.Label.TheVariants.{Out, Not, In}
 use Rattle.law_sphere.specs.Maps.{At, MapVertex, Arc, MapSloop, Map}
 use Rattle.law_sphere.specs.Forms.{gather}
 use Rattle.law_sphere.specs.Stars.{Ray, Star, StarShows, Follows}
-use Rattle.law_build.specs.Raw.{RawMap, IsWellFormed}
+use Rattle.law_sphere.specs.Raw.{RawMap, IsWellFormed}
 use Rattle.law_border.specs.Topology.{Topology, interior, closure, boundary, complement}
 
 -- ---- tables

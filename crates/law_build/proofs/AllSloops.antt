@@ -1,11 +1,11 @@
 -- A circle of overlaid stars without an axis, on which op of two maps is straight, is the lone circle.
 use Rattle.std.proofs.Common.{◌≡◌, ℕ, pos, refl, ap, sym, ◌∙◌, ◌⊎◌, inl, inr, ⊎_elim, [], ◌∷◌, ◌++◌, subst, Option, Some, None}
-use Rattle.law_arithmetic.proofs.Ring.{ring, at, num, ◌⊕◌, ◌⊖◌, ◌⊗◌}
+use Rattle.nef_space.proofs.Ring.{ring, at, num, ◌⊕◌, ◌⊖◌, ◌⊗◌}
 use Rattle.nef_space.specs.Vectors.{Vector, IsDirection, cross, dot, IsZero, SameDirection, IsNormal}
 use Rattle.nef_space.specs.declared.label.Label.{Label}
-use Rattle.law_forms.proofs.Directions.{zero-decided}
+use Rattle.law_near.proofs.Directions.{zero-decided}
 use Rattle.law_near.proofs.FlatDecided.{cross-turned}
-use Rattle.law_arithmetic.proofs.Lists.{lies-left}
+use Rattle.nef_space.proofs.Lists.{lies-left}
 use Rattle.law_cyclic.specs.Arcs.{IsOnCircle}
 use Rattle.law_sphere.specs.Maps.{At, MapSloop, Map, Item, sloop_item, items, item_normal, OnItem, IsFree, Valid}
 use Rattle.law_sphere.specs.Forms.{forms}
@@ -17,7 +17,7 @@ use Rattle.law_sphere.proofs.Compare.{dir-self, SameDirection-turned, SameDirect
 use Rattle.law_sphere.proofs.Arcs.{at-sloop, level-same}
 use Rattle.law_sphere.proofs.Labellings.{op-labelling}
 use Rattle.law_sphere.proofs.Flips.{planes-parallel}
-use Rattle.law_build.specs.Raw.{RawMap, Of, IsBare}
+use Rattle.law_sphere.specs.Raw.{RawMap, Of, IsBare}
 use Rattle.law_build.specs.Overlays.{IsAxis, IsLoneSloop, Raw}
 use Rattle.law_build.proofs.SideLabels.{SidesAt, free-sides, item-sides, sides-at, joined-sides, free-joined}
 use Rattle.law_build.proofs.Merged.{is-of, straight-of, straight-two, off-second, one-plane, bare-off_axes}

@@ -11,7 +11,7 @@ use Rattle.law_sphere.specs.Stars.{Star, ray_dir, IsRay}
 use Rattle.law_sphere.proofs.Vectors.{normal-direction, nought-if}
 use Rattle.law_sphere.proofs.Compare.{SameDirection-turned}
 use Rattle.law_sphere.proofs.Equal.{lowest-same}
-use Rattle.law_build.specs.Raw.{RawMap, Of, ShowsLabels}
+use Rattle.law_sphere.specs.Raw.{RawMap, Of, ShowsLabels}
 use Rattle.law_build.specs.From.{svertex_at, IsArcFrom}
 use Rattle.law_build.proofs.RayClose.{follows-at}
 use Rattle.law_build.proofs.RayStraight.{ray-after, ray-there}

@@ -20,7 +20,7 @@ use Rattle.law_sphere.proofs.ArcLabels.{arc-along}
 use Rattle.law_sphere.proofs.Firsts.{First, first-after}
 use Rattle.law_sphere.proofs.Flips.{away-direction, reversed, flipped, unflipped, directed-by, far_directed-by, dot-away}
 use Rattle.law_sphere.proofs.Simplified.{away-twice, previous}
-use Rattle.law_build.specs.Raw.{RawMap, Of, sector_count, ShowsLabels}
+use Rattle.law_sphere.specs.Raw.{RawMap, Of, sector_count, ShowsLabels}
 use Rattle.law_build.specs.From.{around_of, IsArcFrom}
 use Rattle.law_build.proofs.BuiltLabels.{with_axes, labelling, axial}
 use Rattle.law_build.proofs.KeptStars.{at-other}

@@ -1,7 +1,7 @@
 -- What a builder is given, and the svertices that it makes of the kept stars.
 use Rattle.std.proofs.Common.{◌≡◌, ℕ, zero, suc, ◌<◌, pos, arith, refl, ap, sym, ◌⊎◌, inl, inr, List, [], ◌∷◌, map, subst}
 use Rattle.std.proofs.lemmas.Int.{ints}
-use Rattle.law_arithmetic.proofs.Order.{by_order}
+use Rattle.nef_space.proofs.Order.{by_order}
 use Rattle.nef_space.specs.Vectors.{Vector, IsDirection, SameDirection}
 use Rattle.nef_space.specs.declared.label.Label.{Label}
 use Rattle.law_sphere.specs.Vectors.{VectorBelow}
@@ -13,7 +13,7 @@ use Rattle.law_sphere.proofs.Lists.{Found, search_list}
 use Rattle.law_sphere.proofs.Places.{SameDirection-decided}
 use Rattle.law_sphere.proofs.Shot.{dir-at}
 use Rattle.law_sphere.proofs.Equal.{lowest-same}
-use Rattle.law_build.specs.Raw.{RawMap, Of, IsLabelling, ShowsLabels, IsRawOf}
+use Rattle.law_sphere.specs.Raw.{RawMap, Of, IsLabelling, ShowsLabels, IsRawOf}
 use Rattle.law_build.specs.From.{AreSimplified, svertex_at, IsBuiltFrom}
 use Rattle.law_build.proofs.BuiltLabels.{smooth-same_way}
 use Rattle.law_build.proofs.StarSmooth.{star-plain, star-straight, star-normal}

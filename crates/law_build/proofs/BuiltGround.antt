@@ -1,10 +1,10 @@
 -- Where a builder makes neither svertex nor sloop, all directions have one label.
 use Rattle.std.proofs.Common.{◌≡◌, ℕ, ◌<◌, pos, arith, refl, ap, sym, ◌∙◌, inl, inr, ⊎_elim, List, [], map, subst, Option, Some, None}
 use Rattle.std.proofs.lemmas.Int.{ints}
-use Rattle.law_arithmetic.proofs.Order.{Sign, minus, nought, plus, sign, mul_pos}
+use Rattle.nef_space.proofs.Order.{Sign, minus, nought, plus, sign, mul_pos}
 use Rattle.nef_space.specs.Vectors.{Vector, IsDirection, cross, dot, IsOpposite, blend}
 use Rattle.nef_space.specs.declared.label.Label.{Label}
-use Rattle.law_forms.proofs.Directions.{dot-comm, dot-zero, self-pos, zero-decided}
+use Rattle.law_near.proofs.Directions.{dot-comm, dot-zero, self-pos, zero-decided}
 use Rattle.law_near.proofs.Decided.{Decided}
 use Rattle.law_sphere.specs.Maps.{At, MapVertex, MapSloop, Map}
 use Rattle.law_sphere.specs.Least.{by_side}
@@ -20,7 +20,7 @@ use Rattle.law_sphere.proofs.Walk.{between-direction, carried}
 use Rattle.law_sphere.proofs.Kind.{away}
 use Rattle.law_sphere.proofs.Flips.{label-eq, flipped}
 use Rattle.law_sphere.proofs.Builder.{normal-or}
-use Rattle.law_build.specs.Raw.{RawMap, Of}
+use Rattle.law_sphere.specs.Raw.{RawMap, Of}
 use Rattle.law_build.specs.From.{svertex_at, IsRawLabel}
 use Rattle.law_build.proofs.BuiltLabels.{with_axes, labelling}
 use Rattle.law_build.proofs.BuiltAxes.{IsMade, map-empty, smooth-off}

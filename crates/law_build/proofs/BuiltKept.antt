@@ -1,6 +1,6 @@
 -- A star that is kept stands at a direction that is neither plain nor straight.
 use Rattle.std.proofs.Common.{◌≡◌, ℕ, zero, ◌+◌, arith, refl, ap, sym, ◌∙◌, inl, inr, ⊎_elim, ◌↔◌, List, [], ◌∷◌, subst, length}
-use Rattle.law_arithmetic.proofs.Order.{sign}
+use Rattle.nef_space.proofs.Order.{sign}
 use Rattle.nef_space.specs.Vectors.{Vector, IsDirection, cross, dot, blend}
 use Rattle.nef_space.specs.declared.label.Label.{Label}
 use Rattle.law_near.proofs.Supports.{square-cross}
@@ -16,7 +16,7 @@ use Rattle.law_sphere.proofs.Flips.{far_directed-by}
 use Rattle.law_sphere.proofs.BuiltLeast.{built-valid, built-labels}
 use Rattle.law_sphere.proofs.Simplified.{plain-no_ray}
 use Rattle.law_sphere.proofs.StraightStars.{straight-rays}
-use Rattle.law_build.specs.Raw.{RawMap, Of, IsLabelling, sector_count, ShowsLabels, IsRawOf}
+use Rattle.law_sphere.specs.Raw.{RawMap, Of, IsLabelling, sector_count, ShowsLabels, IsRawOf}
 use Rattle.law_build.specs.From.{AreSimplified, IsBuiltFrom}
 use Rattle.law_build.proofs.BuiltLabels.{with_axes, labelling, axial, labels-build}
 use Rattle.law_build.proofs.RayStraight.{off-axis, beside-level}

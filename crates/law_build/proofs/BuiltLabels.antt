@@ -1,11 +1,11 @@
 -- Labels that the signs of finitely many forms determine, as a labelling; where they are plain or straight.
 use Rattle.std.proofs.Common.{◌≡◌, ℕ, ◌+◌, ◌≤◌, pos, arith, refl, ap, sym, ◌∙◌, ⊎_elim, List, ◌++◌, subst}
-use Rattle.law_arithmetic.proofs.Order.{sign}
-use Rattle.law_arithmetic.proofs.Lists.{lies-left, lies-right}
+use Rattle.nef_space.proofs.Order.{sign}
+use Rattle.nef_space.proofs.Lists.{lies-left, lies-right}
 use Rattle.nef_space.specs.Vectors.{Vector, IsDirection, cross, dot, IsZero, SameDirection, blend}
 use Rattle.nef_space.specs.declared.label.Label.{Label}
-use Rattle.law_forms.proofs.Far.{nought-or}
-use Rattle.law_forms.proofs.Directions.{zero-decided}
+use Rattle.law_near.proofs.Far.{nought-or}
+use Rattle.law_near.proofs.Directions.{zero-decided}
 use Rattle.law_sphere.specs.Maps.{Map, MapLabel, Valid}
 use Rattle.law_sphere.specs.Forms.{SameSigns, axes}
 use Rattle.law_sphere.specs.Least.{by_side, Least}
@@ -21,7 +21,7 @@ use Rattle.law_sphere.proofs.Lone.{near-same_signs}
 use Rattle.law_sphere.proofs.KindFlats.{in-span}
 use Rattle.law_sphere.proofs.Flips.{Axial, far_directed-by}
 use Rattle.law_sphere.proofs.BuiltLeast.{built-valid, built-least, built-labels}
-use Rattle.law_build.specs.Raw.{Of, IsLabelling}
+use Rattle.law_sphere.specs.Raw.{Of, IsLabelling}
 
 -- the forms with the axes, which tell directions
 abbrev pub with_axes : List Vector → List Vector

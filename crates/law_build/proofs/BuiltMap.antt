@@ -8,7 +8,7 @@ use Rattle.law_sphere.specs.Least.{Ordered}
 use Rattle.law_sphere.specs.Builds.{IsBuilt}
 use Rattle.law_sphere.proofs.Shot.{arc-at}
 use Rattle.law_sphere.proofs.Arcs.{sloop-at}
-use Rattle.law_build.specs.Raw.{RawMap, Of}
+use Rattle.law_sphere.specs.Raw.{RawMap, Of}
 use Rattle.law_build.specs.From.{svertex_at}
 use Rattle.law_build.proofs.BuiltAxes.{IsMade, kept-shows, kept-axis, kept-apart, svertex-star, star-svertex, smooth-off}
 use Rattle.law_build.proofs.BuiltArcs.{arc-normal, arc-lowest, arc-between, arc-proper, arc-labels, arc-passes_none, arcs-apart, arcs-all}

@@ -1,12 +1,12 @@
 -- The sloop that a builder makes: a circle with other labels beside it that no kept axis lies on.
 use Rattle.std.proofs.Common.{◌≡◌, ℕ, zero, pos, arith, refl, ap, sym, ◌∙◌, ◌⊎◌, inl, inr, ⊎_elim, List, subst, Some}
 use Rattle.std.proofs.lemmas.Int.{ints}
-use Rattle.law_arithmetic.proofs.Order.{sign, sign-plus, sign-minus}
+use Rattle.nef_space.proofs.Order.{sign, sign-plus, sign-minus}
 use Rattle.nef_space.specs.Vectors.{Vector, IsDirection, cross, dot, IsZero, SameDirection, IsNormal}
 use Rattle.nef_space.specs.declared.label.Label.{Label}
 use Rattle.law_cyclic.specs.Arcs.{IsOnCircle}
-use Rattle.law_forms.proofs.Far.{nought-or}
-use Rattle.law_forms.proofs.Directions.{self-pos, zero-decided}
+use Rattle.law_near.proofs.Far.{nought-or}
+use Rattle.law_near.proofs.Directions.{self-pos, zero-decided}
 use Rattle.law_near.proofs.Supports.{square-cross}
 use Rattle.law_sphere.specs.Vectors.{IsPrimitive}
 use Rattle.law_sphere.specs.Maps.{At, MapVertex, MapSloop, Map}
@@ -23,7 +23,7 @@ use Rattle.law_sphere.proofs.Arcs.{level-same}
 use Rattle.law_sphere.proofs.Kind.{away, away-dot}
 use Rattle.law_sphere.proofs.Along.{near-one, not-even}
 use Rattle.law_sphere.proofs.Flips.{directed-by, far_directed-by, straight-same_way, planes-parallel, sloop-along}
-use Rattle.law_build.specs.Raw.{RawMap, Of, ShowsLabels, IsBare}
+use Rattle.law_sphere.specs.Raw.{RawMap, Of, ShowsLabels, IsBare}
 use Rattle.law_build.specs.From.{svertex_at, sloop_at, IsSloopFrom, raw_sloop, straight_sloop}
 use Rattle.law_build.proofs.BuiltLabels.{with_axes, labelling, axial}
 use Rattle.law_build.proofs.RayStraight.{beside-level}

@@ -6,7 +6,7 @@ use Rattle.law_sphere.specs.Vectors.{VectorBelow}
 use Rattle.law_sphere.specs.Maps.{At}
 use Rattle.law_sphere.specs.Stars.{Star}
 use Rattle.law_sphere.specs.Labelling.{Near}
-use Rattle.law_build.specs.Raw.{RawMap, Of, ShowsLabels, IsBare, IsRawOf}
+use Rattle.law_sphere.specs.Raw.{RawMap, Of, ShowsLabels, IsBare, IsRawOf}
 use Rattle.law_build.specs.From.{IsKeptStar, IsKeptRaw}
 
 -- lists of one length have elements at the same places

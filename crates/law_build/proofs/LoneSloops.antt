@@ -11,7 +11,7 @@ use Rattle.law_sphere.proofs.Vectors.{normal-direction}
 use Rattle.law_sphere.proofs.Shot.{arc-at}
 use Rattle.law_sphere.proofs.Compare.{dir-self, SameDirection-turned}
 use Rattle.law_sphere.proofs.Arcs.{at-sloop, sloop-at, level-same, ends-of}
-use Rattle.law_build.specs.Raw.{RawMap, Of, IsBare}
+use Rattle.law_sphere.specs.Raw.{RawMap, Of, IsBare}
 use Rattle.law_build.specs.Overlays.{OnSvertex, IsAxis, NearByOp, IsMergedSloop, IsLoneSloop, Raw}
 use Rattle.law_build.proofs.SideLabels.{SidesAt, sides-at, own-item, joined-sides}
 use Rattle.law_build.proofs.Merged.{is-of, near-merged, straight-of, straight-one, off-first, off-second, one-plane}

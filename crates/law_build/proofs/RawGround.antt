@@ -9,7 +9,7 @@ use Rattle.law_sphere.specs.Labelling.{ByOp}
 use Rattle.law_sphere.proofs.Shot.{arc-at}
 use Rattle.law_sphere.proofs.Compare.{dir-self}
 use Rattle.law_sphere.proofs.Arcs.{sloop-at, ends-of}
-use Rattle.law_build.specs.Raw.{RawMap}
+use Rattle.law_sphere.specs.Raw.{RawMap}
 use Rattle.law_build.specs.Overlays.{OnSvertex, IsAxis, IsMergedGround, HasItem, Raw}
 use Rattle.law_build.specs.Laws.{RawShowsOp}
 use Rattle.law_build.proofs.Merged.{no-axis, raw-smooth, raw-shows}

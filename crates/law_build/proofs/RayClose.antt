@@ -1,12 +1,12 @@
 -- Close to a ray a star gives the ray's mark in the plane of the ray, and the labels of the sectors after and before it beside it.
 use Rattle.std.proofs.Common.{◌≡◌, ℕ, ◌≤◌, ℤ, pos, negsuc, ◌+ℤ◌, ◌-ℤ◌, ◌*ℤ◌, ◌<ℤ◌, arith, refl, ap, sym, ◌∙◌, inl, inr, List, [], ◌∷◌, subst}
 use Rattle.std.proofs.lemmas.Int.{ints}
-use Rattle.law_arithmetic.proofs.Ring.{ring, at, num, ◌⊕◌, ◌⊖◌, ◌⊗◌}
-use Rattle.law_arithmetic.proofs.Order.{sign, sign-plus, sign-minus, sign-scaled, by_order, nought-is}
+use Rattle.nef_space.proofs.Ring.{ring, at, num, ◌⊕◌, ◌⊖◌, ◌⊗◌}
+use Rattle.nef_space.proofs.Order.{sign, sign-plus, sign-minus, sign-scaled, by_order, nought-is}
 use Rattle.nef_space.specs.Vectors.{Vector, IsDirection, cross, triple, dot, SameDirection, blend}
 use Rattle.nef_space.specs.declared.label.Label.{Label}
 use Rattle.law_cyclic.specs.Arcs.{IsStrictlyOn}
-use Rattle.law_forms.proofs.Directions.{self-pos, dot-comm}
+use Rattle.law_near.proofs.Directions.{self-pos, dot-comm}
 use Rattle.law_near.proofs.Flats.{vector-same}
 use Rattle.law_near.proofs.FlatDecided.{triple-dot}
 use Rattle.law_sphere.specs.Maps.{At}
@@ -21,7 +21,7 @@ use Rattle.law_sphere.proofs.Flips.{dot-away, away-direction, reversed}
 use Rattle.law_sphere.proofs.ArcWays.{on-ahead}
 use Rattle.law_sphere.proofs.StarKinds.{across-side}
 use Rattle.law_sphere.proofs.Simplified.{ray-level, away-twice, last-of, before, next-ray}
-use Rattle.law_build.specs.Raw.{IsWellFormed}
+use Rattle.law_sphere.specs.Raw.{IsWellFormed}
 
 pub across-level : (d y : Vector) → dot d (across d y) ≡ pos 0
 across-level d y =

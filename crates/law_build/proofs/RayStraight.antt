@@ -1,12 +1,12 @@
 -- Close to a ray of a star that shows labels they are straight; where labels are straight close to an axis there is a ray.
 use Rattle.std.proofs.Common.{◌≡◌, ℕ, ◌+◌, ◌≤◌, pos, ◌+ℤ◌, ◌*ℤ◌, arith, ap, sym, ◌∙◌, ◌⊎◌, inl, inr, ⊎_elim, List, [], ◌∷◌, subst}
 use Rattle.std.proofs.lemmas.Int.{ints}
-use Rattle.law_arithmetic.proofs.Ring.{ring, at, num, ◌⊕◌, ◌⊖◌, ◌⊗◌}
-use Rattle.law_arithmetic.proofs.Lists.{each, lies-each}
-use Rattle.law_arithmetic.proofs.Order.{sign, sign-scaled}
+use Rattle.nef_space.proofs.Ring.{ring, at, num, ◌⊕◌, ◌⊖◌, ◌⊗◌}
+use Rattle.nef_space.proofs.Lists.{each, lies-each}
+use Rattle.nef_space.proofs.Order.{sign, sign-scaled}
 use Rattle.nef_space.specs.Vectors.{Vector, IsDirection, cross, triple, dot, SameDirection, blend}
 use Rattle.nef_space.specs.declared.label.Label.{Label}
-use Rattle.law_forms.proofs.Directions.{self-pos}
+use Rattle.law_near.proofs.Directions.{self-pos}
 use Rattle.law_near.proofs.Supports.{square-cross}
 use Rattle.law_sphere.specs.Maps.{At}
 use Rattle.law_sphere.specs.Forms.{Keeps, point_forms, arc_forms}
@@ -23,7 +23,7 @@ use Rattle.law_sphere.proofs.Along.{near-near, not-even}
 use Rattle.law_sphere.proofs.Flips.{directed-by, far_directed-by}
 use Rattle.law_sphere.proofs.StarKinds.{turn-ahead}
 use Rattle.law_sphere.proofs.Simplified.{across-same}
-use Rattle.law_build.specs.Raw.{Of, IsLabelling, ShowsLabels}
+use Rattle.law_sphere.specs.Raw.{Of, IsLabelling, ShowsLabels}
 use Rattle.law_build.proofs.BuiltLabels.{with_axes, labelling, axial}
 use Rattle.law_build.proofs.RayClose.{Close, across-level, ray-close}
 

@@ -1,9 +1,9 @@
 -- The labels of a map about a plane through a direction that lies on no svertex and on no item of another plane.
 use Rattle.std.proofs.Common.{◌≡◌, ℕ, ◌+◌, pos, arith, refl, ap, sym, ◌∙◌, subst}
-use Rattle.law_arithmetic.proofs.Order.{Sign, minus, nought, plus, sign}
+use Rattle.nef_space.proofs.Order.{Sign, minus, nought, plus, sign}
 use Rattle.nef_space.specs.Vectors.{Vector, IsDirection, cross, dot, IsZero, SameDirection, IsNormal}
 use Rattle.nef_space.specs.declared.label.Label.{Label}
-use Rattle.law_forms.proofs.Directions.{dot-comm}
+use Rattle.law_near.proofs.Directions.{dot-comm}
 use Rattle.law_cyclic.specs.Arcs.{IsOnCircle}
 use Rattle.law_sphere.specs.Maps.{At, MapVertex, MapSloop, Map, Item, sloop_item, items, item_normal, item_pos, item_mark, item_neg, OnItem, IsFree, MapLabel, on_item, NearLabel, Shaped, Valid}
 use Rattle.law_sphere.specs.Least.{by_side}

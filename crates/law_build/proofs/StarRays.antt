@@ -1,11 +1,11 @@
 -- At a straight direction the rays of a simplified star that is well formed go different ways, and two opposite ones make it a straight star.
 use Rattle.std.proofs.Common.{◌≡◌, ℕ, zero, suc, ◌<◌, pos, ◌-ℤ◌, ◌<ℤ◌, arith, refl, ap, sym, ◌∙◌, inl, ⊎_elim, List, [], ◌∷◌, subst, length, Bool, true, false, cond}
 use Rattle.std.proofs.lemmas.Int.{ints}
-use Rattle.law_arithmetic.proofs.Ring.{ring, at, num, ◌⊕◌, ◌⊖◌, ◌⊗◌}
-use Rattle.law_arithmetic.proofs.Order.{sign, sign-scaled, nought-is}
+use Rattle.nef_space.proofs.Ring.{ring, at, num, ◌⊕◌, ◌⊖◌, ◌⊗◌}
+use Rattle.nef_space.proofs.Order.{sign, sign-scaled, nought-is}
 use Rattle.nef_space.specs.Vectors.{Vector, IsDirection, cross, triple, dot, IsZero, SameDirection, IsOpposite}
 use Rattle.nef_space.specs.declared.label.Label.{Label}
-use Rattle.law_forms.proofs.Directions.{self-pos, dot-comm, dot-zero, zero-dot}
+use Rattle.law_near.proofs.Directions.{self-pos, dot-comm, dot-zero, zero-dot}
 use Rattle.law_near.proofs.FlatDecided.{cross-turned}
 use Rattle.law_sphere.specs.Vectors.{VectorBelow}
 use Rattle.law_sphere.specs.Maps.{At, Map, NearLabel, Valid}
@@ -21,7 +21,7 @@ use Rattle.law_sphere.proofs.Equal.{lowest-same}
 use Rattle.law_sphere.proofs.StarKinds.{across-side}
 use Rattle.law_sphere.proofs.Simplified.{ray-level, straight-level, not-even}
 use Rattle.law_sphere.proofs.StraightStars.{RaysApart, TwoRays, along-meet}
-use Rattle.law_build.specs.Raw.{sector_count, IsWellFormed}
+use Rattle.law_sphere.specs.Raw.{sector_count, IsWellFormed}
 use Rattle.law_build.proofs.RayClose.{across-level}
 use Rattle.law_build.proofs.RayStraight.{off-axis}
 use Rattle.law_build.proofs.StarSmooth.{beside-turn}

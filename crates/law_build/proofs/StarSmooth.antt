@@ -1,12 +1,12 @@
 -- Plain and straight stars that show labels, and the normals of rays.
 use Rattle.std.proofs.Common.{◌≡◌, zero, suc, ℤ, pos, negsuc, ◌+ℤ◌, ◌-ℤ◌, ◌*ℤ◌, arith, refl, ap, sym, ◌∙◌, inr, List, [], ◌∷◌, subst, length, Bool, true, false, cond}
 use Rattle.std.proofs.lemmas.Int.{ints}
-use Rattle.law_arithmetic.proofs.Ring.{ring, at, num, ◌⊕◌, ◌⊖◌, ◌⊗◌}
-use Rattle.law_arithmetic.proofs.Combination.{follows, given, none}
-use Rattle.law_arithmetic.proofs.Order.{sign, sign-scaled, nought-is}
+use Rattle.nef_space.proofs.Ring.{ring, at, num, ◌⊕◌, ◌⊖◌, ◌⊗◌}
+use Rattle.nef_space.proofs.Combination.{follows, given, none}
+use Rattle.nef_space.proofs.Order.{sign, sign-scaled, nought-is}
 use Rattle.nef_space.specs.Vectors.{Vector, IsDirection, cross, triple, dot, SameDirection, IsOpposite, IsNormal}
 use Rattle.nef_space.specs.declared.label.Label.{Label}
-use Rattle.law_forms.proofs.Directions.{self-pos, dot-comm, dot-zero}
+use Rattle.law_near.proofs.Directions.{self-pos, dot-comm, dot-zero}
 use Rattle.law_near.proofs.Flats.{vector-same}
 use Rattle.law_sphere.specs.Maps.{At}
 use Rattle.law_sphere.specs.Labelling.{Near, PlainAt, StraightAt}
@@ -18,7 +18,7 @@ use Rattle.law_sphere.proofs.Compare.{normals-not_opposite}
 use Rattle.law_sphere.proofs.Kind.{away}
 use Rattle.law_sphere.proofs.Flips.{dot-away}
 use Rattle.law_sphere.proofs.StarKinds.{straight_star-level, straight_star-normal, straight_star-label}
-use Rattle.law_build.specs.Raw.{Of, IsLabelling, ShowsLabels}
+use Rattle.law_sphere.specs.Raw.{Of, IsLabelling, ShowsLabels}
 use Rattle.law_build.proofs.BuiltLabels.{plain-from, straight-from}
 
 -- ---- plain and straight stars

@@ -8,7 +8,7 @@ use Rattle.law_sphere.specs.Maps.{At, MapVertex, Arc, MapSloop, Map}
 use Rattle.law_sphere.specs.Least.{InOrder, ArcBelow}
 use Rattle.law_sphere.specs.Stars.{Ray, Star, StarLabel, IsPlain, IsStraight, Follows, IsSimplified}
 use Rattle.law_sphere.specs.Builds.{Proper}
-use Rattle.law_build.specs.Raw.{RawMap, IsWellFormed, IsBare}
+use Rattle.law_sphere.specs.Raw.{RawMap, IsWellFormed, IsBare}
 
 -- s has t's axis and mark, and each label of t
 pub record IsKeptStar (t s : Star) : Type 0 where

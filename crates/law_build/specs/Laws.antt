@@ -7,7 +7,7 @@ use Rattle.law_sphere.specs.Forms.{forms}
 use Rattle.law_sphere.specs.Least.{Least, Ordered}
 use Rattle.law_sphere.specs.Labelling.{ByOp}
 use Rattle.law_sphere.specs.Builds.{IsBuilt, Kept}
-use Rattle.law_build.specs.Raw.{RawMap, Of, IsLabelling, IsRawOf}
+use Rattle.law_sphere.specs.Raw.{RawMap, Of, IsLabelling, IsRawOf}
 use Rattle.law_build.specs.Overlays.{Raw}
 use Rattle.law_build.specs.From.{IsKeptRaw, AreSimplified, IsBuiltFrom}
 

@@ -1,4 +1,3 @@
-pub mod Raw
 pub mod Overlays
 pub mod From
 pub mod Laws

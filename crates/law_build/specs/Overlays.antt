@@ -8,7 +8,7 @@ use Rattle.law_sphere.specs.Maps.{At, MapVertex, MapSloop, Item, Map, items, ite
 use Rattle.law_sphere.specs.Least.{InOrder}
 use Rattle.law_sphere.specs.Stars.{Star, StarLabel}
 use Rattle.law_sphere.specs.Labelling.{ByOp}
-use Rattle.law_build.specs.Raw.{RawMap, IsWellFormed}
+use Rattle.law_sphere.specs.Raw.{RawMap, IsWellFormed}
 
 -- d is a svertex of the map
 abbrev pub OnSvertex : Map → Vector → Type 0

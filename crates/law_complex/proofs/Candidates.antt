@@ -1,8 +1,8 @@
 -- A vertex of a combination of two sets is a vertex of one of them, or a cut of the one's edges by a carrier of the other in which that has something there: elsewhere some direction is flat for both.
 use Rattle.std.proofs.Common.{◌≡◌, ℕ, zero, suc, ◌+◌, ℤ, pos, ◌-ℤ◌, ◌*ℤ◌, arith, ap, ◌∙◌, ◌⊎◌, ◌↔◌, inl, inr, ⊎_elim, [], ◌∷◌, subst}
-use Rattle.law_arithmetic.specs.Signs.{nought, Lies}
-use Rattle.law_arithmetic.proofs.Ring.{ring, at, num, ◌⊕◌, ◌⊖◌, ◌⊗◌}
-use Rattle.law_arithmetic.proofs.Order.{nought-is}
+use Rattle.nef_space.specs.Signs.{nought, Lies}
+use Rattle.nef_space.proofs.Ring.{ring, at, num, ◌⊕◌, ◌⊖◌, ◌⊗◌}
+use Rattle.nef_space.proofs.Order.{nought-is}
 use Rattle.nef_space.specs.Local.{Flat, HasFlat, FlatDim, IsVertex}
 use Rattle.nef_space.specs.Place.{Place, Form, form_at, slope, toward, IsBetween}
 use Rattle.nef_space.specs.Sets.{Set}
@@ -16,8 +16,8 @@ use Rattle.law_near.proofs.Alike.{HasFlat-fewer}
 use Rattle.law_near.proofs.FlatDecided.{flat_dim-of}
 use Rattle.law_near.proofs.Supports.{edge-support, facet-support, flat-plane, square-cross}
 use Rattle.law_near.proofs.Even.{span-3}
-use Rattle.law_forms.proofs.Far.{nought-or}
-use Rattle.law_forms.proofs.Directions.{zero-decided}
+use Rattle.law_near.proofs.Far.{nought-or}
+use Rattle.law_near.proofs.Directions.{zero-decided}
 use Rattle.law_sphere.specs.Maps.{At}
 use Rattle.law_sphere.proofs.Parallel.{circle-point}
 use Rattle.law_sphere.proofs.KindFlats.{in-span}

@@ -1,10 +1,10 @@
 -- The labels of a map are the germs of the set that it shows; where the flat directions are those of a plane, germs look only at the sides of it.
 use Rattle.std.proofs.Common.{◌≡◌, ℕ, zero, suc, ◌<◌, ℤ, pos, negsuc, ◌+ℤ◌, ◌*ℤ◌, neg_ℤ, nat_abs, arith, refl, ap, sym, ◌∙◌, ⊎_elim, ◌↔◌, [], ◌∷◌, subst}
 use Rattle.std.proofs.lemmas.Int.{ints}
-use Rattle.law_arithmetic.specs.Signs.{Sign, minus, nought, plus, sign, sign_times}
-use Rattle.law_arithmetic.proofs.Ring.{ring, at, num, neg, ◌⊕◌, ◌⊖◌, ◌⊗◌}
-use Rattle.law_arithmetic.proofs.Combination.{given, none, follows}
-use Rattle.law_arithmetic.proofs.Order.{nought-is, sign-plus, sign-minus, sign_of_product, mul_pos}
+use Rattle.nef_space.specs.Signs.{Sign, minus, nought, plus, sign, sign_times}
+use Rattle.nef_space.proofs.Ring.{ring, at, num, neg, ◌⊕◌, ◌⊖◌, ◌⊗◌}
+use Rattle.nef_space.proofs.Combination.{given, none, follows}
+use Rattle.nef_space.proofs.Order.{nought-is, sign-plus, sign-minus, sign_of_product, mul_pos}
 use Rattle.nef_space.specs.Local.{HasLabel, Germ, Flat, HasFlat}
 use Rattle.nef_space.specs.Place.{Place, Form, form, slope}
 use Rattle.nef_space.specs.Sets.{Set}
@@ -17,8 +17,8 @@ use Rattle.law_near.proofs.Germs.{Germ-unique}
 use Rattle.law_near.proofs.Flats.{Flat-from_cone, FlatCone-from_flat, Germ-by_signs, slope-slide}
 use Rattle.law_near.proofs.Alike.{flat-germ}
 use Rattle.law_near.proofs.Supports.{square-cross}
-use Rattle.law_forms.proofs.Far.{nought-or}
-use Rattle.law_forms.proofs.Directions.{self-pos}
+use Rattle.law_near.proofs.Far.{nought-or}
+use Rattle.law_near.proofs.Directions.{self-pos}
 use Rattle.law_sphere.specs.Least.{by_side, Cone}
 use Rattle.law_sphere.specs.Maps.{Map, MapLabel, NearLabel}
 use Rattle.law_sphere.proofs.Vectors.{direction-by}

@@ -1,6 +1,6 @@
 -- The points of a set with one flat direction are those strictly between the ends of edges.
 use Rattle.std.proofs.Common.{◌≡◌, ℕ, zero, suc, pos, arith, refl, sym, inl, inr, ⊎_elim, ◌↔◌, subst}
-use Rattle.law_arithmetic.specs.Signs.{sign}
+use Rattle.nef_space.specs.Signs.{sign}
 use Rattle.nef_space.specs.Local.{HasLabel, Germ, Flat, FlatDim, IsVertex, IsEven}
 use Rattle.nef_space.specs.Place.{Place, toward, IsBetween}
 use Rattle.nef_space.specs.Sets.{Set}
@@ -19,9 +19,9 @@ use Rattle.law_near.proofs.Even.{germ-nearby, flat-toward, even-germs, labels-by
 use Rattle.law_near.proofs.FlatDecided.{flat_dim-of, near-by_signs, flat-by_signs, parallel-both, cross-turned}
 use Rattle.law_near.proofs.Between.{between-inner}
 use Rattle.law_near.proofs.Edges.{start, start-close, start-between, start-toward, even-until}
-use Rattle.law_forms.proofs.Near.{reach_all}
-use Rattle.law_forms.proofs.Directions.{direction-left}
-use Rattle.law_forms.proofs.Between.{between-same}
+use Rattle.law_near.proofs.Near.{reach_all}
+use Rattle.law_near.proofs.Directions.{direction-left}
+use Rattle.law_near.proofs.Mixed.{between-same}
 use Rattle.law_complex.proofs.Ways.{between-way, between-rest, between-outer, same-itself}
 use Rattle.law_sphere.proofs.Compare.{SameDirection-turned, SameDirection-trans, dir-self}
 use Rattle.law_sphere.proofs.Lists.{at-one}

@@ -1,13 +1,13 @@
 -- Equal points lie at the same places of a complex.
 use Rattle.std.proofs.Common.{◌≡◌, ℕ, ◌*◌, ◌≤◌, ℤ, pos, ◌*ℤ◌, neg_ℤ, nat_abs, arith, inl, inr, ⊎_elim, [], ◌∷◌, subst}
 use Rattle.std.proofs.lemmas.Int.{ints}
-use Rattle.law_arithmetic.proofs.Order.{mul_le_right, cancel_le}
-use Rattle.law_arithmetic.proofs.Ring.{ring, at, num, neg, ◌⊗◌}
+use Rattle.nef_space.proofs.Order.{mul_le_right, cancel_le}
+use Rattle.nef_space.proofs.Ring.{ring, at, num, neg, ◌⊗◌}
 use Rattle.nef_space.specs.Limits.{half_side}
 use Rattle.nef_space.specs.Place.{Place, Form, SamePlace, InClosedFrame, toward, IsAhead, IsBetween}
 use Rattle.nef_space.specs.Sets.{Set}
 use Rattle.nef_space.specs.Vectors.{Vector, SameDirection, opposite}
-use Rattle.law_forms.proofs.Between.{between-same}
+use Rattle.law_near.proofs.Mixed.{between-same}
 use Rattle.law_near.specs.Cells.{carriers}
 use Rattle.law_near.specs.Laws.{SameGerms}
 use Rattle.law_near.proofs.Alike.{germs-by_cell, Flat-by_germs, FlatDim-by_germs}

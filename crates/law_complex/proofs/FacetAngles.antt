@@ -2,14 +2,14 @@
 use Rattle.std.proofs.Common.{◌≡◌, ℕ, ◌+◌, ◌*◌, ◌<◌, ℤ, pos, ◌+ℤ◌, ◌-ℤ◌, ◌*ℤ◌, neg_ℤ, ◌<ℤ◌, ◌≤ℤ◌, nat_abs, arith, ap, sym, ◌∙◌, [], ◌∷◌}
 use Rattle.std.proofs.lemmas.Int.{ints}
 use Rattle.std.proofs.Math.Nat.{mul-pos}
-use Rattle.law_arithmetic.proofs.Ring.{ring, at, num, neg, ◌⊕◌, ◌⊖◌, ◌⊗◌, Poly}
-use Rattle.law_arithmetic.proofs.Combination.{given, none, follows, follows_times}
-use Rattle.law_arithmetic.proofs.Order.{mul_pos, mul_nonneg, cancel_lt, cancel_le}
+use Rattle.nef_space.proofs.Ring.{ring, at, num, neg, ◌⊕◌, ◌⊖◌, ◌⊗◌, Poly}
+use Rattle.nef_space.proofs.Combination.{given, none, follows, follows_times}
+use Rattle.nef_space.proofs.Order.{mul_pos, mul_nonneg, cancel_lt, cancel_le}
 use Rattle.nef_space.specs.Place.{Place, Form, form_at, slope, plane_through, toward, IsBetween}
 use Rattle.nef_space.specs.Vectors.{Vector, opposite, dot, cross, triple, IsZero, IsDirection, SameDirection}
-use Rattle.law_forms.specs.Homogeneous.{of_place, IsMixed}
-use Rattle.law_forms.proofs.Sums.{form-mix, form-sum, mixed-mix}
-use Rattle.law_forms.proofs.Directions.{self-pos, dot-zero}
+use Rattle.law_near.specs.Homogeneous.{of_place, IsMixed}
+use Rattle.law_near.proofs.Sums.{form-mix, form-sum, mixed-mix}
+use Rattle.law_near.proofs.Directions.{self-pos, dot-zero}
 use Rattle.law_near.proofs.FlatDecided.{triple-dot}
 use Rattle.law_near.proofs.Between.{mixed-of, between-of}
 use Rattle.law_sphere.proofs.Turning.{turns}

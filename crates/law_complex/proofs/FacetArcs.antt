@@ -1,14 +1,14 @@
 -- An arc that is met close to a svertex ends there, on the side on which it is met; and each arc that ends there is met close to it on its side.
 use Rattle.std.proofs.Common.{◌≡◌, ℕ, ◌≤◌, ℤ, pos, ◌<ℤ◌, arith, refl, ap, sym, ◌∙◌, inl, inr, ⊎_elim, [], ◌∷◌, subst}
 use Rattle.std.proofs.lemmas.Int.{ints}
-use Rattle.law_arithmetic.specs.Signs.{sign}
-use Rattle.law_arithmetic.proofs.Ring.{ring, at, num, ◌⊕◌, ◌⊖◌, ◌⊗◌}
-use Rattle.law_arithmetic.proofs.Order.{by_order}
+use Rattle.nef_space.specs.Signs.{sign}
+use Rattle.nef_space.proofs.Ring.{ring, at, num, ◌⊕◌, ◌⊖◌, ◌⊗◌}
+use Rattle.nef_space.proofs.Order.{by_order}
 use Rattle.nef_space.specs.Vectors.{Vector, blend, dot, cross, triple, IsDirection, SameDirection}
 use Rattle.law_cyclic.specs.Arcs.{IsOnCircle, IsStrictlyOn}
 use Rattle.law_near.proofs.FlatDecided.{triple-dot, cross-turned}
-use Rattle.law_forms.proofs.Far.{same-nought}
-use Rattle.law_forms.proofs.Directions.{self-pos, dot-zero, dot-comm, direction-left}
+use Rattle.law_near.proofs.Far.{same-nought}
+use Rattle.law_near.proofs.Directions.{self-pos, dot-zero, dot-comm, direction-left}
 use Rattle.law_sphere.specs.Forms.{Keeps, arc_forms, forms}
 use Rattle.law_sphere.specs.Maps.{At, MapVertex, Arc, Map, arc_item, items, dir_of, Shaped}
 use Rattle.law_sphere.proofs.Vectors.{triple-middle, normal-is, same-plus, same-minus}

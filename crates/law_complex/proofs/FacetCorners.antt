@@ -1,9 +1,9 @@
 -- Where the labels near a direction of a least map are the germs of a facet point, an item of the facet's plane lies at that direction.
 use Rattle.std.proofs.Common.{◌≡◌, ℕ, ◌+◌, ◌≤◌, pos, ◌+ℤ◌, ◌*ℤ◌, arith, refl, ap, sym, ◌∙◌, inr, ⊎_elim, [], ◌∷◌, subst}
 use Rattle.std.proofs.lemmas.Int.{ints}
-use Rattle.law_arithmetic.specs.Signs.{sign}
-use Rattle.law_arithmetic.proofs.Ring.{ring, at, num, ◌⊕◌, ◌⊗◌}
-use Rattle.law_arithmetic.proofs.Order.{sign-scaled}
+use Rattle.nef_space.specs.Signs.{sign}
+use Rattle.nef_space.proofs.Ring.{ring, at, num, ◌⊕◌, ◌⊗◌}
+use Rattle.nef_space.proofs.Order.{sign-scaled}
 use Rattle.nef_space.specs.Local.{HasLabel, Germ, FlatDim}
 use Rattle.nef_space.specs.Place.{Place}
 use Rattle.nef_space.specs.Sets.{Set}
@@ -11,8 +11,8 @@ use Rattle.nef_space.specs.Vectors.{Vector, zero_vector, opposite, blend, dot, I
 use Rattle.nef_space.specs.declared.label.Label.{Label}
 use Rattle.law_near.proofs.Decided.{label_of, germ_of}
 use Rattle.law_near.proofs.Rays.{Germ-zero}
-use Rattle.law_forms.proofs.Far.{nought-or, same-nought, same-off}
-use Rattle.law_forms.proofs.Directions.{dot-zero}
+use Rattle.law_near.proofs.Far.{nought-or, same-nought, same-off}
+use Rattle.law_near.proofs.Directions.{dot-zero}
 use Rattle.law_sphere.specs.Forms.{SameSigns, forms}
 use Rattle.law_sphere.specs.Least.{by_side, NearStraight, Least}
 use Rattle.law_sphere.specs.Maps.{At, Map, Item, items, item_normal, item_pos, item_mark, item_neg, OnItem, MapLabel, NearLabel, Valid}

@@ -1,10 +1,10 @@
 -- Beside an edge point: the labels of its lower end near the edge are the germs close to it; and turned ways.
 use Rattle.std.proofs.Common.{◌≡◌, ℕ, ℤ, pos, ◌-ℤ◌, ◌*ℤ◌, ◌+ℤ◌, neg_ℤ, ◌<ℤ◌, arith, sym, ◌∙◌, inl, inr, ⊎_elim, [], ◌∷◌, subst}
 use Rattle.std.proofs.lemmas.Int.{ints}
-use Rattle.law_arithmetic.specs.Signs.{sign}
-use Rattle.law_arithmetic.proofs.Ring.{ring, at, num, neg, ◌⊕◌, ◌⊖◌, ◌⊗◌}
-use Rattle.law_arithmetic.proofs.Combination.{given, none, follows}
-use Rattle.law_arithmetic.proofs.Order.{by_order}
+use Rattle.nef_space.specs.Signs.{sign}
+use Rattle.nef_space.proofs.Ring.{ring, at, num, neg, ◌⊕◌, ◌⊖◌, ◌⊗◌}
+use Rattle.nef_space.proofs.Combination.{given, none, follows}
+use Rattle.nef_space.proofs.Order.{by_order}
 use Rattle.nef_space.specs.Local.{Germ, Flat, FlatDim}
 use Rattle.nef_space.specs.Place.{Place, SamePlace, toward, IsBetween}
 use Rattle.nef_space.specs.Sets.{Set}
@@ -14,7 +14,7 @@ use Rattle.law_near.specs.Laws.{SameGerms}
 use Rattle.law_near.proofs.Alike.{FlatDim-by_germs, FlatDim-one}
 use Rattle.law_near.proofs.Flats.{FlatCone-from_flat, vector-same}
 use Rattle.law_near.proofs.FlatDecided.{near-of_flat}
-use Rattle.law_forms.proofs.Directions.{factor-same, direction-left, direction-right}
+use Rattle.law_near.proofs.Directions.{factor-same, direction-left, direction-right}
 use Rattle.law_sphere.specs.Forms.{forms}
 use Rattle.law_sphere.specs.Maps.{At, MapVertex, Arc, Item, arc_item, sloop_item, items, item_normal, dir_of, OnItem, NearLabel, Valid}
 use Rattle.law_sphere.proofs.Vectors.{normal-direction, dot-comb, same-plus, same-minus}

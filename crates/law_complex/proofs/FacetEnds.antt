@@ -1,8 +1,8 @@
 -- What a ray within a facet first meets has an item of the facet's plane on the ray's side; and where such an item lies behind what is first met, the point lies in a facet.
 use Rattle.std.proofs.Common.{◌≡◌, ℕ, pos, neg_ℤ, arith, refl, sym, ◌∙◌, ⊎_elim, [], ◌∷◌, subst}
 use Rattle.std.proofs.lemmas.Int.{ints}
-use Rattle.law_arithmetic.specs.Signs.{sign}
-use Rattle.law_arithmetic.proofs.Ring.{ring, at, neg, ◌⊕◌, ◌⊗◌}
+use Rattle.nef_space.specs.Signs.{sign}
+use Rattle.nef_space.proofs.Ring.{ring, at, neg, ◌⊕◌, ◌⊗◌}
 use Rattle.nef_space.specs.Local.{HasLabel, Germ, Flat, FlatDim}
 use Rattle.nef_space.specs.Place.{Place, Form, form_at, normal_of, slope, SamePlace, toward, IsBetween}
 use Rattle.nef_space.specs.Sets.{Set}
@@ -12,8 +12,8 @@ use Rattle.law_near.proofs.FlatDecided.{cross-turned}
 use Rattle.law_near.proofs.Even.{even-germs}
 use Rattle.law_near.proofs.Between.{between-turned, between-inner}
 use Rattle.law_near.proofs.Edges.{flat_way-end, even-until}
-use Rattle.law_forms.proofs.Between.{between-same}
-use Rattle.law_forms.proofs.Directions.{dot-comm, direction-left, direction-right}
+use Rattle.law_near.proofs.Mixed.{between-same}
+use Rattle.law_near.proofs.Directions.{dot-comm, direction-left, direction-right}
 use Rattle.law_sphere.specs.Least.{by_side}
 use Rattle.law_sphere.specs.Maps.{At, Item, arc_item, items, item_normal, item_pos, item_mark, item_neg, dir_of}
 use Rattle.law_sphere.proofs.Lists.{at-one}

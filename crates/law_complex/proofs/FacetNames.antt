@@ -3,8 +3,8 @@ use Rattle.std.proofs.Common.{◌≡◌, ℤ, pos, ◌*ℤ◌, ◌<ℤ◌, arith
 use Rattle.std.proofs.lemmas.Int.{ints}
 use Rattle.std.specs.Ordering.{int_eq}
 use Rattle.std.proofs.lemmas.Bool.Decides.{Decides-int_eq}
-use Rattle.law_arithmetic.proofs.Ring.{ring, at, num, neg, ◌⊕◌, ◌⊗◌}
-use Rattle.law_arithmetic.proofs.Order.{mul_nonneg, mul_pos}
+use Rattle.nef_space.proofs.Ring.{ring, at, num, neg, ◌⊕◌, ◌⊗◌}
+use Rattle.nef_space.proofs.Order.{mul_nonneg, mul_pos}
 use Rattle.nef_space.specs.Local.{Flat, FlatDim}
 use Rattle.nef_space.specs.Place.{Place, Form, form_at, normal_of, slope, plane_through, toward}
 use Rattle.nef_space.specs.Sets.{Set}
@@ -12,9 +12,9 @@ use Rattle.nef_space.specs.Vectors.{Vector, vector, opposite, dot, IsDirection, 
 use Rattle.law_near.proofs.Flats.{vector-same}
 use Rattle.law_near.proofs.Supports.{flat-plane}
 use Rattle.law_near.proofs.Between.{between-turned}
-use Rattle.law_forms.proofs.Far.{nought-or}
-use Rattle.law_forms.proofs.Directions.{dot-zero}
-use Rattle.law_forms.proofs.Between.{place-toward}
+use Rattle.law_near.proofs.Far.{nought-or}
+use Rattle.law_near.proofs.Directions.{dot-zero}
+use Rattle.law_near.proofs.Mixed.{place-toward}
 use Rattle.law_sphere.specs.Maps.{Item, item_normal, OnItem}
 use Rattle.law_sphere.proofs.Vectors.{normal-direction}
 use Rattle.law_sphere.proofs.Forms.{on-level}
@@ -32,6 +32,7 @@ use Rattle.law_complex.proofs.Planes.{plane-way}
 use Rattle.law_complex.proofs.Ways.{same-itself}
 use Rattle.law_complex.proofs.FacetWays.{two-off}
 use Rattle.law_complex.proofs.FacetPoints.{facet-point}
+use Rattle.law_complex.proofs.Skeletons.{FacetAt}
 use Rattle.law_complex.proofs.FacetEnds.{item-seen, facet-behind}
 use Rattle.law_complex.proofs.FacetAngles.{through-at, through-slope}
 use Rattle.law_complex.proofs.FacetSight.{sees-vertex}
@@ -143,3 +144,7 @@ module _ (s : Set) (C : Complex) (S : Shows s C) where
           let on = through-at n y y ∙ dot-zero n (toward y y) (place-toward y y (same-itself y)) in
           let B = beside h (normal-scaled n (pos y.w) (weight y) N) y on (f, flats-through s y y n flat) in
           (B.corner, B.vertex, B.item, B.is_corner, B.facet_point)
+
+-- the law of facet points
+pub facet-at : (s : Set) (C : Complex) → Shows s C → FacetAt s C
+facet-at s C S k v x y c F = let p = facet-point s C S k v x y c F in (p.dim, p.flat, p.label, p.sided)

@@ -1,12 +1,12 @@
 -- The points of a facet: from the item beside it on, two directions are flat, and the labels are those of the item.
-use Rattle.law_arithmetic.specs.Signs.{sign}
+use Rattle.nef_space.specs.Signs.{sign}
 use Rattle.nef_space.specs.Local.{HasLabel, Flat, FlatDim}
 use Rattle.nef_space.specs.Place.{Place, toward, IsBetween}
 use Rattle.nef_space.specs.Sets.{Set}
 use Rattle.nef_space.specs.Vectors.{Vector, dot, IsDirection, SameDirection}
 use Rattle.law_near.specs.Laws.{SameGerms, Drop}
 use Rattle.law_near.proofs.Even.{even-germs}
-use Rattle.law_forms.proofs.Directions.{direction-right}
+use Rattle.law_near.proofs.Directions.{direction-right}
 use Rattle.law_sphere.specs.Least.{by_side}
 use Rattle.law_sphere.specs.Maps.{Item, item_normal, item_pos, item_mark, item_neg, OnItem}
 use Rattle.law_sphere.proofs.Vectors.{normal-is}

@@ -1,10 +1,10 @@
 -- Germs by the sides of a plane: where they aren't all one, the flat directions are those of the plane, and two planes with these flat directions are one.
 use Rattle.std.proofs.Common.{◌≡◌, pos, ◌*ℤ◌, neg_ℤ, arith, refl, ap, sym, ◌∙◌, ⊎_elim, [], ◌∷◌, subst}
 use Rattle.std.proofs.lemmas.Int.{ints}
-use Rattle.law_arithmetic.specs.Signs.{Sign, minus, nought, plus, sign}
-use Rattle.law_arithmetic.proofs.Ring.{ring, at, num, neg, ◌⊕◌, ◌⊖◌, ◌⊗◌}
-use Rattle.law_arithmetic.proofs.Combination.{given, none, follows}
-use Rattle.law_arithmetic.proofs.Order.{sign-plus, sign-minus}
+use Rattle.nef_space.specs.Signs.{Sign, minus, nought, plus, sign}
+use Rattle.nef_space.proofs.Ring.{ring, at, num, neg, ◌⊕◌, ◌⊖◌, ◌⊗◌}
+use Rattle.nef_space.proofs.Combination.{given, none, follows}
+use Rattle.nef_space.proofs.Order.{sign-plus, sign-minus}
 use Rattle.nef_space.specs.Local.{HasLabel, Germ, Flat, HasFlat, FlatDim}
 use Rattle.nef_space.specs.Place.{Place}
 use Rattle.nef_space.specs.Sets.{Set}
@@ -16,8 +16,8 @@ use Rattle.law_near.proofs.Germs.{Germ-unique}
 use Rattle.law_near.proofs.Alike.{flat-germ, Flat-by_germs}
 use Rattle.law_near.proofs.Even.{span-3}
 use Rattle.law_near.proofs.Supports.{flat-plane, square-cross}
-use Rattle.law_forms.proofs.Far.{nought-or, same-nought}
-use Rattle.law_forms.proofs.Directions.{self-pos, dot-zero, dot-comm, direction-left}
+use Rattle.law_near.proofs.Far.{nought-or, same-nought}
+use Rattle.law_near.proofs.Directions.{self-pos, dot-zero, dot-comm, direction-left}
 use Rattle.law_sphere.specs.Least.{by_side}
 use Rattle.law_sphere.proofs.Shot.{product-off}
 use Rattle.law_sphere.proofs.Vectors.{normal-direction}

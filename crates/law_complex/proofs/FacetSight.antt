@@ -1,8 +1,8 @@
 -- Each facet point sees a vertex: of the vertices in the triangle with a point of an edge that it sees and an end of the edge, it sees that of the least angle or one before it.
 use Rattle.std.proofs.Common.{◌≡◌, ℕ, zero, suc, ℤ, pos, ◌<ℤ◌, ◌≤ℤ◌, arith, refl, ap, sym, ◌∙◌, ◌⊎◌, inl, inr, ⊎_elim, List, [], ◌∷◌, subst}
 use Rattle.std.proofs.lemmas.Int.{ints}
-use Rattle.law_arithmetic.specs.Signs.{sign}
-use Rattle.law_arithmetic.proofs.Order.{by_order, nought-is}
+use Rattle.nef_space.specs.Signs.{sign}
+use Rattle.nef_space.proofs.Order.{by_order, nought-is}
 use Rattle.nef_space.specs.Local.{FlatDim}
 use Rattle.nef_space.specs.Place.{Place, Form, form_at, normal_of, SamePlace, toward, IsBetween}
 use Rattle.nef_space.specs.Sets.{Set}
@@ -14,9 +14,9 @@ use Rattle.law_near.proofs.FlatDecided.{cross-turned, triple-dot}
 use Rattle.law_near.proofs.Even.{span-1}
 use Rattle.law_near.proofs.Between.{between-turned}
 use Rattle.law_near.proofs.Edges.{even-until, flat_way-end}
-use Rattle.law_forms.proofs.Between.{between-same, place-toward, toward-place}
-use Rattle.law_forms.proofs.Directions.{dot-zero, direction-left}
-use Rattle.law_forms.proofs.Far.{nought-or}
+use Rattle.law_near.proofs.Mixed.{between-same, place-toward, toward-place}
+use Rattle.law_near.proofs.Directions.{dot-zero, direction-left}
+use Rattle.law_near.proofs.Far.{nought-or}
 use Rattle.law_sphere.specs.Maps.{At}
 use Rattle.law_sphere.proofs.Vectors.{positive-or, same-plus}
 use Rattle.law_sphere.proofs.Parallel.{parallel-in_plane, circle-point}

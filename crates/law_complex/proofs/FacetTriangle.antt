@@ -1,8 +1,8 @@
 -- No edge enters the triangle of a facet point, a point of an edge that it sees and an end of that edge, unless it has an end in the triangle.
 use Rattle.std.proofs.Common.{◌≡◌, ℕ, ℤ, pos, ◌-ℤ◌, ◌*ℤ◌, ◌<ℤ◌, ◌≤ℤ◌, arith, ap, sym, ◌∙◌, ◌⊎◌, inl, inr, ⊎_elim, [], ◌∷◌, subst}
 use Rattle.std.proofs.lemmas.Int.{ints}
-use Rattle.law_arithmetic.proofs.Ring.{ring, at, num, ◌⊖◌, ◌⊗◌}
-use Rattle.law_arithmetic.proofs.Order.{mul_pos, by_order}
+use Rattle.nef_space.proofs.Ring.{ring, at, num, ◌⊖◌, ◌⊗◌}
+use Rattle.nef_space.proofs.Order.{mul_pos, by_order}
 use Rattle.nef_space.specs.Local.{Flat, FlatDim}
 use Rattle.nef_space.specs.Place.{Place, Form, form_at, normal_of, slope, SamePlace, toward, IsBetween}
 use Rattle.nef_space.specs.Sets.{Set}
@@ -13,9 +13,9 @@ use Rattle.law_near.proofs.Alike.{germs-by_cell, FlatDim-one, Flat-by_germs}
 use Rattle.law_near.proofs.FlatDecided.{triple-dot}
 use Rattle.law_near.proofs.Even.{even-germs, span-1}
 use Rattle.law_near.proofs.Between.{between-turned, between-inner}
-use Rattle.law_forms.proofs.Near.{slope-toward}
-use Rattle.law_forms.proofs.Between.{toward-place}
-use Rattle.law_forms.proofs.Directions.{dot-zero, zero-decided, direction-right}
+use Rattle.law_near.proofs.Near.{slope-toward}
+use Rattle.law_near.proofs.Mixed.{toward-place}
+use Rattle.law_near.proofs.Directions.{dot-zero, zero-decided, direction-right}
 use Rattle.law_sphere.specs.Maps.{At}
 use Rattle.law_sphere.proofs.Parallel.{parallel-in_plane}
 use Rattle.law_sphere.proofs.Compare.{SameDirection-turned, SameDirection-trans}

@@ -2,8 +2,8 @@
 use Rattle.std.proofs.Common.{◌≡◌, ℕ, zero, suc, ℤ, pos, ◌-ℤ◌, ◌*ℤ◌, arith, sym, ◌∙◌, inl, inr, ⊎_elim, [], ◌∷◌, subst}
 use Rattle.std.proofs.lemmas.Int.{ints}
 use Rattle.std.proofs.lemmas.Bool.{cases_order}
-use Rattle.law_arithmetic.proofs.Ring.{at, num, ◌⊖◌, ◌⊗◌}
-use Rattle.law_arithmetic.proofs.Combination.{given, none, follows_times}
+use Rattle.nef_space.proofs.Ring.{at, num, ◌⊖◌, ◌⊗◌}
+use Rattle.nef_space.proofs.Combination.{given, none, follows_times}
 use Rattle.nef_space.specs.Local.{Flat, FlatDim, IsEven}
 use Rattle.nef_space.specs.Place.{Place, Form, form_at, normal_of, slope, SamePlace, toward, IsBetween}
 use Rattle.nef_space.specs.Sets.{Set}
@@ -18,8 +18,8 @@ use Rattle.law_near.proofs.FlatDecided.{flat_dim-of}
 use Rattle.law_near.proofs.Skeleton.{flat_dim-nearby}
 use Rattle.law_near.proofs.Between.{between-turned, between-inner}
 use Rattle.law_near.proofs.Edges.{start, start-close, start-between, even-until}
-use Rattle.law_forms.proofs.Near.{reach_all, slope-toward}
-use Rattle.law_forms.proofs.Between.{toward-place, place-toward}
+use Rattle.law_near.proofs.Near.{reach_all, slope-toward}
+use Rattle.law_near.proofs.Mixed.{toward-place, place-toward}
 use Rattle.law_sphere.specs.Maps.{At}
 use Rattle.law_sphere.proofs.Compare.{SameDirection-turned}
 use Rattle.law_complex.specs.Complexes.{Vertex, Edge, Complex, HasEnds}

@@ -2,8 +2,8 @@
 use Rattle.std.proofs.Common.{◌≡◌, ℕ, ◌<◌, ℤ, pos, ◌-ℤ◌, ◌*ℤ◌, neg_ℤ, arith, refl, ap, sym, ◌∙◌, ◌⊎◌, inl, inr, ⊎_elim, [], ◌∷◌, subst}
 use Rattle.std.proofs.lemmas.Int.{ints}
 use Rattle.std.proofs.lemmas.Bool.{cases_order}
-use Rattle.law_arithmetic.specs.Signs.{Sign, minus, nought, plus, sign}
-use Rattle.law_arithmetic.proofs.Ring.{ring, at, num, neg, ◌⊕◌, ◌⊖◌, ◌⊗◌}
+use Rattle.nef_space.specs.Signs.{Sign, minus, nought, plus, sign}
+use Rattle.nef_space.proofs.Ring.{ring, at, num, neg, ◌⊕◌, ◌⊖◌, ◌⊗◌}
 use Rattle.nef_space.specs.Local.{Germ, FlatDim, IsVertex}
 use Rattle.nef_space.specs.Place.{Place, SamePlace, toward, IsBetween}
 use Rattle.nef_space.specs.Sets.{Set}
@@ -14,9 +14,9 @@ use Rattle.law_near.proofs.Alike.{FlatDim-one, FlatDim-by_germs, germs-by_cell, 
 use Rattle.law_near.proofs.Even.{span-1}
 use Rattle.law_near.proofs.Between.{between-turned, ray-cell}
 use Rattle.law_near.specs.Cells.{carriers}
-use Rattle.law_forms.proofs.Near.{reach_all}
-use Rattle.law_forms.proofs.Directions.{direction-right, zero-decided, self-pos}
-use Rattle.law_forms.proofs.Between.{between-same, toward-place, place-toward}
+use Rattle.law_near.proofs.Near.{reach_all}
+use Rattle.law_near.proofs.Directions.{direction-right, zero-decided, self-pos}
+use Rattle.law_near.proofs.Mixed.{between-same, toward-place, place-toward}
 use Rattle.law_near.proofs.Rays.{same-place_sym, signs-same}
 use Rattle.law_near.proofs.Edges.{start-close, flat_way-end, edge-around}
 use Rattle.law_near.specs.Laws.{WayEnd}

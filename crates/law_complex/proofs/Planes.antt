@@ -1,11 +1,11 @@
 -- Forms of one plane are nought at the same points and along the same directions.
 use Rattle.std.proofs.Common.{◌≡◌, ℤ, pos, ◌+ℤ◌, ◌*ℤ◌, sym, ◌∙◌, ⊎_elim, [], ◌∷◌}
-use Rattle.law_arithmetic.proofs.Ring.{ring, at, num, ◌⊕◌, ◌⊖◌, ◌⊗◌}
-use Rattle.law_arithmetic.proofs.Combination.{given, none, follows}
+use Rattle.nef_space.proofs.Ring.{ring, at, num, ◌⊕◌, ◌⊖◌, ◌⊗◌}
+use Rattle.nef_space.proofs.Combination.{given, none, follows}
 use Rattle.nef_space.specs.Place.{Place, Form, form_at, slope, toward}
 use Rattle.nef_space.specs.Vectors.{Vector}
-use Rattle.law_forms.proofs.Far.{nought-or}
-use Rattle.law_forms.proofs.Directions.{square_pos}
+use Rattle.law_near.proofs.Far.{nought-or}
+use Rattle.law_near.proofs.Directions.{square_pos}
 use Rattle.law_sphere.proofs.Shot.{product-off}
 use Rattle.law_complex.specs.Shows.{SamePlane}
 

@@ -1,9 +1,9 @@
 -- The skeleton points of a complex that shows a set are those where not all directions are flat; the labels between them are theirs.
 use Rattle.std.proofs.Common.{◌≡◌, ℕ, zero, suc, ◌<◌, ℤ, pos, ◌+ℤ◌, ◌*ℤ◌, arith, refl, ap, sym, ◌∙◌, ◌⊎◌, inl, inr, ⊎_elim, ◌↔◌, List, [], ◌∷◌, subst}
 use Rattle.std.proofs.lemmas.Int.{ints}
-use Rattle.law_arithmetic.specs.Signs.{Sign, minus, nought, plus, sign}
-use Rattle.law_arithmetic.proofs.Order.{sign-plus, sign-minus, by_order}
-use Rattle.law_arithmetic.proofs.Ring.{ring, at, num, ◌⊕◌, ◌⊗◌}
+use Rattle.nef_space.specs.Signs.{Sign, minus, nought, plus, sign}
+use Rattle.nef_space.proofs.Order.{sign-plus, sign-minus, by_order}
+use Rattle.nef_space.proofs.Ring.{ring, at, num, ◌⊕◌, ◌⊗◌}
 use Rattle.nef_space.specs.Local.{HasLabel, Germ, Flat, FlatDim, IsEven}
 use Rattle.nef_space.specs.Place.{Place, SamePlace, InFrame, InClosedFrame, toward, IsAhead, IsBetween}
 use Rattle.nef_space.specs.Sets.{Set, Holds}
@@ -22,9 +22,9 @@ use Rattle.law_near.proofs.Even.{even-germs, labels-by_germs, span-3}
 use Rattle.law_near.proofs.FlatDecided.{flat_dim-of}
 use Rattle.law_near.proofs.Between.{between-turned, between-inner}
 use Rattle.law_near.proofs.Edges.{start-close, start-toward, even-until, beyond, halfway, halfway-between, halfway-outside, leads, leads-somewhere, way_factor, way_factor-some}
-use Rattle.law_forms.proofs.Near.{reach_all}
-use Rattle.law_forms.proofs.Between.{toward-place, place-toward}
-use Rattle.law_forms.proofs.Directions.{factor-same, direction-left}
+use Rattle.law_near.proofs.Near.{reach_all}
+use Rattle.law_near.proofs.Mixed.{toward-place, place-toward}
+use Rattle.law_near.proofs.Directions.{factor-same, direction-left}
 use Rattle.law_sphere.specs.Least.{by_side}
 use Rattle.law_sphere.specs.Maps.{At, MapVertex, Item, items, item_normal, item_pos, item_mark, item_neg, dir_of, MapLabel, NearLabel}
 use Rattle.law_sphere.proofs.Labels.{label-exists, near-exists}

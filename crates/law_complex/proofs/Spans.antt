@@ -1,18 +1,18 @@
 -- An edge point lies between its ends, and a facet point between the ends of two opposite ways in its plane; so what bounds the vertices of a plane bounds both. And y and z hardly change along the upward direction.
 use Rattle.std.proofs.Common.{◌≡◌, ℕ, ◌*◌, ◌<◌, ℤ, pos, neg_ℤ, ◌+ℤ◌, ◌-ℤ◌, ◌*ℤ◌, ◌<ℤ◌, ◌≤ℤ◌, arith, [], ◌∷◌, subst}
 use Rattle.std.proofs.lemmas.Int.{ints}
-use Rattle.law_arithmetic.proofs.Ring.{ring, at, num, neg, ◌⊕◌, ◌⊖◌, ◌⊗◌}
-use Rattle.law_arithmetic.proofs.Combination.{given, none, follows, follows_times}
-use Rattle.law_arithmetic.proofs.Order.{mul_nonneg, mul_le_right, cancel_le}
+use Rattle.nef_space.proofs.Ring.{ring, at, num, neg, ◌⊕◌, ◌⊖◌, ◌⊗◌}
+use Rattle.nef_space.proofs.Combination.{given, none, follows, follows_times}
+use Rattle.nef_space.proofs.Order.{mul_nonneg, mul_le_right, cancel_le}
 use Rattle.nef_space.specs.Local.{Flat}
 use Rattle.nef_space.specs.Place.{Place, Form, form, form_at, slope, SamePlace, InClosedFrame, toward, IsAhead, IsBetween}
 use Rattle.nef_space.specs.Sets.{Set}
 use Rattle.nef_space.specs.Vectors.{Vector, opposite, cross, IsZero, IsDirection, SameDirection, up}
 use Rattle.law_near.proofs.Between.{mixed-of}
 use Rattle.law_near.proofs.Edges.{flat_way-end}
-use Rattle.law_forms.specs.Homogeneous.{of_place}
-use Rattle.law_forms.proofs.Sums.{form-sum}
-use Rattle.law_forms.proofs.Directions.{direction-left}
+use Rattle.law_near.specs.Homogeneous.{of_place}
+use Rattle.law_near.proofs.Sums.{form-sum}
+use Rattle.law_near.proofs.Directions.{direction-left}
 use Rattle.law_sphere.specs.Maps.{At}
 use Rattle.law_sphere.proofs.Lists.{at-one}
 use Rattle.law_sphere.proofs.Compare.{SameDirection-turned, SameDirection-trans}

@@ -1,15 +1,15 @@
 -- Directions from point to point along a segment.
 use Rattle.std.proofs.Common.{◌≡◌, ℕ, ◌*◌, ℤ, pos, neg_ℤ, ◌+ℤ◌, ◌-ℤ◌, ◌*ℤ◌, arith, refl, ◌⊎◌, inl, inr, ⊎_elim, [], ◌∷◌}
 use Rattle.std.proofs.Math.Nat.{mul-pos}
-use Rattle.law_arithmetic.proofs.Ring.{ring, at, num, neg, ◌⊕◌, ◌⊖◌, ◌⊗◌}
+use Rattle.nef_space.proofs.Ring.{ring, at, num, neg, ◌⊕◌, ◌⊖◌, ◌⊗◌}
 use Rattle.std.proofs.lemmas.Int.{ints}
-use Rattle.law_arithmetic.proofs.Combination.{given, none, follows}
+use Rattle.nef_space.proofs.Combination.{given, none, follows}
 use Rattle.nef_space.specs.Place.{Place, step, SamePlace, toward, IsBetween}
 use Rattle.nef_space.specs.Vectors.{Vector, opposite, SameDirection, IsDirection}
-use Rattle.law_forms.specs.Homogeneous.{SameUpToFactor, of_place, of_direction}
-use Rattle.law_forms.proofs.Between.{from-start, place-factor, factor-place}
-use Rattle.law_forms.proofs.Sums.{same-trans, past-mixed, before-at-after}
-use Rattle.law_forms.proofs.Directions.{same-factor, factor-same, direction-left, direction-right}
+use Rattle.law_near.specs.Homogeneous.{SameUpToFactor, of_place, of_direction}
+use Rattle.law_near.proofs.Mixed.{from-start, place-factor, factor-place}
+use Rattle.law_near.proofs.Sums.{same-trans, past-mixed, before-at-after}
+use Rattle.law_near.proofs.Directions.{same-factor, factor-same, direction-left, direction-right}
 use Rattle.law_near.proofs.Between.{mixed-of, between-of, between-turned, between-inner}
 use Rattle.law_sphere.proofs.Compare.{SameDirection-turned, SameDirection-trans}
 

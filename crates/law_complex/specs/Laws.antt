@@ -1,6 +1,6 @@
 -- What is proved of complexes that show a set, each as one statement that a function's contract cites.
 use Rattle.std.specs.Prelude.{◌≡◌, ℕ, pos, ◌⊎◌, ◌↔◌}
-use Rattle.law_arithmetic.specs.Signs.{sign}
+use Rattle.nef_space.specs.Signs.{sign}
 use Rattle.nef_space.specs.Place.{Place, Form, form_at, normal_of, slope, SamePlace, InFrame, toward, IsBetween}
 use Rattle.nef_space.specs.Vectors.{Vector, IsDirection, IsNormal, IsZero, cross, dot, opposite}
 use Rattle.nef_space.specs.Sets.{Set, Holds}

@@ -1,6 +1,6 @@
 -- When a complex shows a set.
 use Rattle.std.specs.Prelude.{◌≡◌, ℕ, ◌*ℤ◌, List}
-use Rattle.law_arithmetic.specs.Signs.{Lies}
+use Rattle.nef_space.specs.Signs.{Lies}
 use Rattle.nef_space.specs.Numbers.{IsBelow}
 use Rattle.nef_space.specs.Place.{Place, Form, form_numbers, normal_of, SamePlace, IsPlaceBelow}
 use Rattle.nef_space.specs.Vectors.{IsDirection}

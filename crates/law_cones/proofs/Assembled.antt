@@ -1,7 +1,7 @@
 -- The map of a labelling, put together from its svertices, arcs and sloop.
 use Rattle.std.proofs.Common.{◌≡◌, ℕ, pos, refl, sym, ◌∙◌, ◌⊎◌, inl, inr, ⊎_elim, List, [], ◌++◌, subst, Option, Some, None}
 use Rattle.std.proofs.lemmas.Option.{none-some, same_Some}
-use Rattle.law_arithmetic.proofs.Lists.{lies-left, lies-right}
+use Rattle.nef_space.proofs.Lists.{lies-left, lies-right}
 use Rattle.nef_space.specs.Vectors.{Vector, IsDirection, cross, dot, SameDirection, IsNormal}
 use Rattle.nef_space.specs.declared.label.Label.{Label}
 use Rattle.law_near.proofs.Decided.{Decided}

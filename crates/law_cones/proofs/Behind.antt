@@ -1,7 +1,7 @@
 -- A circle that is needed close before a svertex has an arc to it; so a svertex without arcs has one label all around it.
 use Rattle.std.proofs.Common.{◌≡◌, ℕ, ◌+◌, ℤ, pos, negsuc, ◌+ℤ◌, ◌*ℤ◌, arith, sym, ◌⊎◌, inl, inr, ⊎_elim, List, [], ◌∷◌, subst}
 use Rattle.std.proofs.lemmas.Int.{ints}
-use Rattle.law_arithmetic.proofs.Ring.{ring, at, num, ◌⊕◌, ◌⊗◌}
+use Rattle.nef_space.proofs.Ring.{ring, at, num, ◌⊕◌, ◌⊗◌}
 use Rattle.nef_space.specs.Vectors.{Vector, IsDirection, cross, dot, SameDirection, IsNormal}
 use Rattle.nef_space.specs.declared.label.Label.{Label}
 use Rattle.law_near.proofs.Flats.{vector-same}

@@ -5,7 +5,7 @@ use Rattle.std.proofs.lemmas.Option.{none-some, same_Some}
 use Rattle.nef_space.specs.Vectors.{Vector, IsDirection, IsOpposite, IsNormal, blend}
 use Rattle.nef_space.specs.declared.label.Label.{Label}
 use Rattle.law_near.proofs.Decided.{Decided, decided-both}
-use Rattle.law_forms.proofs.Directions.{dot-comm}
+use Rattle.law_near.proofs.Directions.{dot-comm}
 use Rattle.law_cyclic.specs.Arcs.{IsOnCircle}
 use Rattle.law_sphere.specs.Forms.{axis_x}
 use Rattle.law_sphere.specs.Labelling.{Labelling, Near, Plain, StraightAt, IsSmooth, plain, straight}

@@ -1,16 +1,16 @@
 -- Where no circle through a direction is needed close to it, there is one label all around it.
 use Rattle.std.proofs.Common.{◌≡◌, ℕ, ◌+◌, ◌<◌, pos, ◌*ℤ◌, arith, ap, sym, ◌∙◌, ⊎_elim, List, [], ◌∷◌, subst}
 use Rattle.std.proofs.lemmas.Int.{ints}
-use Rattle.law_arithmetic.proofs.Ring.{ring, at, num, ◌⊕◌, ◌⊖◌, ◌⊗◌}
-use Rattle.law_arithmetic.proofs.Combination.{follows, given, none}
-use Rattle.law_arithmetic.proofs.Order.{sign, sign-scaled}
-use Rattle.law_arithmetic.specs.Signs.{Lies}
+use Rattle.nef_space.proofs.Ring.{ring, at, num, ◌⊕◌, ◌⊖◌, ◌⊗◌}
+use Rattle.nef_space.proofs.Combination.{follows, given, none}
+use Rattle.nef_space.proofs.Order.{sign, sign-scaled}
+use Rattle.nef_space.specs.Signs.{Lies}
 use Rattle.nef_space.specs.Vectors.{Vector, IsDirection, cross, triple, dot, IsZero, blend}
 use Rattle.nef_space.specs.declared.label.Label.{Label}
 use Rattle.law_near.proofs.FlatDecided.{triple-dot}
 use Rattle.law_near.proofs.Supports.{square-cross}
-use Rattle.law_forms.proofs.Far.{nought-or}
-use Rattle.law_forms.proofs.Directions.{self-pos, zero-dot, dot-zero}
+use Rattle.law_near.proofs.Far.{nought-or}
+use Rattle.law_near.proofs.Directions.{self-pos, zero-dot, dot-zero}
 use Rattle.law_sphere.specs.Labelling.{Labelling, Near, Plain}
 use Rattle.law_sphere.specs.Builds.{StraightAfter}
 use Rattle.law_sphere.proofs.Vectors.{nought-if}

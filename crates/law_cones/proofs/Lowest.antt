@@ -1,12 +1,12 @@
 -- Every direction is a multiple of one in lowest terms; the order of vectors.
 use Rattle.std.proofs.Common.{◌≡◌, ℕ, zero, suc, ℤ, pos, negsuc, ◌+ℤ◌, ◌-ℤ◌, ◌*ℤ◌, ◌≤ℤ◌, ◌<ℤ◌, nat_abs, arith, ap, sym, ◌∙◌, ◌⊎◌, inl, inr, [], ◌∷◌, subst}
 use Rattle.std.proofs.lemmas.Int.{ints, by_lt_z}
-use Rattle.law_arithmetic.proofs.Ring.{ring, at, num, ◌⊕◌, ◌⊖◌, ◌⊗◌}
-use Rattle.law_arithmetic.proofs.Combination.{follows, given, none}
-use Rattle.law_arithmetic.proofs.Order.{by_order, cancel_eq, cancel_lt}
+use Rattle.nef_space.proofs.Ring.{ring, at, num, ◌⊕◌, ◌⊖◌, ◌⊗◌}
+use Rattle.nef_space.proofs.Combination.{follows, given, none}
+use Rattle.nef_space.proofs.Order.{by_order, cancel_eq, cancel_lt}
 use Rattle.nef_space.specs.Vectors.{Vector, IsDirection, cross, dot, vector, IsZero, SameDirection}
 use Rattle.law_near.proofs.Flats.{vector-same}
-use Rattle.law_forms.proofs.Directions.{self-pos}
+use Rattle.law_near.proofs.Directions.{self-pos}
 use Rattle.law_sphere.specs.Vectors.{IsPrimitive, VectorBelow}
 
 -- ---- greatest common divisors

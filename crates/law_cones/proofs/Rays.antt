@@ -1,11 +1,11 @@
 -- The arcs of a labelling: one from each svertex along each circle that is needed close after it, to the first svertex; in order.
 use Rattle.std.proofs.Common.{◌≡◌, ℕ, pos, arith, refl, sym, ◌∙◌, ◌⊎◌, inl, inr, ⊎_elim, List, subst}
 use Rattle.std.proofs.lemmas.Bool.{cases_lt}
-use Rattle.law_arithmetic.proofs.Lists.{pairs, lies-pairs}
+use Rattle.nef_space.proofs.Lists.{pairs, lies-pairs}
 use Rattle.nef_space.specs.Vectors.{Vector, dot, SameDirection, IsNormal}
 use Rattle.nef_space.specs.declared.label.Label.{Label}
 use Rattle.law_near.proofs.Decided.{Decided}
-use Rattle.law_forms.proofs.Far.{nought-or}
+use Rattle.law_near.proofs.Far.{nought-or}
 use Rattle.law_cyclic.specs.Arcs.{IsStrictlyOn}
 use Rattle.law_sphere.specs.Vectors.{IsPrimitive, VectorBelow}
 use Rattle.law_sphere.specs.Maps.{At, Arc}

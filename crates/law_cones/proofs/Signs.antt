@@ -1,13 +1,13 @@
 -- Near labels of a labelling: each direction has one toward each vector, which the signs of the forms determine.
 use Rattle.std.proofs.Common.{◌≡◌, ℕ, ◌+◌, ◌≤◌, ℤ, pos, ◌*ℤ◌, ◌<ℤ◌, arith, refl, ap, sym, ◌∙◌, ⊎_elim, List, [], ◌∷◌, subst}
-use Rattle.law_arithmetic.proofs.Ring.{at, num, ◌⊕◌, ◌⊖◌, ◌⊗◌}
-use Rattle.law_arithmetic.proofs.Combination.{follows, given, none}
-use Rattle.law_arithmetic.proofs.Order.{Sign, minus, nought, plus, sign, sign_times, sign-plus, sign-minus, sign-scaled, sign_of_product, by_order, nought-is}
-use Rattle.law_arithmetic.specs.Signs.{Lies}
+use Rattle.nef_space.proofs.Ring.{at, num, ◌⊕◌, ◌⊖◌, ◌⊗◌}
+use Rattle.nef_space.proofs.Combination.{follows, given, none}
+use Rattle.nef_space.proofs.Order.{Sign, minus, nought, plus, sign, sign_times, sign-plus, sign-minus, sign-scaled, sign_of_product, by_order, nought-is}
+use Rattle.nef_space.specs.Signs.{Lies}
 use Rattle.nef_space.specs.Vectors.{Vector, IsDirection, cross, dot, IsZero, SameDirection, blend}
 use Rattle.nef_space.specs.declared.label.Label.{Label}
-use Rattle.law_forms.proofs.Far.{nought-or}
-use Rattle.law_forms.proofs.Directions.{dot-comm, self-pos}
+use Rattle.law_near.proofs.Far.{nought-or}
+use Rattle.law_near.proofs.Directions.{dot-comm, self-pos}
 use Rattle.law_sphere.specs.Forms.{SameSigns}
 use Rattle.law_sphere.specs.Least.{by_side}
 use Rattle.law_sphere.specs.Labelling.{Labelling, Near, StraightAt}

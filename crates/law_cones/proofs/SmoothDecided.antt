@@ -1,14 +1,14 @@
 -- It is decided whether a direction is plain or straight about it, and the same for all vectors of its way.
 use Rattle.std.proofs.Common.{◌≡◌, ℕ, pos, arith, refl, ap, sym, ◌∙◌, ◌⊎◌, inl, inr, ⊎_elim, List, ◌∷◌, subst}
 use Rattle.std.proofs.lemmas.Int.{ints}
-use Rattle.law_arithmetic.proofs.Order.{sign}
-use Rattle.law_arithmetic.specs.Signs.{Lies}
+use Rattle.nef_space.proofs.Order.{sign}
+use Rattle.nef_space.specs.Signs.{Lies}
 use Rattle.nef_space.specs.Vectors.{Vector, IsDirection, dot, SameDirection}
 use Rattle.nef_space.specs.declared.label.Label.{Label}
 use Rattle.law_near.proofs.Decided.{Decided, every, decided-both}
-use Rattle.law_forms.proofs.Far.{nought-or, same-nought}
-use Rattle.law_forms.proofs.Directions.{self-pos}
-use Rattle.law_forms.proofs.Representatives.{representative_directions, representative}
+use Rattle.law_near.proofs.Far.{nought-or, same-nought}
+use Rattle.law_near.proofs.Directions.{self-pos}
+use Rattle.law_near.proofs.Representatives.{representative_directions, representative}
 use Rattle.law_sphere.specs.Maps.{At}
 use Rattle.law_sphere.specs.Forms.{SameSigns}
 use Rattle.law_sphere.specs.Least.{by_side}

@@ -2,9 +2,9 @@
 use Rattle.std.proofs.Common.{◌≡◌, ℤ, pos, neg_ℤ, ◌*ℤ◌, ◌-ℤ◌, ◌<ℤ◌, [], ◌∷◌, arith, refl, sym, ap, ◌∙◌, subst, inl, inr, ◌⊎◌}
 use Rattle.std.proofs.lemmas.Int.{ints}
 use lib.Dec.{T}
-use Rattle.law_arithmetic.proofs.Ring.{ring, at, num, neg, ◌⊕◌, ◌⊖◌, ◌⊗◌}
-use Rattle.law_arithmetic.proofs.Combination.{follows, follows_times, given, none}
-use Rattle.law_arithmetic.proofs.Order.{by_order, mul_pos}
+use Rattle.nef_space.proofs.Ring.{ring, at, num, neg, ◌⊕◌, ◌⊖◌, ◌⊗◌}
+use Rattle.nef_space.proofs.Combination.{follows, follows_times, given, none}
+use Rattle.nef_space.proofs.Order.{by_order, mul_pos}
 use Rattle.nef_space.specs.Vectors.{Vector, dot, cross, triple, opposite, IsZero, IsDirection, IsParallel, SameDirection}
 use Rattle.law_cyclic.specs.Arcs.{IsOnCircle}
 use Rattle.law_cyclic.specs.Laws.{ClassesAreArcs, ArcsAreOfDirections, WayBackPassesTheSame, TwoMeets}

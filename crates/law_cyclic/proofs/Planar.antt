@@ -1,9 +1,9 @@
 -- Identities of vectors perpendicular to one normal n.
 use Rattle.std.proofs.Common.{◌≡◌, ℕ, ◌+◌, ℤ, pos, neg_ℤ, ◌+ℤ◌, ◌-ℤ◌, ◌*ℤ◌, ◌<ℤ◌, ◌≤ℤ◌, List, [], ◌∷◌, arith, ◌∙◌, inl, inr, ◌⊎◌}
 use Rattle.std.proofs.lemmas.Int.{ints}
-use Rattle.law_arithmetic.proofs.Ring.{ring, Poly, at, num, neg, ◌⊕◌, ◌⊖◌, ◌⊗◌}
-use Rattle.law_arithmetic.proofs.Combination.{follows, follows_times, Given, given, none}
-use Rattle.law_arithmetic.proofs.Order.{mul_pos, by_order, square_nonneg}
+use Rattle.nef_space.proofs.Ring.{ring, Poly, at, num, neg, ◌⊕◌, ◌⊖◌, ◌⊗◌}
+use Rattle.nef_space.proofs.Combination.{follows, follows_times, Given, given, none}
+use Rattle.nef_space.proofs.Order.{mul_pos, by_order, square_nonneg}
 use Rattle.nef_space.specs.Vectors.{Vector, dot, triple, IsDirection, IsParallel}
 
 -- ---- the products as polynomials: the numbers of a vector stand in a list of values from a place on

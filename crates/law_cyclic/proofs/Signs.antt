@@ -3,7 +3,7 @@ use Rattle.std.proofs.Common.{◌≡◌, zero, suc, ℤ, pos, negsuc, neg_ℤ, �
 use Rattle.std.proofs.lemmas.Int.{ints}
 use Rattle.std.specs.List.{All}
 use lib.Dec.{T}
-use Rattle.law_arithmetic.proofs.Order.{Sign, minus, nought, plus, sign, sign_times, sign_of_product, sign-scaled, sign_of_sum}
+use Rattle.nef_space.proofs.Order.{Sign, minus, nought, plus, sign, sign_times, sign_of_product, sign-scaled, sign_of_sum}
 use Rattle.law_cyclic.specs.Signs.{number_of, sign_number}
 use Rattle.nef_case.specs.Keys.{IsSign}
 use Rattle.nef_case.specs.Between.{between_signs}

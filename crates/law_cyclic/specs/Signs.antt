@@ -1,6 +1,6 @@
 -- The sign of a whole number as a number: -1, 0 or 1.
 use Rattle.std.specs.Prelude.{ℤ, pos, negsuc}
-use Rattle.law_arithmetic.specs.Signs.{Sign, minus, nought, plus, sign}
+use Rattle.nef_space.specs.Signs.{Sign, minus, nought, plus, sign}
 
 abbrev pub number_of : Sign → ℤ
 number_of minus = negsuc 0

@@ -1,7 +1,7 @@
 -- Across a facet: a point of it is tied to the points close to the corner that a ray within its plane names.
 use Rattle.std.proofs.Common.{◌≡◌, ℕ, pos, ◌<ℤ◌, arith, sym, ◌∙◌, ◌⊎◌, inl, inr, ⊎_elim, [], ◌∷◌, subst}
 use Rattle.std.proofs.lemmas.Int.{ints}
-use Rattle.law_arithmetic.proofs.Ring.{ring, at, num, ◌⊗◌}
+use Rattle.nef_space.proofs.Ring.{ring, at, num, ◌⊗◌}
 use Rattle.nef_space.specs.Local.{FlatDim}
 use Rattle.nef_space.specs.Place.{Place, Form, form_at, normal_of, slope, plane_through, SamePlace, toward, IsBetween}
 use Rattle.nef_space.specs.Sets.{Set}
@@ -12,9 +12,9 @@ use Rattle.law_near.proofs.Decisions.{ahead}
 use Rattle.law_near.proofs.Rays.{same-place_sym}
 use Rattle.law_near.proofs.Between.{between-turned}
 use Rattle.law_near.proofs.Edges.{even-until, start-close}
-use Rattle.law_forms.proofs.Near.{reach_all}
-use Rattle.law_forms.proofs.Between.{between-same}
-use Rattle.law_forms.proofs.Directions.{factor-same, direction-left, direction-right}
+use Rattle.law_near.proofs.Near.{reach_all}
+use Rattle.law_near.proofs.Mixed.{between-same}
+use Rattle.law_near.proofs.Directions.{factor-same, direction-left, direction-right}
 use Rattle.law_sphere.specs.Maps.{At, Item, arc_item, item_normal, dir_of, OnItem}
 use Rattle.law_sphere.proofs.Vectors.{same-plus, same-minus, normal-is}
 use Rattle.law_sphere.proofs.Forms.{on-level}

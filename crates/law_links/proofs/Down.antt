@@ -1,7 +1,7 @@
 -- A ray down ties the points below a vertex to those above the point where it ends, and these to a side there.
 use Rattle.std.proofs.Common.{◌≡◌, ℕ, ◌+◌, arith, sym, ◌∙◌, ⊎_elim, subst}
-use Rattle.law_arithmetic.specs.Signs.{nought, plus}
-use Rattle.law_arithmetic.proofs.Order.{sign-plus}
+use Rattle.nef_space.specs.Signs.{nought, plus}
+use Rattle.nef_space.proofs.Order.{sign-plus}
 use Rattle.nef_space.specs.Local.{FlatDim}
 use Rattle.nef_space.specs.Place.{Place, normal_of, SamePlace, toward, IsBetween}
 use Rattle.nef_space.specs.Sets.{Set}
@@ -12,7 +12,7 @@ use Rattle.law_near.proofs.Decisions.{ahead}
 use Rattle.law_near.proofs.NearGerms.{steep}
 use Rattle.law_near.proofs.Rays.{signs-same, same-place_sym}
 use Rattle.law_near.proofs.Between.{between-turned, between-inner}
-use Rattle.law_forms.proofs.Directions.{self-pos, direction-left}
+use Rattle.law_near.proofs.Directions.{self-pos, direction-left}
 use Rattle.law_sphere.specs.Maps.{At, item_normal, item_pos, item_mark, item_neg, HasSide, Sees}
 use Rattle.law_sphere.proofs.Vectors.{normal-is}
 use Rattle.law_sphere.proofs.Lists.{at-one}

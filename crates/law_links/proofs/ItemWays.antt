@@ -1,11 +1,11 @@
 -- What short ways along a circle carry on, holds all along it.
 use Rattle.std.proofs.Common.{◌≡◌, ℕ, ◌<◌, pos, arith, ◌∙◌, ⊎_elim, [], ◌∷◌}
 use Rattle.std.proofs.lemmas.Int.{ints}
-use Rattle.law_arithmetic.proofs.Ring.{ring, at, num, ◌⊕◌, ◌⊖◌, ◌⊗◌}
+use Rattle.nef_space.proofs.Ring.{ring, at, num, ◌⊕◌, ◌⊖◌, ◌⊗◌}
 use Rattle.nef_space.specs.Vectors.{Vector, IsDirection, cross, dot, SameDirection, IsOpposite, blend}
 use Rattle.law_cyclic.specs.Arcs.{IsOnCircle}
 use Rattle.law_sphere.proofs.Vectors.{nought-if}
-use Rattle.law_forms.proofs.Directions.{dot-zero, zero-decided}
+use Rattle.law_near.proofs.Directions.{dot-zero, zero-decided}
 use Rattle.law_sphere.proofs.Places.{IsOpposite-decided}
 use Rattle.law_sphere.proofs.Around.{Beside, same_way, other_way, beside}
 use Rattle.law_sphere.proofs.Walk.{between-direction}

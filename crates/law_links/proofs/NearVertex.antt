@@ -1,7 +1,7 @@
 -- Close to a point of a set the points toward a free direction of its map have three flat directions, and those toward an item two; two directions on one item are tied.
 use Rattle.std.proofs.Common.{◌≡◌, ℕ, ◌+◌, ◌<◌, pos, nat_abs, arith, refl, ap, sym, ◌∙◌, [], ◌∷◌, subst}
 use Rattle.std.proofs.lemmas.Int.{ints}
-use Rattle.law_arithmetic.specs.Signs.{Sign, nought, sign}
+use Rattle.nef_space.specs.Signs.{Sign, nought, sign}
 use Rattle.nef_space.specs.Local.{Germ, FlatDim}
 use Rattle.nef_space.specs.Place.{Place}
 use Rattle.nef_space.specs.Sets.{Set}

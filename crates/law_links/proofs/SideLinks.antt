@@ -1,7 +1,7 @@
 -- Links of sides in one sface, along an edge and across a facet join points at both.
 use Rattle.std.proofs.Common.{◌≡◌, ℕ, ◌+◌, ℤ, pos, ◌-ℤ◌, ◌*ℤ◌, neg_ℤ, ◌<ℤ◌, arith, refl, sym, ◌∙◌, ⊎_elim, [], ◌∷◌, subst, Some}
 use Rattle.std.proofs.lemmas.Int.{ints}
-use Rattle.law_arithmetic.proofs.Ring.{ring, at, neg, ◌⊕◌, ◌⊖◌, ◌⊗◌}
+use Rattle.nef_space.proofs.Ring.{ring, at, neg, ◌⊕◌, ◌⊖◌, ◌⊗◌}
 use Rattle.nef_space.specs.Place.{Place, toward}
 use Rattle.nef_space.specs.Sets.{Set}
 use Rattle.nef_space.specs.Vectors.{Vector, opposite, blend, dot, cross, IsDirection, SameDirection}
@@ -9,7 +9,7 @@ use Rattle.nef_space.specs.declared.label.Label.{Label}
 use Rattle.law_near.specs.Cells.{carriers}
 use Rattle.law_near.proofs.Decisions.{ahead}
 use Rattle.law_near.proofs.NearGerms.{steep}
-use Rattle.law_forms.proofs.Directions.{self-pos, dot-comm, direction-right}
+use Rattle.law_near.proofs.Directions.{self-pos, dot-comm, direction-right}
 use Rattle.law_sphere.specs.Forms.{forms}
 use Rattle.law_sphere.specs.Maps.{At, MapVertex, Item, item_normal, item_pos, item_neg, OnItem, Side, around_svertex, pos_item, neg_item, HasSide, Sees, Shaped}
 use Rattle.law_sphere.proofs.Generic.{amount}

@@ -2,9 +2,9 @@
 use Rattle.std.proofs.Common.{◌≡◌, ℕ, ◌+◌, ◌*◌, ◌<◌, ℤ, pos, ◌+ℤ◌, ◌-ℤ◌, ◌*ℤ◌, ◌<ℤ◌, arith, sym, ◌∙◌, ⊎_elim, [], ◌∷◌, subst, Some}
 use Rattle.std.proofs.lemmas.Int.{ints}
 use Rattle.std.proofs.Math.Nat.{mul-pos}
-use Rattle.law_arithmetic.specs.Signs.{minus, nought, plus, sign}
-use Rattle.law_arithmetic.proofs.Ring.{ring, at, num, ◌⊕◌, ◌⊖◌, ◌⊗◌}
-use Rattle.law_arithmetic.proofs.Order.{sign-plus, sign-minus}
+use Rattle.nef_space.specs.Signs.{minus, nought, plus, sign}
+use Rattle.nef_space.proofs.Ring.{ring, at, num, ◌⊕◌, ◌⊖◌, ◌⊗◌}
+use Rattle.nef_space.proofs.Order.{sign-plus, sign-minus}
 use Rattle.nef_space.specs.Local.{FlatDim}
 use Rattle.nef_space.specs.Place.{Place, toward}
 use Rattle.nef_space.specs.Sets.{Set}
@@ -17,7 +17,7 @@ use Rattle.law_near.proofs.NearGerms.{steep}
 use Rattle.law_near.proofs.Supports.{square-cross}
 use Rattle.law_near.proofs.Flats.{vector-same}
 use Rattle.law_near.proofs.FlatDecided.{cross-turned}
-use Rattle.law_forms.proofs.Directions.{self-pos, dot-comm}
+use Rattle.law_near.proofs.Directions.{self-pos, dot-comm}
 use Rattle.law_sphere.specs.Forms.{forms}
 use Rattle.law_sphere.specs.Least.{Cone}
 use Rattle.law_sphere.specs.Maps.{At, MapVertex, Map, Item, items, item_normal, item_pos, item_mark, item_neg, OnItem, IsFree, Side, around_svertex, pos_item, neg_item, whole, HasSide, IsClear, Reaches, Sees, directly, by_way_of, InOneSface, here, link, HasArc, Shaped}

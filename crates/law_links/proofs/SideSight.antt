@@ -2,15 +2,15 @@
 use Rattle.std.proofs.Common.{◌≡◌, ℕ, ◌*◌, ◌<◌, ◌≤◌, pos, ◌*ℤ◌, ◌<ℤ◌, arith, ap, sym, ◌∙◌, ⊎_elim, List, [], ◌∷◌, subst, Some}
 use Rattle.std.proofs.lemmas.Int.{ints}
 use Rattle.std.proofs.Math.Nat.{mul-pos}
-use Rattle.law_arithmetic.specs.Signs.{sign}
-use Rattle.law_arithmetic.proofs.Ring.{at, neg, ◌⊕◌, ◌⊗◌}
-use Rattle.law_arithmetic.proofs.Combination.{given, none, follows}
-use Rattle.law_arithmetic.proofs.Order.{sign-scaled, mul_pos}
+use Rattle.nef_space.specs.Signs.{sign}
+use Rattle.nef_space.proofs.Ring.{at, neg, ◌⊕◌, ◌⊗◌}
+use Rattle.nef_space.proofs.Combination.{given, none, follows}
+use Rattle.nef_space.proofs.Order.{sign-scaled, mul_pos}
 use Rattle.nef_space.specs.Vectors.{Vector, vector, opposite, blend, dot, cross, IsDirection, SameDirection, IsOpposite}
 use Rattle.nef_space.specs.declared.label.Label.{Label}
-use Rattle.law_forms.specs.Homogeneous.{SameUpToFactor, of_direction}
-use Rattle.law_forms.proofs.Directions.{self-pos, dot-comm, dot-zero, zero-decided, same-factor, direction-right}
-use Rattle.law_forms.proofs.Far.{same-nought}
+use Rattle.law_near.specs.Homogeneous.{SameUpToFactor, of_direction}
+use Rattle.law_near.proofs.Directions.{self-pos, dot-comm, dot-zero, zero-decided, same-factor, direction-right}
+use Rattle.law_near.proofs.Far.{same-nought}
 use Rattle.law_sphere.specs.Forms.{forms, Keeps}
 use Rattle.law_sphere.specs.Maps.{At, MapVertex, Map, Item, arc_item, sloop_item, items, item_normal, OnItem, IsFree, Side, around_svertex, pos_item, neg_item, whole, HasSide, IsClear, Reaches, Sees, directly, by_way_of, HasArc, Shaped}
 use Rattle.law_sphere.proofs.Vectors.{dot-comb, normal-is, same-plus, same-minus, nought-if}

@@ -2,9 +2,9 @@
 use Rattle.std.proofs.Common.{◌≡◌, ℕ, ◌+◌, ◌*◌, ◌<◌, ◌≤◌, ℤ, pos, ◌+ℤ◌, ◌-ℤ◌, ◌*ℤ◌, arith, refl, ap, sym, ◌∙◌, ◌⊎◌, inl, inr, ⊎_elim, [], ◌∷◌, subst, false}
 use Rattle.std.proofs.lemmas.Int.{ints}
 use Rattle.std.proofs.Math.Nat.{mul-pos, le-mul_of_pos_right}
-use Rattle.law_arithmetic.specs.Signs.{Sign, minus, nought, plus, sign, Lies}
-use Rattle.law_arithmetic.proofs.Ring.{ring, at, num, ◌⊕◌, ◌⊖◌, ◌⊗◌}
-use Rattle.law_arithmetic.proofs.Order.{nought-is, sign-scaled}
+use Rattle.nef_space.specs.Signs.{Sign, minus, nought, plus, sign, Lies}
+use Rattle.nef_space.proofs.Ring.{ring, at, num, ◌⊕◌, ◌⊖◌, ◌⊗◌}
+use Rattle.nef_space.proofs.Order.{nought-is, sign-scaled}
 use Rattle.nef_space.specs.Local.{Germ, Flat, FlatDim, IsEven, Joined}
 use Rattle.nef_space.specs.Place.{Place, Form, form_at, slope, Within, toward, IsBetween}
 use Rattle.nef_space.specs.Sets.{Set}
@@ -26,13 +26,13 @@ use Rattle.law_near.proofs.Between.{mixed-of, ray-cell}
 use Rattle.law_near.proofs.FirstChange.{settled-along}
 use Rattle.law_near.proofs.Edges.{start-close}
 use Rattle.law_near.proofs.Even.{flat-way, joined-turned, joined-both, joined-itself}
-use Rattle.law_forms.specs.Homogeneous.{of_place}
-use Rattle.law_forms.proofs.Sums.{form-sum}
-use Rattle.law_forms.proofs.Crossings.{opposite, joint, sign-mixed}
-use Rattle.law_forms.proofs.Near.{form-step, step-within, reach_all}
-use Rattle.law_forms.proofs.Far.{sign-level}
-use Rattle.law_forms.proofs.Between.{toward-place}
-use Rattle.law_forms.proofs.Directions.{zero-decided, factor-same, direction-left}
+use Rattle.law_near.specs.Homogeneous.{of_place}
+use Rattle.law_near.proofs.Sums.{form-sum}
+use Rattle.law_near.proofs.Crossings.{opposite, joint, sign-mixed}
+use Rattle.law_near.proofs.Near.{form-step, step-within, reach_all}
+use Rattle.law_near.proofs.Far.{sign-level}
+use Rattle.law_near.proofs.Mixed.{toward-place}
+use Rattle.law_near.proofs.Directions.{zero-decided, factor-same, direction-left}
 use Rattle.law_sphere.proofs.Compare.{SameDirection-turned}
 use Rattle.law_complex.proofs.Ways.{between-outer, same-itself}
 use Rattle.law_complex.proofs.Edges.{near_point, near-between, way-near}

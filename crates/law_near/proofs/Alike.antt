@@ -2,8 +2,8 @@
 use Rattle.std.proofs.Common.{◌+ℤ◌, ◌≡◌, ℕ, zero, suc, ◌+◌, ◌-◌, ◌<◌, ℤ, pos, ◌-ℤ◌, ◌*ℤ◌, arith, refl, ◌∙◌, ◌⊎◌, inl, inr, ◌↔◌, List, [], ◌∷◌, subst}
 use Rattle.std.proofs.lemmas.Int.{ints}
 use Rattle.std.proofs.lemmas.Bool.{cases_order}
-use Rattle.law_arithmetic.proofs.Ring.{ring, at, num, ◌⊕◌, ◌⊖◌, ◌⊗◌}
-use Rattle.law_arithmetic.proofs.Combination.{given, none, follows}
+use Rattle.nef_space.proofs.Ring.{ring, at, num, ◌⊕◌, ◌⊖◌, ◌⊗◌}
+use Rattle.nef_space.proofs.Combination.{given, none, follows}
 use Rattle.nef_space.specs.Place.{Place, form, step, toward}
 use Rattle.nef_space.specs.Vectors.{Vector, blend, IsZero, cross, triple, zero_vector}
 use Rattle.nef_space.specs.Sets.{Set}
@@ -11,7 +11,7 @@ use Rattle.nef_space.specs.Local.{HasLabel, SameSet, Germ, Flat, HasFlat, FlatDi
 use Rattle.nef_space.specs.declared.label.Label.{Label}
 use Rattle.law_near.specs.Cells.{carriers, SameSigns}
 use Rattle.law_near.specs.Cones.{slide, NearGerm, SameCone, SameNear}
-use Rattle.law_forms.proofs.Near.{weaken, stride, step-within, reach_all}
+use Rattle.law_near.proofs.Near.{weaken, stride, step-within, reach_all}
 use Rattle.law_near.proofs.Cells.{same-sym, reach-some}
 use Rattle.law_near.proofs.Flats.{germ-toward, label-toward, Flat-from_cone, FlatCone-from_flat, vector-same}
 use Rattle.law_near.proofs.Rays.{Germ-cells, within-self, slope-zero, Germ-zero}

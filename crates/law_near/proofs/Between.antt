@@ -1,20 +1,20 @@
 -- Points between two others, parallel vectors, and rays near a point.
 use Rattle.std.proofs.Common.{◌≡◌, ℕ, ◌<◌, ℤ, pos, ◌-ℤ◌, ◌*ℤ◌, ◌<ℤ◌, arith, refl, sym, ◌∙◌, ◌⊎◌, inl, inr, ⊎_elim, ◌↔◌, List, [], ◌∷◌, false}
-use Rattle.law_arithmetic.specs.Signs.{Sign, minus, nought, plus}
-use Rattle.law_arithmetic.proofs.Ring.{at, num, ◌⊕◌, ◌⊖◌, ◌⊗◌}
-use Rattle.law_arithmetic.proofs.Combination.{given, none, follows, follows_times}
-use Rattle.law_arithmetic.proofs.Order.{mul_pos}
+use Rattle.nef_space.specs.Signs.{Sign, minus, nought, plus}
+use Rattle.nef_space.proofs.Ring.{at, num, ◌⊕◌, ◌⊖◌, ◌⊗◌}
+use Rattle.nef_space.proofs.Combination.{given, none, follows, follows_times}
+use Rattle.nef_space.proofs.Order.{mul_pos}
 use Rattle.nef_space.specs.Place.{Place, Form, Within, toward, IsBetween}
 use Rattle.nef_space.specs.Vectors.{Vector, dot, IsDirection, IsParallel}
 use Rattle.nef_space.specs.Sets.{Set}
 use Rattle.nef_space.specs.Local.{HasLabel}
 use Rattle.nef_space.specs.declared.label.Label.{Label}
-use Rattle.law_forms.specs.Homogeneous.{IsMixed, of_place}
-use Rattle.law_forms.proofs.Sums.{past-mixed, mixed-mix, mixed-turned, mixed-inner}
-use Rattle.law_forms.proofs.Crossings.{opposite, joint, sign-mixed}
-use Rattle.law_forms.proofs.Near.{reach_all}
-use Rattle.law_forms.proofs.Between.{between-is, place-toward}
-use Rattle.law_forms.proofs.Places.{mix_place}
+use Rattle.law_near.specs.Homogeneous.{IsMixed, of_place}
+use Rattle.law_near.proofs.Sums.{past-mixed, mixed-mix, mixed-turned, mixed-inner}
+use Rattle.law_near.proofs.Crossings.{opposite, joint, sign-mixed}
+use Rattle.law_near.proofs.Near.{reach_all}
+use Rattle.law_near.proofs.Mixed.{between-is, place-toward}
+use Rattle.law_near.proofs.Places.{mix_place}
 use Rattle.law_near.specs.Cells.{sign_at, carriers, SameSigns}
 use Rattle.law_near.proofs.Cells.{same-sym, keeps-all, is_nought}
 use Rattle.law_near.proofs.Germs.{Label-cells}

@@ -1,17 +1,17 @@
 -- Points at which all carriers have the same signs lie in the same sets.
 use Rattle.std.proofs.Common.{◌≡◌, ℕ, ◌+◌, ◌*◌, ◌<◌, ℤ, pos, negsuc, ◌-ℤ◌, ◌*ℤ◌, neg_ℤ, ◌≤ℤ◌, nat_abs, arith, refl, ap, sym, ◌∙◌, ◌⊎◌, inl, inr, ⊎_elim, ◌↔◌, List, [], ◌∷◌, Bool, true, false}
 use Rattle.std.proofs.lemmas.Int.{ints}
-use Rattle.law_arithmetic.proofs.Ring.{ring, at, num, ◌⊖◌, ◌⊗◌}
-use Rattle.law_arithmetic.proofs.Order.{Sign, minus, nought, plus, sign, sign-minus, plus-is, minus-is, nought-is, sign-scaled}
+use Rattle.nef_space.proofs.Ring.{ring, at, num, ◌⊖◌, ◌⊗◌}
+use Rattle.nef_space.proofs.Order.{Sign, minus, nought, plus, sign, sign-minus, plus-is, minus-is, nought-is, sign-scaled}
 use Rattle.nef_space.specs.Place.{Place, Form, form_at, slope, Ratio, step, toward, Within, InFrame}
 use Rattle.nef_space.specs.Vectors.{Vector}
 use Rattle.nef_space.specs.Sets.{Set, Holds, Interior, Closure, InHalf, halves}
 use Rattle.nef_space.specs.Limits.{half_side}
-use Rattle.law_arithmetic.specs.Signs.{Lies}
+use Rattle.nef_space.specs.Signs.{Lies}
 use Rattle.law_near.specs.Cells.{sign_at, side, frame, SameSigns}
-use Rattle.law_arithmetic.proofs.Lists.{lies-left, lies-right}
-use Rattle.law_forms.proofs.Sums.{some-pos}
-use Rattle.law_forms.proofs.Near.{reach_all, keeps-all as keeps-form, slope-toward, weaken, stride, step-within, ray-level}
+use Rattle.nef_space.proofs.Lists.{lies-left, lies-right}
+use Rattle.law_near.proofs.Sums.{some-pos}
+use Rattle.law_near.proofs.Near.{reach_all, keeps-all as keeps-form, slope-toward, weaken, stride, step-within, ray-level}
 
 -- q keeps the signs of those forms that are not nought at p
 abbrev pub Keeps : List Form → Place → Place → Type 0

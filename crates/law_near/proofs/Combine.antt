@@ -1,7 +1,7 @@
 -- The germ of a combination is the combination of the germs, so it is flat where both operands are.
 use Rattle.std.proofs.Common.{ℕ, ◌+◌, ◌≤◌, pos, ◌*ℤ◌, ◌<ℤ◌, arith, inl, inr, ⊎_elim, subst}
 use Rattle.std.proofs.lemmas.Int.{ints}
-use Rattle.law_arithmetic.proofs.Order.{mul_le_right}
+use Rattle.nef_space.proofs.Order.{mul_le_right}
 use Rattle.law_near.specs.Laws.{LabelsCombine}
 use Rattle.law_near.specs.Cones.{slide, NearGerm, FlatCone, label_and, label_or, label_not, label_less, label_one_of}
 use Rattle.nef_space.specs.Place.{Place, Ratio, step}

@@ -3,7 +3,7 @@ use Rattle.std.proofs.Common.{ℕ, ◌+◌, ◌*◌, ◌<◌, ◌≤◌, pos, na
 use Rattle.std.proofs.lemmas.Int.{ints, by_lt_z}
 use Rattle.std.proofs.lemmas.Bool.{cases_lt}
 use Rattle.nef_space.specs.Limits.{half_side}
-use Rattle.law_arithmetic.specs.Signs.{Lies}
+use Rattle.nef_space.specs.Signs.{Lies}
 use Rattle.law_near.specs.Cells.{frame, carriers, SameSigns, SameSlopes}
 use Rattle.nef_space.specs.Place.{Place, Form, form_at, normal_of, Ratio, step, Within, InFrame, toward}
 use Rattle.nef_space.specs.Vectors.{Vector}
@@ -11,10 +11,10 @@ use Rattle.nef_space.specs.Sets.{Set, Holds, Interior, Closure, InHalf, halves}
 use Rattle.nef_space.specs.Local.{IsShort, HasLabel, Germ}
 use Rattle.nef_space.specs.declared.label.Label.{Label}
 use Rattle.nef_space.specs.declared.label.Label.TheVariants.{Out, Not, In}
-use Rattle.law_forms.proofs.Representatives.{representative_directions, Representative, representative}
-use Rattle.law_forms.proofs.Near.{stride, step-within, reach_all}
+use Rattle.law_near.proofs.Representatives.{representative_directions, Representative, representative}
+use Rattle.law_near.proofs.Near.{stride, step-within, reach_all}
 use Rattle.law_near.proofs.Cells.{same-sym, reach-some, Cells, Inside, InFrame-cells, Holds-cells, Interior-cells}
-use Rattle.law_arithmetic.proofs.Lists.{each, lies-each, lies-left, lies-right}
+use Rattle.nef_space.proofs.Lists.{each, lies-each, lies-left, lies-right}
 use Rattle.law_near.proofs.Germs.{near-same, sign-along, Germ-from_sample, sample}
 use Rattle.law_near.proofs.Flats.{sign-toward}
 

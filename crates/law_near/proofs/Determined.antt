@@ -11,11 +11,11 @@ use Rattle.nef_space.specs.declared.label.Label.TheVariants.{Out}
 use Rattle.law_near.specs.Cells.{carriers}
 use Rattle.law_near.specs.Cones.{SameCone, IsOnSegment}
 use Rattle.law_near.specs.Laws.{IsFlatBelow, Drop, SameGerms}
-use Rattle.law_forms.proofs.Near.{weaken, reach_all}
+use Rattle.law_near.proofs.Near.{weaken, reach_all}
 use Rattle.law_near.proofs.Germs.{Germ-unique}
 use Rattle.law_near.proofs.Decided.{InFrame-decided}
 use Rattle.law_near.proofs.Rays.{Germ-zero, signs-same, same-place_sym}
-use Rattle.law_forms.proofs.Directions.{direction-left, direction-right}
+use Rattle.law_near.proofs.Directions.{direction-left, direction-right}
 use Rattle.law_near.proofs.Alike.{germs-by_cell, FlatDim-by_germs, FlatDim-by_cone, FlatDim-one, HasFlat-fewer, Flat-by_cone, NearGerm-by_cone, flat-germ}
 use Rattle.law_near.proofs.Between.{between-turned, between-inner}
 use Rattle.law_near.proofs.FlatDecided.{flat_dim-of}

@@ -2,10 +2,10 @@
 use Rattle.std.proofs.Common.{◌≡◌, ℕ, zero, suc, ◌+◌, ◌*◌, ◌<◌, ◌≤◌, ℤ, pos, ◌+ℤ◌, ◌-ℤ◌, ◌*ℤ◌, ◌<ℤ◌, arith, refl, ap, sym, ◌∙◌, inl, inr, ⊎_elim, ◌↔◌, List, [], ◌∷◌, ◌++◌, subst}
 use Rattle.std.proofs.lemmas.Int.{ints}
 use Rattle.std.proofs.Math.Nat.{le-mul_of_pos_right}
-use Rattle.law_arithmetic.specs.Signs.{sign, sign_times}
-use Rattle.law_arithmetic.proofs.Ring.{ring, at, num, ◌⊕◌, ◌⊖◌, ◌⊗◌, Poly}
-use Rattle.law_arithmetic.proofs.Combination.{given, none, follows}
-use Rattle.law_arithmetic.proofs.Order.{nought-is, sign-plus, sign_of_product, by_order}
+use Rattle.nef_space.specs.Signs.{sign, sign_times}
+use Rattle.nef_space.proofs.Ring.{ring, at, num, ◌⊕◌, ◌⊖◌, ◌⊗◌, Poly}
+use Rattle.nef_space.proofs.Combination.{given, none, follows}
+use Rattle.nef_space.proofs.Order.{nought-is, sign-plus, sign_of_product, by_order}
 use Rattle.nef_space.specs.Place.{Place, Form, slope, Within, SamePlace, toward}
 use Rattle.nef_space.specs.Vectors.{Vector, zero_vector, blend, dot, cross, triple, IsZero, IsDirection}
 use Rattle.nef_space.specs.Sets.{Set}
@@ -14,14 +14,14 @@ use Rattle.nef_space.specs.declared.label.Label.{Label}
 use Rattle.law_near.specs.Cells.{sign_at, carriers, SameSigns}
 use Rattle.law_near.specs.Cones.{slide, combination, NearGerm, FlatCone, IsOnSegment}
 use Rattle.law_near.specs.Laws.{IsSettled, SameGerms}
-use Rattle.law_forms.proofs.Near.{step-within, reach_all}
+use Rattle.law_near.proofs.Near.{step-within, reach_all}
 use Rattle.law_near.proofs.Cells.{reach-some, keeps-all, is_nought, Cells}
 use Rattle.law_near.proofs.Germs.{Germ-unique, near-same, sign-along, sample, sample-short}
 use Rattle.law_near.proofs.Flats.{Flat-from_cone, FlatCone-from_flat, FlatCone-from_carriers, vector-same, sign-toward}
 use Rattle.law_near.proofs.Rays.{same-place_sym, signs-same, Germ-zero}
-use Rattle.law_forms.proofs.Between.{toward-place, between-is}
-use Rattle.law_forms.proofs.Directions.{zero-decided, self-pos}
-use Rattle.law_forms.proofs.Far.{nought-or}
+use Rattle.law_near.proofs.Mixed.{toward-place, between-is}
+use Rattle.law_near.proofs.Directions.{zero-decided, self-pos}
+use Rattle.law_near.proofs.Far.{nought-or}
 use Rattle.law_near.proofs.Alike.{germs-by_cell, FlatDim-by_germs, FlatDim-one}
 use Rattle.law_near.proofs.Decisions.{ahead, near-ahead, near-germ_of}
 use Rattle.law_near.proofs.FlatOperations.{flat-combination}

@@ -1,10 +1,10 @@
 -- The closed examples.
 use Rattle.std.proofs.Common.{◌≡◌, zero, suc, ◌+◌, ◌*◌, ◌<◌, ℤ, pos, negsuc, ◌+ℤ◌, ◌-ℤ◌, ◌*ℤ◌, neg_ℤ, ◌≤ℤ◌, ◌<ℤ◌, nat_abs, arith, refl, ap, ◌∙◌, inl, inr, ⊎_elim, List, [], ◌∷◌, subst, Bool, true, false, cond}
 use Rattle.std.proofs.lemmas.Int.{ints}
-use Rattle.law_arithmetic.specs.Signs.{nought, sign}
-use Rattle.law_arithmetic.proofs.Ring.{ring, at, num, ◌⊕◌, ◌⊖◌, ◌⊗◌}
-use Rattle.law_arithmetic.proofs.Combination.{given, none, follows}
-use Rattle.law_arithmetic.proofs.Order.{by_order}
+use Rattle.nef_space.specs.Signs.{nought, sign}
+use Rattle.nef_space.proofs.Ring.{ring, at, num, ◌⊕◌, ◌⊖◌, ◌⊗◌}
+use Rattle.nef_space.proofs.Combination.{given, none, follows}
+use Rattle.nef_space.proofs.Order.{by_order}
 use Rattle.nef_space.specs.Limits.{half_side}
 use Rattle.nef_space.specs.Laws.{origin}
 use Rattle.nef_space.specs.Place.{Place, Form, form_at, slope, Ratio, step, InFrame}
@@ -16,7 +16,7 @@ use Rattle.nef_space.specs.declared.label.Label.TheVariants.{Out, Not, In}
 use Rattle.law_near.specs.Cells.{sign_at, carriers, IsInAllAt}
 use Rattle.law_near.specs.Cones.{slide, NearGerm}
 use Rattle.law_near.specs.Examples.{x_below, x_above, y_below, y_above, z_below, z_above, x_axis, y_axis, z_axis, two_halves, wall, wall_part, wedge, point, HalvesDisjoint, TwoHalves, Wall, WallPart, Edge, PointAlone}
-use Rattle.law_forms.proofs.Near.{form-step}
+use Rattle.law_near.proofs.Near.{form-step}
 use Rattle.law_near.proofs.Flats.{Flat-from_cone, FlatCone-from_flat, FlatCone-from_carriers, vector-same}
 use Rattle.law_near.proofs.Alike.{flat-germ}
 use Rattle.law_near.proofs.Rays.{Germ-zero}

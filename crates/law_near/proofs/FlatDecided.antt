@@ -2,10 +2,10 @@
 use Rattle.std.proofs.Common.{◌≡◌, ℕ, ◌+◌, ◌<◌, ◌≤◌, ℤ, pos, negsuc, ◌+ℤ◌, ◌-ℤ◌, ◌*ℤ◌, neg_ℤ, nat_abs, arith, refl, ap, sym, ◌∙◌, ◌⊎◌, inl, inr, ⊎_elim, ◌↔◌, List, [], ◌∷◌, ◌++◌, subst}
 use Rattle.std.proofs.lemmas.Int.{ints}
 use Rattle.std.proofs.lemmas.Bool.{cases_order}
-use Rattle.law_arithmetic.specs.Signs.{nought, sign, sign_times, Lies}
-use Rattle.law_arithmetic.proofs.Ring.{ring, at, num, neg, ◌⊕◌, ◌⊖◌, ◌⊗◌}
-use Rattle.law_arithmetic.proofs.Combination.{given, none, follows, follows_times}
-use Rattle.law_arithmetic.proofs.Order.{nought-is, sign-plus, sign_of_product}
+use Rattle.nef_space.specs.Signs.{nought, sign, sign_times, Lies}
+use Rattle.nef_space.proofs.Ring.{ring, at, num, neg, ◌⊕◌, ◌⊖◌, ◌⊗◌}
+use Rattle.nef_space.proofs.Combination.{given, none, follows, follows_times}
+use Rattle.nef_space.proofs.Order.{nought-is, sign-plus, sign_of_product}
 use Rattle.nef_space.specs.Place.{Place, Form, form, slope}
 use Rattle.nef_space.specs.Vectors.{Vector, blend, dot, cross, triple, IsZero, IsDirection}
 use Rattle.nef_space.specs.Sets.{Set}
@@ -14,12 +14,12 @@ use Rattle.nef_space.specs.declared.label.Label.{Label}
 use Rattle.law_near.specs.Cells.{sign_at, carriers, SameSlopes, SameSlopesAt}
 use Rattle.law_near.specs.Cones.{slide, NearGerm, FlatCone}
 use Rattle.law_near.proofs.Cells.{is_nought}
-use Rattle.law_arithmetic.proofs.Lists.{lies-left, lies-right}
+use Rattle.nef_space.proofs.Lists.{lies-left, lies-right}
 use Rattle.law_near.proofs.Germs.{Germ-unique}
 use Rattle.law_near.proofs.Flats.{Flat-from_cone, FlatCone-from_flat, Germ-by_signs, slope-slide, vector-same}
 use Rattle.law_near.proofs.Decided.{Decided, germ_of, every, decided-both, decided-not}
-use Rattle.law_forms.proofs.Directions.{self-pos}
-use Rattle.law_forms.proofs.Far.{nought-or}
+use Rattle.law_near.proofs.Directions.{self-pos}
+use Rattle.law_near.proofs.Far.{nought-or}
 use Rattle.law_near.proofs.Alike.{FlatDim-one}
 use Rattle.law_near.proofs.NearGerms.{steep, steep-one, sign-large}
 use Rattle.law_near.proofs.Decisions.{representatives, near-germ_of, near-germ_one, same-label_or}

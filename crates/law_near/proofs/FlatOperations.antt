@@ -1,7 +1,7 @@
 -- A direction that is flat for the operands is flat for what is made of them.
 use Rattle.std.proofs.Common.{◌≡◌, ℕ, ◌*◌, ◌<◌, ◌≤◌, ℤ, pos, ◌+ℤ◌, ◌*ℤ◌, arith, inl, inr, ⊎_elim, ◌↔◌, [], ◌∷◌, subst}
 use Rattle.std.proofs.Math.Nat.{le-mul_of_pos_right}
-use Rattle.law_arithmetic.proofs.Ring.{ring, at, num, ◌⊕◌, ◌⊗◌}
+use Rattle.nef_space.proofs.Ring.{ring, at, num, ◌⊕◌, ◌⊗◌}
 use Rattle.nef_space.specs.Place.{Place}
 use Rattle.nef_space.specs.Vectors.{Vector, blend}
 use Rattle.nef_space.specs.Sets.{Set}

@@ -2,9 +2,9 @@
 use Rattle.std.proofs.Common.{◌≡◌, ℕ, ◌+◌, ◌*◌, ◌<◌, ℤ, pos, ◌+ℤ◌, ◌-ℤ◌, ◌*ℤ◌, ◌<ℤ◌, nat_abs, arith, ap, sym, ◌∙◌, [], ◌∷◌, subst}
 use Rattle.std.proofs.lemmas.Int.{ints, unsigned_abs-mul}
 use Rattle.std.proofs.Math.Nat.{mul-pos, mul-lt-mul_of_pos_left}
-use Rattle.law_arithmetic.proofs.Ring.{ring, at, num, ◌⊕◌, ◌⊖◌, ◌⊗◌}
-use Rattle.law_arithmetic.proofs.Order.{nought, sign, sign_times, sign-plus, nought-is, sign_of_product, mul_pos}
-use Rattle.law_arithmetic.specs.Signs.{Lies}
+use Rattle.nef_space.proofs.Ring.{ring, at, num, ◌⊕◌, ◌⊖◌, ◌⊗◌}
+use Rattle.nef_space.proofs.Order.{nought, sign, sign_times, sign-plus, nought-is, sign_of_product, mul_pos}
+use Rattle.nef_space.specs.Signs.{Lies}
 use Rattle.law_near.specs.Cones.{slide, FlatCone}
 use Rattle.law_near.specs.Cells.{sign_at, carriers}
 use Rattle.nef_space.specs.Place.{Place, Form, form_at, slope, Ratio, step, Within, toward}
@@ -12,7 +12,7 @@ use Rattle.nef_space.specs.Vectors.{Vector, vector}
 use Rattle.nef_space.specs.Sets.{Set}
 use Rattle.nef_space.specs.Local.{IsShort, HasLabel, Germ, Flat}
 use Rattle.nef_space.specs.declared.label.Label.{Label}
-use Rattle.law_forms.proofs.Near.{form-step, slope-toward, weaken, stride, step-within, reach_all}
+use Rattle.law_near.proofs.Near.{form-step, slope-toward, weaken, stride, step-within, reach_all}
 use Rattle.law_near.proofs.Cells.{reach-some}
 use Rattle.law_near.proofs.Germs.{locality, sign-along, short_enough}
 

@@ -1,8 +1,8 @@
 -- The frame is open, and outside its closure nothing changes.
 use Rattle.std.proofs.Common.{◌≡◌, ◌+◌, ◌*◌, ℤ, pos, negsuc, neg_ℤ, ◌≤ℤ◌, ◌<ℤ◌, arith, refl, sym, inl, inr, ◌↔◌, subst}
 use Rattle.std.proofs.lemmas.Int.{ints, by_lt_z}
-use Rattle.law_arithmetic.specs.Signs.{Sign, minus, nought, plus, Lies}
-use Rattle.law_arithmetic.proofs.Order.{sign-plus}
+use Rattle.nef_space.specs.Signs.{Sign, minus, nought, plus, Lies}
+use Rattle.nef_space.proofs.Order.{sign-plus}
 use Rattle.nef_space.specs.Limits.{half_side}
 use Rattle.nef_space.specs.Place.{Place, Form, form_at, Ratio, step, Within, InFrame, InClosedFrame}
 use Rattle.nef_space.specs.Vectors.{Vector, vector}
@@ -11,7 +11,7 @@ use Rattle.nef_space.specs.Local.{HasLabel, Germ, Flat, FlatDim}
 use Rattle.nef_space.specs.declared.label.Label.{Label}
 use Rattle.nef_space.specs.declared.label.Label.TheVariants.{Out, Not, In}
 use Rattle.law_near.specs.Cells.{sign_at, side, frame}
-use Rattle.law_forms.proofs.Near.{stride, step-within, reach_all}
+use Rattle.law_near.proofs.Near.{stride, step-within, reach_all}
 use Rattle.law_near.proofs.Cells.{reach-some, keeps-all, coordinate-in, InFrame-cells}
 
 -- ---- the sides at a point

@@ -1,3 +1,17 @@
+pub mod Sums
+pub mod Counting
+pub mod Crossings
+pub mod Segment
+pub mod FirstVector
+pub mod Far
+pub mod Near
+pub mod Directions
+pub mod Mixed
+pub mod Generic
+pub mod Representatives
+pub mod Places
+pub mod Tests
+pub mod FormExamples
 pub mod Cells
 pub mod Germs
 pub mod Flats

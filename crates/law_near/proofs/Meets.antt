@@ -2,17 +2,17 @@
 use Rattle.std.proofs.Common.{◌≡◌, ℤ, pos, ◌+ℤ◌, ◌-ℤ◌, ◌*ℤ◌, arith, refl, ap, ◌∙◌, ◌⊎◌, inl, inr, ⊎_elim, List, [], ◌∷◌, subst}
 use Rattle.std.proofs.lemmas.Int.{ints}
 use lib.IntN.{*ℤ-zero}
-use Rattle.law_arithmetic.proofs.Ring.{ring, at, num, ◌⊕◌, ◌⊖◌, ◌⊗◌}
-use Rattle.law_arithmetic.proofs.Order.{nought}
-use Rattle.law_arithmetic.specs.Signs.{Lies}
+use Rattle.nef_space.proofs.Ring.{ring, at, num, ◌⊕◌, ◌⊖◌, ◌⊗◌}
+use Rattle.nef_space.proofs.Order.{nought}
+use Rattle.nef_space.specs.Signs.{Lies}
 use Rattle.law_near.specs.Cones.{IsMeet}
 use Rattle.law_near.specs.Cells.{sign_at, carriers}
 use Rattle.nef_space.specs.Place.{Place, Form, slope, normal_of}
 use Rattle.nef_space.specs.Vectors.{Vector, IsDirection, IsZero, cross, triple}
 use Rattle.nef_space.specs.Sets.{Set}
 use Rattle.nef_space.specs.Local.{IsVertex}
-use Rattle.law_forms.proofs.Directions.{zero-decided}
-use Rattle.law_forms.proofs.Far.{nought-or}
+use Rattle.law_near.proofs.Directions.{zero-decided}
+use Rattle.law_near.proofs.Far.{nought-or}
 use Rattle.law_near.proofs.Cells.{is_nought}
 use Rattle.law_near.proofs.Flats.{Flat-from_cone, FlatCone-from_carriers}
 

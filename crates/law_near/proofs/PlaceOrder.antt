@@ -1,9 +1,9 @@
 -- The order of points by their coordinates: it goes on, no point is below an equal one, and equal points stand in the same order.
 use Rattle.std.proofs.Common.{◌≡◌, ℤ, pos, ◌*ℤ◌, ◌<ℤ◌, arith, ap, ◌∙◌, inl, inr, [], ◌∷◌}
 use Rattle.std.proofs.lemmas.Int.{ints}
-use Rattle.law_arithmetic.proofs.Fractions.{fraction-trans, fraction-eq-trans}
-use Rattle.law_arithmetic.proofs.Order.{cancel_lt, mul_lt_right}
-use Rattle.law_arithmetic.proofs.Ring.{ring, at, ◌⊗◌}
+use Rattle.nef_space.proofs.Fractions.{fraction-trans, fraction-eq-trans}
+use Rattle.nef_space.proofs.Order.{cancel_lt, mul_lt_right}
+use Rattle.nef_space.proofs.Ring.{ring, at, ◌⊗◌}
 use Rattle.nef_space.specs.Place.{Place, SamePlace, IsPlaceBelow}
 
 weight : (p : Place) → pos 0 <ℤ pos p.w

@@ -7,7 +7,7 @@ use Rattle.nef_space.specs.Local.{HasFlat, FlatDim}
 use Rattle.law_near.specs.Cells.{carriers}
 use Rattle.law_near.specs.Laws.{IsFlatBelow, FirstPoint}
 use Rattle.law_near.proofs.Cells.{reach-some, Cells}
-use Rattle.law_forms.proofs.Near.{reach_all}
+use Rattle.law_near.proofs.Near.{reach_all}
 use Rattle.law_near.proofs.Flats.{Flat-from_cone, FlatCone-from_flat}
 use Rattle.law_near.proofs.Alike.{HasFlat-by, HasFlat-fewer, FlatDim-one, FlatDim-by_germs, germs-by_cell}
 use Rattle.law_near.proofs.FlatDecided.{flat_dim-of}

@@ -1,10 +1,10 @@
 -- Facets lie in a carrier and edges in two: the flat directions are decided by the carriers that hold them.
 use Rattle.std.proofs.Common.{◌≡◌, ℕ, ◌<◌, ℤ, pos, ◌+ℤ◌, ◌*ℤ◌, ◌<ℤ◌, arith, refl, ap, sym, ◌∙◌, ◌⊎◌, inl, inr, ⊎_elim, ◌↔◌, List, [], ◌∷◌}
 use Rattle.std.proofs.lemmas.Int.{ints}
-use Rattle.law_arithmetic.specs.Signs.{nought, sign, sign_times, Lies}
-use Rattle.law_arithmetic.proofs.Ring.{ring, at, num, ◌⊕◌, ◌⊖◌, ◌⊗◌, Poly}
-use Rattle.law_arithmetic.proofs.Combination.{given, none, follows, follows_times}
-use Rattle.law_arithmetic.proofs.Order.{nought-is, sign-plus, sign_of_product}
+use Rattle.nef_space.specs.Signs.{nought, sign, sign_times, Lies}
+use Rattle.nef_space.proofs.Ring.{ring, at, num, ◌⊕◌, ◌⊖◌, ◌⊗◌, Poly}
+use Rattle.nef_space.proofs.Combination.{given, none, follows, follows_times}
+use Rattle.nef_space.proofs.Order.{nought-is, sign-plus, sign_of_product}
 use Rattle.nef_space.specs.Place.{Place, Form, slope, normal_of}
 use Rattle.nef_space.specs.Vectors.{Vector, vector, blend, dot, cross, triple, IsZero, IsDirection, IsParallel}
 use Rattle.nef_space.specs.Sets.{Set}
@@ -15,8 +15,8 @@ use Rattle.law_near.specs.Laws.{IsHeldBy, EdgeSupport, FacetSupport}
 use Rattle.law_near.proofs.Cells.{is_nought}
 use Rattle.law_near.proofs.Flats.{Flat-from_cone, FlatCone-from_flat, slope-slide}
 use Rattle.law_near.proofs.Decided.{Decided, every, decided-both, decided-not}
-use Rattle.law_forms.proofs.Directions.{zero-decided, self-pos}
-use Rattle.law_forms.proofs.Far.{nought-or}
+use Rattle.law_near.proofs.Directions.{zero-decided, self-pos}
+use Rattle.law_near.proofs.Far.{nought-or}
 use Rattle.law_near.proofs.NearGerms.{steep, steep-one, sign-large}
 use Rattle.law_near.proofs.FlatOperations.{flat-combination}
 use Rattle.law_near.proofs.FlatDecided.{near-of_flat, near-by_signs, parallel-both, triple-dot, cross-turned}

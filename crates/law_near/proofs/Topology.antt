@@ -9,7 +9,7 @@ use Rattle.nef_space.specs.declared.label.Label.{Label}
 use Rattle.nef_space.specs.declared.label.Label.TheVariants.{Out, Not, In}
 use Rattle.law_near.specs.Cells.{frame, carriers}
 use Rattle.law_near.specs.Cones.{NearGerm}
-use Rattle.law_forms.proofs.Near.{stride, step-within, reach_all}
+use Rattle.law_near.proofs.Near.{stride, step-within, reach_all}
 use Rattle.law_near.proofs.Cells.{reach-some}
 use Rattle.law_near.proofs.Germs.{Germ-unique, Germ-from_sample}
 use Rattle.law_near.proofs.Flats.{germ-toward, label-toward}

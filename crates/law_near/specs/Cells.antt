@@ -1,6 +1,6 @@
 -- The planes that decide a set, and points and directions that they don't tell apart.
 use Rattle.std.specs.Prelude.{◌≡◌, ℤ, pos, negsuc, neg_ℤ, List, [], ◌∷◌, ◌++◌}
-use Rattle.law_arithmetic.specs.Signs.{Sign, nought, sign, Lies}
+use Rattle.nef_space.specs.Signs.{Sign, nought, sign, Lies}
 use Rattle.nef_space.specs.Limits.{half_side}
 use Rattle.nef_space.specs.Place.{Place, Form, form, form_at, slope}
 use Rattle.nef_space.specs.Sets.{Set, halves}

@@ -1,6 +1,6 @@
 -- The cone of a set at a point: its label there and its germs in all directions.
 use Rattle.std.specs.Prelude.{◌≡◌, ℕ, ◌<◌, ◌≤◌, ℤ, pos, ◌+ℤ◌, ◌*ℤ◌, List, ◌⊎◌, ◌↔◌}
-use Rattle.law_arithmetic.specs.Signs.{nought, Lies}
+use Rattle.nef_space.specs.Signs.{nought, Lies}
 use Rattle.nef_space.specs.Local.{HasLabel, Germ}
 use Rattle.nef_space.specs.Place.{Place, Form, normal_of, Within, SamePlace, IsBetween}
 use Rattle.nef_space.specs.Sets.{Set}

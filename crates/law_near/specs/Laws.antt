@@ -1,6 +1,6 @@
 -- The laws on what a set looks like near a point. Each is cited by a clause of a public function.
 use Rattle.std.specs.Prelude.{◌≡◌, ℕ, ◌<◌, ◌≤◌, ℤ, pos, List, ◌⊎◌, ◌↔◌}
-use Rattle.law_arithmetic.specs.Signs.{nought, sign, Lies}
+use Rattle.nef_space.specs.Signs.{nought, sign, Lies}
 use Rattle.nef_space.specs.Local.{HasLabel, SameSet, IsShort, Germ, Flat, FlatDim, IsVertex, IsEven, Joined}
 use Rattle.nef_space.specs.Place.{Place, Form, normal_of, slope, Ratio, step, Within, SamePlace, InFrame, InClosedFrame, toward, IsAhead, IsBetween}
 use Rattle.nef_space.specs.Sets.{Set, Holds}

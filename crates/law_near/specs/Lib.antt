@@ -1,3 +1,6 @@
+pub mod Homogeneous
+pub mod Near
+pub mod FormLaws
 pub mod Cells
 pub mod Cones
 pub mod Laws

@@ -6,8 +6,13 @@
 //! specs/Laws.antt.
 #![tactic(auto)]
 
+mod forms;
 mod laws;
 
+pub use forms::{
+    factor_laws, first_change_laws, form_segment_laws, generic_laws, near_form_laws,
+    representative_laws,
+};
 pub use laws::{
     cell_laws, combination_laws, cone_examples, cone_laws, decision_laws, flat_laws, joined_laws,
     near_laws, same_set_laws, segment_laws, topology_laws,

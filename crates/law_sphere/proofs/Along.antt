@@ -2,9 +2,9 @@
 use Rattle.std.proofs.Common.{◌≡◌, ℕ, zero, suc, ◌+◌, ◌*◌, ◌<◌, ◌≤◌, pos, negsuc, ◌+ℤ◌, ◌-ℤ◌, ◌*ℤ◌, arith, refl, ap, sym, ◌∙◌, ◌⊎◌, inl, inr, ⊎_elim, List, [], ◌∷◌, subst, true, false}
 use Rattle.std.proofs.lemmas.Int.{ints}
 use Rattle.std.proofs.Math.Nat.{mul-pos}
-use Rattle.law_arithmetic.proofs.Ring.{ring, at, num, ◌⊕◌, ◌⊖◌, ◌⊗◌}
-use Rattle.law_arithmetic.proofs.Order.{Sign, sign, sign-plus, sign-minus}
-use Rattle.law_arithmetic.specs.Signs.{Lies}
+use Rattle.nef_space.proofs.Ring.{ring, at, num, ◌⊕◌, ◌⊖◌, ◌⊗◌}
+use Rattle.nef_space.proofs.Order.{Sign, sign, sign-plus, sign-minus}
+use Rattle.nef_space.specs.Signs.{Lies}
 use Rattle.nef_space.specs.Vectors.{Vector, IsDirection, cross, dot, blend}
 use Rattle.nef_space.specs.declared.label.Label.{Label}
 use Rattle.law_sphere.specs.Vectors.{comb}
@@ -13,8 +13,8 @@ use Rattle.law_sphere.specs.Least.{by_side}
 use Rattle.law_sphere.specs.Labelling.{Labelling, Near, StraightAt, IsSmooth, plain, straight}
 use Rattle.law_sphere.proofs.Vectors.{dot-comb}
 use Rattle.law_near.proofs.Decided.{Decided}
-use Rattle.law_forms.proofs.Far.{nought-or, same-off, same-nought}
-use Rattle.law_forms.proofs.Directions.{self-pos}
+use Rattle.law_near.proofs.Far.{nought-or, same-off, same-nought}
+use Rattle.law_near.proofs.Directions.{self-pos}
 use Rattle.law_sphere.proofs.Generic.{amount, far-keeps, far-level}
 use Rattle.law_sphere.proofs.Direct.{cross-between}
 use Rattle.law_sphere.proofs.StepOff.{blend-turned}

@@ -1,12 +1,12 @@
 -- Directions on an arc, and that what short ways along an arc carry on holds all along it.
 use Rattle.std.proofs.Common.{◌≡◌, ℕ, ◌<◌, ◌≤◌, ℤ, pos, negsuc, ◌+ℤ◌, ◌-ℤ◌, ◌*ℤ◌, ◌<ℤ◌, arith, ap, sym, ◌∙◌, inl, inr, ⊎_elim, [], ◌∷◌, subst}
 use Rattle.std.proofs.lemmas.Int.{ints}
-use Rattle.law_arithmetic.proofs.Ring.{ring, at, num, ◌⊕◌, ◌⊖◌, ◌⊗◌}
-use Rattle.law_arithmetic.proofs.Order.{by_order, mul_pos}
+use Rattle.nef_space.proofs.Ring.{ring, at, num, ◌⊕◌, ◌⊖◌, ◌⊗◌}
+use Rattle.nef_space.proofs.Order.{by_order, mul_pos}
 use Rattle.nef_space.specs.Vectors.{Vector, IsDirection, cross, triple, dot, IsZero, SameDirection, IsOpposite, blend}
 use Rattle.law_cyclic.specs.Arcs.{IsStrictlyOn}
 use Rattle.law_sphere.proofs.Vectors.{dot-comb, triple-middle, direction-by, same-plus, nought-if}
-use Rattle.law_forms.proofs.Directions.{dot-comm, self-pos, dot-zero, zero-decided}
+use Rattle.law_near.proofs.Directions.{dot-comm, self-pos, dot-zero, zero-decided}
 use Rattle.law_sphere.proofs.Generic.{amount}
 use Rattle.law_sphere.proofs.Parallel.{past_source, arc-point, there-ahead, parallel-in_plane, parallel-trans}
 use Rattle.law_near.proofs.FlatDecided.{cross-turned, triple-dot}

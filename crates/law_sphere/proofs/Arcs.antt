@@ -1,6 +1,6 @@
 -- Two least maps with the same labels have the same arcs and the same sloop.
 use Rattle.std.proofs.Common.{◌≡◌, ℕ, zero, suc, ◌+◌, pos, ◌<ℤ◌, arith, refl, ap, sym, ◌∙◌, inl, inr, List, [], ◌∷◌, subst, Option, Some, None}
-use Rattle.law_arithmetic.proofs.Order.{sign}
+use Rattle.nef_space.proofs.Order.{sign}
 use Rattle.nef_space.specs.Vectors.{Vector, IsDirection, triple, cross, dot, SameDirection}
 use Rattle.law_sphere.specs.Maps.{At, MapVertex, Arc, MapSloop, Map, Item, arc_item, sloop_item, items, items_then, item_normal, item_pos, item_mark, item_neg, dir_of, OnItem, Shaped, Valid}
 use Rattle.law_cyclic.specs.Arcs.{IsStrictlyOn}
@@ -8,8 +8,8 @@ use Rattle.law_sphere.specs.Forms.{Keeps, arc_forms, forms}
 use Rattle.law_sphere.specs.Least.{Least, SameLabels, MatchedArc, MatchedSloop}
 use Rattle.law_sphere.proofs.Vectors.{normal-is, same-plus}
 use Rattle.law_near.proofs.Decided.{Decided}
-use Rattle.law_forms.proofs.Far.{same-nought, same-off}
-use Rattle.law_forms.proofs.Directions.{dot-comm}
+use Rattle.law_near.proofs.Far.{same-nought, same-off}
+use Rattle.law_near.proofs.Directions.{dot-comm}
 use Rattle.law_sphere.proofs.Generic.{amount, far-keeps}
 use Rattle.law_sphere.proofs.Places.{SameDirection-decided}
 use Rattle.law_sphere.proofs.Forms.{item-forms}

@@ -1,15 +1,15 @@
 -- Where a direction close to d lies: close to a free one all are free; close to one on an item, on the item or free.
 use Rattle.std.proofs.Common.{◌≡◌, ℕ, ℤ, pos, ◌-ℤ◌, ◌*ℤ◌, ◌<ℤ◌, arith, refl, ap, sym, ◌⊎◌, inl, inr, ⊎_elim, [], ◌∷◌, subst}
 use Rattle.std.proofs.lemmas.Int.{ints}
-use Rattle.law_arithmetic.proofs.Ring.{ring, at, num, ◌⊕◌, ◌⊖◌, ◌⊗◌}
-use Rattle.law_arithmetic.proofs.Combination.{follows, given, none}
-use Rattle.law_arithmetic.proofs.Order.{by_order, mul_pos, sign-scaled}
+use Rattle.nef_space.proofs.Ring.{ring, at, num, ◌⊕◌, ◌⊖◌, ◌⊗◌}
+use Rattle.nef_space.proofs.Combination.{follows, given, none}
+use Rattle.nef_space.proofs.Order.{by_order, mul_pos, sign-scaled}
 use Rattle.nef_space.specs.Vectors.{Vector, IsDirection, triple, cross, dot, IsZero, SameDirection, IsOpposite}
 use Rattle.law_sphere.specs.Maps.{At, MapVertex, Map, Item, arc_item, sloop_item, items, item_normal, dir_of, OnItem, IsFree, Shaped}
 use Rattle.law_cyclic.specs.Arcs.{IsStrictlyOn}
 use Rattle.law_sphere.specs.Forms.{Keeps, arc_forms, forms}
 use Rattle.law_sphere.proofs.Vectors.{normal-is, triple-middle, nought-if, same-plus, same-minus}
-use Rattle.law_forms.proofs.Directions.{self-pos}
+use Rattle.law_near.proofs.Directions.{self-pos}
 use Rattle.law_sphere.proofs.Lists.{at-one}
 use Rattle.law_sphere.proofs.Places.{kept-nought, kept-minus, direction-stays, SameDirection-back}
 use Rattle.law_sphere.proofs.Forms.{axes-forms, svertex-forms, item-forms, on-direction, on-level, OnItem-stays, OnItem-by_signs}

@@ -1,7 +1,7 @@
 -- A map that is built of a labelling is well shaped, and agrees with it; so it is valid and has its labels.
 use Rattle.std.proofs.Common.{◌≡◌, ℕ, zero, suc, ◌+◌, pos, arith, refl, ap, sym, ◌∙◌, ◌⊎◌, inl, inr, ⊎_elim, List, [], ◌∷◌, subst, Option, Some, None}
 use Rattle.std.proofs.lemmas.Int.{ints}
-use Rattle.law_arithmetic.proofs.Order.{Sign, minus, nought, plus, sign, by_order}
+use Rattle.nef_space.proofs.Order.{Sign, minus, nought, plus, sign, by_order}
 use Rattle.nef_space.specs.Vectors.{Vector, IsDirection, cross, dot, SameDirection, IsNormal}
 use Rattle.nef_space.specs.declared.label.Label.{Label}
 use Rattle.law_near.proofs.Supports.{square-cross}
@@ -12,7 +12,7 @@ use Rattle.law_sphere.specs.Labelling.{Labelling, Near, Plain, Agrees, StraightA
 use Rattle.law_sphere.specs.Builds.{StraightAfter, Proper, IsBuilt}
 use Rattle.law_sphere.proofs.Vectors.{normal-direction}
 use Rattle.law_near.proofs.Decided.{Decided}
-use Rattle.law_forms.proofs.Far.{nought-or}
+use Rattle.law_near.proofs.Far.{nought-or}
 use Rattle.law_sphere.proofs.Generic.{amount}
 use Rattle.law_sphere.proofs.Lists.{Found, search_list, at-one}
 use Rattle.law_sphere.proofs.Places.{IsStrictlyOn-decided}

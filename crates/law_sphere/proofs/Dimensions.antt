@@ -1,8 +1,8 @@
 -- The kind of the least map of a set at a point is the dimension of the set's flat directions there.
 use Rattle.std.proofs.Common.{◌≡◌, pos, arith, sym, ◌∙◌, inl, inr, ⊎_elim, [], ◌∷◌, subst}
 use Rattle.std.proofs.lemmas.Int.{ints}
-use Rattle.law_arithmetic.proofs.Examples.{in_plane}
-use Rattle.law_arithmetic.proofs.Ring.{ring, at, num, ◌⊕◌, ◌⊖◌, ◌⊗◌}
+use Rattle.nef_space.proofs.ArithmeticExamples.{in_plane}
+use Rattle.nef_space.proofs.Ring.{ring, at, num, ◌⊕◌, ◌⊖◌, ◌⊗◌}
 use Rattle.nef_space.specs.Place.{Place}
 use Rattle.nef_space.specs.Vectors.{Vector, IsDirection, cross, vector, dot, IsZero}
 use Rattle.nef_space.specs.Sets.{Set}
@@ -17,7 +17,7 @@ use Rattle.law_sphere.specs.Maps.{Map, MapLabel}
 use Rattle.law_sphere.specs.Least.{Least, Cone}
 use Rattle.law_sphere.specs.Kinds.{Full, FlatMap, IsInVolume, IsInFacet, IsOnEdge}
 use Rattle.law_sphere.proofs.Vectors.{normal-is}
-use Rattle.law_forms.proofs.Directions.{zero-decided, self-pos, dot-comm, dot-zero}
+use Rattle.law_near.proofs.Directions.{zero-decided, self-pos, dot-comm, dot-zero}
 use Rattle.law_sphere.proofs.Parallel.{apart, parallel-trans, circle-point}
 use Rattle.law_near.proofs.FlatDecided.{cross-turned}
 use Rattle.law_sphere.proofs.Direct.{cross-self}

@@ -1,19 +1,19 @@
 -- A free direction that isn't in the plane of some item is seen directly by a side.
 use Rattle.std.proofs.Common.{◌≡◌, ℕ, ◌<◌, ℤ, pos, ◌+ℤ◌, ◌-ℤ◌, ◌*ℤ◌, ◌<ℤ◌, arith, refl, ap, sym, ◌∙◌, inl, inr, ⊎_elim, List, [], ◌∷◌, ◌++◌}
 use Rattle.std.proofs.lemmas.Int.{ints}
-use Rattle.law_arithmetic.proofs.Ring.{ring, at, num, ◌⊕◌, ◌⊖◌, ◌⊗◌}
-use Rattle.law_arithmetic.proofs.Order.{sign, by_order, sign-scaled}
-use Rattle.law_arithmetic.specs.Signs.{Lies}
+use Rattle.nef_space.proofs.Ring.{ring, at, num, ◌⊕◌, ◌⊖◌, ◌⊗◌}
+use Rattle.nef_space.proofs.Order.{sign, by_order, sign-scaled}
+use Rattle.nef_space.specs.Signs.{Lies}
 use Rattle.nef_space.specs.Vectors.{Vector, IsDirection, cross, dot, IsZero, SameDirection, blend}
 use Rattle.nef_space.specs.declared.label.Label.{Label}
 use Rattle.law_sphere.specs.Vectors.{comb}
 use Rattle.law_sphere.specs.Maps.{At, MapVertex, Map, Item, items, item_normal, item_pos, item_neg, OnItem, IsFree, Side, pos_item, neg_item, HasSide, IsClear, Reaches, Shaped}
 use Rattle.law_sphere.proofs.Vectors.{normal-is, dot-comb, comb-dot, direction-by}
-use Rattle.law_forms.proofs.Far.{nought-or}
-use Rattle.law_forms.proofs.Directions.{square_pos}
+use Rattle.law_near.proofs.Far.{nought-or}
+use Rattle.law_near.proofs.Directions.{square_pos}
 use Rattle.law_sphere.proofs.Generic.{Keeps, Generic, generic}
 use Rattle.law_sphere.proofs.Lists.{gather, gather-has}
-use Rattle.law_arithmetic.proofs.Lists.{lies-left, lies-right}
+use Rattle.nef_space.proofs.Lists.{lies-left, lies-right}
 use Rattle.law_sphere.proofs.Forms.{item_forms, on-direction, on-level, OnItem-stays}
 use Rattle.law_sphere.proofs.Parallel.{apart, miss}
 use Rattle.law_sphere.proofs.Shot.{product-off, item-point, Target, Shot, shoot}

@@ -1,8 +1,8 @@
 -- Two least maps with one mark and one label in every direction are equal; so a set has at most one least map at a point.
 use Rattle.std.proofs.Common.{◌≡◌, ℕ, zero, suc, ℤ, pos, ◌+ℤ◌, ◌-ℤ◌, ◌*ℤ◌, ◌<ℤ◌, arith, refl, ap, sym, ◌∙◌, inl, inr, ⊎_elim, List, [], ◌∷◌, subst, Option, Some, None}
 use Rattle.std.proofs.lemmas.Int.{ints}
-use Rattle.law_arithmetic.proofs.Ring.{ring, at, num, ◌⊕◌, ◌⊖◌, ◌⊗◌}
-use Rattle.law_arithmetic.proofs.Order.{by_order, mul_pos, mul_le_right, cancel_eq}
+use Rattle.nef_space.proofs.Ring.{ring, at, num, ◌⊕◌, ◌⊖◌, ◌⊗◌}
+use Rattle.nef_space.proofs.Order.{by_order, mul_pos, mul_le_right, cancel_eq}
 use Rattle.nef_space.specs.Place.{Place}
 use Rattle.nef_space.specs.Vectors.{Vector, IsDirection, cross, dot, IsZero, SameDirection}
 use Rattle.nef_space.specs.Sets.{Set}
@@ -11,7 +11,7 @@ use Rattle.law_near.proofs.Germs.{Germ-unique, label-one}
 use Rattle.law_sphere.specs.Vectors.{IsPrimitive, VectorBelow}
 use Rattle.law_sphere.specs.Maps.{At, MapVertex, Arc, MapSloop, Map, arc_item, sloop_item, dir_of, MapLabel, Valid}
 use Rattle.law_sphere.specs.Least.{Least, SameLabels, MatchedArc, Within, ArcBelow, InOrder, Ordered, Cone}
-use Rattle.law_forms.proofs.Directions.{self-pos}
+use Rattle.law_near.proofs.Directions.{self-pos}
 use Rattle.law_near.proofs.Flats.{vector-same}
 use Rattle.law_sphere.proofs.Labels.{label-direction, label-unique, dir-direction}
 use Rattle.law_sphere.proofs.Compare.{scaled-coordinates, labels-turned, SameDirection-turned}

@@ -1,15 +1,15 @@
 -- The way from a direction that sees a svertex to one close to the svertex, where no ray of the svertex lies between.
 use Rattle.std.proofs.Common.{◌≡◌, ℕ, zero, suc, ◌+◌, ◌<◌, ◌≤◌, ℤ, pos, nat_abs, ◌+ℤ◌, ◌*ℤ◌, ◌-ℤ◌, ◌<ℤ◌, arith, refl, ap, sym, ◌∙◌, inl, ⊎_elim, List, [], ◌∷◌, subst}
 use Rattle.std.proofs.lemmas.Int.{ints}
-use Rattle.law_arithmetic.proofs.Ring.{ring, at, num, ◌⊕◌, ◌⊖◌, ◌⊗◌}
-use Rattle.law_arithmetic.proofs.Order.{sign, nought-is, by_order, mul_pos, mul_neg, sign-scaled}
-use Rattle.law_arithmetic.proofs.Combination.{follows, given, none as none_given}
+use Rattle.nef_space.proofs.Ring.{ring, at, num, ◌⊕◌, ◌⊖◌, ◌⊗◌}
+use Rattle.nef_space.proofs.Order.{sign, nought-is, by_order, mul_pos, mul_neg, sign-scaled}
+use Rattle.nef_space.proofs.Combination.{follows, given, none as none_given}
 use Rattle.nef_space.specs.Vectors.{Vector, IsDirection, triple, cross, dot, SameDirection, blend}
 use Rattle.law_near.proofs.Flats.{vector-same}
 use Rattle.law_near.proofs.FlatDecided.{triple-in_plane}
 use Rattle.law_near.proofs.Meets.{cross-none}
-use Rattle.law_forms.proofs.Directions.{dot-zero, square_pos}
-use Rattle.law_forms.proofs.Far.{nought-or, same-off}
+use Rattle.law_near.proofs.Directions.{dot-zero, square_pos}
+use Rattle.law_near.proofs.Far.{nought-or, same-off}
 use Rattle.law_sphere.specs.Maps.{At, MapVertex, Map, Item, items, item_normal, OnItem, IsClear, Shaped}
 use Rattle.law_sphere.specs.Sectors.{ArcRay, ray_left}
 use Rattle.law_sphere.specs.Forms.{Keeps, forms, gather}

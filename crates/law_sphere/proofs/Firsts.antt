@@ -1,15 +1,15 @@
 -- Arcs of one circle from one source lie in each other; the first of a list after a direction; arcs that meet begin together.
 use Rattle.std.proofs.Common.{◌≡◌, ℕ, zero, suc, ℤ, pos, ◌+ℤ◌, ◌-ℤ◌, ◌*ℤ◌, ◌≤ℤ◌, ◌<ℤ◌, arith, refl, ap, sym, ◌⊎◌, inl, inr, ⊎_elim, List, [], ◌∷◌, subst}
 use Rattle.std.proofs.lemmas.Int.{ints}
-use Rattle.law_arithmetic.proofs.Ring.{ring, at, num, ◌⊖◌, ◌⊗◌}
-use Rattle.law_arithmetic.proofs.Order.{by_order, mul_pos, mul_nonneg}
+use Rattle.nef_space.proofs.Ring.{ring, at, num, ◌⊖◌, ◌⊗◌}
+use Rattle.nef_space.proofs.Order.{by_order, mul_pos, mul_nonneg}
 use Rattle.nef_space.specs.Vectors.{Vector, IsDirection, cross, triple, dot, SameDirection, IsOpposite}
 use Rattle.law_sphere.proofs.Turning.{turns}
 use Rattle.law_sphere.specs.Maps.{At}
 use Rattle.law_cyclic.specs.Arcs.{IsStrictlyOn}
 use Rattle.law_sphere.proofs.Vectors.{same-plus, same-minus}
 use Rattle.law_near.proofs.Decided.{Decided}
-use Rattle.law_forms.proofs.Directions.{dot-comm, self-pos, dot-zero}
+use Rattle.law_near.proofs.Directions.{dot-comm, self-pos, dot-zero}
 use Rattle.law_sphere.proofs.Places.{IsStrictlyOn-decided, SameDirection-decided}
 use Rattle.law_sphere.proofs.Parallel.{parallel-in_plane}
 use Rattle.law_near.proofs.FlatDecided.{cross-turned}

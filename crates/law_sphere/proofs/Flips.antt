@@ -1,9 +1,9 @@
 -- The other side of a plane: arcs the other way round, and labels with above and below exchanged; loops.
 use Rattle.std.proofs.Common.{◌≡◌, ℕ, ◌+◌, ◌≤◌, ℤ, pos, negsuc, ◌+ℤ◌, ◌-ℤ◌, ◌*ℤ◌, ◌<ℤ◌, arith, refl, ap, sym, ◌∙◌, inl, inr, ⊎_elim, List, [], ◌∷◌, subst}
 use Rattle.std.proofs.lemmas.Int.{ints}
-use Rattle.law_arithmetic.proofs.Ring.{ring, at, num, ◌⊕◌, ◌⊖◌, ◌⊗◌}
-use Rattle.law_arithmetic.proofs.Order.{sign, sign-plus, sign-minus, by_order}
-use Rattle.law_arithmetic.specs.Signs.{Lies}
+use Rattle.nef_space.proofs.Ring.{ring, at, num, ◌⊕◌, ◌⊖◌, ◌⊗◌}
+use Rattle.nef_space.proofs.Order.{sign, sign-plus, sign-minus, by_order}
+use Rattle.nef_space.specs.Signs.{Lies}
 use Rattle.nef_space.specs.Vectors.{Vector, IsDirection, cross, triple, dot, IsZero, SameDirection, IsOpposite, blend}
 use Rattle.nef_space.specs.declared.label.Label.{Label}
 use Rattle.law_sphere.specs.Vectors.{comb}
@@ -13,8 +13,8 @@ use Rattle.law_sphere.specs.Least.{by_side}
 use Rattle.law_sphere.specs.Labelling.{Labelling, Near, StraightAt, IsSmooth}
 use Rattle.law_sphere.proofs.Vectors.{dot-comb, comb-dot, nought-if}
 use Rattle.law_near.proofs.Decided.{Decided}
-use Rattle.law_forms.proofs.Far.{same-nought}
-use Rattle.law_forms.proofs.Directions.{dot-comm, self-pos, zero-decided, zero-dot}
+use Rattle.law_near.proofs.Far.{same-nought}
+use Rattle.law_near.proofs.Directions.{dot-comm, self-pos, zero-decided, zero-dot}
 use Rattle.law_sphere.proofs.Parallel.{apart, parallel-trans}
 use Rattle.law_near.proofs.FlatDecided.{cross-turned}
 use Rattle.law_sphere.proofs.Generic.{amount, far-keeps}

@@ -2,8 +2,8 @@
 use Rattle.std.proofs.Common.{◌≡◌, ℕ, ◌*◌, ◌<◌, ℤ, pos, negsuc, ◌+ℤ◌, ◌-ℤ◌, ◌*ℤ◌, nat_abs, arith, refl, ap, sym, ◌∙◌, inl, inr, ⊎_elim, [], ◌∷◌, subst, Some}
 use Rattle.std.proofs.lemmas.Int.{ints}
 use Rattle.std.proofs.Math.Nat.{mul-pos}
-use Rattle.law_arithmetic.proofs.Ring.{ring, at, num, ◌⊕◌, ◌⊖◌, ◌⊗◌}
-use Rattle.law_arithmetic.proofs.Order.{sign, sign-plus, sign-minus, by_order}
+use Rattle.nef_space.proofs.Ring.{ring, at, num, ◌⊕◌, ◌⊖◌, ◌⊗◌}
+use Rattle.nef_space.proofs.Order.{sign, sign-plus, sign-minus, by_order}
 use Rattle.nef_space.specs.Vectors.{Vector, IsDirection, cross, vector, dot, IsZero, blend}
 use Rattle.law_sphere.specs.Vectors.{comb}
 use Rattle.law_sphere.specs.Maps.{At, MapSloop, Map, Item, sloop_item, items, item_normal, item_pos, item_mark, item_neg, OnItem, MapLabel, on_item, NearLabel, Valid}
@@ -11,8 +11,8 @@ use Rattle.law_sphere.specs.Forms.{SameSigns, forms}
 use Rattle.law_sphere.specs.Least.{by_side, Least}
 use Rattle.law_sphere.specs.Kinds.{Full, FlatMap}
 use Rattle.law_sphere.proofs.Vectors.{normal-is, dot-comb}
-use Rattle.law_forms.proofs.Far.{nought-or}
-use Rattle.law_forms.proofs.Directions.{self-pos, dot-zero}
+use Rattle.law_near.proofs.Far.{nought-or}
+use Rattle.law_near.proofs.Directions.{self-pos, dot-zero}
 use Rattle.law_sphere.proofs.Forms.{direction-by_signs, on-direction, on-level}
 use Rattle.law_sphere.proofs.Parallel.{apart, circle-point}
 use Rattle.law_near.proofs.Flats.{vector-same}

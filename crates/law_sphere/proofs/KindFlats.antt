@@ -1,8 +1,8 @@
 -- Maps of volume, facet and edge points stay the same along the directions that their kind names.
 use Rattle.std.proofs.Common.{◌≡◌, ℕ, zero, suc, ◌<◌, ℤ, pos, ◌+ℤ◌, ◌-ℤ◌, ◌*ℤ◌, ◌<ℤ◌, arith, refl, ap, sym, ◌∙◌, ◌⊎◌, inl, inr, ⊎_elim, List, [], ◌∷◌, subst, Option, Some, None}
 use Rattle.std.proofs.lemmas.Int.{ints}
-use Rattle.law_arithmetic.proofs.Ring.{ring, at, num, ◌⊕◌, ◌⊖◌, ◌⊗◌}
-use Rattle.law_arithmetic.proofs.Order.{Sign, sign, sign-plus, sign-minus, by_order, mul_pos, sign-scaled}
+use Rattle.nef_space.proofs.Ring.{ring, at, num, ◌⊕◌, ◌⊖◌, ◌⊗◌}
+use Rattle.nef_space.proofs.Order.{Sign, sign, sign-plus, sign-minus, by_order, mul_pos, sign-scaled}
 use Rattle.nef_space.specs.Vectors.{Vector, IsDirection, cross, triple, dot, IsZero, SameDirection, IsOpposite, blend}
 use Rattle.nef_space.specs.declared.label.Label.{Label}
 use Rattle.law_sphere.specs.Vectors.{comb}
@@ -12,8 +12,8 @@ use Rattle.law_sphere.specs.Least.{by_side, Least}
 use Rattle.law_sphere.specs.Kinds.{Full, FlatMap, IsInVolume, IsInFacet, IsOnEdge}
 use Rattle.law_sphere.proofs.Vectors.{normal-is, dot-comb, direction-by}
 use Rattle.law_near.proofs.Decided.{Decided}
-use Rattle.law_forms.proofs.Far.{nought-or}
-use Rattle.law_forms.proofs.Directions.{dot-zero, zero-decided}
+use Rattle.law_near.proofs.Far.{nought-or}
+use Rattle.law_near.proofs.Directions.{dot-zero, zero-decided}
 use Rattle.law_sphere.proofs.Forms.{on-level}
 use Rattle.law_sphere.proofs.Parallel.{apart, circle-point, parallel-trans}
 use Rattle.law_near.proofs.FlatDecided.{cross-turned, triple-dot}

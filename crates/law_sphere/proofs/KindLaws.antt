@@ -1,9 +1,9 @@
 -- The map of an edge point stays the same along the edge; a least map that stays the same along a direction is of one of three kinds.
 use Rattle.std.proofs.Common.{◌≡◌, ℕ, zero, suc, ◌+◌, ◌*◌, ◌<◌, ℤ, pos, negsuc, ◌+ℤ◌, ◌-ℤ◌, ◌*ℤ◌, arith, refl, ap, sym, ◌∙◌, ◌⊎◌, inl, inr, ⊎_elim, List, [], ◌∷◌, subst, Option, Some, None}
 use Rattle.std.proofs.lemmas.Int.{ints}
-use Rattle.law_arithmetic.proofs.Ring.{ring, at, num, ◌⊕◌, ◌⊖◌, ◌⊗◌}
-use Rattle.law_arithmetic.proofs.Combination.{follows, given, none}
-use Rattle.law_arithmetic.proofs.Order.{sign, mul_neg, sign-scaled}
+use Rattle.nef_space.proofs.Ring.{ring, at, num, ◌⊕◌, ◌⊖◌, ◌⊗◌}
+use Rattle.nef_space.proofs.Combination.{follows, given, none}
+use Rattle.nef_space.proofs.Order.{sign, mul_neg, sign-scaled}
 use Rattle.nef_space.specs.Vectors.{Vector, IsDirection, cross, triple, dot, IsZero, SameDirection, IsOpposite, blend}
 use Rattle.nef_space.specs.declared.label.Label.{Label}
 use Rattle.law_sphere.specs.Vectors.{comb}
@@ -11,7 +11,7 @@ use Rattle.law_sphere.specs.Maps.{At, MapVertex, MapSloop, Map, sloop_item, item
 use Rattle.law_sphere.specs.Least.{by_side, NearPlain, NearStraight, Least}
 use Rattle.law_sphere.specs.Kinds.{Full, FlatMap, IsInVolume, IsInFacet, IsOnEdge}
 use Rattle.law_sphere.proofs.Vectors.{dot-comb, triple-middle, same-minus}
-use Rattle.law_forms.proofs.Directions.{dot-comm, self-pos, dot-zero, zero-decided}
+use Rattle.law_near.proofs.Directions.{dot-comm, self-pos, dot-zero, zero-decided}
 use Rattle.law_sphere.proofs.Lists.{search_list, at-one}
 use Rattle.law_sphere.proofs.Forms.{PlaceOf, svertex_place, item_place, free_place, place_of, OnItem-by_signs}
 use Rattle.law_sphere.proofs.Parallel.{parallel-trans}

@@ -1,6 +1,6 @@
 -- The germs of a set at a point, and an operation on the labels of two maps, are labellings.
 use Rattle.std.proofs.Common.{refl, ap, sym, ◌∙◌, inl, inr, ◌↔◌, List, [], ◌∷◌, ◌++◌}
-use Rattle.law_arithmetic.specs.Signs.{Lies}
+use Rattle.nef_space.specs.Signs.{Lies}
 use Rattle.nef_space.specs.Place.{Place, Form, normal_of}
 use Rattle.nef_space.specs.Vectors.{Vector, IsDirection}
 use Rattle.nef_space.specs.Sets.{Set}
@@ -14,7 +14,7 @@ use Rattle.law_sphere.specs.Maps.{Map, MapLabel, Shaped, Valid}
 use Rattle.law_sphere.specs.Forms.{forms}
 use Rattle.law_sphere.specs.Least.{Cone}
 use Rattle.law_sphere.specs.Labelling.{Labelling, Agrees, ByOp}
-use Rattle.law_arithmetic.proofs.Lists.{lies-left, lies-right}
+use Rattle.nef_space.proofs.Lists.{lies-left, lies-right}
 use Rattle.law_sphere.proofs.Labels.{label-exists, label-unique, label-by_signs}
 use Rattle.law_sphere.proofs.Built.{agrees-valid, agrees-label, label-agrees}
 

@@ -1,16 +1,16 @@
 -- Each direction has one label, which the signs of the map's forms determine; so has each direction near a direction.
 use Rattle.std.proofs.Common.{◌≡◌, ℕ, ◌+◌, ◌<◌, ◌≤◌, ℤ, pos, ◌+ℤ◌, ◌-ℤ◌, ◌*ℤ◌, ◌≤ℤ◌, ◌<ℤ◌, arith, refl, ap, sym, ◌∙◌, inl, inr, List, [], ◌∷◌, subst}
 use Rattle.std.proofs.lemmas.Int.{ints}
-use Rattle.law_arithmetic.proofs.Ring.{ring, at, num, ◌⊕◌, ◌⊖◌, ◌⊗◌}
-use Rattle.law_arithmetic.proofs.Combination.{follows, given, none}
-use Rattle.law_arithmetic.proofs.Order.{sign, sign-plus, sign-minus, by_order, mul_pos, mul_neg, cancel_lt, sign-scaled}
-use Rattle.law_arithmetic.specs.Signs.{Lies}
+use Rattle.nef_space.proofs.Ring.{ring, at, num, ◌⊕◌, ◌⊖◌, ◌⊗◌}
+use Rattle.nef_space.proofs.Combination.{follows, given, none}
+use Rattle.nef_space.proofs.Order.{sign, sign-plus, sign-minus, by_order, mul_pos, mul_neg, cancel_lt, sign-scaled}
+use Rattle.nef_space.specs.Signs.{Lies}
 use Rattle.nef_space.specs.Vectors.{Vector, IsDirection, dot, SameDirection, IsOpposite, blend}
 use Rattle.nef_space.specs.declared.label.Label.{Label}
 use Rattle.law_sphere.specs.Maps.{At, MapVertex, Map, Item, items, item_mark, OnItem, IsFree, IsClear, Sees, directly, by_way_of, SeenAs, MapLabel, at_svertex, on_item, seen, NearLabel, Valid}
 use Rattle.law_sphere.proofs.Vectors.{dot-comb, same-plus, same-minus}
-use Rattle.law_forms.proofs.Far.{same-nought}
-use Rattle.law_forms.proofs.Directions.{self-pos, dot-zero}
+use Rattle.law_near.proofs.Far.{same-nought}
+use Rattle.law_near.proofs.Directions.{self-pos, dot-zero}
 use Rattle.law_sphere.proofs.Generic.{SameSigns, amount, far-keeps, far-same}
 use Rattle.law_sphere.proofs.Lists.{at-one}
 use Rattle.law_sphere.proofs.Places.{axes, axis_x, axis_y, axis_z, axis_x-is, axis_y-is, axis_z-is, direction-stays}

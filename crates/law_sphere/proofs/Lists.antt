@@ -1,7 +1,7 @@
 -- Elements of lists: searching, joining, gathering.
 use Rattle.std.proofs.Common.{◌≡◌, ℕ, zero, suc, refl, sym, ◌∙◌, ◌⊎◌, inl, inr, List, [], ◌∷◌, subst}
-use Rattle.law_arithmetic.specs.Signs.{Lies}
-use Rattle.law_arithmetic.proofs.Lists.{lies-left, lies-right}
+use Rattle.nef_space.specs.Signs.{Lies}
+use Rattle.nef_space.proofs.Lists.{lies-left, lies-right}
 use Rattle.law_sphere.specs.Maps.{At}
 pub use Rattle.law_sphere.specs.Forms.{gather}
 use Rattle.law_near.proofs.Decided.{Decided}

@@ -4,7 +4,7 @@ use Rattle.nef_space.specs.Vectors.{Vector, IsDirection, cross, dot, SameDirecti
 use Rattle.nef_space.specs.declared.label.Label.{Label}
 use Rattle.law_sphere.specs.Maps.{At, MapVertex, Map, IsFree, around_svertex, IsClear, Sees, directly, seen, NearLabel, HasArc, Shaped, Valid}
 use Rattle.law_sphere.specs.Forms.{SameSigns, forms}
-use Rattle.law_forms.proofs.Far.{nought-or, same-nought, same-off}
+use Rattle.law_near.proofs.Far.{nought-or, same-nought, same-off}
 use Rattle.law_sphere.proofs.Generic.{amount, far-keeps, far-level}
 use Rattle.law_sphere.proofs.Direct.{cross-between}
 use Rattle.law_sphere.proofs.Labels.{dir-signs, label-by_signs, near-from_far, far-from_near}

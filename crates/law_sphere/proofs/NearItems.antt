@@ -1,8 +1,8 @@
 -- The labels near a free direction and near a direction on an item.
 use Rattle.std.proofs.Common.{◌≡◌, ℕ, ◌<◌, pos, ◌*ℤ◌, ◌≤ℤ◌, arith, refl, ap, sym, ◌∙◌, inl, inr, ⊎_elim, List, [], ◌∷◌, subst}
 use Rattle.std.proofs.lemmas.Int.{ints}
-use Rattle.law_arithmetic.proofs.Ring.{ring, at, num, ◌⊗◌}
-use Rattle.law_arithmetic.proofs.Order.{Sign, sign, sign-plus, sign-minus, by_order}
+use Rattle.nef_space.proofs.Ring.{ring, at, num, ◌⊗◌}
+use Rattle.nef_space.proofs.Order.{Sign, sign, sign-plus, sign-minus, by_order}
 use Rattle.nef_space.specs.Vectors.{Vector, dot, IsOpposite, blend}
 use Rattle.nef_space.specs.declared.label.Label.{Label}
 use Rattle.law_sphere.specs.Maps.{At, Map, Item, items, item_normal, item_pos, item_mark, item_neg, OnItem, IsFree, pos_item, neg_item, IsClear, directly, MapLabel, on_item, seen, NearLabel, Shaped, Valid}
@@ -10,8 +10,8 @@ use Rattle.law_sphere.specs.Forms.{Keeps, axes, forms}
 use Rattle.law_sphere.specs.Least.{by_side, NearPlain, NearStraight}
 use Rattle.law_near.proofs.FlatDecided.{cross-turned}
 use Rattle.law_sphere.proofs.Vectors.{normal-is, dot-comb}
-use Rattle.law_forms.proofs.Far.{nought-or}
-use Rattle.law_forms.proofs.Directions.{dot-comm}
+use Rattle.law_near.proofs.Far.{nought-or}
+use Rattle.law_near.proofs.Directions.{dot-comm}
 use Rattle.law_sphere.proofs.Generic.{amount, far-keeps, far-level}
 use Rattle.law_sphere.proofs.Places.{axis_x, axis_y, axis_z, axis_x-is, axis_y-is, axis_z-is}
 use Rattle.law_sphere.proofs.Forms.{axes-forms, on-direction, on-level}

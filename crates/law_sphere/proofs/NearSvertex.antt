@@ -1,15 +1,15 @@
 -- Close to a svertex: on a ray of an arc that begins or ends there, or free.
 use Rattle.std.proofs.Common.{◌≡◌, ℕ, ◌<◌, ℤ, pos, ◌*ℤ◌, ◌<ℤ◌, arith, refl, sym, inl, inr, ⊎_elim, [], ◌∷◌, subst}
 use Rattle.std.proofs.lemmas.Int.{ints}
-use Rattle.law_arithmetic.proofs.Ring.{ring, at, num, ◌⊕◌, ◌⊖◌, ◌⊗◌}
-use Rattle.law_arithmetic.proofs.Combination.{follows, given, none}
-use Rattle.law_arithmetic.proofs.Order.{by_order, mul_pos, mul_neg}
+use Rattle.nef_space.proofs.Ring.{ring, at, num, ◌⊕◌, ◌⊖◌, ◌⊗◌}
+use Rattle.nef_space.proofs.Combination.{follows, given, none}
+use Rattle.nef_space.proofs.Order.{by_order, mul_pos, mul_neg}
 use Rattle.nef_space.specs.Vectors.{Vector, IsDirection, triple, cross, dot, opposite, IsZero, SameDirection, blend}
 use Rattle.law_cyclic.specs.Arcs.{IsStrictlyOn}
 use Rattle.law_cyclic.proofs.Directions.{dot-opposite, level-same, same-first}
 use Rattle.law_near.proofs.Decided.{Decided}
 use Rattle.law_near.proofs.FlatDecided.{triple-dot, cross-turned}
-use Rattle.law_forms.proofs.Directions.{dot-comm, self-pos}
+use Rattle.law_near.proofs.Directions.{dot-comm, self-pos}
 use Rattle.law_sphere.specs.Maps.{At, MapVertex, Arc, Map, Item, arc_item, sloop_item, items, dir_of, OnItem, IsFree, IsClear, Shaped}
 use Rattle.law_sphere.specs.Sectors.{ArcRay, ray_left, Unrayed}
 use Rattle.law_sphere.specs.Forms.{Keeps, arc_forms, forms}

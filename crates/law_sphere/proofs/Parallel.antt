@@ -1,16 +1,16 @@
 -- Parallel vectors, points of circles and arcs.
 use Rattle.std.proofs.Common.{◌≡◌, ℕ, ◌≤◌, ℤ, pos, negsuc, ◌+ℤ◌, ◌*ℤ◌, ◌<ℤ◌, arith, refl, ap, sym, ◌∙◌, inl, inr, ⊎_elim, [], ◌∷◌, subst}
 use Rattle.std.proofs.lemmas.Int.{ints}
-use Rattle.law_arithmetic.proofs.Ring.{ring, at, num, ◌⊕◌, ◌⊖◌, ◌⊗◌}
-use Rattle.law_arithmetic.proofs.Combination.{follows, follows_times, given, none}
-use Rattle.law_arithmetic.proofs.Order.{sign, nought-is}
+use Rattle.nef_space.proofs.Ring.{ring, at, num, ◌⊕◌, ◌⊖◌, ◌⊗◌}
+use Rattle.nef_space.proofs.Combination.{follows, follows_times, given, none}
+use Rattle.nef_space.proofs.Order.{sign, nought-is}
 use Rattle.nef_space.specs.Vectors.{Vector, IsDirection, triple, cross, dot, IsZero, SameDirection, blend}
 use Rattle.law_cyclic.specs.Arcs.{IsOnCircle, IsStrictlyOn}
 use Rattle.law_sphere.proofs.Vectors.{dot-comb, triple-middle, same-plus, nought-if}
 use Rattle.law_near.proofs.Decided.{Decided}
 use Rattle.law_near.proofs.FlatDecided.{cross-turned, triple-dot}
-use Rattle.law_forms.proofs.Far.{nought-or, same-off}
-use Rattle.law_forms.proofs.Directions.{dot-comm, square_pos, zero-decided, dot-zero, self-pos}
+use Rattle.law_near.proofs.Far.{nought-or, same-off}
+use Rattle.law_near.proofs.Directions.{dot-comm, square_pos, zero-decided, dot-zero, self-pos}
 use Rattle.law_sphere.proofs.Generic.{amount, far-keeps, far-level}
 use Rattle.law_sphere.proofs.Places.{row_x, row_y, row_z}
 

@@ -1,15 +1,15 @@
 -- The side of a ray of a svertex sees each free direction that has a clear way to the svertex in the sector after the ray.
 use Rattle.std.proofs.Common.{◌≡◌, ℕ, ◌+◌, ◌<◌, ◌≤◌, pos, negsuc, ◌*ℤ◌, ◌-ℤ◌, ◌<ℤ◌, arith, ap, sym, ◌∙◌, ◌⊎◌, inl, inr, [], ◌∷◌, subst}
 use Rattle.std.proofs.lemmas.Int.{ints}
-use Rattle.law_arithmetic.proofs.Ring.{ring, at, num, ◌⊕◌, ◌⊖◌, ◌⊗◌}
-use Rattle.law_arithmetic.proofs.Combination.{follows, given, none}
-use Rattle.law_arithmetic.proofs.Order.{sign, by_order, mul_pos, mul_neg, sign-scaled}
+use Rattle.nef_space.proofs.Ring.{ring, at, num, ◌⊕◌, ◌⊖◌, ◌⊗◌}
+use Rattle.nef_space.proofs.Combination.{follows, given, none}
+use Rattle.nef_space.proofs.Order.{sign, by_order, mul_pos, mul_neg, sign-scaled}
 use Rattle.nef_space.specs.Vectors.{Vector, IsDirection, triple, cross, dot, opposite, SameDirection, blend}
 use Rattle.law_cyclic.specs.Arcs.{IsOnCircle, IsStrictlyOn}
 use Rattle.law_cyclic.proofs.Directions.{dot-opposite, direction-opposite, level-opposite, level_cross_first, way_back_passes_the_same, arcs_are_of_directions}
 use Rattle.law_near.proofs.FlatDecided.{triple-dot, cross-turned}
 use Rattle.law_near.proofs.Meets.{cross-none}
-use Rattle.law_forms.proofs.Directions.{dot-comm, dot-zero, zero-dot, self-pos}
+use Rattle.law_near.proofs.Directions.{dot-comm, dot-zero, zero-dot, self-pos}
 use Rattle.law_sphere.specs.Maps.{At, MapVertex, Map, arc_item, items, dir_of, OnItem, IsClear, Reaches, Sees, directly, by_way_of, Shaped}
 use Rattle.law_sphere.specs.Sectors.{ArcRay, end_left, end_side, ray_left, ray_side, Unrayed}
 use Rattle.law_sphere.specs.Forms.{forms}

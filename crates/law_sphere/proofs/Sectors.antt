@@ -7,7 +7,7 @@ use Rattle.law_cyclic.specs.Arcs.{Passes, IsOnCircle}
 use Rattle.law_cyclic.proofs.Cyclic.{ways_glue}
 use Rattle.law_cyclic.proofs.Directions.{dot-opposite, level-same, level_cross_first, level_cross_second}
 use Rattle.law_near.proofs.Decided.{Decided}
-use Rattle.law_forms.proofs.Directions.{dot-comm}
+use Rattle.law_near.proofs.Directions.{dot-comm}
 use Rattle.law_sphere.specs.Maps.{At, MapVertex, Arc, Map, arc_item, IsClear, Side, around_svertex, HasSide, dir_of, Sees, HasArc, Shaped}
 use Rattle.law_sphere.specs.Sectors.{ArcRay, end_left, end_side, ray_left, ray_side, Unrayed, IsLastRay, IsLastSide, BoundsSector}
 use Rattle.law_sphere.specs.Forms.{forms}

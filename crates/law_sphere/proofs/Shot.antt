@@ -2,13 +2,13 @@
 use Rattle.std.proofs.Common.{◌≡◌, ℕ, zero, suc, ◌+◌, ◌*◌, ◌<◌, ℤ, pos, ◌+ℤ◌, ◌*ℤ◌, ◌<ℤ◌, nat_abs, arith, refl, ap, sym, ◌∙◌, ⊎_elim, List, [], ◌∷◌, subst, Option, Some, None}
 use Rattle.std.proofs.lemmas.Int.{ints, unsigned_abs-mul}
 use Rattle.std.proofs.Math.Nat.{mul-pos}
-use Rattle.law_arithmetic.proofs.Ring.{ring, at, num, ◌⊕◌, ◌⊖◌, ◌⊗◌}
-use Rattle.law_arithmetic.proofs.Order.{sign, nought-is, by_order}
+use Rattle.nef_space.proofs.Ring.{ring, at, num, ◌⊕◌, ◌⊖◌, ◌⊗◌}
+use Rattle.nef_space.proofs.Order.{sign, nought-is, by_order}
 use Rattle.nef_space.specs.Vectors.{Vector, IsDirection, cross, dot, blend}
-use Rattle.law_arithmetic.proofs.Order.{sign-scaled}
+use Rattle.nef_space.proofs.Order.{sign-scaled}
 use Rattle.law_sphere.specs.Maps.{At, MapVertex, Arc, MapSloop, Map, Item, arc_item, sloop_item, items, items_then, item_normal, dir_of, OnItem, Shaped}
 use Rattle.law_sphere.proofs.Vectors.{normal-is, dot-comb}
-use Rattle.law_forms.proofs.Far.{nought-or}
+use Rattle.law_near.proofs.Far.{nought-or}
 use Rattle.law_sphere.proofs.Generic.{SameSigns, amount}
 use Rattle.law_sphere.proofs.Forms.{item_forms, on-level, OnItem-decided, OnItem-by_signs}
 use Rattle.law_sphere.proofs.Parallel.{circle-point, past_source, arc-point}

@@ -1,6 +1,6 @@
 -- The maps of one label and of one plane: they are well shaped, and agree with what has their labels.
 use Rattle.std.proofs.Common.{◌≡◌, ℕ, zero, suc, arith, refl, ap, sym, ◌∙◌, inl, [], ◌∷◌, subst, Option, Some, None}
-use Rattle.law_arithmetic.proofs.Order.{sign}
+use Rattle.nef_space.proofs.Order.{sign}
 use Rattle.nef_space.specs.Vectors.{Vector, IsDirection, cross, dot, IsNormal, blend}
 use Rattle.nef_space.specs.declared.label.Label.{Label}
 use Rattle.law_sphere.specs.Maps.{At, MapSloop, Map, Item, sloop_item, items, item_normal, item_pos, item_mark, item_neg, OnItem, IsFree, Shaped, Valid}

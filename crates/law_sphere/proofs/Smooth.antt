@@ -1,13 +1,13 @@
 -- Where neither of two maps has a svertex and no items cross, an operation on them is plain or straight.
 use Rattle.std.proofs.Common.{◌≡◌, ℕ, ◌+◌, arith, refl, ap, sym, ◌∙◌, subst}
-use Rattle.law_arithmetic.proofs.Order.{Sign, minus, nought, plus, sign}
+use Rattle.nef_space.proofs.Order.{Sign, minus, nought, plus, sign}
 use Rattle.nef_space.specs.Vectors.{Vector, IsDirection, cross, dot, IsZero, SameDirection}
 use Rattle.nef_space.specs.declared.label.Label.{Label}
 use Rattle.law_sphere.specs.Maps.{At, MapVertex, Map, Item, items, item_normal, item_pos, item_mark, item_neg, OnItem, IsFree, on_item, NearLabel, Valid}
 use Rattle.law_sphere.specs.Least.{by_side}
 use Rattle.law_sphere.specs.Labelling.{Near, ByOp, IsSmooth, plain, straight}
 use Rattle.law_sphere.proofs.Vectors.{normal-is}
-use Rattle.law_forms.proofs.Directions.{dot-comm}
+use Rattle.law_near.proofs.Directions.{dot-comm}
 use Rattle.law_sphere.proofs.Forms.{on-level, PlaceOf, svertex_place, item_place, free_place, place_of}
 use Rattle.law_sphere.proofs.Labels.{label-exists, dir-signs}
 use Rattle.law_sphere.proofs.Around.{Beside, same_way, other_way, beside}

@@ -1,9 +1,9 @@
 -- A plain star says that the direction is plain, a straight star that it is straight.
 use Rattle.std.proofs.Common.{◌≡◌, ℕ, zero, suc, pos, ◌-ℤ◌, ◌*ℤ◌, ◌<ℤ◌, arith, refl, ap, sym, ◌∙◌, ◌⊎◌, inl, inr, ⊎_elim, List, [], ◌∷◌, subst, length, cond}
 use Rattle.std.proofs.lemmas.Int.{ints}
-use Rattle.law_arithmetic.proofs.Ring.{ring, at, num, ◌⊕◌, ◌⊖◌, ◌⊗◌}
-use Rattle.law_arithmetic.proofs.Combination.{follows, given, none}
-use Rattle.law_arithmetic.proofs.Order.{minus, nought, plus, sign, sign-plus, sign-minus, mul_pos, sign-scaled}
+use Rattle.nef_space.proofs.Ring.{ring, at, num, ◌⊕◌, ◌⊖◌, ◌⊗◌}
+use Rattle.nef_space.proofs.Combination.{follows, given, none}
+use Rattle.nef_space.proofs.Order.{minus, nought, plus, sign, sign-plus, sign-minus, mul_pos, sign-scaled}
 use Rattle.nef_space.specs.Vectors.{Vector, IsDirection, cross, triple, dot, IsZero, SameDirection, IsOpposite, IsNormal}
 use Rattle.nef_space.specs.declared.label.Label.{Label}
 use Rattle.law_sphere.specs.Maps.{At, Map, NearLabel}
@@ -12,7 +12,7 @@ use Rattle.law_sphere.specs.Least.{by_side, NearPlain, NearStraight}
 use Rattle.law_sphere.specs.Stars.{Ray, Star, ray_dir, across, OnRay, NextRay, StarLabel, on_ray, in_sector, in_only_sector, IsRay, StarOf, IsPlain, IsStraight}
 use Rattle.law_near.proofs.FlatDecided.{cross-turned}
 use Rattle.law_sphere.proofs.Vectors.{normal-direction}
-use Rattle.law_forms.proofs.Directions.{dot-comm, self-pos}
+use Rattle.law_near.proofs.Directions.{dot-comm, self-pos}
 use Rattle.law_sphere.proofs.Labels.{dir-signs}
 use Rattle.law_sphere.proofs.Turn.{dir-directed}
 

@@ -1,16 +1,16 @@
 -- A direction in general position to which given directions have a clear way.
 use Rattle.std.proofs.Common.{◌≡◌, ℕ, ◌<◌, ℤ, pos, ◌+ℤ◌, ◌*ℤ◌, arith, refl, sym, ◌∙◌, inl, inr, List, [], ◌∷◌, ◌++◌, subst}
 use Rattle.std.proofs.lemmas.Int.{ints}
-use Rattle.law_arithmetic.specs.Signs.{Lies}
+use Rattle.nef_space.specs.Signs.{Lies}
 use Rattle.nef_space.specs.Vectors.{Vector, IsDirection, cross, dot, IsZero, SameDirection, blend}
 use Rattle.law_near.proofs.Meets.{cross-none}
 use Rattle.law_sphere.specs.Maps.{At, MapVertex, Map, Item, items, item_normal, IsFree, IsClear, Shaped}
 use Rattle.law_sphere.proofs.Vectors.{normal-is}
 use Rattle.law_near.proofs.Decided.{Decided}
-use Rattle.law_forms.proofs.Directions.{zero-decided, dot-zero}
+use Rattle.law_near.proofs.Directions.{zero-decided, dot-zero}
 use Rattle.law_sphere.proofs.Generic.{Generic, generic}
 use Rattle.law_sphere.proofs.Lists.{gather, gather-has}
-use Rattle.law_arithmetic.proofs.Lists.{lies-left, lies-right}
+use Rattle.nef_space.proofs.Lists.{lies-left, lies-right}
 use Rattle.law_sphere.proofs.Places.{point_forms, row_x, row_y, row_z, row_x-is, row_y-is, row_z-is}
 use Rattle.law_sphere.proofs.Forms.{on-level}
 use Rattle.law_sphere.proofs.Parallel.{miss}

@@ -1,16 +1,16 @@
 -- A simplified star at a straight direction has no ray, or two opposite rays with its mark.
 use Rattle.std.proofs.Common.{◌≡◌, ℕ, zero, suc, pos, ◌-ℤ◌, arith, refl, ap, sym, ◌∙◌, ◌⊎◌, inl, inr, List, [], ◌∷◌, subst, length}
 use Rattle.std.proofs.lemmas.Int.{ints}
-use Rattle.law_arithmetic.proofs.Ring.{at, num, ◌⊕◌, ◌⊖◌, ◌⊗◌}
-use Rattle.law_arithmetic.proofs.Combination.{follows, given, none}
-use Rattle.law_arithmetic.proofs.Order.{Sign, sign}
+use Rattle.nef_space.proofs.Ring.{at, num, ◌⊕◌, ◌⊖◌, ◌⊗◌}
+use Rattle.nef_space.proofs.Combination.{follows, given, none}
+use Rattle.nef_space.proofs.Order.{Sign, sign}
 use Rattle.nef_space.specs.Vectors.{Vector, IsDirection, cross, dot, IsZero, SameDirection, IsOpposite}
 use Rattle.nef_space.specs.declared.label.Label.{Label}
 use Rattle.law_sphere.specs.Maps.{At, Map, NearLabel, Valid}
 use Rattle.law_sphere.specs.Least.{by_side, NearStraight}
 use Rattle.law_sphere.specs.Stars.{Ray, Star, ray_dir, StarShows, IsSimplified}
 use Rattle.law_sphere.proofs.Vectors.{nought-if, same-minus}
-use Rattle.law_forms.proofs.Directions.{self-pos, dot-comm}
+use Rattle.law_near.proofs.Directions.{self-pos, dot-comm}
 use Rattle.law_sphere.proofs.Parallel.{parallel-trans}
 use Rattle.law_near.proofs.FlatDecided.{cross-turned}
 use Rattle.law_sphere.proofs.Labels.{near-unique, label-unique, dir-signs}

@@ -1,15 +1,15 @@
 -- Turns about one axis: arcs with the same ends, and which of two arcs from one source ends first.
 use Rattle.std.proofs.Common.{◌≡◌, ℤ, pos, ◌*ℤ◌, ◌<ℤ◌, arith, refl, ap, sym, ◌∙◌, ◌⊎◌, inl, inr, ⊎_elim, [], ◌∷◌, subst}
 use Rattle.std.proofs.lemmas.Int.{ints}
-use Rattle.law_arithmetic.proofs.Ring.{ring, at, num, ◌⊖◌, ◌⊗◌}
-use Rattle.law_arithmetic.proofs.Order.{sign, by_order}
+use Rattle.nef_space.proofs.Ring.{ring, at, num, ◌⊖◌, ◌⊗◌}
+use Rattle.nef_space.proofs.Order.{sign, by_order}
 use Rattle.nef_space.specs.Vectors.{Vector, IsDirection, triple, cross, dot, SameDirection, IsOpposite}
 use Rattle.law_cyclic.specs.Arcs.{IsStrictlyOn}
 use Rattle.law_sphere.specs.Forms.{Keeps, arc_forms}
 use Rattle.law_sphere.proofs.Vectors.{triple-middle, same-plus, same-minus}
 use Rattle.law_near.proofs.Decided.{Decided}
-use Rattle.law_forms.proofs.Far.{same-nought}
-use Rattle.law_forms.proofs.Directions.{dot-comm, self-pos, dot-zero}
+use Rattle.law_near.proofs.Far.{same-nought}
+use Rattle.law_near.proofs.Directions.{dot-comm, self-pos, dot-zero}
 use Rattle.law_sphere.proofs.Places.{SameDirection-decided, kept-minus}
 use Rattle.law_sphere.proofs.Parallel.{parallel-trans, parallel-in_plane}
 use Rattle.law_near.proofs.FlatDecided.{cross-turned, triple-dot}

@@ -1,8 +1,8 @@
 -- The order of directions round an axis.
 use Rattle.std.proofs.Common.{◌≡◌, ℕ, ◌+◌, ℤ, pos, ◌-ℤ◌, ◌*ℤ◌, ◌<ℤ◌, arith, List, [], ◌∷◌}
 use Rattle.std.proofs.lemmas.Int.{ints}
-use Rattle.law_arithmetic.proofs.Ring.{ring, at, ◌⊕◌, ◌⊖◌, ◌⊗◌, Poly}
-use Rattle.law_arithmetic.proofs.Order.{mul_pos, cancel_lt}
+use Rattle.nef_space.proofs.Ring.{ring, at, ◌⊕◌, ◌⊖◌, ◌⊗◌, Poly}
+use Rattle.nef_space.proofs.Order.{mul_pos, cancel_lt}
 use Rattle.nef_space.specs.Vectors.{Vector, triple}
 
 abbrev triple-p : ℕ → ℕ → ℕ → Poly

@@ -7,8 +7,8 @@ use Rattle.nef_space.specs.declared.label.Label.{Label}
 use Rattle.law_sphere.specs.Maps.{At, MapVertex, MapSloop, Map, Item, arc_item, sloop_item, items, dir_of, IsFree, whole, directly, MapLabel, seen, HasArc, Valid}
 use Rattle.law_sphere.specs.Least.{NearPlain, NearStraight, Least, SameLabels, MatchedArc, MatchedSvertex, Within}
 use Rattle.law_near.proofs.Decided.{Decided, decided-or}
-use Rattle.law_forms.proofs.Far.{same-nought}
-use Rattle.law_forms.proofs.Directions.{self-pos}
+use Rattle.law_near.proofs.Far.{same-nought}
+use Rattle.law_near.proofs.Directions.{self-pos}
 use Rattle.law_sphere.proofs.Lists.{search_list, at-one}
 use Rattle.law_sphere.proofs.Places.{axis_x}
 use Rattle.law_sphere.proofs.Forms.{PlaceOf, svertex_place, item_place, free_place, place_of}

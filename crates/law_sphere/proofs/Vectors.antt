@@ -1,11 +1,11 @@
 -- Products of vectors, and what follows from their signs.
 use Rattle.std.proofs.Common.{◌≡◌, ℕ, ℤ, pos, ◌+ℤ◌, ◌*ℤ◌, ◌<ℤ◌, arith, ◌∙◌, inl, inr, [], ◌∷◌}
 use Rattle.std.proofs.lemmas.Int.{ints}
-use Rattle.law_arithmetic.proofs.Ring.{ring, at, num, ◌⊕◌, ◌⊖◌, ◌⊗◌}
-use Rattle.law_arithmetic.proofs.Combination.{follows_times, given, none}
-use Rattle.law_arithmetic.proofs.Order.{sign, sign-plus, sign-minus, plus-is, minus-is, by_order}
+use Rattle.nef_space.proofs.Ring.{ring, at, num, ◌⊕◌, ◌⊖◌, ◌⊗◌}
+use Rattle.nef_space.proofs.Combination.{follows_times, given, none}
+use Rattle.nef_space.proofs.Order.{sign, sign-plus, sign-minus, plus-is, minus-is, by_order}
 use Rattle.nef_space.specs.Vectors.{Vector, IsDirection, triple, cross, dot, IsZero, IsNormal}
-use Rattle.law_forms.proofs.Directions.{dot-zero, self-pos}
+use Rattle.law_near.proofs.Directions.{dot-zero, self-pos}
 use Rattle.law_near.proofs.Decided.{Decided}
 use Rattle.law_sphere.specs.Vectors.{comb}
 use Rattle.law_sphere.specs.Maps.{At, Map, Item, items, item_normal, Shaped}

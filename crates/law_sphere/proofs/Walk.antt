@@ -1,18 +1,18 @@
 -- Labels that nothing changes along a way are the same at both ends.
 use Rattle.std.proofs.Common.{◌≡◌, ℕ, zero, suc, ◌+◌, ◌*◌, ◌<◌, ℤ, pos, ◌+ℤ◌, ◌*ℤ◌, nat_abs, arith, ap, sym, ◌∙◌, ◌⊎◌, inl, inr, ⊎_elim, List, [], ◌∷◌, subst, Bool, true, false}
 use Rattle.std.proofs.Math.Nat.{mul-pos}
-use Rattle.law_arithmetic.proofs.Ring.{ring, at, ◌⊕◌, ◌⊗◌}
-use Rattle.law_arithmetic.proofs.Order.{sign}
-use Rattle.law_arithmetic.specs.Signs.{Lies}
+use Rattle.nef_space.proofs.Ring.{ring, at, ◌⊕◌, ◌⊗◌}
+use Rattle.nef_space.proofs.Order.{sign}
+use Rattle.nef_space.specs.Signs.{Lies}
 use Rattle.nef_space.specs.Vectors.{Vector, IsDirection, cross, dot, IsOpposite, blend}
 use Rattle.nef_space.specs.declared.label.Label.{Label}
-use Rattle.law_forms.proofs.Counting.{count, find-passing, count-less}
-use Rattle.law_forms.proofs.Crossings.{opposite, sign-inside, opposite-left, opposite-right, to-nought, balance}
+use Rattle.law_near.proofs.Counting.{count, find-passing, count-less}
+use Rattle.law_near.proofs.Crossings.{opposite, sign-inside, opposite-left, opposite-right, to-nought, balance}
 use Rattle.law_near.proofs.Meets.{cross-none}
 use Rattle.law_sphere.specs.Forms.{SameSigns}
 use Rattle.law_sphere.specs.Labelling.{Labelling, Plain}
 use Rattle.law_sphere.proofs.Vectors.{dot-comb}
-use Rattle.law_forms.proofs.Directions.{zero-decided}
+use Rattle.law_near.proofs.Directions.{zero-decided}
 use Rattle.law_near.proofs.FlatDecided.{cross-turned}
 use Rattle.law_near.proofs.Flats.{vector-same}
 use Rattle.law_sphere.proofs.Direct.{cross-between}

@@ -1,6 +1,6 @@
 -- The linear forms of a map, and vectors that have the same signs on them.
 use Rattle.std.specs.Prelude.{◌≡◌, pos, ◌-ℤ◌, List, [], ◌∷◌, ◌++◌}
-use Rattle.law_arithmetic.specs.Signs.{sign, Lies}
+use Rattle.nef_space.specs.Signs.{sign, Lies}
 use Rattle.nef_space.specs.Vectors.{Vector, cross, vector, dot}
 use Rattle.law_sphere.specs.Maps.{Map, Item, arc_item, sloop_item, items, dir_of}
 

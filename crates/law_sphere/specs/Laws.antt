@@ -1,6 +1,6 @@
 -- What is proved of sphere maps, each as one statement that a function's contract cites.
 use Rattle.std.specs.Prelude.{◌≡◌, ℕ, ◌≤◌, ◌↔◌, pos, List, ◌⊎◌}
-use Rattle.law_arithmetic.specs.Signs.{Lies}
+use Rattle.nef_space.specs.Signs.{Lies}
 use Rattle.nef_space.specs.Place.{Place}
 use Rattle.nef_space.specs.Vectors.{Vector, IsDirection, cross, dot, blend, SameDirection, IsZero}
 use Rattle.nef_space.specs.Sets.{Set}

@@ -1,6 +1,6 @@
 -- Plain and straight directions of a map, by its labels alone; least maps; maps that agree.
 use Rattle.std.specs.Prelude.{◌≡◌, ℕ, ◌<◌, pos, List, ◌⊎◌, Some}
-use Rattle.law_arithmetic.specs.Signs.{Sign, minus, nought, plus, sign}
+use Rattle.nef_space.specs.Signs.{Sign, minus, nought, plus, sign}
 use Rattle.nef_space.specs.Place.{Place}
 use Rattle.nef_space.specs.Vectors.{Vector, IsDirection, cross, dot, SameDirection}
 use Rattle.nef_space.specs.declared.label.Label.{Label}

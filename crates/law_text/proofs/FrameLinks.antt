@@ -1,7 +1,7 @@
 -- The links of the complexes of the whole frame and of the empty set: items in one side of the frame are linked, and so are all sides inward.
 use Rattle.std.proofs.Common.{◌≡◌, ℕ, ◌<◌, ℤ, pos, ◌+ℤ◌, ◌*ℤ◌, ◌<ℤ◌, arith, refl, sym, ◌⊎◌, inl, inr, Bool, true, false, List, [], ◌∷◌, subst}
 use Rattle.std.proofs.lemmas.Int.{ints}
-use Rattle.law_arithmetic.proofs.Ring.{ring, at, num, ◌⊕◌, ◌⊗◌}
+use Rattle.nef_space.proofs.Ring.{ring, at, num, ◌⊕◌, ◌⊗◌}
 use Rattle.nef_space.specs.Lists.{Chained}
 use Rattle.nef_space.specs.Place.{Form}
 use Rattle.nef_space.specs.Vectors.{Vector, vector, dot, blend, IsZero, IsDirection, IsOpposite, SameDirection}

@@ -1,11 +1,11 @@
 -- Each corner has one next corner.
 use Rattle.std.proofs.Common.{◌≡◌, ℕ, pos, neg_ℤ, ◌<ℤ◌, inl, inr, [], ◌∷◌, arith, refl, sym, ◌∙◌, subst}
 use Rattle.std.proofs.lemmas.Int.{ints}
-use Rattle.law_arithmetic.proofs.Ring.{ring, at, num, neg, ◌⊕◌, ◌⊖◌, ◌⊗◌}
+use Rattle.nef_space.proofs.Ring.{ring, at, num, neg, ◌⊕◌, ◌⊖◌, ◌⊗◌}
 use Rattle.nef_space.specs.Place.{toward}
 use Rattle.nef_space.specs.Sets.{Set}
 use Rattle.nef_space.specs.Vectors.{Vector, dot, cross, triple, IsDirection, SameDirection}
-use Rattle.law_forms.proofs.Directions.{self-pos, direction-right}
+use Rattle.law_near.proofs.Directions.{self-pos, direction-right}
 use Rattle.law_near.proofs.FlatDecided.{cross-turned}
 use Rattle.law_sphere.specs.Maps.{At, Arc, arc_item}
 use Rattle.law_sphere.proofs.Vectors.{normal-is, same-minus, nought-if}

@@ -1,7 +1,7 @@
 -- What holds of each coordinate with its sign holds of turned vectors.
 use Rattle.std.proofs.Common.{◌≡◌, ℕ, zero, suc, ◌/◌, ◌%◌, ℤ, ◌+ℤ◌, ◌-ℤ◌, ◌*ℤ◌, neg_ℤ, Bool, true, false, refl, ap, ◌∙◌, subst, arith, [], ◌∷◌}
 use Rattle.std.proofs.lemmas.Int.{ints}
-use Rattle.law_arithmetic.proofs.Ring.{ring, at, neg, ◌⊖◌, ◌⊗◌}
+use Rattle.nef_space.proofs.Ring.{ring, at, neg, ◌⊖◌, ◌⊗◌}
 use lib.IntN.{neg_ℤ-neg_ℤ}
 use Rattle.nef_space.specs.Vectors.{vector}
 use Rattle.nef_case.specs.Turns.{Triple, ordered, has_bit, negated_if, turned}

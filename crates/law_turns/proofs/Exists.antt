@@ -1,7 +1,7 @@
 -- Each ordered map that is well shaped has a turned image whose lists are in order.
 use Rattle.std.proofs.Common.{◌≡◌, ℕ, zero, Bool, true, false, cond, refl, ap, sym, ◌∙◌, subst, arith, ◌⊎◌, inl, inr, ⊎_elim, List, map, Option, Some, None}
 use Rattle.std.proofs.lemmas.Bool.{cases_order}
-use Rattle.law_arithmetic.specs.Signs.{Lies}
+use Rattle.nef_space.specs.Signs.{Lies}
 use Rattle.nef_space.specs.Vectors.{Vector, SameDirection, IsNormal}
 use Rattle.nef_space.specs.Place.{Form, normal_of}
 use Rattle.nef_case.specs.Turns.{negated_if}

@@ -1,8 +1,8 @@
 -- The turned planes and vertices of each complex that shows a set can be listed in order.
 use Rattle.std.proofs.Common.{◌≡◌, ℕ, ℤ, pos, ◌*ℤ◌, false, refl, sym, ◌∙◌, arith, ◌⊎◌, inl, inr, List, [], ◌∷◌, map}
 use Rattle.std.proofs.lemmas.Int.{ints}
-use Rattle.law_arithmetic.specs.Signs.{Lies}
-use Rattle.law_arithmetic.proofs.Order.{by_order}
+use Rattle.nef_space.specs.Signs.{Lies}
+use Rattle.nef_space.proofs.Order.{by_order}
 use Rattle.nef_space.specs.Numbers.{IsBelow}
 use Rattle.nef_space.specs.Place.{Place, Form, form_numbers, SamePlace, IsPlaceBelow}
 use Rattle.nef_space.specs.Sets.{Set}

@@ -2,7 +2,7 @@
 use Rattle.std.proofs.Common.{◌≡◌, ℕ, ◌*◌, ◌<◌, ℤ, pos, ◌+ℤ◌, ◌-ℤ◌, ◌*ℤ◌, neg_ℤ, nat_abs, ap, sym, ◌∙◌, subst, arith, ◌↔◌, [], ◌∷◌}
 use Rattle.std.proofs.lemmas.Int.{ints}
 use Rattle.std.proofs.Math.Nat.{mul-pos}
-use Rattle.law_arithmetic.proofs.Ring.{ring, at, neg, ◌⊕◌, ◌⊖◌, ◌⊗◌}
+use Rattle.nef_space.proofs.Ring.{ring, at, neg, ◌⊕◌, ◌⊖◌, ◌⊗◌}
 use Rattle.nef_space.specs.Limits.{half_side}
 use Rattle.nef_space.specs.Vectors.{Vector, SameDirection}
 use Rattle.nef_space.specs.Place.{Place, Form, form_at, slope, Ratio, step, toward, Near, Within, SamePlace, InFrame, IsAhead, IsBetween}

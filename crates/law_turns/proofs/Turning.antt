@@ -2,7 +2,7 @@
 use Rattle.std.proofs.Common.{◌≡◌, ℕ, ℤ, pos, ◌+ℤ◌, ◌*ℤ◌, ◌<ℤ◌, neg_ℤ, Bool, true, false, cond, refl, ap, sym, ◌∙◌, subst, arith, ◌↔◌, inl, inr, ⊎_elim, [], ◌∷◌}
 use Rattle.std.proofs.lemmas.Int.{ints}
 use lib.IntN.{neg_ℤ-neg_ℤ}
-use Rattle.law_arithmetic.proofs.Ring.{ring, at, neg, ◌⊕◌, ◌⊗◌}
+use Rattle.nef_space.proofs.Ring.{ring, at, neg, ◌⊕◌, ◌⊗◌}
 use Rattle.nef_space.specs.Vectors.{Vector, dot, cross, triple, IsZero, IsDirection, SameDirection, IsOpposite, opposite, blend}
 use Rattle.law_cyclic.specs.Arcs.{IsOnCircle, IsStrictlyOn}
 use Rattle.law_cyclic.proofs.Directions.{way_back_passes_the_same}

@@ -1,6 +1,6 @@
 -- Turned vectors: their products, and how they lie to one another.
 use Rattle.std.proofs.Common.{◌≡◌, ℕ, ℤ, pos, ◌+ℤ◌, ◌*ℤ◌, neg_ℤ, Bool, true, false, refl, ap, sym, ◌∙◌, subst, ◌↔◌, [], ◌∷◌}
-use Rattle.law_arithmetic.proofs.Ring.{ring, at, neg, ◌⊕◌, ◌⊗◌}
+use Rattle.nef_space.proofs.Ring.{ring, at, neg, ◌⊕◌, ◌⊗◌}
 use Rattle.nef_space.specs.Vectors.{Vector, vector, dot, cross, triple, IsZero, IsDirection, SameDirection, IsOpposite, opposite, blend}
 use Rattle.nef_case.specs.Turns.{negated_if}
 use Rattle.law_turns.specs.Turned.{vector_of, triple_of, turned_vector, unturned_vector, is_odd, signed}

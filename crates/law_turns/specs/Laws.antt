@@ -1,6 +1,6 @@
 -- The laws on turns. Each is cited by a clause of a public function. A number of a turn is any number: those from 48 on are turns too.
 use Rattle.std.specs.Prelude.{◌≡◌, ℕ, ◌↔◌, List, Bool}
-use Rattle.law_arithmetic.specs.Signs.{Lies}
+use Rattle.nef_space.specs.Signs.{Lies}
 use Rattle.nef_case.specs.Turns.{negated_if, Undoes, IsComposition}
 use Rattle.nef_space.specs.Vectors.{Vector, dot, cross, triple, IsDirection, SameDirection, IsOpposite, IsAtMost, IsNormal, triple_of as vector_numbers}
 use Rattle.nef_space.specs.Numbers.{IsLowest}

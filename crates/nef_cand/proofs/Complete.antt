@@ -7,7 +7,7 @@ use Rattle.nef_space.specs.Sets.{Set}
 use Rattle.nef_geo.specs.Shapes.{place_of, form_of}
 use Rattle.nef_geo.specs.declared.plane.Plane.{Plane}
 use Rattle.nef_geo.specs.declared.point.Point.{Point}
-use Rattle.law_forms.proofs.Between.{place-decided}
+use Rattle.law_near.proofs.Mixed.{place-decided}
 use Rattle.law_sphere.specs.Maps.{At}
 use Rattle.law_sphere.proofs.Lists.{search_list, Found}
 use Rattle.nef_smap.proofs.Lists.{at-within, at-get, map-at, at-map, contains-at, at-contains}

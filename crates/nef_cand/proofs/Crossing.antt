@@ -8,7 +8,7 @@ use Rattle.nef_geo.specs.Shapes.{place_of, form_of}
 use Rattle.nef_geo.specs.Steps.{HasOppositeSigns}
 use Rattle.nef_geo.specs.declared.plane.Plane.{Plane}
 use Rattle.nef_geo.specs.declared.point.Point.{Point}
-use Rattle.law_forms.proofs.Between.{between-same}
+use Rattle.law_near.proofs.Mixed.{between-same}
 use Rattle.law_near.proofs.Rays.{same-place_sym}
 use Rattle.law_complex.proofs.Planes.{plane-way}
 use Rattle.law_complex.proofs.Ways.{same-itself}

@@ -1,10 +1,10 @@
 -- The vertices of a half are vertices of the frame, or points where its plane crosses an edge of the frame.
 use Rattle.std.proofs.Common.{◌≡◌, ℕ, zero, suc, ◌+◌, ◌<◌, ℤ, pos, neg_ℤ, ◌+ℤ◌, ◌-ℤ◌, ◌*ℤ◌, Bool, true, false, List, [], ◌∷◌, map, arith, refl, ap, sym, subst, ◌∙◌, ◌⊎◌, inl, inr, ⊎_elim, ◌↔◌}
 use Rattle.std.proofs.lemmas.Int.{ints}
-use Rattle.law_arithmetic.specs.Signs.{sign}
-use Rattle.law_arithmetic.proofs.Ring.{ring, Poly, at, num, neg, ◌⊕◌, ◌⊖◌, ◌⊗◌}
-use Rattle.law_arithmetic.proofs.Combination.{given, none, follows}
-use Rattle.law_arithmetic.proofs.Order.{by_order, sign-minus, minus-is, sign-plus, plus-is, sign-scaled, nought-is}
+use Rattle.nef_space.specs.Signs.{sign}
+use Rattle.nef_space.proofs.Ring.{ring, Poly, at, num, neg, ◌⊕◌, ◌⊖◌, ◌⊗◌}
+use Rattle.nef_space.proofs.Combination.{given, none, follows}
+use Rattle.nef_space.proofs.Order.{by_order, sign-minus, minus-is, sign-plus, plus-is, sign-scaled, nought-is}
 use Rattle.nef_space.specs.Local.{HasLabel, Flat, HasFlat, FlatDim, IsVertex}
 use Rattle.nef_space.specs.Place.{Place, Form, Ratio, step, Within, form_at, slope, toward, InFrame}
 use Rattle.nef_space.specs.Sets.{Set, Holds, InHalf}
@@ -14,9 +14,9 @@ use Rattle.nef_space.specs.declared.label.Label.TheVariants.{Out, Not, In}
 use Rattle.nef_geo.specs.Shapes.{form_of}
 use Rattle.nef_geo.specs.declared.plane.Plane.{Plane}
 use Rattle.nef_geo.specs.declared.point.Point.{Point}
-use Rattle.law_forms.proofs.Directions.{square_pos}
-use Rattle.law_forms.proofs.Far.{nought-or}
-use Rattle.law_forms.proofs.Near.{reach, keeps, weaken, form-step}
+use Rattle.law_near.proofs.Directions.{square_pos}
+use Rattle.law_near.proofs.Far.{nought-or}
+use Rattle.law_near.proofs.Near.{reach, keeps, weaken, form-step}
 use Rattle.law_near.specs.Cells.{sign_at}
 use Rattle.law_near.specs.Cones.{combination}
 use Rattle.law_near.proofs.Alike.{HasFlat-fewer}

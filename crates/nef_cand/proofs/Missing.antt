@@ -3,7 +3,7 @@ use Rattle.std.proofs.Common.{◌≡◌, ℕ, ℤ, pos, ◌+◌, ◌*◌, ◌≤
 use Rattle.std.proofs.lemmas.Int.{ints, by_lt_z, unsigned_abs-mul}
 use Rattle.std.proofs.Math.Nat.{mul-le-mul_right}
 use lib.IntN.{zero-*ℤ}
-use Rattle.law_arithmetic.proofs.Order.{abs_plus, abs_times, mul_nonneg, mul_le_right}
+use Rattle.nef_space.proofs.Order.{abs_plus, abs_times, mul_nonneg, mul_le_right}
 use Rattle.nef_space.specs.Limits.{half_side, point_limit}
 use Rattle.nef_space.specs.Place.{Place, Form, InClosedFrame}
 use Rattle.nef_space.specs.Sets.{Set}

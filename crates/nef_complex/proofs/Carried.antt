@@ -1,14 +1,14 @@
 -- Each item lies in a carrier.
 use Rattle.std.proofs.Common.{◌≡◌, ℕ, pos, List, map, sym, ◌∙◌, ⊎_elim, subst}
-use Rattle.law_arithmetic.specs.Signs.{sign}
-use Rattle.law_arithmetic.proofs.Order.{nought-is}
+use Rattle.nef_space.specs.Signs.{sign}
+use Rattle.nef_space.proofs.Order.{nought-is}
 use Rattle.nef_space.specs.Place.{Place, Form, form_at, normal_of}
 use Rattle.nef_space.specs.Sets.{Set}
 use Rattle.nef_space.specs.Vectors.{dot, IsNormal, SameDirection}
 use Rattle.nef_geo.specs.Shapes.{form_of, place_of}
 use Rattle.nef_geo.specs.declared.plane.Plane.{Plane}
-use Rattle.law_forms.proofs.Far.{nought-or}
-use Rattle.law_forms.proofs.Near.{step-within, reach_all}
+use Rattle.law_near.proofs.Far.{nought-or}
+use Rattle.law_near.proofs.Near.{step-within, reach_all}
 use Rattle.law_near.specs.Cells.{carriers}
 use Rattle.law_near.proofs.Cells.{keeps-all}
 use Rattle.law_near.proofs.Decisions.{ahead, near-ahead}

@@ -1,14 +1,14 @@
 -- The ends of an edge, and the planes that hold both.
 use Rattle.std.proofs.Common.{◌≡◌, ℕ, ◌<◌, length, pos, ◌<ℤ◌, arith, ap, ◌∙◌, subst, [], ◌∷◌}
 use Rattle.std.proofs.lemmas.Int.{ints}
-use Rattle.law_arithmetic.proofs.Ring.{at, num, ◌⊖◌, ◌⊗◌}
-use Rattle.law_arithmetic.proofs.Combination.{given, none, follows_times}
+use Rattle.nef_space.proofs.Ring.{at, num, ◌⊖◌, ◌⊗◌}
+use Rattle.nef_space.proofs.Combination.{given, none, follows_times}
 use Rattle.nef_space.specs.Place.{Place, Form, form_at, slope, toward, SamePlace, IsBetween}
 use Rattle.nef_space.specs.Sets.{Set}
 use Rattle.nef_space.specs.Vectors.{IsDirection}
 use Rattle.nef_geo.specs.Shapes.{place_of}
-use Rattle.law_forms.proofs.Directions.{direction-left}
-use Rattle.law_forms.proofs.Near.{slope-toward}
+use Rattle.law_near.proofs.Directions.{direction-left}
+use Rattle.law_near.proofs.Near.{slope-toward}
 use Rattle.law_near.proofs.Edges.{start, start-toward}
 use Rattle.law_sphere.specs.Maps.{At}
 use Rattle.law_sphere.proofs.Lists.{at-one}

@@ -1,12 +1,12 @@
 -- Points on one line, and where a line crosses a plane.
 use Rattle.std.proofs.Common.{◌≡◌, ℤ, pos, ◌-ℤ◌, ◌*ℤ◌, arith, ⊎_elim, [], ◌∷◌}
 use Rattle.std.proofs.lemmas.Int.{ints}
-use Rattle.law_arithmetic.proofs.Ring.{at, num, ◌⊖◌, ◌⊗◌}
-use Rattle.law_arithmetic.proofs.Combination.{follows_times, given, none}
+use Rattle.nef_space.proofs.Ring.{at, num, ◌⊖◌, ◌⊗◌}
+use Rattle.nef_space.proofs.Combination.{follows_times, given, none}
 use Rattle.nef_space.specs.Place.{Place, Form, slope, normal_of, toward, SamePlace}
 use Rattle.nef_space.specs.Vectors.{Vector, cross, IsZero}
-use Rattle.law_forms.proofs.Between.{toward-place}
-use Rattle.law_forms.proofs.Directions.{zero-decided}
+use Rattle.law_near.proofs.Mixed.{toward-place}
+use Rattle.law_near.proofs.Directions.{zero-decided}
 use Rattle.law_sphere.proofs.KindFlats.{in-span}
 use Rattle.law_complex.proofs.Planes.{plane-way}
 use Rattle.nef_complex.specs.Planes.{HoldsBoth}

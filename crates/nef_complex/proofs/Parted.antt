@@ -1,15 +1,15 @@
 -- Where a plane parts two points, it crosses the segment between them.
 use Rattle.std.proofs.Common.{◌≡◌, ℕ, ◌<◌, ℤ, pos, ◌+ℤ◌, ◌-ℤ◌, ◌*ℤ◌, ◌<ℤ◌, arith, ap, sym, ◌∙◌, inl, inr, ⊎_elim, [], ◌∷◌}
 use Rattle.std.proofs.lemmas.Int.{ints}
-use Rattle.law_arithmetic.proofs.Ring.{ring, Poly, at, num, ◌⊕◌, ◌⊖◌, ◌⊗◌}
-use Rattle.law_arithmetic.proofs.Combination.{given, none, follows, follows_times}
-use Rattle.law_arithmetic.proofs.Order.{mul_pos, mul_neg, by_order}
+use Rattle.nef_space.proofs.Ring.{ring, Poly, at, num, ◌⊕◌, ◌⊖◌, ◌⊗◌}
+use Rattle.nef_space.proofs.Combination.{given, none, follows, follows_times}
+use Rattle.nef_space.proofs.Order.{mul_pos, mul_neg, by_order}
 use Rattle.nef_space.specs.Place.{Place, Form, form_at, slope, toward, IsBetween}
 use Rattle.nef_space.specs.Vectors.{Vector, dot, cross, triple, IsZero, IsDirection}
 use Rattle.nef_geo.specs.Steps.{HasOppositeSigns}
-use Rattle.law_forms.specs.Homogeneous.{IsMixed, of_place}
-use Rattle.law_forms.proofs.Sums.{form-sum}
-use Rattle.law_forms.proofs.Near.{slope-toward}
+use Rattle.law_near.specs.Homogeneous.{IsMixed, of_place}
+use Rattle.law_near.proofs.Sums.{form-sum}
+use Rattle.law_near.proofs.Near.{slope-toward}
 use Rattle.law_near.proofs.Between.{mixed-of, between-turned}
 use Rattle.law_near.proofs.Rays.{slope-zero}
 use Rattle.law_near.proofs.FlatDecided.{cross-turned}

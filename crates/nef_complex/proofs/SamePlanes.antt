@@ -1,8 +1,8 @@
 -- Two planes that hold one point and have parallel normals are one.
 use Rattle.std.proofs.Common.{◌≡◌, pos, ◌<ℤ◌, [], ◌∷◌, arith}
 use Rattle.std.proofs.lemmas.Int.{ints}
-use Rattle.law_arithmetic.proofs.Ring.{Poly, at, num, ◌⊕◌, ◌⊖◌, ◌⊗◌}
-use Rattle.law_arithmetic.proofs.Combination.{given, none, follows_times}
+use Rattle.nef_space.proofs.Ring.{Poly, at, num, ◌⊕◌, ◌⊖◌, ◌⊗◌}
+use Rattle.nef_space.proofs.Combination.{given, none, follows_times}
 use Rattle.nef_space.specs.Place.{Place, Form, form_at, normal_of}
 use Rattle.nef_space.specs.Vectors.{cross, IsZero}
 use Rattle.nef_geo.specs.Meet.{IsSamePlane}

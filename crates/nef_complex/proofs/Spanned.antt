@@ -1,7 +1,7 @@
 -- What lies within two spans, between two points of a span, and in a plane with a span of its vertices.
 use Rattle.std.proofs.Common.{◌≡◌, ℤ, pos, ◌*ℤ◌, ◌≤ℤ◌, arith, sym, subst, inl, inr}
 use Rattle.std.proofs.lemmas.Int.{ints}
-use Rattle.law_arithmetic.proofs.Order.{cancel_le}
+use Rattle.nef_space.proofs.Order.{cancel_le}
 use Rattle.nef_space.specs.Place.{Place, Form, form_at, SamePlace, IsBetween}
 use Rattle.nef_space.specs.Sets.{Set}
 use Rattle.nef_geo.specs.Shapes.{place_of}

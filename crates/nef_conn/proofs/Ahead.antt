@@ -8,8 +8,8 @@ use Rattle.nef_space.specs.Place.{Place, Form, form_at, normal_of, SamePlace, to
 use Rattle.nef_space.specs.Sets.{Set}
 use Rattle.nef_space.specs.Vectors.{Vector, opposite, cross, IsNormal, SameDirection, plane_dir}
 use Rattle.law_near.proofs.Flats.{vector-same}
-use Rattle.law_forms.proofs.Between.{place-toward}
-use Rattle.law_forms.proofs.Directions.{dot-zero, direction-left}
+use Rattle.law_near.proofs.Mixed.{place-toward}
+use Rattle.law_near.proofs.Directions.{dot-zero, direction-left}
 use Rattle.law_sphere.specs.Maps.{At}
 use Rattle.law_sphere.proofs.Builder.{normal-or}
 use Rattle.law_sphere.proofs.Kind.{away}

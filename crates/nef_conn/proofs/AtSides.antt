@@ -1,7 +1,7 @@
 -- A point with three flat directions is joined to a point close to a vertex: beside the first vertex, edge point or facet point that some way from it meets.
 -- Off the vertex all germs are one, so toward it the map has no svertex and no item, and a side sees it.
 use Rattle.std.proofs.Common.{◌≡◌, ℕ, zero, suc, ◌*◌, ℤ, pos, ◌+ℤ◌, ◌*ℤ◌, arith, refl, sym, inl, [], ◌∷◌, subst}
-use Rattle.law_arithmetic.proofs.Ring.{ring, at, num, ◌⊕◌, ◌⊗◌}
+use Rattle.nef_space.proofs.Ring.{ring, at, num, ◌⊕◌, ◌⊗◌}
 use Rattle.nef_space.specs.Local.{Germ, FlatDim, Joined}
 use Rattle.nef_space.specs.Place.{Place, SamePlace, toward}
 use Rattle.nef_space.specs.Sets.{Set}

@@ -8,9 +8,9 @@ use Rattle.nef_space.specs.Vectors.{Vector, opposite, dot, cross, triple, IsZero
 use Rattle.law_near.proofs.Alike.{FlatDim-one}
 use Rattle.law_near.proofs.Between.{between-turned, between-inner}
 use Rattle.law_near.proofs.Rays.{same-place_sym}
-use Rattle.law_forms.proofs.Between.{between-same, toward-place, place-toward}
+use Rattle.law_near.proofs.Mixed.{between-same, toward-place, place-toward}
 use Rattle.law_near.proofs.FlatDecided.{triple-dot}
-use Rattle.law_forms.proofs.Directions.{dot-zero}
+use Rattle.law_near.proofs.Directions.{dot-zero}
 use Rattle.law_sphere.specs.Maps.{At, MapVertex, Item, item_normal, OnItem}
 use Rattle.law_sphere.proofs.Vectors.{same-plus}
 use Rattle.law_sphere.proofs.Around.{triple-turned}

@@ -1,10 +1,10 @@
 -- Where the fall from y ends at y', what falls from b beside it names a side of the class of what lies above y', if that is known for y' where it is a vertex of the plane; and so what falls from b beside a vertex of the plane names a side of the class of what touches it, if that is known of what lies below it, and of what touches it downward and what the ray down from it names.
 use Rattle.std.proofs.Common.{◌≡◌, ℕ, zero, suc, ◌<◌, ℤ, pos, ◌-ℤ◌, ◌*ℤ◌, ◌<ℤ◌, neg_ℤ, arith, ap, sym, ◌∙◌, ◌⊎◌, inl, inr, ⊎_elim, [], ◌∷◌, subst}
 use Rattle.std.proofs.lemmas.Int.{ints}
-use Rattle.law_arithmetic.specs.Signs.{sign}
-use Rattle.law_arithmetic.proofs.Order.{by_order, sign-plus, sign-minus, sign-scaled}
-use Rattle.law_arithmetic.proofs.Ring.{ring, at, num, neg, ◌⊕◌, ◌⊖◌, ◌⊗◌}
-use Rattle.law_forms.proofs.Far.{same-nought}
+use Rattle.nef_space.specs.Signs.{sign}
+use Rattle.nef_space.proofs.Order.{by_order, sign-plus, sign-minus, sign-scaled}
+use Rattle.nef_space.proofs.Ring.{ring, at, num, neg, ◌⊕◌, ◌⊖◌, ◌⊗◌}
+use Rattle.law_near.proofs.Far.{same-nought}
 use Rattle.law_sphere.proofs.Vectors.{same-plus, same-minus}
 use Rattle.law_sphere.proofs.KindFlats.{in-span}
 use Rattle.law_sphere.proofs.StepOff.{blend-turned}
@@ -26,8 +26,8 @@ use Rattle.law_near.proofs.Flats.{FlatCone-from_flat}
 use Rattle.law_near.proofs.Rays.{same-place_sym}
 use Rattle.law_near.proofs.Skeleton.{flat_dim-nearby}
 use Rattle.law_near.proofs.Supports.{flat-plane}
-use Rattle.law_forms.proofs.Near.{reach_all, slope-toward}
-use Rattle.law_forms.proofs.Directions.{zero-decided, dot-comm, direction-left}
+use Rattle.law_near.proofs.Near.{reach_all, slope-toward}
+use Rattle.law_near.proofs.Directions.{zero-decided, dot-comm, direction-left}
 use Rattle.law_sphere.proofs.Compare.{SameDirection-turned, SameDirection-trans, dir-self}
 use Rattle.law_sphere.proofs.Labels.{dir-signs}
 use Rattle.law_complex.specs.Complexes.{Complex}

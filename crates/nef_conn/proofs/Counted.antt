@@ -4,7 +4,7 @@ use Rattle.nef_space.specs.Local.{FlatDim, Joined}
 use Rattle.nef_space.specs.Place.{Place, toward}
 use Rattle.nef_space.specs.Sets.{Set}
 use Rattle.law_near.proofs.Even.{joined-itself, joined-both}
-use Rattle.law_forms.proofs.Directions.{direction-left}
+use Rattle.law_near.proofs.Directions.{direction-left}
 use Rattle.law_sphere.specs.Maps.{At}
 use Rattle.law_complex.specs.Skeleton.{IsVertexPoint, IsEdgePoint}
 use Rattle.law_complex.proofs.Edges.{near_point, near-between, edge-points}

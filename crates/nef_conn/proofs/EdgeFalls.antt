@@ -1,11 +1,11 @@
 -- What touches an edge downward is linked with what the ray down from a point of the edge names: the points just below the edge lead to its lower end, and what falls from them is known, as are the claims at the lower end.
 use Rattle.std.proofs.Common.{◌≡◌, ℕ, ◌+◌, ◌<◌, ◌≤◌, ℤ, pos, ◌-ℤ◌, ◌*ℤ◌, ◌<ℤ◌, ◌≤ℤ◌, neg_ℤ, arith, refl, ap, sym, ◌∙◌, ◌⊎◌, inl, inr, ⊎_elim, List, [], ◌∷◌, subst}
 use Rattle.std.proofs.lemmas.Int.{ints}
-use Rattle.law_arithmetic.specs.Signs.{nought, sign, Lies}
-use Rattle.law_arithmetic.proofs.Lists.{each, lies-each}
-use Rattle.law_arithmetic.proofs.Ring.{ring, at, num, ◌⊕◌, ◌⊖◌, ◌⊗◌}
-use Rattle.law_arithmetic.proofs.Combination.{given, none as no-more, follows_times}
-use Rattle.law_arithmetic.proofs.Order.{by_order, nought-is, sign-plus, sign-minus, sign-scaled, plus-is, minus-is}
+use Rattle.nef_space.specs.Signs.{nought, sign, Lies}
+use Rattle.nef_space.proofs.Lists.{each, lies-each}
+use Rattle.nef_space.proofs.Ring.{ring, at, num, ◌⊕◌, ◌⊖◌, ◌⊗◌}
+use Rattle.nef_space.proofs.Combination.{given, none as no-more, follows_times}
+use Rattle.nef_space.proofs.Order.{by_order, nought-is, sign-plus, sign-minus, sign-scaled, plus-is, minus-is}
 use Rattle.nef_space.specs.Lists.{Chained}
 use Rattle.nef_space.specs.Local.{Flat, FlatDim, IsVertex, IsEven}
 use Rattle.nef_space.specs.Place.{Place, Form, form_at, normal_of, slope, plane_through, SamePlace, InFrame, Within, toward, IsBetween}
@@ -24,10 +24,10 @@ use Rattle.law_near.proofs.Flats.{Flat-from_cone, FlatCone-from_flat}
 use Rattle.law_near.proofs.NearGerms.{steep}
 use Rattle.law_near.proofs.Rays.{signs-same, same-place_sym}
 use Rattle.law_near.proofs.Vertices.{all-vertices}
-use Rattle.law_forms.proofs.Near.{reach_all, slope-toward}
-use Rattle.law_forms.proofs.Between.{place-toward, between-same}
-use Rattle.law_forms.proofs.Directions.{dot-zero, self-pos, direction-left, direction-right}
-use Rattle.law_forms.proofs.Far.{nought-or, same-nought}
+use Rattle.law_near.proofs.Near.{reach_all, slope-toward}
+use Rattle.law_near.proofs.Mixed.{place-toward, between-same}
+use Rattle.law_near.proofs.Directions.{dot-zero, self-pos, direction-left, direction-right}
+use Rattle.law_near.proofs.Far.{nought-or, same-nought}
 use Rattle.law_sphere.specs.Forms.{forms, SameSigns}
 use Rattle.law_sphere.specs.Maps.{At}
 use Rattle.law_sphere.proofs.Around.{triple-turned}

@@ -1,11 +1,11 @@
 -- A direction of an arc's plane that lies neither on the arc nor at its ends leads away from the arc's side at one end.
 use Rattle.std.proofs.Common.{◌≡◌, pos, ◌<ℤ◌, neg_ℤ, arith, ap, ◌∙◌, ◌⊎◌, inl, inr}
 use Rattle.std.proofs.lemmas.Int.{ints}
-use Rattle.law_arithmetic.specs.Signs.{sign}
-use Rattle.law_arithmetic.proofs.Order.{by_order}
+use Rattle.nef_space.specs.Signs.{sign}
+use Rattle.nef_space.proofs.Order.{by_order}
 use Rattle.nef_space.specs.Vectors.{Vector, opposite, dot, cross, triple, IsDirection, SameDirection, IsOpposite}
 use Rattle.law_cyclic.specs.Arcs.{IsStrictlyOn}
-use Rattle.law_forms.proofs.Directions.{dot-zero}
+use Rattle.law_near.proofs.Directions.{dot-zero}
 use Rattle.law_sphere.proofs.Vectors.{same-plus, same-minus}
 use Rattle.law_sphere.proofs.Parallel.{parallel-in_plane}
 use Rattle.law_sphere.proofs.Around.{Beside, same_way, other_way, beside, opposites, triple-turned}

@@ -1,9 +1,9 @@
 -- The strip between two lines along d in the plane of h: on y's line lie vertices, between it and z's line and on z's line none. g is h or its opposite, so that z lies to the right of y's line.
 use Rattle.std.proofs.Common.{◌≡◌, ℕ, ◌+◌, ℤ, pos, ◌+ℤ◌, ◌-ℤ◌, ◌*ℤ◌, ◌<ℤ◌, ◌≤ℤ◌, arith, refl, ap, sym, ◌∙◌, ◌⊎◌, inl, inr, ⊎_elim, [], ◌∷◌, subst}
 use Rattle.std.proofs.lemmas.Int.{ints}
-use Rattle.law_arithmetic.specs.Signs.{sign}
-use Rattle.law_arithmetic.proofs.Ring.{ring, at, num, ◌⊕◌, ◌⊖◌, ◌⊗◌, Poly}
-use Rattle.law_arithmetic.proofs.Order.{mul_pos, mul_nonneg, cancel_lt, cancel_le, by_order, sign-scaled, nought-is}
+use Rattle.nef_space.specs.Signs.{sign}
+use Rattle.nef_space.proofs.Ring.{ring, at, num, ◌⊕◌, ◌⊖◌, ◌⊗◌, Poly}
+use Rattle.nef_space.proofs.Order.{mul_pos, mul_nonneg, cancel_lt, cancel_le, by_order, sign-scaled, nought-is}
 use Rattle.nef_space.specs.Local.{Flat, FlatDim, IsVertex}
 use Rattle.nef_space.specs.Place.{Place, Form, form_at, normal_of, slope, plane_through, SamePlace, toward, IsBetween}
 use Rattle.nef_space.specs.Sets.{Set}
@@ -12,9 +12,9 @@ use Rattle.law_near.proofs.Alike.{FlatDim-one}
 use Rattle.law_near.proofs.Between.{between-turned}
 use Rattle.law_near.proofs.Rays.{signs-same, same-place_sym}
 use Rattle.law_near.proofs.FlatDecided.{triple-dot}
-use Rattle.law_forms.proofs.Near.{slope-toward}
-use Rattle.law_forms.proofs.Between.{toward-place, place-toward, between-same}
-use Rattle.law_forms.proofs.Directions.{zero-decided, dot-zero, direction-right}
+use Rattle.law_near.proofs.Near.{slope-toward}
+use Rattle.law_near.proofs.Mixed.{toward-place, place-toward, between-same}
+use Rattle.law_near.proofs.Directions.{zero-decided, dot-zero, direction-right}
 use Rattle.law_cyclic.proofs.Directions.{level-opposite-back}
 use Rattle.law_sphere.specs.Maps.{At}
 use Rattle.law_sphere.proofs.Vectors.{triple-middle, same-plus, same-minus}

@@ -1,9 +1,9 @@
 -- In a plane that holds up: an edge that leaves a point to the side of b, beside no vertex, runs under b or over it; where the points between are free it runs under b, and what falls from b comes down to it.
 use Rattle.std.proofs.Common.{◌≡◌, ℕ, ℤ, pos, ◌+ℤ◌, ◌-ℤ◌, ◌*ℤ◌, ◌<ℤ◌, ◌≤ℤ◌, arith, ap, sym, ◌∙◌, ◌⊎◌, inl, inr, ⊎_elim, [], ◌∷◌, subst}
 use Rattle.std.proofs.lemmas.Int.{ints}
-use Rattle.law_arithmetic.proofs.Ring.{ring, at, num, ◌⊕◌, ◌⊖◌, ◌⊗◌}
-use Rattle.law_arithmetic.proofs.Order.{by_order}
-use Rattle.law_arithmetic.proofs.Combination.{given, none, follows}
+use Rattle.nef_space.proofs.Ring.{ring, at, num, ◌⊕◌, ◌⊖◌, ◌⊗◌}
+use Rattle.nef_space.proofs.Order.{by_order}
+use Rattle.nef_space.proofs.Combination.{given, none, follows}
 use Rattle.law_sphere.proofs.Shot.{product-off}
 use Rattle.law_sphere.proofs.NearItems.{opposite-turned}
 use Rattle.law_complex.proofs.FacetEdges.{ahead-back}
@@ -22,10 +22,10 @@ use Rattle.law_near.proofs.Even.{flat-nearby, flat-toward}
 use Rattle.law_near.proofs.Flats.{Flat-from_cone, FlatCone-from_flat}
 use Rattle.law_near.proofs.Rays.{same-place_sym}
 use Rattle.law_near.proofs.Skeleton.{flat_dim-nearby}
-use Rattle.law_forms.proofs.Near.{reach_all}
-use Rattle.law_forms.proofs.Between.{toward-place, place-toward}
-use Rattle.law_forms.proofs.Directions.{dot-zero, zero-decided, factor-same, direction-left, direction-right}
-use Rattle.law_forms.proofs.Far.{same-nought, nought-or}
+use Rattle.law_near.proofs.Near.{reach_all}
+use Rattle.law_near.proofs.Mixed.{toward-place, place-toward}
+use Rattle.law_near.proofs.Directions.{dot-zero, zero-decided, factor-same, direction-left, direction-right}
+use Rattle.law_near.proofs.Far.{same-nought, nought-or}
 use Rattle.law_sphere.proofs.Around.{Beside, same_way, other_way, beside, triple-turned}
 use Rattle.law_sphere.proofs.Compare.{SameDirection-turned, SameDirection-trans}
 use Rattle.law_sphere.proofs.Parallel.{parallel-in_plane}

@@ -1,8 +1,8 @@
 -- Between two points close to a third, all points lie toward the blends of their directions: so what is as flat between them is as flat toward all blends.
 use Rattle.std.proofs.Common.{◌≡◌, ℕ, ◌+◌, ◌*◌, ◌<◌, ℤ, pos, ◌+ℤ◌, ◌-ℤ◌, ◌*ℤ◌, arith, sym, ◌∙◌, [], ◌∷◌, subst}
 use Rattle.std.proofs.Math.Nat.{mul-pos}
-use Rattle.law_arithmetic.specs.Signs.{nought, Lies}
-use Rattle.law_arithmetic.proofs.Ring.{ring, at, ◌⊕◌, ◌⊖◌, ◌⊗◌}
+use Rattle.nef_space.specs.Signs.{nought, Lies}
+use Rattle.nef_space.proofs.Ring.{ring, at, ◌⊕◌, ◌⊖◌, ◌⊗◌}
 use Rattle.nef_space.specs.Local.{FlatDim}
 use Rattle.nef_space.specs.Place.{Place, Form, Within, toward, IsBetween}
 use Rattle.nef_space.specs.Sets.{Set}
@@ -12,9 +12,9 @@ use Rattle.law_near.proofs.Between.{between-of}
 use Rattle.law_near.proofs.Cells.{keeps-all}
 use Rattle.law_near.proofs.Decisions.{ahead}
 use Rattle.law_near.proofs.Flats.{vector-same, sign-toward}
-use Rattle.law_forms.specs.Homogeneous.{of_place}
-use Rattle.law_forms.proofs.Near.{reach_all}
-use Rattle.law_forms.proofs.Sums.{mixed-mix}
+use Rattle.law_near.specs.Homogeneous.{of_place}
+use Rattle.law_near.proofs.Near.{reach_all}
+use Rattle.law_near.proofs.Sums.{mixed-mix}
 use Rattle.law_links.proofs.Ties.{beside-ahead, beside-cell, same-between, dim-cell, ahead-close}
 
 pub mixed-proper : (i j a b : ℕ) → 0 < i → 0 < a → 0 < i * a + j * b

@@ -13,7 +13,7 @@ use Rattle.law_near.proofs.Between.{between-turned}
 use Rattle.law_near.proofs.Edges.{even-until}
 use Rattle.law_near.proofs.Even.{span-3}
 use Rattle.law_near.proofs.Rays.{same-place_sym}
-use Rattle.law_forms.proofs.Between.{toward-place}
+use Rattle.law_near.proofs.Mixed.{toward-place}
 use Rattle.law_complex.proofs.FacetWays.{dim-same}
 use Rattle.law_links.specs.Components.{IsEvenAfter}
 

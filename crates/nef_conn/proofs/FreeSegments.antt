@@ -1,9 +1,9 @@
 -- The rays down from the ends of a segment of points with three flat directions name sides of one class, where that is known beside each vertex of the slices below: cut where a vertex of the slice lies on the line along up.
 use Rattle.std.proofs.Common.{◌≡◌, ℕ, ℤ, pos, ◌+ℤ◌, ◌*ℤ◌, ◌<ℤ◌, ◌≤ℤ◌, neg_ℤ, arith, refl, ap, sym, ◌∙◌, ◌⊎◌, inl, inr, ⊎_elim, List, [], ◌∷◌, subst}
 use Rattle.std.proofs.lemmas.Int.{ints}
-use Rattle.law_arithmetic.specs.Signs.{sign, Lies}
-use Rattle.law_arithmetic.proofs.Ring.{ring, at, num, neg, ◌⊕◌, ◌⊖◌, ◌⊗◌}
-use Rattle.law_arithmetic.proofs.Order.{by_order, mul_pos, mul_nonneg, cancel_lt, sign-plus, plus-is, minus-is, sign-minus, nought-is}
+use Rattle.nef_space.specs.Signs.{sign, Lies}
+use Rattle.nef_space.proofs.Ring.{ring, at, num, neg, ◌⊕◌, ◌⊖◌, ◌⊗◌}
+use Rattle.nef_space.proofs.Order.{by_order, mul_pos, mul_nonneg, cancel_lt, sign-plus, plus-is, minus-is, sign-minus, nought-is}
 use Rattle.nef_space.specs.Lists.{Chained}
 use Rattle.nef_space.specs.Local.{FlatDim, IsVertex, IsEven}
 use Rattle.nef_space.specs.Place.{Place, Form, plane_through, form_at, normal_of, slope, SamePlace, InFrame, toward, IsBetween}
@@ -19,9 +19,9 @@ use Rattle.law_near.proofs.Vertices.{all-vertices}
 use Rattle.nef_space.specs.Local.{Germ}
 use Rattle.nef_space.specs.declared.label.Label.{Label}
 use Rattle.law_near.specs.Cones.{label_not}
-use Rattle.law_forms.proofs.Between.{toward-place, place-toward, between-same}
-use Rattle.law_forms.proofs.Directions.{zero-decided, dot-zero, dot-comm, direction-left, direction-right}
-use Rattle.law_forms.proofs.Far.{nought-or}
+use Rattle.law_near.proofs.Mixed.{toward-place, place-toward, between-same}
+use Rattle.law_near.proofs.Directions.{zero-decided, dot-zero, dot-comm, direction-left, direction-right}
+use Rattle.law_near.proofs.Far.{nought-or}
 use Rattle.law_sphere.proofs.Around.{Beside, same_way, other_way, beside}
 use Rattle.law_sphere.proofs.Compare.{SameDirection-turned, SameDirection-trans}
 use Rattle.law_sphere.proofs.Parallel.{parallel-in_plane}

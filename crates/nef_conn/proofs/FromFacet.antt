@@ -1,8 +1,8 @@
 -- From a facet point of y's line, with a clear way to z: its ray and z's come to one edge, or its ray comes to a vertex beside which z lies.
 use Rattle.std.proofs.Common.{◌≡◌, ℕ, pos, ◌<ℤ◌, arith, ap, ◌∙◌, ◌⊎◌, inl, inr, ⊎_elim, subst}
 use Rattle.std.proofs.lemmas.Int.{ints}
-use Rattle.law_arithmetic.specs.Signs.{sign}
-use Rattle.law_arithmetic.proofs.Order.{by_order, nought-is}
+use Rattle.nef_space.specs.Signs.{sign}
+use Rattle.nef_space.proofs.Order.{by_order, nought-is}
 use Rattle.nef_space.specs.Lists.{Chained}
 use Rattle.nef_space.specs.Local.{Flat, FlatDim}
 use Rattle.nef_space.specs.Place.{Place, Form, form_at, normal_of, SamePlace, toward, IsBetween}
@@ -14,8 +14,8 @@ use Rattle.law_near.proofs.Between.{between-turned, between-inner}
 use Rattle.law_near.proofs.Edges.{even-until}
 use Rattle.law_near.proofs.Even.{span-1}
 use Rattle.law_near.proofs.Rays.{same-place_sym}
-use Rattle.law_forms.proofs.Between.{between-same}
-use Rattle.law_forms.proofs.Directions.{direction-left}
+use Rattle.law_near.proofs.Mixed.{between-same}
+use Rattle.law_near.proofs.Directions.{direction-left}
 use Rattle.law_sphere.specs.Maps.{At}
 use Rattle.law_sphere.proofs.Around.{triple-turned}
 use Rattle.law_sphere.proofs.Lists.{at-one}

@@ -31,10 +31,10 @@
 -- The claim at r needs no more events, and fewer carriers lie ahead of r downward than of y: r lies on one that up crosses, or up would be flat there. So induction on both, in that order, ends.
 use Rattle.std.proofs.Common.{◌≡◌, ℕ, zero, suc, ◌+◌, ◌<◌, ◌≤◌, ℤ, pos, ◌-ℤ◌, ◌*ℤ◌, ◌<ℤ◌, ◌≤ℤ◌, neg_ℤ, arith, refl, sym, ◌∙◌, ◌⊎◌, inl, inr, ⊎_elim, List, [], ◌∷◌, ◌++◌, subst}
 use Rattle.std.proofs.lemmas.Int.{ints}
-use Rattle.law_arithmetic.specs.Signs.{nought, sign, Lies}
-use Rattle.law_arithmetic.proofs.Lists.{lies-left, lies-right}
-use Rattle.law_arithmetic.proofs.Ring.{ring, at, num, neg, ◌⊖◌, ◌⊗◌}
-use Rattle.law_arithmetic.proofs.Order.{by_order, nought-is, mul_nonneg, cancel_lt}
+use Rattle.nef_space.specs.Signs.{nought, sign, Lies}
+use Rattle.nef_space.proofs.Lists.{lies-left, lies-right}
+use Rattle.nef_space.proofs.Ring.{ring, at, num, neg, ◌⊖◌, ◌⊗◌}
+use Rattle.nef_space.proofs.Order.{by_order, nought-is, mul_nonneg, cancel_lt}
 use Rattle.nef_space.specs.Lists.{Chained}
 use Rattle.nef_space.specs.Local.{Flat, FlatDim, IsVertex, IsEven}
 use Rattle.nef_space.specs.Place.{Place, Form, form_at, normal_of, slope, SamePlace, InFrame, toward, IsBetween, IsPlaceBelow}
@@ -48,10 +48,10 @@ use Rattle.law_near.proofs.Flats.{Flat-from_cone, FlatCone-from_flat, FlatCone-f
 use Rattle.law_near.proofs.PlaceOrder.{place_below-trans, same-place_below, place_below-apart}
 use Rattle.law_near.proofs.Rays.{signs-same, same-place_sym}
 use Rattle.law_near.proofs.Vertices.{all-vertices}
-use Rattle.law_forms.proofs.Between.{place-toward, between-same}
-use Rattle.law_forms.proofs.Directions.{dot-zero, direction-left, direction-right}
-use Rattle.law_forms.proofs.Far.{nought-or}
-use Rattle.law_forms.proofs.Near.{slope-toward}
+use Rattle.law_near.proofs.Mixed.{place-toward, between-same}
+use Rattle.law_near.proofs.Directions.{dot-zero, direction-left, direction-right}
+use Rattle.law_near.proofs.Far.{nought-or}
+use Rattle.law_near.proofs.Near.{slope-toward}
 use Rattle.law_sphere.specs.Forms.{gather}
 use Rattle.law_sphere.specs.Maps.{At, MapVertex}
 use Rattle.law_sphere.proofs.Compare.{SameDirection-turned, SameDirection-trans, dir-self}

@@ -9,8 +9,8 @@ use Rattle.law_near.specs.Cells.{carriers}
 use Rattle.law_near.proofs.Alike.{FlatDim-one}
 use Rattle.law_near.proofs.Edges.{start-close}
 use Rattle.law_near.proofs.Even.{flat-way, even-germs, joined-germs, joined-turned, joined-both}
-use Rattle.law_forms.proofs.Directions.{dot-zero, zero-decided, direction-right}
-use Rattle.law_forms.proofs.Near.{reach_all}
+use Rattle.law_near.proofs.Directions.{dot-zero, zero-decided, direction-right}
+use Rattle.law_near.proofs.Near.{reach_all}
 use Rattle.law_sphere.specs.Maps.{Item, item_normal}
 use Rattle.law_sphere.proofs.Vectors.{normal-direction}
 use Rattle.law_sphere.proofs.Compare.{SameDirection-turned, SameDirection-trans}

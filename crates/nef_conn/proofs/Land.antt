@@ -1,8 +1,8 @@
 -- What falls from a point b beside a start y, where all between is free: it comes down on the edge through the point y' at which y's own fall ends, or, where that is a vertex of the plane, on the first edge that leaves it, or all is free below.
 use Rattle.std.proofs.Common.{◌≡◌, ℕ, zero, suc, ◌<◌, ℤ, pos, ◌+ℤ◌, ◌*ℤ◌, ◌<ℤ◌, neg_ℤ, arith, ap, sym, ◌∙◌, ◌⊎◌, inl, inr, ⊎_elim, [], ◌∷◌, subst}
 use Rattle.std.proofs.lemmas.Int.{ints}
-use Rattle.law_arithmetic.proofs.Order.{by_order, mul_pos, cancel_lt}
-use Rattle.law_arithmetic.proofs.Ring.{ring, at, num, neg, ◌⊕◌, ◌⊗◌}
+use Rattle.nef_space.proofs.Order.{by_order, mul_pos, cancel_lt}
+use Rattle.nef_space.proofs.Ring.{ring, at, num, neg, ◌⊕◌, ◌⊗◌}
 use Rattle.law_near.proofs.Even.{even-germs, flat-toward}
 use Rattle.law_near.proofs.Flats.{Flat-from_cone}
 use Rattle.law_near.proofs.FlatDecided.{triple-dot}
@@ -21,9 +21,9 @@ use Rattle.law_near.proofs.Between.{between-turned, between-inner}
 use Rattle.law_near.proofs.Decisions.{ahead}
 use Rattle.law_near.proofs.Edges.{start-close, start-toward, even-until}
 use Rattle.law_near.proofs.Rays.{same-place_sym}
-use Rattle.law_forms.proofs.Near.{reach_all}
-use Rattle.law_forms.proofs.Between.{toward-place, place-toward}
-use Rattle.law_forms.proofs.Directions.{dot-zero, direction-left}
+use Rattle.law_near.proofs.Near.{reach_all}
+use Rattle.law_near.proofs.Mixed.{toward-place, place-toward}
+use Rattle.law_near.proofs.Directions.{dot-zero, direction-left}
 use Rattle.law_sphere.proofs.Around.{Beside, same_way, other_way, beside, triple-turned}
 use Rattle.law_sphere.proofs.Compare.{SameDirection-turned, SameDirection-trans, dir-self}
 use Rattle.law_sphere.proofs.Parallel.{parallel-in_plane}

@@ -7,14 +7,14 @@ use Rattle.nef_space.specs.Sets.{Set}
 use Rattle.nef_space.specs.Vectors.{Vector, blend, dot, cross, opposite, IsZero, IsDirection, SameDirection, up}
 use Rattle.law_near.proofs.Alike.{FlatDim-one}
 use Rattle.law_near.proofs.Between.{between-turned, between-inner, between-mix}
-use Rattle.law_forms.proofs.Places.{mix_place}
+use Rattle.law_near.proofs.Places.{mix_place}
 use Rattle.law_near.proofs.Decisions.{ahead}
 use Rattle.law_near.proofs.Even.{joined-both}
 use Rattle.law_near.proofs.Rays.{same-place_sym}
-use Rattle.law_forms.proofs.Between.{toward-place, between-same}
-use Rattle.law_forms.proofs.Directions.{zero-decided, direction-left}
+use Rattle.law_near.proofs.Mixed.{toward-place, between-same}
+use Rattle.law_near.proofs.Directions.{zero-decided, direction-left}
 use Rattle.law_sphere.specs.Forms.{forms, SameSigns}
-use Rattle.law_forms.proofs.Far.{nought-or, same-nought}
+use Rattle.law_near.proofs.Far.{nought-or, same-nought}
 use Rattle.law_sphere.proofs.Labels.{dir-signs}
 use Rattle.law_sphere.proofs.Lists.{at-one}
 use Rattle.law_sphere.specs.Maps.{At}

@@ -1,14 +1,14 @@
 -- The order of points: what lies below another point on a line along up comes before it, and so does what lies between two points that do.
 use Rattle.std.proofs.Common.{◌≡◌, ℕ, ◌+◌, ◌<◌, ℤ, pos, ◌+ℤ◌, ◌-ℤ◌, ◌*ℤ◌, ◌<ℤ◌, ◌≤ℤ◌, arith, ap, inl, inr, [], ◌∷◌, subst}
 use Rattle.std.proofs.lemmas.Int.{ints}
-use Rattle.law_arithmetic.proofs.Ring.{ring, at, num, ◌⊕◌, ◌⊖◌, ◌⊗◌}
-use Rattle.law_arithmetic.proofs.Combination.{given, none, follows}
-use Rattle.law_arithmetic.proofs.Order.{by_order, mul_pos, mul_nonneg}
+use Rattle.nef_space.proofs.Ring.{ring, at, num, ◌⊕◌, ◌⊖◌, ◌⊗◌}
+use Rattle.nef_space.proofs.Combination.{given, none, follows}
+use Rattle.nef_space.proofs.Order.{by_order, mul_pos, mul_nonneg}
 use Rattle.nef_space.specs.Place.{Place, toward, IsBetween, IsPlaceBelow}
 use Rattle.nef_space.specs.Vectors.{Vector, opposite, IsNormal, SameDirection, up}
 use Rattle.law_near.proofs.Between.{mixed-of}
 use Rattle.law_near.proofs.Decided.{Decided}
-use Rattle.law_forms.proofs.Directions.{same-factor}
+use Rattle.law_near.proofs.Directions.{same-factor}
 use Rattle.law_sphere.proofs.Compare.{SameDirection-turned}
 use Rattle.law_complex.proofs.FacetEdges.{ahead-back}
 use Rattle.nef_conn.proofs.Named.{twice}

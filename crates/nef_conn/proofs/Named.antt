@@ -19,8 +19,8 @@ use Rattle.law_near.proofs.Decisions.{ahead}
 use Rattle.law_near.proofs.Even.{joined-germs, joined-turned, joined-both}
 use Rattle.law_near.proofs.Between.{between-turned}
 use Rattle.law_near.proofs.Flats.{vector-same}
-use Rattle.law_forms.proofs.Between.{place-toward}
-use Rattle.law_forms.proofs.Directions.{dot-zero, direction-left, direction-right}
+use Rattle.law_near.proofs.Mixed.{place-toward}
+use Rattle.law_near.proofs.Directions.{dot-zero, direction-left, direction-right}
 use Rattle.law_sphere.specs.Maps.{At, Arc, Item, arc_item, item_normal, dir_of, OnItem}
 use Rattle.law_sphere.proofs.Vectors.{normal-is, same-plus, same-minus}
 use Rattle.law_sphere.proofs.Forms.{on-direction, on-level}

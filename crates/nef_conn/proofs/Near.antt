@@ -2,9 +2,9 @@
 use Rattle.std.proofs.Common.{◌≡◌, ℕ, ◌+◌, ◌*◌, ◌<◌, ◌≤◌, ℤ, pos, ◌+ℤ◌, ◌*ℤ◌, ◌<ℤ◌, arith, refl, ap, sym, ◌∙◌, inl, ⊎_elim, [], ◌∷◌, subst}
 use Rattle.std.proofs.lemmas.Int.{ints}
 use Rattle.std.proofs.Math.Nat.{mul-pos}
-use Rattle.law_arithmetic.specs.Signs.{sign}
-use Rattle.law_arithmetic.proofs.Ring.{ring, at, num, ◌⊕◌, ◌⊗◌}
-use Rattle.law_arithmetic.proofs.Combination.{given, none, follows}
+use Rattle.nef_space.specs.Signs.{sign}
+use Rattle.nef_space.proofs.Ring.{ring, at, num, ◌⊕◌, ◌⊗◌}
+use Rattle.nef_space.proofs.Combination.{given, none, follows}
 use Rattle.law_sphere.proofs.Shot.{product-off}
 use Rattle.law_sphere.proofs.StepOff.{blend-turned}
 use Rattle.nef_space.specs.Lists.{Chained}
@@ -15,8 +15,8 @@ use Rattle.nef_space.specs.Vectors.{Vector, blend, dot, IsZero, IsDirection, Sam
 use Rattle.law_near.proofs.Alike.{FlatDim-one}
 use Rattle.law_near.proofs.Decisions.{ahead}
 use Rattle.law_near.proofs.Flats.{vector-same}
-use Rattle.law_forms.proofs.Directions.{same-factor, factor-same, direction-left}
-use Rattle.law_forms.proofs.Far.{nought-or, same-nought}
+use Rattle.law_near.proofs.Directions.{same-factor, factor-same, direction-left}
+use Rattle.law_near.proofs.Far.{nought-or, same-nought}
 use Rattle.law_sphere.specs.Forms.{forms, SameSigns}
 use Rattle.law_sphere.specs.Maps.{At, Item, items, item_normal, item_pos, OnItem, Shaped}
 use Rattle.law_sphere.proofs.Compare.{SameDirection-turned, SameDirection-trans}

@@ -2,7 +2,7 @@
 use Rattle.std.proofs.Common.{◌≡◌, ℕ, zero, suc, ◌<◌, ℤ, pos, ◌<ℤ◌, ◌≤ℤ◌, arith, refl, sym, ◌∙◌, inl, inr, ⊎_elim, subst}
 use Rattle.std.proofs.lemmas.Int.{ints}
 use Rattle.std.proofs.lemmas.Bool.{cases_order}
-use Rattle.law_arithmetic.proofs.Order.{mul_pos, mul_nonneg}
+use Rattle.nef_space.proofs.Order.{mul_pos, mul_nonneg}
 use Rattle.nef_space.specs.Lists.{Chained}
 use Rattle.nef_space.specs.Local.{Flat, FlatDim}
 use Rattle.nef_space.specs.Place.{Place, plane_through, toward, IsBetween}
@@ -18,8 +18,8 @@ use Rattle.law_near.proofs.Edges.{even-until}
 use Rattle.law_near.proofs.Even.{flat-nearby, flat-toward, span-1}
 use Rattle.law_near.proofs.Flats.{Flat-from_cone, FlatCone-from_flat}
 use Rattle.law_near.proofs.FlatDecided.{near-of_flat}
-use Rattle.law_forms.proofs.Between.{toward-place}
-use Rattle.law_forms.proofs.Directions.{dot-zero, direction-left, direction-right}
+use Rattle.law_near.proofs.Mixed.{toward-place}
+use Rattle.law_near.proofs.Directions.{dot-zero, direction-left, direction-right}
 use Rattle.law_sphere.specs.Maps.{At, MapVertex, Arc, arc_item, around_svertex, HasArc, Shaped, dir_of}
 use Rattle.law_sphere.proofs.Arcs.{at-arc}
 use Rattle.law_sphere.proofs.Compare.{SameDirection-turned, dir-self}

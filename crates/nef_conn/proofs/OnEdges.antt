@@ -10,9 +10,9 @@ use Rattle.law_near.proofs.Between.{between-turned, between-inner}
 use Rattle.law_near.proofs.Edges.{start-close}
 use Rattle.law_near.proofs.Even.{flat-way, joined-germs}
 use Rattle.law_near.proofs.Rays.{signs-same, same-place_sym}
-use Rattle.law_forms.proofs.Between.{toward-place, place-toward, between-same}
-use Rattle.law_forms.proofs.Directions.{zero-decided}
-use Rattle.law_forms.proofs.Near.{reach_all}
+use Rattle.law_near.proofs.Mixed.{toward-place, place-toward, between-same}
+use Rattle.law_near.proofs.Directions.{zero-decided}
+use Rattle.law_near.proofs.Near.{reach_all}
 use Rattle.law_sphere.specs.Maps.{At}
 use Rattle.law_sphere.proofs.Around.{Beside, same_way, other_way, beside}
 use Rattle.law_sphere.proofs.Compare.{SameDirection-turned, SameDirection-trans}

@@ -2,14 +2,14 @@
 use Rattle.std.proofs.Common.{◌≡◌, ℕ, ◌<◌, pos, ◌<ℤ◌, ◌+ℤ◌, ◌*ℤ◌, arith, ap, sym, ◌∙◌, inl, inr, ◌⊎◌, ⊎_elim, [], ◌∷◌, subst}
 use Rattle.std.proofs.lemmas.Bool.{cases_order}
 use Rattle.std.proofs.lemmas.Int.{ints}
-use Rattle.law_arithmetic.proofs.Ring.{ring, at, num, ◌⊕◌, ◌⊗◌}
+use Rattle.nef_space.proofs.Ring.{ring, at, num, ◌⊕◌, ◌⊗◌}
 use Rattle.nef_space.specs.Numbers.{IsBelow}
 use Rattle.nef_space.specs.Place.{Place, Form, normal_of, slope, toward, SamePlace, IsBetween}
 use Rattle.nef_space.specs.Sets.{Set}
 use Rattle.nef_space.specs.Vectors.{Vector, dot, cross, opposite, blend, triple, IsDirection, IsZero, IsNormal, SameDirection}
 use Rattle.nef_space.specs.declared.label.Label.{Label}
-use Rattle.law_forms.proofs.Between.{between-same}
-use Rattle.law_forms.proofs.Directions.{direction-right}
+use Rattle.law_near.proofs.Mixed.{between-same}
+use Rattle.law_near.proofs.Directions.{direction-right}
 use Rattle.law_near.proofs.Between.{between-turned, between-inner}
 use Rattle.law_near.proofs.PlaceOrder.{place_below-apart}
 use Rattle.law_near.proofs.Rays.{same-place_sym}

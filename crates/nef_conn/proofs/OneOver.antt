@@ -1,6 +1,6 @@
 -- Sides above one place, or above points of one edge or one facet, are linked.
 use Rattle.std.proofs.Common.{◌≡◌, ℕ, ◌≤◌, arith, ap, sym, ◌∙◌, ◌⊎◌, inl, inr, ⊎_elim, List, subst}
-use Rattle.law_arithmetic.specs.Signs.{sign}
+use Rattle.nef_space.specs.Signs.{sign}
 use Rattle.nef_space.specs.Lists.{Chained}
 use Rattle.nef_space.specs.Local.{Flat, FlatDim, Joined, IsEven}
 use Rattle.nef_space.specs.Place.{Place, SamePlace, toward, IsBetween}
@@ -12,9 +12,9 @@ use Rattle.law_near.proofs.Between.{between-turned, between-inner}
 use Rattle.law_near.proofs.Decisions.{ahead}
 use Rattle.law_near.proofs.Even.{even-germs}
 use Rattle.law_near.proofs.Rays.{signs-same, same-place_sym}
-use Rattle.law_forms.proofs.Between.{toward-place, between-same}
-use Rattle.law_forms.proofs.Directions.{zero-decided, direction-left}
-use Rattle.law_forms.proofs.Far.{nought-or, same-nought}
+use Rattle.law_near.proofs.Mixed.{toward-place, between-same}
+use Rattle.law_near.proofs.Directions.{zero-decided, direction-left}
+use Rattle.law_near.proofs.Far.{nought-or, same-nought}
 use Rattle.law_sphere.specs.Forms.{forms, SameSigns}
 use Rattle.law_sphere.specs.Maps.{At, pos_item}
 use Rattle.law_sphere.proofs.Around.{Beside, same_way, other_way, beside}

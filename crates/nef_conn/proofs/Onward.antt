@@ -1,8 +1,8 @@
 -- An arc that ends at an edge goes on along it: at the edge's other end there is an arc of the same plane on the same side, and the two are linked.
 use Rattle.std.proofs.Common.{◌≡◌, ℕ, ◌+◌, pos, ◌<ℤ◌, ◌+ℤ◌, ◌*ℤ◌, neg_ℤ, arith, ap, ◌∙◌, ◌⊎◌, inl, inr, ⊎_elim, [], ◌∷◌, subst, refl}
 use Rattle.std.proofs.lemmas.Int.{ints}
-use Rattle.law_arithmetic.specs.Signs.{sign}
-use Rattle.law_arithmetic.proofs.Ring.{ring, at, num, neg, ◌⊕◌, ◌⊖◌, ◌⊗◌}
+use Rattle.nef_space.specs.Signs.{sign}
+use Rattle.nef_space.proofs.Ring.{ring, at, num, neg, ◌⊕◌, ◌⊖◌, ◌⊗◌}
 use Rattle.nef_space.specs.Local.{Germ}
 use Rattle.nef_space.specs.Place.{Place, toward}
 use Rattle.nef_space.specs.Sets.{Set}
@@ -15,7 +15,7 @@ use Rattle.law_near.proofs.Decisions.{ahead, near-ahead}
 use Rattle.law_near.proofs.Even.{joined-germs}
 use Rattle.law_near.proofs.NearGerms.{steep}
 use Rattle.law_near.proofs.Supports.{square-cross}
-use Rattle.law_forms.proofs.Directions.{dot-comm, direction-right}
+use Rattle.law_near.proofs.Directions.{dot-comm, direction-right}
 use Rattle.law_cyclic.proofs.Directions.{level-of_opposite}
 use Rattle.law_sphere.specs.Forms.{forms}
 use Rattle.law_sphere.specs.Maps.{At, MapVertex, Arc, Item, arc_item, sloop_item, items, item_normal, Map, OnItem, NearLabel, Valid}

@@ -1,7 +1,7 @@
 -- From a vertex beside which z lies, whose arc ends at an edge that leads to z's line: z's ray comes to this edge, and names the arc or the one linked with it along the edge.
 use Rattle.std.proofs.Common.{◌≡◌, ℕ, ℤ, pos, neg_ℤ, ◌<ℤ◌, arith, refl, ap, sym, ◌∙◌, ◌⊎◌, inl, inr, subst}
 use Rattle.std.proofs.lemmas.Int.{ints}
-use Rattle.law_arithmetic.specs.Signs.{sign}
+use Rattle.nef_space.specs.Signs.{sign}
 use Rattle.nef_space.specs.Lists.{Chained}
 use Rattle.nef_space.specs.Local.{Flat, FlatDim}
 use Rattle.nef_space.specs.Place.{Place, Form, form_at, normal_of, toward, IsBetween}
@@ -9,7 +9,7 @@ use Rattle.nef_space.specs.Sets.{Set}
 use Rattle.nef_space.specs.Vectors.{Vector, opposite, dot, triple, IsDirection, SameDirection}
 use Rattle.law_near.proofs.Between.{between-inner}
 use Rattle.law_near.proofs.Even.{span-1}
-use Rattle.law_forms.proofs.Directions.{direction-right}
+use Rattle.law_near.proofs.Directions.{direction-right}
 use Rattle.law_sphere.specs.Maps.{At, Arc, Item, arc_item, item_normal, dir_of}
 use Rattle.law_sphere.proofs.Vectors.{same-plus, same-minus, normal-direction}
 use Rattle.law_sphere.proofs.Arcs.{at-arc}

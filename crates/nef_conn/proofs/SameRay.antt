@@ -1,15 +1,15 @@
 -- Points along a ray within a facet name the same corners.
 use Rattle.std.proofs.Common.{◌≡◌, pos, ◌<ℤ◌, ◌-ℤ◌, arith, ◌⊎◌, inl, inr, ⊎_elim, [], ◌∷◌}
 use Rattle.std.proofs.lemmas.Int.{ints}
-use Rattle.law_arithmetic.proofs.Order.{by_order}
-use Rattle.law_arithmetic.proofs.Ring.{ring, at, num, ◌⊕◌, ◌⊖◌, ◌⊗◌}
+use Rattle.nef_space.proofs.Order.{by_order}
+use Rattle.nef_space.proofs.Ring.{ring, at, num, ◌⊕◌, ◌⊖◌, ◌⊗◌}
 use Rattle.nef_space.specs.Local.{IsEven}
 use Rattle.nef_space.specs.Place.{Place, Form, SamePlace, toward, IsBetween}
 use Rattle.nef_space.specs.Sets.{Set}
 use Rattle.nef_space.specs.Vectors.{Vector, dot, cross, IsZero, IsDirection, SameDirection}
 use Rattle.law_near.proofs.Rays.{same-place_sym}
-use Rattle.law_forms.proofs.Between.{toward-place}
-use Rattle.law_forms.proofs.Directions.{direction-left}
+use Rattle.law_near.proofs.Mixed.{toward-place}
+use Rattle.law_near.proofs.Directions.{direction-left}
 use Rattle.law_sphere.proofs.Vectors.{nought-if}
 use Rattle.law_sphere.proofs.Compare.{SameDirection-turned, SameDirection-trans}
 use Rattle.law_complex.specs.Complexes.{Complex}

@@ -1,10 +1,10 @@
 -- Each side that isn't outside has a point at it that names, by the ray down, a side of its class; so where items whose points are joined are linked, sides are.
 use Rattle.std.proofs.Common.{◌≡◌, pos, ◌<ℤ◌, arith, refl, sym, ◌∙◌, inl, inr, ⊎_elim, List, [], ◌∷◌, subst}
 use Rattle.std.proofs.lemmas.Int.{ints}
-use Rattle.law_arithmetic.specs.Signs.{Lies}
-use Rattle.law_arithmetic.proofs.Lists.{each, lies-each}
-use Rattle.law_arithmetic.proofs.Ring.{ring, at, num, ◌⊕◌, ◌⊖◌, ◌⊗◌}
-use Rattle.law_arithmetic.proofs.Order.{nought-is, sign-plus, sign-minus, plus-is, minus-is}
+use Rattle.nef_space.specs.Signs.{Lies}
+use Rattle.nef_space.proofs.Lists.{each, lies-each}
+use Rattle.nef_space.proofs.Ring.{ring, at, num, ◌⊕◌, ◌⊖◌, ◌⊗◌}
+use Rattle.nef_space.proofs.Order.{nought-is, sign-plus, sign-minus, plus-is, minus-is}
 use Rattle.nef_space.specs.Lists.{Chained}
 use Rattle.nef_space.specs.Local.{FlatDim}
 use Rattle.nef_space.specs.Place.{Place, Form, form_at, normal_of, slope, plane_through, SamePlace, InFrame, toward, IsBetween}
@@ -21,9 +21,9 @@ use Rattle.law_near.proofs.Decisions.{ahead}
 use Rattle.law_near.proofs.Edges.{start, start-close, start-between}
 use Rattle.law_near.proofs.Rays.{signs-same, same-place_sym}
 use Rattle.law_near.proofs.Vertices.{all-vertices}
-use Rattle.law_forms.proofs.Near.{reach_all}
-use Rattle.law_forms.proofs.Between.{place-toward}
-use Rattle.law_forms.proofs.Directions.{zero-decided, dot-zero, self-pos, direction-left, direction-right}
+use Rattle.law_near.proofs.Near.{reach_all}
+use Rattle.law_near.proofs.Mixed.{place-toward}
+use Rattle.law_near.proofs.Directions.{zero-decided, dot-zero, self-pos, direction-left, direction-right}
 use Rattle.law_sphere.specs.Maps.{At, HasSide, Sees, here}
 use Rattle.law_sphere.proofs.Lists.{at-one}
 use Rattle.law_sphere.proofs.Around.{Beside, same_way, other_way, beside}

@@ -1,7 +1,7 @@
 -- What falls from a point b names a side of the class of what lies above the point at which the fall beside it ends: on an edge of the plane at once; at a vertex of the plane by what leaves it, or, where nothing does, by what lies below it.
 use Rattle.std.proofs.Common.{◌≡◌, ℕ, zero, suc, ◌<◌, pos, ◌<ℤ◌, arith, sym, ◌⊎◌, inl, inr, ⊎_elim, subst}
-use Rattle.law_arithmetic.specs.Signs.{Lies}
-use Rattle.law_arithmetic.proofs.Lists.{lies-left, lies-right, lies-append}
+use Rattle.nef_space.specs.Signs.{Lies}
+use Rattle.nef_space.proofs.Lists.{lies-left, lies-right, lies-append}
 use Rattle.nef_space.specs.Local.{Germ, FlatDim, IsEven}
 use Rattle.nef_space.specs.declared.label.Label.{Label}
 use Rattle.law_near.specs.Cones.{label_not}
@@ -23,10 +23,10 @@ use Rattle.law_near.proofs.Even.{even-germs, labels-by_germs, flat-toward}
 use Rattle.law_near.proofs.FlatDecided.{flat_dim-of}
 use Rattle.law_near.proofs.Flats.{Flat-from_cone}
 use Rattle.law_near.proofs.Rays.{same-place_sym}
-use Rattle.law_forms.proofs.Near.{reach_all}
-use Rattle.law_forms.proofs.Between.{toward-place, place-toward, between-same}
-use Rattle.law_forms.proofs.Directions.{direction-left}
-use Rattle.law_forms.proofs.Far.{nought-or}
+use Rattle.law_near.proofs.Near.{reach_all}
+use Rattle.law_near.proofs.Mixed.{toward-place, place-toward, between-same}
+use Rattle.law_near.proofs.Directions.{direction-left}
+use Rattle.law_near.proofs.Far.{nought-or}
 use Rattle.law_sphere.proofs.Compare.{SameDirection-turned, SameDirection-trans}
 use Rattle.law_complex.specs.Complexes.{Complex}
 use Rattle.law_complex.specs.Shows.{Shows}

@@ -1,9 +1,9 @@
 -- The labels and germs of a set with the points of a plane exchanged: off the plane they are those of the set, in it they are the others.
 use Rattle.std.proofs.Common.{◌≡◌, pos, ◌+ℤ◌, ◌*ℤ◌, neg_ℤ, arith, refl, ap, sym, ◌∙◌, ⊎_elim, [], ◌∷◌, subst}
 use Rattle.std.proofs.lemmas.Int.{ints}
-use Rattle.law_arithmetic.specs.Signs.{Sign, sign}
-use Rattle.law_arithmetic.proofs.Ring.{ring, at, num, neg, ◌⊕◌, ◌⊗◌}
-use Rattle.law_arithmetic.proofs.Order.{by_order, sign-plus, sign-minus}
+use Rattle.nef_space.specs.Signs.{Sign, sign}
+use Rattle.nef_space.proofs.Ring.{ring, at, num, neg, ◌⊕◌, ◌⊗◌}
+use Rattle.nef_space.proofs.Order.{by_order, sign-plus, sign-minus}
 use Rattle.nef_space.specs.Local.{HasLabel, Germ, FlatDim}
 use Rattle.nef_space.specs.Place.{Place, Form, form_at, normal_of, slope, Ratio, step, InFrame}
 use Rattle.nef_space.specs.Sets.{Set, Holds}
@@ -16,8 +16,8 @@ use Rattle.law_near.proofs.Alike.{flat-germ}
 use Rattle.law_near.proofs.Combine.{one_of-label}
 use Rattle.law_near.proofs.Decided.{germ_of}
 use Rattle.law_near.proofs.Germs.{Germ-unique, sign-along}
-use Rattle.law_forms.proofs.Far.{nought-or, same-nought}
-use Rattle.law_forms.proofs.Near.{form-step}
+use Rattle.law_near.proofs.Far.{nought-or, same-nought}
+use Rattle.law_near.proofs.Near.{form-step}
 use Rattle.law_sphere.specs.Least.{by_side}
 use Rattle.law_complex.specs.Laws.{IsFlatIn}
 use Rattle.law_complex.proofs.FacetSides.{IsSided, sided-dim, sided-flats}

@@ -1,9 +1,9 @@
 -- Triangles that lie between two lines along up, beside which no vertex lies: what falls from the one side comes down to what leaves the other.
 use Rattle.std.proofs.Common.{◌≡◌, ℕ, ◌+◌, ℤ, pos, ◌+ℤ◌, ◌-ℤ◌, ◌*ℤ◌, ◌<ℤ◌, ◌≤ℤ◌, neg_ℤ, arith, ap, sym, ◌∙◌, ◌⊎◌, inl, inr, ⊎_elim, [], ◌∷◌}
 use Rattle.std.proofs.lemmas.Int.{ints}
-use Rattle.law_arithmetic.specs.Signs.{sign}
-use Rattle.law_arithmetic.proofs.Ring.{ring, at, num, neg, ◌⊕◌, ◌⊖◌, ◌⊗◌, Poly}
-use Rattle.law_arithmetic.proofs.Order.{by_order, mul_pos, mul_nonneg, cancel_lt}
+use Rattle.nef_space.specs.Signs.{sign}
+use Rattle.nef_space.proofs.Ring.{ring, at, num, neg, ◌⊕◌, ◌⊖◌, ◌⊗◌, Poly}
+use Rattle.nef_space.proofs.Order.{by_order, mul_pos, mul_nonneg, cancel_lt}
 use Rattle.nef_space.specs.Local.{FlatDim, IsVertex}
 use Rattle.nef_space.specs.Place.{Place, Form, form_at, normal_of, slope, plane_through, SamePlace, toward, IsBetween}
 use Rattle.nef_space.specs.Sets.{Set}
@@ -11,7 +11,7 @@ use Rattle.nef_space.specs.Vectors.{Vector, opposite, cross, triple, IsDirection
 use Rattle.law_near.proofs.FlatDecided.{triple-dot}
 use Rattle.law_near.proofs.Alike.{FlatDim-one}
 use Rattle.law_near.proofs.Flats.{vector-same}
-use Rattle.law_forms.proofs.Far.{same-nought}
+use Rattle.law_near.proofs.Far.{same-nought}
 use Rattle.law_complex.proofs.Ways.{between-way}
 use Rattle.law_complex.proofs.FacetWays.{dim-same}
 use Rattle.law_sphere.proofs.Around.{triple-turned}

@@ -12,9 +12,9 @@
 -- Each step leads to a vertex further along d, where the number of the vertex is greater, or smaller for each; so it comes to an end.
 use Rattle.std.proofs.Common.{◌≡◌, ℤ, pos, neg_ℤ, ◌<ℤ◌, arith, ap, sym, ◌∙◌, inl, inr, ⊎_elim, [], ◌∷◌, subst}
 use Rattle.std.proofs.lemmas.Int.{ints}
-use Rattle.law_arithmetic.proofs.Ring.{ring, at, neg, ◌⊕◌, ◌⊗◌}
-use Rattle.law_arithmetic.specs.Signs.{sign}
-use Rattle.law_arithmetic.proofs.Order.{by_order, sign-plus, sign-minus, plus-is, minus-is}
+use Rattle.nef_space.proofs.Ring.{ring, at, neg, ◌⊕◌, ◌⊗◌}
+use Rattle.nef_space.specs.Signs.{sign}
+use Rattle.nef_space.proofs.Order.{by_order, sign-plus, sign-minus, plus-is, minus-is}
 use Rattle.nef_space.specs.Lists.{Chained}
 use Rattle.nef_space.specs.Local.{FlatDim, IsEven}
 use Rattle.nef_space.specs.Place.{Place, Form, form, form_at, normal_of, slope, SamePlace, toward, IsBetween}
@@ -22,8 +22,8 @@ use Rattle.nef_space.specs.Sets.{Set}
 use Rattle.nef_space.specs.Vectors.{Vector, opposite, cross, triple, IsDirection, IsNormal, SameDirection, plane_dir}
 use Rattle.law_near.proofs.Between.{between-turned}
 use Rattle.law_near.proofs.FlatDecided.{triple-dot}
-use Rattle.law_forms.proofs.Between.{toward-place, between-same}
-use Rattle.law_forms.proofs.Directions.{zero-decided, direction-right}
+use Rattle.law_near.proofs.Mixed.{toward-place, between-same}
+use Rattle.law_near.proofs.Directions.{zero-decided, direction-right}
 use Rattle.law_sphere.proofs.Around.{triple-turned, Beside, same_way, other_way, beside}
 use Rattle.law_sphere.proofs.Parallel.{parallel-in_plane}
 use Rattle.law_sphere.proofs.Compare.{dir-self}

@@ -1,8 +1,8 @@
 -- A segment is cut where a line along the way inward, through a vertex of the plane, crosses it; so the converse comes to segments beside which, but on the line of their start, no vertex lies.
 use Rattle.std.proofs.Common.{◌≡◌, ℕ, zero, suc, pos, ◌<ℤ◌, ◌≤ℤ◌, arith, refl, sym, ◌∙◌, ◌⊎◌, inl, inr, ⊎_elim, List, [], ◌∷◌, subst}
 use Rattle.std.proofs.lemmas.Int.{ints}
-use Rattle.law_arithmetic.specs.Signs.{sign}
-use Rattle.law_arithmetic.proofs.Order.{by_order, sign-plus, sign-minus, minus-is}
+use Rattle.nef_space.specs.Signs.{sign}
+use Rattle.nef_space.proofs.Order.{by_order, sign-plus, sign-minus, minus-is}
 use Rattle.nef_space.specs.Lists.{Chained}
 use Rattle.nef_space.specs.Local.{FlatDim, IsEven}
 use Rattle.nef_space.specs.Place.{Place, Form, form_at, normal_of, slope, SamePlace, toward, IsBetween}
@@ -10,8 +10,8 @@ use Rattle.nef_space.specs.Sets.{Set}
 use Rattle.nef_space.specs.Vectors.{Vector, opposite, IsZero, IsDirection, IsNormal, SameDirection, plane_dir}
 use Rattle.law_near.proofs.Rays.{signs-same}
 use Rattle.law_near.proofs.Between.{between-turned, between-inner}
-use Rattle.law_forms.proofs.Between.{toward-place}
-use Rattle.law_forms.proofs.Directions.{zero-decided, direction-right}
+use Rattle.law_near.proofs.Mixed.{toward-place}
+use Rattle.law_near.proofs.Directions.{zero-decided, direction-right}
 use Rattle.law_sphere.specs.Maps.{At}
 use Rattle.law_complex.specs.Complexes.{Vertex, Complex, Corner}
 use Rattle.law_complex.specs.Shows.{Shows}

@@ -1,6 +1,6 @@
 -- How many elements of a list have a decided property.
 use Rattle.std.proofs.Common.{ℕ, ◌+◌, ◌<◌, ◌≤◌, arith, refl, sym, inl, inr, List, [], ◌∷◌, subst}
-use Rattle.law_arithmetic.specs.Signs.{Lies}
+use Rattle.nef_space.specs.Signs.{Lies}
 use Rattle.law_near.proofs.Decided.{Decided}
 
 abbrev pub one-if : {A : Type 0} → Decided A → ℕ

@@ -1,7 +1,7 @@
 -- The sides of a vertex that lie beside a point in a direction: the point is the vertex, or lies close to it, on an edge or in a facet. Directions that a free way joins have linked sides.
 use Rattle.std.proofs.Common.{◌≡◌, ℕ, ◌+◌, ◌<◌, ◌≤◌, ℤ, pos, ◌+ℤ◌, ◌*ℤ◌, neg_ℤ, arith, refl, ap, sym, ◌∙◌, inl, ⊎_elim, [], ◌∷◌, subst}
-use Rattle.law_arithmetic.specs.Signs.{sign}
-use Rattle.law_arithmetic.proofs.Ring.{ring, at, num, neg, ◌⊕◌, ◌⊗◌}
+use Rattle.nef_space.specs.Signs.{sign}
+use Rattle.nef_space.proofs.Ring.{ring, at, num, neg, ◌⊕◌, ◌⊗◌}
 use Rattle.nef_space.specs.Lists.{Chained}
 use Rattle.nef_space.specs.Local.{FlatDim}
 use Rattle.nef_space.specs.Place.{Place, SamePlace, IsBetween}
@@ -13,8 +13,8 @@ use Rattle.law_near.proofs.Decisions.{ahead}
 use Rattle.law_near.proofs.Flats.{vector-same}
 use Rattle.law_near.proofs.NearGerms.{steep}
 use Rattle.law_near.proofs.Rays.{signs-same, same-place_sym}
-use Rattle.law_forms.proofs.Far.{nought-or}
-use Rattle.law_forms.proofs.Directions.{same-factor}
+use Rattle.law_near.proofs.Far.{nought-or}
+use Rattle.law_near.proofs.Directions.{same-factor}
 use Rattle.law_sphere.specs.Forms.{forms, SameSigns}
 use Rattle.law_sphere.specs.Maps.{At, Map, IsFree, HasSide, IsClear, Sees, here, link, Shaped}
 use Rattle.law_sphere.proofs.Forms.{free-by_signs}

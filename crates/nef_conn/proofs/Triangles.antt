@@ -1,9 +1,9 @@
 -- Where a side of a triangle lies within a facet of a set, another within it or on an edge, and no vertex in it but the corner between both, the third side lies within the facet: an edge that crosses it would leave the triangle by another side.
 use Rattle.std.proofs.Common.{◌≡◌, zero, suc, ℤ, pos, ◌-ℤ◌, ◌*ℤ◌, ◌<ℤ◌, ◌≤ℤ◌, arith, refl, ap, sym, ◌∙◌, ◌⊎◌, inl, inr, ⊎_elim, [], ◌∷◌, subst}
 use Rattle.std.proofs.lemmas.Int.{ints}
-use Rattle.law_arithmetic.proofs.Ring.{ring, at, num, ◌⊖◌, ◌⊗◌}
-use Rattle.law_arithmetic.proofs.Order.{mul_pos, by_order, sign-plus}
-use Rattle.law_arithmetic.specs.Signs.{nought, plus, sign}
+use Rattle.nef_space.proofs.Ring.{ring, at, num, ◌⊖◌, ◌⊗◌}
+use Rattle.nef_space.proofs.Order.{mul_pos, by_order, sign-plus}
+use Rattle.nef_space.specs.Signs.{nought, plus, sign}
 use Rattle.nef_space.specs.Local.{Flat, FlatDim, IsVertex}
 use Rattle.nef_space.specs.Place.{Place, Form, form_at, normal_of, slope, SamePlace, toward, IsBetween}
 use Rattle.nef_space.specs.Sets.{Set}
@@ -16,9 +16,9 @@ use Rattle.law_near.proofs.Edges.{start-close, start-toward, even-until, edge-ar
 use Rattle.law_near.proofs.Even.{even-germs, flat-way, span-1}
 use Rattle.law_near.proofs.FlatDecided.{cross-turned}
 use Rattle.law_near.proofs.Rays.{signs-same, same-place_sym}
-use Rattle.law_forms.proofs.Near.{reach_all, slope-toward}
-use Rattle.law_forms.proofs.Between.{toward-place, place-toward, between-same}
-use Rattle.law_forms.proofs.Directions.{dot-zero, zero-decided, direction-right}
+use Rattle.law_near.proofs.Near.{reach_all, slope-toward}
+use Rattle.law_near.proofs.Mixed.{toward-place, place-toward, between-same}
+use Rattle.law_near.proofs.Directions.{dot-zero, zero-decided, direction-right}
 use Rattle.law_sphere.proofs.KindFlats.{in-span}
 use Rattle.law_sphere.proofs.Parallel.{parallel-in_plane, parallel-trans}
 use Rattle.law_sphere.proofs.Vectors.{normal-direction}

@@ -1,9 +1,9 @@
 -- Where an edge runs down from a vertex of a plane, along up, nothing else is at that svertex, nor at the lower end of the edge; what falls beside the vertex falls beside the edge to its lower end.
 use Rattle.std.proofs.Common.{◌≡◌, ℕ, ◌+◌, ◌<◌, ◌≤◌, ℤ, pos, ◌+ℤ◌, ◌-ℤ◌, ◌*ℤ◌, ◌<ℤ◌, ◌≤ℤ◌, arith, refl, ap, sym, ◌∙◌, ◌⊎◌, inl, inr, [], ◌∷◌, subst}
 use Rattle.std.proofs.lemmas.Int.{ints}
-use Rattle.law_arithmetic.specs.Signs.{sign}
-use Rattle.law_arithmetic.proofs.Ring.{ring, at, num, ◌⊕◌, ◌⊖◌, ◌⊗◌}
-use Rattle.law_arithmetic.proofs.Order.{by_order, nought-is, mul_pos, mul_nonneg, cancel_lt, sign-scaled, sign-plus, plus-is}
+use Rattle.nef_space.specs.Signs.{sign}
+use Rattle.nef_space.proofs.Ring.{ring, at, num, ◌⊕◌, ◌⊖◌, ◌⊗◌}
+use Rattle.nef_space.proofs.Order.{by_order, nought-is, mul_pos, mul_nonneg, cancel_lt, sign-scaled, sign-plus, plus-is}
 use Rattle.law_sphere.proofs.Turn.{turn-last}
 use Rattle.law_sphere.proofs.Vectors.{same-plus, same-minus}
 use Rattle.law_complex.proofs.FacetSides.{level-way}
@@ -21,9 +21,9 @@ use Rattle.law_near.proofs.Edges.{start-close}
 use Rattle.law_near.proofs.Even.{even-germs, joined-germs}
 use Rattle.law_near.proofs.FlatDecided.{triple-dot, cross-turned}
 use Rattle.law_near.proofs.Rays.{signs-same, same-place_sym}
-use Rattle.law_forms.proofs.Near.{reach_all, slope-toward}
-use Rattle.law_forms.proofs.Between.{place-toward, between-same}
-use Rattle.law_forms.proofs.Directions.{direction-left, direction-right}
+use Rattle.law_near.proofs.Near.{reach_all, slope-toward}
+use Rattle.law_near.proofs.Mixed.{place-toward, between-same}
+use Rattle.law_near.proofs.Directions.{direction-left, direction-right}
 use Rattle.law_sphere.specs.Forms.{forms, SameSigns}
 use Rattle.law_sphere.specs.Maps.{At, MapVertex, arc_item, HasArc, Shaped}
 use Rattle.law_sphere.proofs.Arcs.{at-arc}

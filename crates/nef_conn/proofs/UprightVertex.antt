@@ -10,7 +10,7 @@ use Rattle.nef_space.specs.Vectors.{Vector, blend, dot, cross, opposite, IsZero,
 use Rattle.law_near.proofs.Decisions.{ahead}
 use Rattle.law_near.proofs.FlatDecided.{triple-dot}
 use Rattle.law_near.proofs.Rays.{same-place_sym}
-use Rattle.law_forms.proofs.Directions.{direction-left}
+use Rattle.law_near.proofs.Directions.{direction-left}
 use Rattle.law_sphere.specs.Forms.{forms}
 use Rattle.law_sphere.specs.Maps.{At, MapVertex, around_svertex, HasArc, Shaped}
 use Rattle.law_sphere.proofs.Compare.{SameDirection-turned, SameDirection-trans, dir-self}

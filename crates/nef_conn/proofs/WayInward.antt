@@ -4,16 +4,16 @@ use Rattle.std.proofs.lemmas.Int.{ints}
 use Rattle.std.specs.Bool.{one_answer}
 use Rattle.std.specs.Ordering.{int_eq}
 use Rattle.std.proofs.lemmas.Bool.Decides.{Decides-int_eq}
-use Rattle.law_arithmetic.specs.Signs.{sign}
-use Rattle.law_arithmetic.proofs.Combination.{given, none, follows}
-use Rattle.law_arithmetic.proofs.Order.{cancel_eq}
-use Rattle.law_arithmetic.proofs.Ring.{ring, at, num, neg, ◌⊕◌, ◌⊗◌}
+use Rattle.nef_space.specs.Signs.{sign}
+use Rattle.nef_space.proofs.Combination.{given, none, follows}
+use Rattle.nef_space.proofs.Order.{cancel_eq}
+use Rattle.nef_space.proofs.Ring.{ring, at, num, neg, ◌⊕◌, ◌⊗◌}
 use Rattle.nef_space.specs.Limits.{axis_factor}
 use Rattle.nef_space.specs.Place.{Place, Form, form_at, normal_of, toward}
 use Rattle.nef_space.specs.Vectors.{Vector, opposite, dot, cross, triple, blend, IsDirection, SameDirection, plane_dir, beside_x, beside_y, beside_z}
-use Rattle.law_forms.specs.Homogeneous.{SameUpToFactor, of_direction}
-use Rattle.law_forms.proofs.Directions.{dot-comm, direction-left, same-factor, factor-same}
-use Rattle.law_forms.proofs.Sums.{some-pos}
+use Rattle.law_near.specs.Homogeneous.{SameUpToFactor, of_direction}
+use Rattle.law_near.proofs.Directions.{dot-comm, direction-left, same-factor, factor-same}
+use Rattle.law_near.proofs.Sums.{some-pos}
 use Rattle.law_sphere.specs.Maps.{item_normal, Arc, dir_of}
 use Rattle.law_sphere.proofs.Compare.{SameDirection-turned, SameDirection-trans}
 use Rattle.law_sphere.proofs.Labels.{dir-signs}

@@ -1,6 +1,6 @@
 -- What leads from joined points at items back to links: arcs go on along edges, and each facet has a point that names, by the ray inward, a corner of the class of a given item.
 use Rattle.std.specs.Prelude.{◌≡◌, ℕ, pos, ◌<ℤ◌, ◌≤ℤ◌, ◌⊎◌, ◌↔◌}
-use Rattle.law_arithmetic.specs.Signs.{sign}
+use Rattle.nef_space.specs.Signs.{sign}
 use Rattle.nef_space.specs.Lists.{Chained}
 use Rattle.nef_space.specs.Local.{FlatDim, IsVertex, IsEven, Joined}
 use Rattle.nef_space.specs.Place.{Place, Form, form_at, normal_of, plane_through, toward, SamePlace, IsBetween}

@@ -2,8 +2,8 @@
 use Rattle.std.proofs.Common.{◌≡◌, ℕ, zero, suc, ◌<◌, pos, arith, refl, ap, sym, ◌∙◌, ◌⊎◌, inl, inr, ⊎_elim, List, [], ◌∷◌, ◌++◌, subst}
 use Rattle.std.proofs.lemmas.Bool.{cases_order}
 use Rattle.std.proofs.lemmas.Int.{ints}
-use Rattle.law_arithmetic.specs.Signs.{Lies}
-use Rattle.law_arithmetic.proofs.Lists.{each, lies-each, lies-left, lies-right}
+use Rattle.nef_space.specs.Signs.{Lies}
+use Rattle.nef_space.proofs.Lists.{each, lies-each, lies-left, lies-right}
 use Rattle.nef_space.specs.Place.{toward, IsAhead, IsBetween, IsPlaceBelow}
 use Rattle.nef_space.specs.Vectors.{SameDirection, IsOpposite}
 use Rattle.nef_space.specs.declared.label.Label.{Label}

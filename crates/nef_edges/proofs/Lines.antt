@@ -5,11 +5,11 @@ use Rattle.std.specs.Ordering.{MatchOrdering, int_cmp, nat_cmp, ordering_then, o
 use Rattle.std.proofs.lemmas.Bool.{false≢true}
 use Rattle.std.proofs.lemmas.Cmp.{int_cmp_total, nat_cmp_total, on_total, then_total, ranked, tied_itself}
 use Rattle.std.proofs.lemmas.Int.{ints}
-use Rattle.law_arithmetic.proofs.Combination.{follows, given, none}
-use Rattle.law_arithmetic.proofs.Fractions.{fraction-trans, fraction-alike}
-use Rattle.law_arithmetic.proofs.Order.{by_order, sign-plus, sign-minus, plus-is, minus-is, nought-is}
-use Rattle.law_arithmetic.proofs.Ring.{at, num, ◌⊕◌, ◌⊖◌, ◌⊗◌}
-use Rattle.law_arithmetic.specs.Signs.{sign}
+use Rattle.nef_space.proofs.Combination.{follows, given, none}
+use Rattle.nef_space.proofs.Fractions.{fraction-trans, fraction-alike}
+use Rattle.nef_space.proofs.Order.{by_order, sign-plus, sign-minus, plus-is, minus-is, nought-is}
+use Rattle.nef_space.proofs.Ring.{at, num, ◌⊕◌, ◌⊖◌, ◌⊗◌}
+use Rattle.nef_space.specs.Signs.{sign}
 use Rattle.nef_space.specs.Place.{toward}
 use Rattle.nef_space.specs.Vectors.{Vector, cross, IsZero, triple_of}
 use Rattle.nef_space.specs.Numbers.{IsBelow}

@@ -3,7 +3,7 @@ use Rattle.std.proofs.Common.{◌≡◌, ℕ, ◌≤◌, ℤ, pos, ◌+ℤ◌, �
 use mir.Syntax.{w128}
 use Rattle.std.specs.Ordering.{int_cmp}
 use Rattle.nef_space.specs.Limits.{direction_limit, point_limit, weight_limit}
-use Rattle.law_arithmetic.proofs.Machine.{Code, load, const, wrap, run, ◌⊞◌, ◌⊟◌, ◌⊠◌, Limited, fits_of, exact_of, size_of}
+use Rattle.nef_space.proofs.Machine.{Code, load, const, wrap, run, ◌⊞◌, ◌⊟◌, ◌⊠◌, Limited, fits_of, exact_of, size_of}
 use Rattle.nef_geo.specs.declared.point.Point.{Point}
 use Rattle.nef_edges.specs.declared.edge_end.EdgeEnd.{EdgeEnd}
 use Rattle.nef_edges.specs.Widths.{moment_limit}

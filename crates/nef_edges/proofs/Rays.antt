@@ -1,10 +1,10 @@
 -- Points on one line: those that come later in the order of points lie ahead.
 use Rattle.std.proofs.Common.{◌≡◌, ℕ, ◌<◌, ℤ, pos, ◌-ℤ◌, ◌*ℤ◌, neg_ℤ, ◌≤ℤ◌, ◌<ℤ◌, arith, ap, ◌∙◌, inl, inr, [], ◌∷◌}
 use Rattle.std.proofs.lemmas.Int.{ints}
-use Rattle.law_arithmetic.proofs.Ring.{ring, at, num, neg, ◌⊕◌, ◌⊖◌, ◌⊗◌}
-use Rattle.law_arithmetic.proofs.Order.{by_order, mul_pos, mul_neg, mul_nonneg, cancel_eq}
-use Rattle.law_forms.proofs.Directions.{same-factor}
-use Rattle.law_forms.proofs.Sums.{some-pos}
+use Rattle.nef_space.proofs.Ring.{ring, at, num, neg, ◌⊕◌, ◌⊖◌, ◌⊗◌}
+use Rattle.nef_space.proofs.Order.{by_order, mul_pos, mul_neg, mul_nonneg, cancel_eq}
+use Rattle.law_near.proofs.Directions.{same-factor}
+use Rattle.law_near.proofs.Sums.{some-pos}
 use Rattle.nef_space.specs.Place.{Place, toward, IsAhead, IsBetween, IsPlaceBelow}
 use Rattle.nef_space.specs.Vectors.{Vector, dot, cross, opposite, IsZero, IsNormal, SameDirection, IsOpposite}
 use Rattle.law_sphere.proofs.Compare.{SameDirection-turned, SameDirection-trans, normals-not_opposite}

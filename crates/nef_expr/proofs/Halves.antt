@@ -3,7 +3,7 @@ use Rattle.std.proofs.Common.{◌≡◌, ℕ, ◌≤◌, ℤ, pos, ◌-ℤ◌, �
 use Rattle.std.proofs.lemmas.Int.{ints, unsigned_abs-mul}
 use Rattle.std.proofs.Math.Nat.{dvd-mul_right}
 use Rattle.std.specs.Int.{◌∣◌}
-use Rattle.law_arithmetic.proofs.Ring.{ring, at, num, ◌⊗◌}
+use Rattle.nef_space.proofs.Ring.{ring, at, num, ◌⊗◌}
 use Rattle.nef_space.specs.Limits.{normal_limit, offset_limit, point_limit}
 use Rattle.nef_space.specs.Numbers.{IsLowest}
 use Rattle.nef_space.specs.Place.{Form, form, form_numbers, normal_of}

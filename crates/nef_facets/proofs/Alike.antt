@@ -1,6 +1,6 @@
 -- Linked items have one normal and one mark, and the vertices lie in one plane of that normal.
 use Rattle.std.proofs.Common.{◌≡◌, ℕ, pos, sym, ◌∙◌, inl, inr, ⊎_elim, [], ◌∷◌, List, subst}
-use Rattle.law_arithmetic.proofs.Ring.{ring, at, num, neg, ◌⊕◌, ◌⊗◌}
+use Rattle.nef_space.proofs.Ring.{ring, at, num, neg, ◌⊕◌, ◌⊗◌}
 use Rattle.nef_space.specs.Lists.{IsChain, Chained}
 use Rattle.nef_space.specs.Place.{Place, Form, form_at, normal_of, slope, plane_through, SamePlace, toward}
 use Rattle.nef_space.specs.Sets.{Set}
@@ -9,7 +9,7 @@ use Rattle.nef_space.specs.declared.label.Label.{Label}
 use Rattle.law_near.proofs.Decisions.{ahead}
 use Rattle.law_near.proofs.Even.{joined-germs, labels-by_germs}
 use Rattle.law_near.proofs.Germs.{label-one}
-use Rattle.law_forms.proofs.Directions.{dot-comm}
+use Rattle.law_near.proofs.Directions.{dot-comm}
 use Rattle.law_sphere.specs.Maps.{At, Item, arc_item, items, item_normal, item_mark}
 use Rattle.law_sphere.proofs.Forms.{on-level}
 use Rattle.law_sphere.proofs.Lists.{at-one}

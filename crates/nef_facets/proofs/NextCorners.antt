@@ -1,8 +1,8 @@
 -- Each arc has a next corner, and no two corners have one next corner.
 use Rattle.std.proofs.Common.{◌≡◌, ℕ, ◌+◌, pos, ◌<ℤ◌, ◌+ℤ◌, ◌*ℤ◌, ℤ, neg_ℤ, arith, refl, ap, sym, ◌∙◌, inl, inr, ⊎_elim, [], ◌∷◌, subst}
 use Rattle.std.proofs.lemmas.Int.{ints}
-use Rattle.law_arithmetic.specs.Signs.{sign}
-use Rattle.law_arithmetic.proofs.Ring.{ring, at, num, neg, ◌⊕◌, ◌⊖◌, ◌⊗◌}
+use Rattle.nef_space.specs.Signs.{sign}
+use Rattle.nef_space.proofs.Ring.{ring, at, num, neg, ◌⊕◌, ◌⊖◌, ◌⊗◌}
 use Rattle.nef_space.specs.Lists.{Chained}
 use Rattle.nef_space.specs.Local.{Germ}
 use Rattle.nef_space.specs.Place.{Place, toward}
@@ -17,7 +17,7 @@ use Rattle.law_near.proofs.Even.{joined-germs}
 use Rattle.law_near.proofs.FlatDecided.{triple-dot}
 use Rattle.law_near.proofs.NearGerms.{steep}
 use Rattle.law_near.proofs.Supports.{square-cross}
-use Rattle.law_forms.proofs.Directions.{self-pos, dot-comm, direction-right}
+use Rattle.law_near.proofs.Directions.{self-pos, dot-comm, direction-right}
 use Rattle.law_sphere.specs.Forms.{forms}
 use Rattle.law_sphere.specs.Maps.{At, Arc, MapSloop, Item, arc_item, sloop_item, items, item_normal, Map, OnItem, NearLabel, Valid}
 use Rattle.law_sphere.proofs.Vectors.{normal-is, dot-comb, same-plus, same-minus, nought-if}

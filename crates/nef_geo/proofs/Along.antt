@@ -4,9 +4,9 @@ use Rattle.std.proofs.lemmas.Int.{ints}
 use Rattle.std.specs.Ordering.{MatchOrdering}
 use Rattle.nef_space.specs.Place.{Place, toward, SamePlace, IsAhead}
 use Rattle.nef_space.specs.Vectors.{Vector, dot, IsDirection, SameDirection}
-use Rattle.law_arithmetic.proofs.Combination.{none, given, follows}
-use Rattle.law_arithmetic.proofs.Order.{mul_pos, cancel_lt, sub_pos}
-use Rattle.law_arithmetic.proofs.Ring.{at, num, neg, ◌⊕◌, ◌⊖◌, ◌⊗◌}
+use Rattle.nef_space.proofs.Combination.{none, given, follows}
+use Rattle.nef_space.proofs.Order.{mul_pos, cancel_lt, sub_pos}
+use Rattle.nef_space.proofs.Ring.{at, num, neg, ◌⊕◌, ◌⊖◌, ◌⊗◌}
 use Rattle.nef_geo.specs.Hits.{IsReached}
 use Rattle.nef_geo.proofs.Cramer.{cancel, difference}
 use Rattle.nef_geo.proofs.Directions.{dot-itself}

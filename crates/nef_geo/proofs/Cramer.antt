@@ -3,8 +3,8 @@ use Rattle.std.proofs.Common.{◌≡◌, ◌≢◌, ℕ, zero, suc, ◌+◌, ℤ
 use Rattle.std.proofs.lemmas.Int.{ints}
 use Rattle.nef_space.specs.Vectors.{Vector, vector, dot, cross, triple}
 use Rattle.nef_space.specs.Place.{Form, form_at, normal_of, SamePlace}
-use Rattle.law_arithmetic.proofs.Combination.{none, given, follows}
-use Rattle.law_arithmetic.proofs.Ring.{Poly, at, num, neg, ◌⊕◌, ◌⊖◌, ◌⊗◌, ring}
+use Rattle.nef_space.proofs.Combination.{none, given, follows}
+use Rattle.nef_space.proofs.Ring.{Poly, at, num, neg, ◌⊕◌, ◌⊖◌, ◌⊗◌, ring}
 use Rattle.nef_geo.specs.Numbers.{IsSameRatios}
 use Rattle.nef_geo.specs.Meet.{IsOnlyCommon}
 use Rattle.nef_geo.specs.Shapes.{place_at}

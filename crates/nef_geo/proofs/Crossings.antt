@@ -3,9 +3,9 @@ use Rattle.std.proofs.Common.{◌≡◌, ◌≢◌, ℕ, ◌+◌, ◌*◌, ℤ, 
 use Rattle.std.proofs.lemmas.Int.{ints}
 use Rattle.nef_space.specs.Place.{Place, Form, form_at, slope, toward, IsAhead}
 use Rattle.nef_space.specs.Vectors.{Vector, dot, IsDirection}
-use Rattle.law_arithmetic.proofs.Combination.{none, given, follows}
-use Rattle.law_arithmetic.proofs.Order.{mul_pos, mul_neg, by_order}
-use Rattle.law_arithmetic.proofs.Ring.{Poly, at, num, neg, ◌⊕◌, ◌⊖◌, ◌⊗◌, ring}
+use Rattle.nef_space.proofs.Combination.{none, given, follows}
+use Rattle.nef_space.proofs.Order.{mul_pos, mul_neg, by_order}
+use Rattle.nef_space.proofs.Ring.{Poly, at, num, neg, ◌⊕◌, ◌⊖◌, ◌⊗◌, ring}
 use Rattle.nef_geo.specs.Hits.{IsCrossing, IsReached, IsReachedBy}
 use Rattle.nef_geo.specs.Meet.{IsStretched}
 use Rattle.nef_geo.specs.Shapes.{place_at}

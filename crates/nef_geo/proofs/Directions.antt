@@ -5,9 +5,9 @@ use Rattle.std.proofs.lemmas.Int.{ints}
 use Rattle.nef_space.specs.Limits.{direction_limit}
 use Rattle.nef_space.specs.Numbers.{IsLowest}
 use Rattle.nef_space.specs.Vectors.{Vector, vector, dot, IsAtMost, IsDirection, SameDirection}
-use Rattle.law_arithmetic.proofs.Machine.{load, const, wrap, ◌⊟◌, exact_of}
-use Rattle.law_arithmetic.proofs.Order.{mul_pos, square_nonneg}
-use Rattle.law_arithmetic.proofs.Ring.{at, num, ◌⊕◌, ◌⊖◌, ◌⊗◌, ring}
+use Rattle.nef_space.proofs.Machine.{load, const, wrap, ◌⊟◌, exact_of}
+use Rattle.nef_space.proofs.Order.{mul_pos, square_nonneg}
+use Rattle.nef_space.proofs.Ring.{at, num, ◌⊕◌, ◌⊖◌, ◌⊗◌, ring}
 use Rattle.nef_geo.specs.Meet.{IsStretched}
 use Rattle.nef_geo.proofs.Divisors.{part_small, whole_zero}
 

@@ -7,7 +7,7 @@ use Rattle.std.proofs.lemmas.Nat.Gcd.{dvd_trans, dvd-zero, le_of_dvd}
 use Rattle.std.proofs.lemmas.Nat.{mul-le}
 use native.Mathlib.Nat.{dvd-one, mul-dvd-mul_left, dvd_of_mul-dvd-mul_left, mul-one, pos_of_dvd_of_pos, mul-div_cancel'}
 use Rattle.nef_space.specs.Numbers.{DividesAll, IsLowest}
-use Rattle.law_arithmetic.proofs.Ring.{at, neg, ◌⊗◌, ring}
+use Rattle.nef_space.proofs.Ring.{at, neg, ◌⊗◌, ring}
 use Rattle.nef_geo.specs.Numbers.{IsAtMostFour, IsSomeOfFour, IsGcdOfFour, IsReduced}
 
 -- the last number is taken first: it is mostly the least

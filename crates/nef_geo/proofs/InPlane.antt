@@ -8,9 +8,9 @@ use Rattle.nef_space.specs.Limits.{normal_limit, axis_factor}
 use Rattle.nef_space.specs.Numbers.{IsLowest}
 use Rattle.nef_space.specs.Place.{Form, form, normal_of, slope}
 use Rattle.nef_space.specs.Vectors.{Vector, vector, dot, IsAtMost, IsZero, IsDirection, IsParallel, IsNormal, beside_x, beside_y, beside_z, plane_axis, plane_dir, up}
-use Rattle.law_arithmetic.proofs.Combination.{none, given, follows}
-use Rattle.law_arithmetic.proofs.Order.{abs_plus, abs_times}
-use Rattle.law_arithmetic.proofs.Ring.{at, num, neg, ◌⊕◌, ◌⊖◌, ◌⊗◌, ring}
+use Rattle.nef_space.proofs.Combination.{none, given, follows}
+use Rattle.nef_space.proofs.Order.{abs_plus, abs_times}
+use Rattle.nef_space.proofs.Ring.{at, num, neg, ◌⊕◌, ◌⊖◌, ◌⊗◌, ring}
 use Rattle.nef_geo.specs.Hits.{IsPlaneDirSized}
 use Rattle.nef_geo.specs.Meet.{IsStretched}
 use Rattle.nef_geo.specs.Shapes.{form_of}

@@ -4,8 +4,8 @@ use Rattle.std.proofs.lemmas.Int.{ints}
 use Rattle.nef_space.specs.Limits.{offset_limit}
 use Rattle.nef_space.specs.Place.{Place, Form, form_at}
 use Rattle.nef_space.specs.Vectors.{vector, opposite, IsDirection, IsNormal}
-use Rattle.law_arithmetic.proofs.Machine.{load, const, wrap, ◌⊟◌, exact_of}
-use Rattle.law_arithmetic.proofs.Ring.{at, neg, ◌⊕◌, ◌⊗◌, ring}
+use Rattle.nef_space.proofs.Machine.{load, const, wrap, ◌⊟◌, exact_of}
+use Rattle.nef_space.proofs.Ring.{at, neg, ◌⊕◌, ◌⊗◌, ring}
 use Rattle.nef_geo.specs.Shapes.{turned_form}
 use Rattle.nef_geo.specs.Reading.{IsPositiveMultiple}
 use Rattle.nef_geo.proofs.Divisors.{part_not_negative, part_positive, whole_zero}

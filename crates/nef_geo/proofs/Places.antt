@@ -2,7 +2,7 @@
 use Rattle.std.proofs.Common.{◌≡◌, ◌+ℤ◌, ℤ, pos, ◌*ℤ◌, ◌<ℤ◌, nat_abs, arith, ap, [], ◌∷◌}
 use Rattle.std.proofs.lemmas.Int.{ints}
 use Rattle.nef_space.specs.Place.{Form, form_at, SamePlace}
-use Rattle.law_arithmetic.proofs.Ring.{at, ◌⊗◌, ring}
+use Rattle.nef_space.proofs.Ring.{at, ◌⊗◌, ring}
 use Rattle.nef_geo.specs.Numbers.{IsReduced}
 use Rattle.nef_geo.specs.Shapes.{place_at, place_of}
 use Rattle.nef_geo.specs.declared.point.Point.{Point}

@@ -8,9 +8,9 @@ use Rattle.nef_space.specs.Place.{normal_of}
 use Rattle.nef_geo.specs.declared.dir.Dir.{Dir}
 use Rattle.nef_geo.specs.declared.plane.Plane.{Plane}
 use Rattle.nef_geo.specs.Shapes.{form_of, vector_of}
-use Rattle.law_arithmetic.proofs.Machine.{Code, load, wrap, ◌⊞◌, ◌⊟◌, ◌⊠◌, Limited, exact_of}
-use Rattle.law_arithmetic.proofs.Order.{abs_plus, abs_times, abs_minors}
-use Rattle.law_arithmetic.proofs.Ring.{at, neg, ◌⊕◌, ◌⊖◌, ◌⊗◌, ring}
+use Rattle.nef_space.proofs.Machine.{Code, load, wrap, ◌⊞◌, ◌⊟◌, ◌⊠◌, Limited, exact_of}
+use Rattle.nef_space.proofs.Order.{abs_plus, abs_times, abs_minors}
+use Rattle.nef_space.proofs.Ring.{at, neg, ◌⊕◌, ◌⊖◌, ◌⊗◌, ring}
 
 -- ---- two vectors as six variables
 abbrev pub bounds : ℕ → ℕ → List ℕ

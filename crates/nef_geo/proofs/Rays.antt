@@ -5,7 +5,7 @@ use mir.Syntax.{w128}
 use Rattle.nef_space.specs.Limits.{normal_limit, point_limit, weight_limit}
 use Rattle.nef_space.specs.Place.{Place, form_at, slope}
 use Rattle.nef_space.specs.Vectors.{Vector, vector, IsAtMost}
-use Rattle.law_arithmetic.proofs.Order.{abs_plus, abs_times}
+use Rattle.nef_space.proofs.Order.{abs_plus, abs_times}
 use Rattle.nef_geo.specs.Hits.{IsReachedBy, IsUpright, IsPlaneDirSized, IsPlaceAtMost}
 use Rattle.nef_geo.specs.Shapes.{form_of, place_at, place_of}
 use Rattle.nef_geo.specs.Steps.{IsZeroStep}

@@ -2,7 +2,7 @@
 use Rattle.std.proofs.Common.{ℕ, ◌≤◌, ℤ, pos, ◌<ℤ◌, nat_abs, List, [], ◌∷◌, w64}
 use mir.Syntax.{w128}
 use Rattle.nef_space.specs.Vectors.{IsAtMost}
-use Rattle.law_arithmetic.proofs.Machine.{Code, load, wrap, ◌⊞◌, ◌⊠◌, Limited}
+use Rattle.nef_space.proofs.Machine.{Code, load, wrap, ◌⊞◌, ◌⊠◌, Limited}
 use Rattle.nef_geo.specs.Hits.{IsPlaceAtMost}
 use Rattle.nef_geo.specs.Shapes.{vector_of, place_at}
 use Rattle.nef_geo.specs.declared.dir.Dir.{Dir}

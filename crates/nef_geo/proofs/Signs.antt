@@ -5,7 +5,7 @@ use lib.Dec.{T}
 use mir.Syntax.{w128}
 use Rattle.nef_geo.specs.declared.sign.Sign.{Sign}
 use Rattle.nef_space.specs.Place.{Place, Form, form_at}
-use Rattle.law_arithmetic.proofs.Ring.{at, ◌⊕◌, ◌⊗◌, ring}
+use Rattle.nef_space.proofs.Ring.{at, ◌⊕◌, ◌⊗◌, ring}
 use Rattle.nef_geo.specs.declared.plane.Oriented.{Oriented}
 use Rattle.nef_geo.specs.declared.sign.Sign.TheVariants.{Minus, Zero, Plus}
 use Rattle.nef_geo.specs.Reading.{IsPositiveMultiple}

@@ -3,7 +3,7 @@ use Rattle.std.proofs.Common.{ℕ, ◌+◌, ◌*◌, ◌^◌, ◌≤◌, ℤ, po
 use Rattle.nef_space.specs.Limits.{normal_limit, offset_limit, point_limit, weight_limit}
 use Rattle.nef_space.specs.Place.{Place, form_at, slope}
 use Rattle.nef_space.specs.Vectors.{Vector, opposite, up, IsAtMost}
-use Rattle.law_arithmetic.proofs.Order.{abs_plus, abs_times}
+use Rattle.nef_space.proofs.Order.{abs_plus, abs_times}
 use Rattle.nef_geo.specs.Hits.{IsUpright, IsPlaceAtMost}
 use Rattle.nef_geo.specs.Shapes.{form_of, place_of, hit_place, far_place}
 use Rattle.nef_geo.specs.Widths.{point_form_limit, hit_limit, hit_weight_limit, far_limit, far_weight_limit}

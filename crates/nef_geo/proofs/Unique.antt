@@ -7,9 +7,9 @@ use Rattle.std.proofs.lemmas.Nat.Gcd.{dvd_antisymm}
 use Rattle.nef_space.specs.Limits.{normal_limit, offset_limit, point_limit, weight_limit, direction_limit}
 use Rattle.nef_space.specs.Numbers.{IsLowest}
 use Rattle.nef_space.specs.Vectors.{Vector, vector, dot, IsDirection, IsNormal, SameDirection}
-use Rattle.law_arithmetic.proofs.Combination.{none, given, follows}
-use Rattle.law_arithmetic.proofs.Order.{cancel_eq}
-use Rattle.law_arithmetic.proofs.Ring.{at, num, ◌⊕◌, ◌⊖◌, ◌⊗◌, ring}
+use Rattle.nef_space.proofs.Combination.{none, given, follows}
+use Rattle.nef_space.proofs.Order.{cancel_eq}
+use Rattle.nef_space.proofs.Ring.{at, num, ◌⊕◌, ◌⊖◌, ◌⊗◌, ring}
 use Rattle.nef_geo.specs.Laws.{SamePlacesAreEqual, SameDirectionsAreEqual, SamePlanesAreEqual}
 use Rattle.nef_geo.specs.Meet.{IsSamePlane}
 use Rattle.nef_geo.specs.Numbers.{IsSameRatios}

@@ -8,7 +8,7 @@ use Rattle.law_near.specs.Laws.{Drop}
 use Rattle.law_near.proofs.Between.{between-turned, between-inner}
 use Rattle.law_near.proofs.Edges.{even-until}
 use Rattle.law_near.proofs.Even.{even-germs}
-use Rattle.law_forms.proofs.Directions.{direction-left}
+use Rattle.law_near.proofs.Directions.{direction-left}
 use Rattle.law_sphere.specs.Maps.{At, arc_item, Item, item_normal, dir_of}
 use Rattle.law_sphere.proofs.Arcs.{at-arc}
 use Rattle.law_sphere.proofs.Compare.{SameDirection-turned, SameDirection-trans, dir-self}

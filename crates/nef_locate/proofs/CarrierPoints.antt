@@ -1,9 +1,9 @@
 -- Skeleton points lie on carriers, which no upright direction lies in; points of the closed frame where all directions are flat lie in the frame.
 use Rattle.std.proofs.Common.{◌≡◌, ℕ, ◌+◌, ◌*◌, ◌<◌, ◌≤◌, ℤ, pos, neg_ℤ, ◌+ℤ◌, ◌*ℤ◌, ◌-ℤ◌, ◌<ℤ◌, nat_abs, arith, sym, inl, inr, ⊎_elim, [], ◌∷◌, subst}
 use Rattle.std.proofs.lemmas.Int.{ints}
-use Rattle.law_arithmetic.specs.Signs.{nought, Lies}
-use Rattle.law_arithmetic.proofs.Order.{nought-is, mul_pos, mul_nonneg}
-use Rattle.law_arithmetic.proofs.Ring.{ring, at, num, neg, ◌⊕◌, ◌⊖◌, ◌⊗◌}
+use Rattle.nef_space.specs.Signs.{nought, Lies}
+use Rattle.nef_space.proofs.Order.{nought-is, mul_pos, mul_nonneg}
+use Rattle.nef_space.proofs.Ring.{ring, at, num, neg, ◌⊕◌, ◌⊖◌, ◌⊗◌}
 use Rattle.nef_space.specs.Limits.{half_side}
 use Rattle.nef_space.specs.Local.{FlatDim}
 use Rattle.nef_space.specs.declared.label.Label.TheVariants.{Out}
@@ -31,7 +31,7 @@ use Rattle.nef_complex.specs.declared.complex.Complex.{Complex}
 use Rattle.nef_complex.specs.Complexes.{complex_of, ShowsSet}
 use Rattle.nef_complex.proofs.Parted.{held-between}
 use Rattle.nef_plane.proofs.Crossed.{edge-carried}
-use Rattle.nef_locate.proofs.Cones.{facet-at}
+use Rattle.law_complex.proofs.FacetNames.{facet-at}
 use Rattle.nef_locate.proofs.Upward.{plane-upright}
 
 -- ---- the frame

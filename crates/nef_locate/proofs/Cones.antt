@@ -1,6 +1,6 @@
 -- The labels and the germs of a point by its place.
 use Rattle.std.proofs.Common.{◌≡◌, pos, ap, sym, subst, ◌∙◌}
-use Rattle.law_arithmetic.specs.Signs.{sign}
+use Rattle.nef_space.specs.Signs.{sign}
 use Rattle.nef_space.specs.Local.{HasLabel, Germ, FlatDim}
 use Rattle.nef_space.specs.Place.{Place, SamePlace, toward}
 use Rattle.nef_space.specs.Sets.{Set}
@@ -21,8 +21,6 @@ use Rattle.law_complex.specs.Shows.{Shows}
 use Rattle.law_complex.specs.Skeleton.{item_plane, HasCorner}
 use Rattle.law_complex.proofs.FacetWays.{meets-on}
 use Rattle.law_complex.proofs.FacetAngles.{through-at}
-use Rattle.law_complex.proofs.FacetPoints.{facet-point}
-use Rattle.law_complex.proofs.Skeletons.{FacetAt}
 use Rattle.law_complex.proofs.FacetEnds.{facet-from_behind}
 use Rattle.law_complex.proofs.FacetNames.{weight, normal-scaled, through-level, axis-in}
 
@@ -35,10 +33,6 @@ cone-same M s p q e K =
       mark = Label-cells s M.mark p q same K.mark;
       labels = λ d f. let l = K.labels d f in (l.0, l.1, (germs-by_cell s p q same d l.0).0 l.2);
     }
-
--- the law of facet points
-pub facet-at : (s : Set) (C : Complex) → Shows s C → FacetAt s C
-facet-at s C S k v x y c F = let p = facet-point s C S k v x y c F in (p.dim, p.flat, p.label, p.sided)
 
 -- where all directions are flat there is one label
 pub cone-flat : (M : Map) (s : Set) (y : Place) (l : Label) → Valid M → M.mark ≡ l → ((d : Vector) → IsDirection d → MapLabel M d l) → HasLabel s y l → FlatDim s y 3 → Cone M s y

@@ -7,7 +7,7 @@ use Rattle.nef_space.specs.Local.{HasLabel}
 use Rattle.nef_space.specs.Place.{Place as PlainPlace, toward, IsAhead, IsBetween}
 use Rattle.nef_space.specs.Sets.{Set}
 use Rattle.nef_space.specs.Vectors.{Vector, IsNormal, IsAtMost, opposite}
-use Rattle.law_forms.proofs.Directions.{direction-left}
+use Rattle.law_near.proofs.Directions.{direction-left}
 use Rattle.law_near.proofs.Alike.{flat-germ}
 use Rattle.law_cones.proofs.Cones.{point-map}
 use Rattle.law_sphere.specs.Maps.{At, MapVertex as PlainSvertex, Map, MapLabel, Item, items, item_normal, arc_item, sloop_item, Valid}

@@ -1,13 +1,13 @@
 -- The labels at the points of an edge, by the arcs at its lower end.
 use Rattle.std.proofs.Common.{◌≡◌, ℕ, ◌+◌, ◌≤◌, pos, ◌*ℤ◌, ◌+ℤ◌, ◌<ℤ◌, arith, refl, ap, sym, ◌∙◌, ◌⊎◌, inl, inr, ⊎_elim, ◌↔◌, List, subst}
 use Rattle.std.proofs.lemmas.Int.{ints}
-use Rattle.law_arithmetic.specs.Signs.{sign}
-use Rattle.law_arithmetic.proofs.Order.{sign-plus, sign-minus}
+use Rattle.nef_space.specs.Signs.{sign}
+use Rattle.nef_space.proofs.Order.{sign-plus, sign-minus}
 use Rattle.nef_space.specs.Vectors.{Vector, IsDirection, IsNormal, SameDirection, cross, dot, opposite, blend}
 use Rattle.nef_space.specs.declared.label.Label.{Label}
 use Rattle.law_cyclic.proofs.Directions.{dot-opposite, direction-opposite, level-opposite, level-opposite-back, level_cross_first}
-use Rattle.law_forms.proofs.Directions.{dot-comm, self-pos}
-use Rattle.law_forms.proofs.Far.{nought-or, same-nought, same-off}
+use Rattle.law_near.proofs.Directions.{dot-comm, self-pos}
+use Rattle.law_near.proofs.Far.{nought-or, same-nought, same-off}
 use Rattle.law_near.proofs.Meets.{cross-none}
 use Rattle.law_near.proofs.FlatDecided.{cross-turned}
 use Rattle.law_sphere.specs.Forms.{SameSigns, forms}
@@ -31,7 +31,7 @@ use Rattle.law_sphere.proofs.Compare.{SameDirection-trans}
 use Rattle.law_sphere.proofs.Unique.{eq-decided}
 use Rattle.law_sphere.proofs.Vectors.{dot-comb, nought-if}
 use Rattle.law_near.proofs.Decided.{decided-both}
-use Rattle.law_build.specs.Raw.{Of}
+use Rattle.law_sphere.specs.Raw.{Of}
 use Rattle.nef_locate.proofs.FlatLabels.{labels_of, label-is, is-label}
 
 -- where K, k, j and J are large, J w + (k f + e) has the signs of j (K w + f) + e: those of w, of f where these are nought, and then those of e

@@ -1,14 +1,14 @@
 -- The map of the half great circles at the lower end of an edge is the least map with the labels along the edge.
 use Rattle.std.proofs.Common.{◌≡◌, ℕ, zero, suc, ◌<◌, ℤ, pos, negsuc, neg_ℤ, ◌*ℤ◌, ◌+ℤ◌, ◌-ℤ◌, arith, refl, ap, sym, ◌∙◌, ◌⊎◌, inl, inr, ⊎_elim, List, [], ◌∷◌, Some, None, subst}
 use Rattle.std.proofs.lemmas.Int.{ints}
-use Rattle.law_arithmetic.proofs.Ring.{ring, at, num, neg, ◌⊕◌, ◌⊖◌, ◌⊗◌}
-use Rattle.law_arithmetic.proofs.Combination.{follows, given, none}
-use Rattle.law_arithmetic.proofs.Order.{sign, by_order, mul_pos}
+use Rattle.nef_space.proofs.Ring.{ring, at, num, neg, ◌⊕◌, ◌⊖◌, ◌⊗◌}
+use Rattle.nef_space.proofs.Combination.{follows, given, none}
+use Rattle.nef_space.proofs.Order.{sign, by_order, mul_pos}
 use Rattle.nef_space.specs.Vectors.{Vector, IsDirection, IsZero, IsNormal, IsOpposite, SameDirection, cross, dot, opposite, blend}
 use Rattle.nef_space.specs.declared.label.Label.{Label}
 use Rattle.law_cyclic.specs.Arcs.{IsStrictlyOn}
 use Rattle.law_cyclic.proofs.Directions.{direction-opposite, level-of_opposite, same-opposites}
-use Rattle.law_forms.proofs.Directions.{self-pos, zero-decided}
+use Rattle.law_near.proofs.Directions.{self-pos, zero-decided}
 use Rattle.law_near.proofs.Flats.{vector-same}
 use Rattle.law_near.proofs.FlatDecided.{cross-turned}
 use Rattle.law_sphere.specs.Forms.{forms}
@@ -28,7 +28,7 @@ use Rattle.law_sphere.proofs.Lone.{near-lone}
 use Rattle.law_sphere.proofs.Shot.{arc-at}
 use Rattle.law_sphere.proofs.Vectors.{normal-direction, direction-by, dot-comb, nought-if}
 use Rattle.law_sphere.proofs.Walk.{cross-direction_right}
-use Rattle.law_build.specs.Raw.{Of}
+use Rattle.law_sphere.specs.Raw.{Of}
 use Rattle.law_build.proofs.BuiltAxes.{vector-below_not, number-order}
 use Rattle.law_build.proofs.BuiltLabels.{labels-build}
 use Rattle.nef_geo.proofs.Products.{cross-opposite, opposite-twice}

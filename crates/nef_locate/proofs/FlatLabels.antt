@@ -1,7 +1,7 @@
 -- The labels of a map that don't change along a direction.
 use Rattle.std.proofs.Common.{◌≡◌, ℕ, zero, suc, ℤ, pos, negsuc, ◌+◌, ◌≤◌, ◌+ℤ◌, ◌*ℤ◌, neg_ℤ, arith, refl, ap, sym, ◌∙◌, [], ◌∷◌, subst}
-use Rattle.law_arithmetic.specs.Signs.{minus, nought, plus, sign}
-use Rattle.law_arithmetic.proofs.Ring.{ring, at, num, neg, ◌⊕◌, ◌⊗◌}
+use Rattle.nef_space.specs.Signs.{minus, nought, plus, sign}
+use Rattle.nef_space.proofs.Ring.{ring, at, num, neg, ◌⊕◌, ◌⊗◌}
 use Rattle.nef_space.specs.Vectors.{Vector, IsDirection, IsOpposite, SameDirection, cross, dot, opposite, blend}
 use Rattle.nef_space.specs.declared.label.Label.{Label}
 use Rattle.law_near.proofs.Flats.{vector-same}
@@ -19,7 +19,7 @@ use Rattle.law_sphere.proofs.FlatMaps.{flat-onward, flat-straight}
 use Rattle.law_sphere.proofs.Labels.{label-direction, label-unique, near-direction}
 use Rattle.law_sphere.proofs.Vectors.{dot-comb, direction-by}
 use Rattle.law_sphere.proofs.Walk.{cross-direction_left}
-use Rattle.law_build.specs.Raw.{Of, IsLabelling}
+use Rattle.law_sphere.specs.Raw.{Of, IsLabelling}
 use Rattle.law_build.proofs.BuiltLabels.{straight-from}
 use Rattle.law_build.proofs.Chosen.{chosen, chosen-is, chosen-labelling, map-labels}
 use Rattle.nef_geo.proofs.Products.{cross-opposite, opposite-twice}

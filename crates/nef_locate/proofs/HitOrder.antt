@@ -6,7 +6,7 @@ use Rattle.std.proofs.lemmas.Bool.{cases_lt}
 use Rattle.std.specs.Ordering.{MatchOrdering}
 use mir.Syntax.{w128}
 use mir.Val.{to_z, of_z}
-use Rattle.law_arithmetic.proofs.Machine.{load, wrap, exact_of}
+use Rattle.nef_space.proofs.Machine.{load, wrap, exact_of}
 use Rattle.nef_space.specs.Lists.{IsAt}
 use Rattle.nef_space.specs.Place.{Place, Form, SamePlace, IsPlaceBelow}
 use Rattle.nef_space.specs.Sets.{Set}

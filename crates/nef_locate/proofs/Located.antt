@@ -19,7 +19,7 @@ use Rattle.law_complex.specs.Skeleton.{at_vertex, on_edge, in_facet, IsVertexPoi
 use Rattle.law_complex.specs.Rays.{RayDown}
 use Rattle.law_complex.proofs.Edges.{edge-points}
 use Rattle.law_complex.proofs.EqualPoints.{vertex-same, edge-same, corner-same}
-use Rattle.law_complex.proofs.FacetNames.{facet-of}
+use Rattle.law_complex.proofs.FacetNames.{facet-at, facet-of}
 use Rattle.law_complex.proofs.FacetWays.{dim-same}
 use Rattle.law_complex.proofs.Skeletons.{way-ends}
 use Rattle.nef_complex.specs.declared.complex.Complex.{Complex}
@@ -32,7 +32,6 @@ use Rattle.nef_locate.specs.declared.place.Place.TheVariants as place
 use Rattle.nef_locate.specs.Places.{IsPlaceIn, IsPlaceAt, IsFirstHit, place_dimension}
 use Rattle.nef_locate.specs.Rays.{IsSkeletonAt, IsSideAbove}
 use Rattle.nef_locate.proofs.CarrierPoints.{closed-inside}
-use Rattle.nef_locate.proofs.Cones.{facet-at}
 use Rattle.nef_locate.proofs.Marks.{image-read}
 use Rattle.nef_locate.proofs.VolumeLabels.{volume-flat}
 

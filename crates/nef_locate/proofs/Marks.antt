@@ -11,7 +11,7 @@ use Rattle.nef_smap.proofs.SideLists.{at-from_get, side-has}
 use Rattle.nef_smap.specs.Sides.{LabelledSide, IsSide, sides_of}
 use Rattle.law_complex.specs.Complexes.{Vertex as PlainVertex, Complex as PlainComplex, Corner as PlainCorner, IsCorner}
 use Rattle.law_complex.specs.Skeleton.{at_vertex, on_edge}
-use Rattle.law_complex.proofs.FacetNames.{facet-of}
+use Rattle.law_complex.proofs.FacetNames.{facet-at, facet-of}
 use Rattle.law_complex.proofs.Skeletons.{spot-mark}
 use Rattle.nef_complex.specs.declared.complex.Vertex.{Vertex}
 use Rattle.nef_complex.specs.declared.complex.Complex.{Complex}
@@ -19,7 +19,7 @@ use Rattle.nef_complex.specs.Complexes.{vertex_of, complex_of, corner_of, ShowsS
 use Rattle.nef_locate.specs.declared.place.Place.{Place}
 use Rattle.nef_locate.specs.declared.place.Place.TheVariants as place
 use Rattle.nef_locate.specs.Places.{IsPlaceAt, IsPlaceLabel}
-use Rattle.nef_locate.proofs.Cones.{corner-labels, facet-at}
+use Rattle.nef_locate.proofs.Cones.{corner-labels}
 use Rattle.nef_locate.proofs.VolumeLabels.{side-label}
 use Rattle.law_complex.specs.Rays.{HasVolumeSide}
 

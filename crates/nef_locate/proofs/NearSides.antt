@@ -1,12 +1,12 @@
 -- The side that bounds the sector of a svertex in which a direction above all planes lies: that of the last arc before it.
 use Rattle.std.proofs.Common.{◌≡◌, ℕ, ◌<◌, pos, ◌<ℤ◌, arith, refl, ◌∙◌, ◌⊎◌, inl, inr, ⊎_elim, [], ◌∷◌, true, false}
 use Rattle.std.proofs.lemmas.Int.{ints}
-use Rattle.law_arithmetic.proofs.Ring.{ring, at, neg, ◌⊕◌, ◌⊖◌, ◌⊗◌}
-use Rattle.law_arithmetic.proofs.Order.{mul_pos, mul_neg}
+use Rattle.nef_space.proofs.Ring.{ring, at, neg, ◌⊕◌, ◌⊖◌, ◌⊗◌}
+use Rattle.nef_space.proofs.Order.{mul_pos, mul_neg}
 use Rattle.nef_space.specs.Vectors.{Vector, IsDirection, dot, cross, triple, opposite}
 use Rattle.law_cyclic.specs.Arcs.{IsStrictlyOn}
 use Rattle.law_cyclic.proofs.Directions.{dot-opposite}
-use Rattle.law_forms.proofs.Directions.{dot-comm, self-pos}
+use Rattle.law_near.proofs.Directions.{dot-comm, self-pos}
 use Rattle.law_sphere.specs.Maps.{At, MapVertex, Arc, Map, Side, around_svertex, pos_item, neg_item, HasArc, Shaped}
 use Rattle.law_sphere.specs.Sectors.{end_left, IsLastSide, BoundsSector}
 use Rattle.law_sphere.proofs.SectorSees.{left-on, turn-from_left}

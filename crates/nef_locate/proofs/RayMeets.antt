@@ -1,7 +1,7 @@
 -- What a ray along an upright direction meets in one plane, and what it meets first.
 use Rattle.std.proofs.Common.{◌≡◌, ℕ, ◌<◌, length, neg_ℤ, arith, inl, inr, Option, Some, None, IfSome, [], ◌∷◌, slice_get, subst}
 use Rattle.std.proofs.lemmas.Int.{ints}
-use Rattle.law_arithmetic.proofs.Ring.{ring, at, neg, ◌⊕◌, ◌⊗◌}
+use Rattle.nef_space.proofs.Ring.{ring, at, neg, ◌⊕◌, ◌⊗◌}
 use Rattle.nef_space.specs.Place.{Place as PlainPlace, SamePlace, toward, IsAhead, IsBetween}
 use Rattle.nef_space.specs.Sets.{Set}
 use Rattle.nef_space.specs.Vectors.{Vector, dot, opposite}
@@ -9,8 +9,8 @@ use Rattle.nef_geo.specs.Hits.{IsUpright, IsCrossing}
 use Rattle.nef_geo.specs.Shapes.{form_of, hit_place}
 use Rattle.nef_geo.specs.declared.hit.Hit.{Hit}
 use Rattle.nef_geo.specs.declared.plane.Plane.{Plane}
-use Rattle.law_forms.proofs.Between.{place-toward}
-use Rattle.law_forms.proofs.Directions.{direction-left, direction-right, self-pos}
+use Rattle.law_near.proofs.Mixed.{place-toward}
+use Rattle.law_near.proofs.Directions.{direction-left, direction-right, self-pos}
 use Rattle.law_near.proofs.Between.{between-inner}
 use Rattle.law_sphere.proofs.Compare.{SameDirection-turned, SameDirection-trans}
 use Rattle.law_complex.specs.Complexes.{Complex as PlainComplex}

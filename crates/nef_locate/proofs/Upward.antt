@@ -1,7 +1,7 @@
 -- The upward direction lies above every plane within the limit, so no plane is along an upright one.
 use Rattle.std.proofs.Common.{◌≡◌, zero, suc, ◌≤◌, ℤ, pos, negsuc, neg_ℤ, ◌<ℤ◌, ◌≤ℤ◌, nat_abs, [], ◌∷◌, inl, inr, arith, refl, subst}
 use Rattle.std.proofs.lemmas.Int.{ints}
-use Rattle.law_arithmetic.proofs.Ring.{ring, at, neg, ◌⊕◌, ◌⊗◌}
+use Rattle.nef_space.proofs.Ring.{ring, at, neg, ◌⊕◌, ◌⊗◌}
 use Rattle.nef_space.specs.Limits.{normal_limit}
 use Rattle.nef_space.specs.Place.{slope, normal_of}
 use Rattle.nef_space.specs.Vectors.{Vector, vector, dot, IsAtMost, IsNormal, IsDirection, up, opposite}

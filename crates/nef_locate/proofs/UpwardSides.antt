@@ -10,7 +10,7 @@ use Rattle.nef_geo.specs.declared.sign.Sign.{Sign}
 use Rattle.nef_geo.specs.declared.sign.Sign.TheVariants.{Plus}
 use Rattle.nef_space.specs.declared.label.Label.{Label}
 use Rattle.law_near.proofs.FlatDecided.{cross-turned}
-use Rattle.law_forms.proofs.Directions.{dot-comm}
+use Rattle.law_near.proofs.Directions.{dot-comm}
 use Rattle.law_sphere.specs.Maps.{At, MapVertex, Arc, Map, Item, arc_item, items, OnItem, IsFree, item_pos, item_neg, Side, around_svertex, pos_item, neg_item, HasSide, dir_of}
 use Rattle.law_sphere.specs.Sectors.{BoundsSector}
 use Rattle.law_sphere.proofs.Arcs.{at-arc}

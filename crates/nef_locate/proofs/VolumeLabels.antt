@@ -1,14 +1,14 @@
 -- A point that has a side has the side's label.
 use Rattle.std.proofs.Common.{◌≡◌, ℕ, arith, ap, sym, ◌∙◌, subst}
 use Rattle.std.proofs.lemmas.Int.{ints}
-use Rattle.law_arithmetic.proofs.Order.{sign-plus}
+use Rattle.nef_space.proofs.Order.{sign-plus}
 use Rattle.nef_space.specs.Local.{HasLabel, Germ, FlatDim}
 use Rattle.nef_space.specs.Place.{Place, SamePlace, toward}
 use Rattle.nef_space.specs.Sets.{Set}
 use Rattle.nef_space.specs.Vectors.{SameDirection, dot, opposite, up}
 use Rattle.nef_space.specs.declared.label.Label.{Label}
-use Rattle.law_forms.proofs.Between.{place-toward}
-use Rattle.law_forms.proofs.Directions.{direction-left}
+use Rattle.law_near.proofs.Mixed.{place-toward}
+use Rattle.law_near.proofs.Directions.{direction-left}
 use Rattle.law_near.proofs.Decided.{label_of}
 use Rattle.law_near.proofs.Flats.{vector-same}
 use Rattle.law_near.proofs.Germs.{Germ-unique}
@@ -26,11 +26,11 @@ use Rattle.law_complex.specs.Skeleton.{Spot, at_vertex, on_edge, in_facet, IsSpo
 use Rattle.law_complex.specs.Rays.{IsAbove, HasVolumeSide}
 use Rattle.law_complex.proofs.Ways.{same-itself}
 use Rattle.nef_edges.proofs.Rays.{from_opposite, opposites-same}
-use Rattle.law_complex.proofs.FacetNames.{facet-of}
+use Rattle.law_complex.proofs.FacetNames.{facet-at, facet-of}
 use Rattle.law_complex.proofs.Skeletons.{spot-toward, free-way, free-flat}
 use Rattle.nef_complex.specs.declared.complex.Complex.{Complex}
 use Rattle.nef_complex.specs.Complexes.{vertex_of, complex_of, ShowsSet}
-use Rattle.nef_locate.proofs.Cones.{corner-labels, facet-at}
+use Rattle.nef_locate.proofs.Cones.{corner-labels}
 use Rattle.nef_locate.proofs.Upward.{up-above}
 
 module _ (s : Set) (c : Complex) (S : ShowsSet s c) where

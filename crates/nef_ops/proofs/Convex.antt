@@ -1,12 +1,12 @@
 -- Between two points past an end of a coordinate, and of the open frame, lie such points alone.
 use Rattle.std.proofs.Common.{◌≡◌, ℕ, ◌*◌, ◌<◌, ℤ, pos, neg_ℤ, ◌+ℤ◌, ◌-ℤ◌, ◌*ℤ◌, ◌<ℤ◌, nat_abs, arith, [], ◌∷◌}
 use Rattle.std.proofs.lemmas.Int.{ints}
-use Rattle.law_arithmetic.proofs.Combination.{given, none, follows}
-use Rattle.law_arithmetic.proofs.Order.{mul_pos, cancel_lt}
-use Rattle.law_arithmetic.proofs.Ring.{ring, at, num, ◌⊕◌, ◌⊖◌, ◌⊗◌}
+use Rattle.nef_space.proofs.Combination.{given, none, follows}
+use Rattle.nef_space.proofs.Order.{mul_pos, cancel_lt}
+use Rattle.nef_space.proofs.Ring.{ring, at, num, ◌⊕◌, ◌⊖◌, ◌⊗◌}
 use Rattle.nef_space.specs.Limits.{half_side}
 use Rattle.nef_space.specs.Place.{Place, InFrame, InClosedFrame, IsBetween}
-use Rattle.law_forms.specs.Homogeneous.{IsMixed, of_place}
+use Rattle.law_near.specs.Homogeneous.{IsMixed, of_place}
 use Rattle.law_near.proofs.Between.{mixed-of}
 
 -- k c = i a + j b and k w = i u + j v, and a and b lie below e times u and v

@@ -8,7 +8,7 @@ use Rattle.nef_space.specs.Sets.{Set}
 use Rattle.nef_space.specs.declared.label.Label.{Label}
 use Rattle.nef_geo.specs.Shapes.{form_of, place_of}
 use Rattle.nef_geo.specs.declared.plane.Plane.{Plane}
-use Rattle.law_forms.specs.Homogeneous.{IsMixed, of_place}
+use Rattle.law_near.specs.Homogeneous.{IsMixed, of_place}
 use Rattle.law_near.specs.Laws.{SameGerms}
 use Rattle.law_near.proofs.Between.{mixed-of}
 use Rattle.law_near.proofs.Even.{even-germs, labels-by_germs}

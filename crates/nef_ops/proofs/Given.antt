@@ -1,7 +1,7 @@
 -- A plane as it was given is the plane of its normal form.
 use Rattle.std.proofs.Common.{◌≡◌, ℤ, pos, neg_ℤ, ◌*ℤ◌, Bool, true, false, [], ◌∷◌, arith, sym, subst, cond}
 use Rattle.std.proofs.lemmas.Int.{ints}
-use Rattle.law_arithmetic.proofs.Ring.{ring, at, neg, ◌⊗◌}
+use Rattle.nef_space.proofs.Ring.{ring, at, neg, ◌⊗◌}
 use Rattle.nef_space.specs.Place.{Form, normal_of}
 use Rattle.nef_space.specs.Vectors.{IsDirection}
 use Rattle.nef_geo.specs.Shapes.{form_of, turned_form, given_form}

@@ -2,7 +2,7 @@
 use Rattle.std.proofs.Common.{◌≡◌, ℕ, ◌+◌, ◌-◌, ◌*◌, ◌<◌, ◌≤◌, ℤ, pos, ◌+ℤ◌, ◌*ℤ◌, nat_abs, arith, ap}
 use Rattle.std.proofs.lemmas.Int.{ints, unsigned_abs-mul}
 use Rattle.std.proofs.Math.Nat.{mul-le-mul_right}
-use Rattle.law_arithmetic.proofs.Order.{abs_plus, abs_times}
+use Rattle.nef_space.proofs.Order.{abs_plus, abs_times}
 use Rattle.nef_space.specs.Limits.{half_side}
 use Rattle.nef_space.specs.Place.{Place, Form, form_at, normal_of, InFrame}
 use Rattle.nef_space.specs.Vectors.{IsDirection}

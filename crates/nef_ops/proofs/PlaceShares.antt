@@ -1,6 +1,6 @@
 -- What a set has of the frame close to the points of an edge, of a facet and of a volume.
 use Rattle.std.proofs.Common.{ℕ, arith, refl, subst}
-use Rattle.law_arithmetic.specs.Signs.{Sign, minus, nought, plus, sign}
+use Rattle.nef_space.specs.Signs.{Sign, minus, nought, plus, sign}
 use Rattle.nef_space.specs.Local.{HasLabel, Germ, FlatDim}
 use Rattle.nef_space.specs.Place.{Place, IsBetween}
 use Rattle.nef_space.specs.Sets.{Set}

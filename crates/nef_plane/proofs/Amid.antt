@@ -1,8 +1,8 @@
 -- A point is strictly between the ends of an edge, or is a vertex, exactly where all carriers see it so.
 use Rattle.std.proofs.Common.{◌≡◌, ℕ, ◌<◌, ℤ, pos, ◌+ℤ◌, ◌-ℤ◌, ◌*ℤ◌, ◌<ℤ◌, arith, ap, sym, ◌∙◌, ⊎_elim, subst, List, [], ◌∷◌}
 use Rattle.std.proofs.lemmas.Int.{ints}
-use Rattle.law_arithmetic.proofs.Ring.{ring, at, num, ◌⊕◌, ◌⊖◌, ◌⊗◌}
-use Rattle.law_arithmetic.proofs.Order.{mul_pos, mul_neg, by_order}
+use Rattle.nef_space.proofs.Ring.{ring, at, num, ◌⊕◌, ◌⊖◌, ◌⊗◌}
+use Rattle.nef_space.proofs.Order.{mul_pos, mul_neg, by_order}
 use Rattle.nef_space.specs.Place.{Place, Form, form_at, slope, normal_of, toward, SamePlace, IsBetween}
 use Rattle.nef_space.specs.Sets.{Set}
 use Rattle.nef_space.specs.Vectors.{opposite, dot, cross, IsZero, IsDirection, SameDirection}
@@ -11,12 +11,12 @@ use Rattle.nef_geo.specs.Signs.{sign_of}
 use Rattle.nef_geo.specs.declared.plane.Plane.{Plane}
 use Rattle.nef_geo.specs.declared.sign.Sign.TheVariants.{Minus, Zero, Plus}
 use Rattle.nef_geo.proofs.Signs.{sign_of-positive, sign_of-negative, zero_sign}
-use Rattle.law_forms.specs.Homogeneous.{of_place}
-use Rattle.law_forms.proofs.Between.{toward-place}
-use Rattle.law_forms.proofs.Directions.{zero-decided}
-use Rattle.law_forms.proofs.Far.{nought-or}
-use Rattle.law_forms.proofs.Near.{slope-toward}
-use Rattle.law_forms.proofs.Sums.{form-sum}
+use Rattle.law_near.specs.Homogeneous.{of_place}
+use Rattle.law_near.proofs.Mixed.{toward-place}
+use Rattle.law_near.proofs.Directions.{zero-decided}
+use Rattle.law_near.proofs.Far.{nought-or}
+use Rattle.law_near.proofs.Near.{slope-toward}
+use Rattle.law_near.proofs.Sums.{form-sum}
 use Rattle.law_near.proofs.Between.{mixed-of, between-turned}
 use Rattle.law_near.proofs.FlatDecided.{cross-turned}
 use Rattle.law_near.proofs.Flats.{vector-same}

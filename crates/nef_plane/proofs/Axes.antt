@@ -1,13 +1,13 @@
 -- The axis of a plane: what lies in the plane and keeps the sweep coordinate is parallel to it.
 use Rattle.std.proofs.Common.{◌≡◌, ℤ, pos, neg_ℤ, ◌-ℤ◌, ◌*ℤ◌, Bool, true, false, cond, ◌&&◌, ◌∙◌, subst, ⊎_elim, [], ◌∷◌}
 use Rattle.std.specs.Ordering.{int_eq}
-use Rattle.law_arithmetic.proofs.Ring.{ring, at, num, neg, ◌⊕◌, ◌⊖◌, ◌⊗◌}
+use Rattle.nef_space.proofs.Ring.{ring, at, num, neg, ◌⊕◌, ◌⊖◌, ◌⊗◌}
 use Rattle.nef_space.specs.Place.{normal_of}
 use Rattle.nef_space.specs.Vectors.{Vector, vector, opposite, dot, cross, plane_axis, beside_x, beside_y, IsZero, IsDirection, SameDirection}
 use Rattle.nef_geo.specs.Shapes.{form_of}
 use Rattle.nef_geo.specs.declared.plane.Plane.{Plane}
 use Rattle.nef_geo.proofs.InPlane.{axis-in_plane, axis-direction}
-use Rattle.law_forms.proofs.Directions.{direction-left}
+use Rattle.law_near.proofs.Directions.{direction-left}
 use Rattle.law_near.proofs.FlatDecided.{cross-turned}
 use Rattle.law_near.proofs.Flats.{vector-same}
 use Rattle.law_sphere.proofs.KindFlats.{in-span}

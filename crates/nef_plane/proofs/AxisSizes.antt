@@ -3,9 +3,9 @@ use Rattle.std.proofs.Common.{◌≡◌, ℕ, ◌<◌, ◌≤◌, ℤ, pos, negs
 use Rattle.std.proofs.lemmas.Int.{ints}
 use Rattle.std.proofs.lemmas.Nat.Gcd.{le_of_dvd}
 use Rattle.std.specs.Int.{◌∣◌}
-use Rattle.law_arithmetic.proofs.Ring.{ring, at, num, Poly, ◌⊕◌, ◌⊖◌, ◌⊗◌}
-use Rattle.law_arithmetic.proofs.Combination.{given, none, follows}
-use Rattle.law_arithmetic.proofs.Order.{by_order}
+use Rattle.nef_space.proofs.Ring.{ring, at, num, Poly, ◌⊕◌, ◌⊖◌, ◌⊗◌}
+use Rattle.nef_space.proofs.Combination.{given, none, follows}
+use Rattle.nef_space.proofs.Order.{by_order}
 use Rattle.nef_space.specs.Limits.{normal_limit}
 use Rattle.nef_space.specs.Numbers.{IsLowest}
 use Rattle.nef_space.specs.Place.{Place, normal_of}
@@ -17,7 +17,7 @@ use Rattle.nef_geo.specs.declared.plane.Plane.{Plane}
 use Rattle.nef_geo.proofs.Cramer.{difference}
 use Rattle.nef_geo.proofs.Euclid.{divides_same}
 use Rattle.nef_geo.proofs.InPlane.{pair_small, dir-size}
-use Rattle.law_forms.proofs.Far.{nought-or}
+use Rattle.law_near.proofs.Far.{nought-or}
 use Rattle.law_complex.specs.Complexes.{Complex}
 use Rattle.nef_complex.proofs.Parted.{times-nought}
 use Rattle.nef_plane.specs.Meets.{IsAlongAxis, IsAlongDir, IsWithinDirection}

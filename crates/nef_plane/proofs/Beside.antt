@@ -1,13 +1,13 @@
 -- An edge along the ray has an end between the ray's start and each of its points ahead.
 use Rattle.std.proofs.Common.{◌≡◌, ℕ, ℤ, pos, neg_ℤ, ◌-ℤ◌, ◌*ℤ◌, ◌<ℤ◌, arith, sym, ap, ◌∙◌, ◌⊎◌, inl, inr, ⊎_elim, subst, refl, [], ◌∷◌}
 use Rattle.std.proofs.lemmas.Int.{ints}
-use Rattle.law_arithmetic.proofs.Ring.{ring, at, num, neg, ◌⊕◌, ◌⊖◌, ◌⊗◌}
-use Rattle.law_arithmetic.proofs.Order.{by_order}
+use Rattle.nef_space.proofs.Ring.{ring, at, num, neg, ◌⊕◌, ◌⊖◌, ◌⊗◌}
+use Rattle.nef_space.proofs.Order.{by_order}
 use Rattle.nef_space.specs.Place.{Place, Form, toward, SamePlace, IsAhead, IsBetween}
 use Rattle.nef_space.specs.Sets.{Set}
 use Rattle.nef_space.specs.Vectors.{Vector, opposite, dot, cross, IsZero, IsDirection, SameDirection, IsOpposite}
-use Rattle.law_forms.proofs.Between.{between-same, toward-place}
-use Rattle.law_forms.proofs.Directions.{zero-decided, dot-comm}
+use Rattle.law_near.proofs.Mixed.{between-same, toward-place}
+use Rattle.law_near.proofs.Directions.{zero-decided, dot-comm}
 use Rattle.law_near.proofs.Between.{between-inner, between-turned}
 use Rattle.law_near.proofs.FlatDecided.{cross-turned}
 use Rattle.law_near.proofs.Flats.{vector-same}

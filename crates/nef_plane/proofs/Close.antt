@@ -6,9 +6,9 @@ use Rattle.std.proofs.lemmas.Bool.{cases_lt}
 use Rattle.std.proofs.lemmas.Bool.Decides.{Decides-int_eq}
 use Rattle.std.proofs.lemmas.Int.{ints, unsigned_abs-mul}
 use mir.Val.{to_z, of_z}
-use Rattle.law_arithmetic.proofs.Machine.{load, wrap, exact_of}
-use Rattle.law_arithmetic.proofs.Order.{abs_minus, abs_times}
-use Rattle.law_arithmetic.proofs.Ring.{ring, at, num, ◌⊕◌, ◌⊖◌, ◌⊗◌}
+use Rattle.nef_space.proofs.Machine.{load, wrap, exact_of}
+use Rattle.nef_space.proofs.Order.{abs_minus, abs_times}
+use Rattle.nef_space.proofs.Ring.{ring, at, num, ◌⊕◌, ◌⊖◌, ◌⊗◌}
 use Rattle.nef_space.specs.Limits.{half_side}
 use Rattle.nef_space.specs.Place.{Place, Form, form, form_at, toward, InClosedFrame, IsAhead}
 use Rattle.nef_space.specs.Vectors.{Vector, vector, dot}

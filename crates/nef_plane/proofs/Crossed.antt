@@ -1,14 +1,14 @@
 -- Not all carriers that hold a vertex are along one direction, and those that hold an edge only where the edge is; some carrier holds it.
 use Rattle.std.proofs.Common.{◌≡◌, ℕ, pos, sym, ◌∙◌, subst}
-use Rattle.law_arithmetic.specs.Signs.{Lies}
-use Rattle.law_arithmetic.proofs.Order.{nought-is}
+use Rattle.nef_space.specs.Signs.{Lies}
+use Rattle.nef_space.proofs.Order.{nought-is}
 use Rattle.nef_space.specs.Local.{Flat}
 use Rattle.nef_space.specs.Place.{Place, Form, form_at, slope, normal_of, toward, IsBetween}
 use Rattle.nef_space.specs.Sets.{Set}
 use Rattle.nef_space.specs.Vectors.{Vector, cross, IsZero, IsDirection}
 use Rattle.nef_geo.specs.Shapes.{form_of}
 use Rattle.nef_geo.specs.declared.plane.Plane.{Plane}
-use Rattle.law_forms.proofs.Directions.{dot-comm}
+use Rattle.law_near.proofs.Directions.{dot-comm}
 use Rattle.law_near.specs.Cells.{carriers}
 use Rattle.law_near.specs.Laws.{EdgeSupport}
 use Rattle.law_near.proofs.Edges.{start, start-between}

@@ -4,8 +4,8 @@ use Rattle.nef_space.specs.Place.{Place, Form, form_at, slope, normal_of, toward
 use Rattle.nef_space.specs.Sets.{Set}
 use Rattle.nef_space.specs.Vectors.{Vector, cross, IsZero, IsDirection}
 use Rattle.nef_geo.specs.Shapes.{place_of}
-use Rattle.law_forms.proofs.Between.{place-toward}
-use Rattle.law_forms.proofs.Directions.{direction-right}
+use Rattle.law_near.proofs.Mixed.{place-toward}
+use Rattle.law_near.proofs.Directions.{direction-right}
 use Rattle.law_near.proofs.Between.{between-inner}
 use Rattle.law_near.proofs.Rays.{same-place_sym}
 use Rattle.law_sphere.specs.Maps.{At}

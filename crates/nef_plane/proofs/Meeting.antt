@@ -1,10 +1,10 @@
 -- Where a ray along the axis of a plane meets a segment of the plane, or a point of it.
 use Rattle.std.proofs.Common.{◌≡◌, zero, suc, ℤ, pos, negsuc, neg_ℤ, ◌*ℤ◌, ◌<ℤ◌, List, ap, sym, ◌∙◌, arith, ◌⊎◌, inl, inr, ⊎_elim, refl, [], ◌∷◌}
 use Rattle.std.proofs.lemmas.Int.{ints}
-use Rattle.law_arithmetic.specs.Signs.{sign}
-use Rattle.law_arithmetic.proofs.Ring.{ring, at, num, ◌⊖◌, ◌⊗◌}
-use Rattle.law_arithmetic.proofs.Combination.{given, none, follows_times}
-use Rattle.law_arithmetic.proofs.Order.{nought-is}
+use Rattle.nef_space.specs.Signs.{sign}
+use Rattle.nef_space.proofs.Ring.{ring, at, num, ◌⊖◌, ◌⊗◌}
+use Rattle.nef_space.proofs.Combination.{given, none, follows_times}
+use Rattle.nef_space.proofs.Order.{nought-is}
 use Rattle.nef_space.specs.Place.{Place, Form, form_at, slope, normal_of, toward, SamePlace, IsAhead, IsBetween}
 use Rattle.nef_space.specs.Vectors.{Vector, dot, cross, IsZero, IsDirection}
 use Rattle.nef_geo.specs.Hits.{IsCrossing}
@@ -13,10 +13,10 @@ use Rattle.nef_geo.specs.Signs.{sign_of}
 use Rattle.nef_geo.specs.Steps.{HasOppositeSigns}
 use Rattle.nef_geo.specs.declared.plane.Plane.{Plane}
 use Rattle.nef_geo.proofs.Signs.{sign_of-positive, sign_of-negative}
-use Rattle.law_forms.proofs.Between.{between-same, toward-place, place-toward}
-use Rattle.law_forms.proofs.Directions.{zero-decided, dot-zero}
-use Rattle.law_forms.proofs.Far.{nought-or}
-use Rattle.law_forms.proofs.Near.{slope-toward}
+use Rattle.law_near.proofs.Mixed.{between-same, toward-place, place-toward}
+use Rattle.law_near.proofs.Directions.{zero-decided, dot-zero}
+use Rattle.law_near.proofs.Far.{nought-or}
+use Rattle.law_near.proofs.Near.{slope-toward}
 use Rattle.law_near.proofs.FlatDecided.{cross-turned}
 use Rattle.law_near.proofs.Rays.{sign-same, same-place_sym}
 use Rattle.law_sphere.proofs.KindFlats.{in-span}

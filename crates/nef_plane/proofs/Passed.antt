@@ -1,7 +1,7 @@
 -- What the course of a ray within a plane passes over, the ray doesn't meet.
 use Rattle.std.proofs.Common.{◌≡◌, ℕ, zero, suc, ◌+◌, ◌≤◌, ℤ, pos, negsuc, ◌<ℤ◌, ◌≤ℤ◌, arith, inl, inr, ⊎_elim, sym, ◌∙◌, subst}
 use Rattle.std.proofs.lemmas.Int.{ints}
-use Rattle.law_arithmetic.proofs.Order.{by_order, sign-plus, sign-minus, plus-is, minus-is}
+use Rattle.nef_space.proofs.Order.{by_order, sign-plus, sign-minus, plus-is, minus-is}
 use Rattle.nef_space.specs.Lists.{IsAt}
 use Rattle.nef_space.specs.Place.{Place, Form, form_at, SamePlace, InClosedFrame, IsAhead, IsBetween}
 use Rattle.nef_space.specs.Sets.{Set}

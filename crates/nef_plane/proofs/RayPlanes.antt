@@ -4,8 +4,8 @@ use Rattle.std.specs.Prelude.{IfSome}
 use Rattle.std.specs.Option.{MatchOption}
 use mir.Syntax.{w128}
 use mir.Val.{to_z, of_z}
-use Rattle.law_arithmetic.proofs.Machine.{load, const, wrap, ◌⊟◌, exact_of}
-use Rattle.law_arithmetic.proofs.Ring.{ring, at, num, ◌⊕◌, ◌⊖◌, ◌⊗◌}
+use Rattle.nef_space.proofs.Machine.{load, const, wrap, ◌⊟◌, exact_of}
+use Rattle.nef_space.proofs.Ring.{ring, at, num, ◌⊕◌, ◌⊖◌, ◌⊗◌}
 use Rattle.nef_space.specs.Limits.{direction_limit}
 use Rattle.nef_space.specs.Place.{form_at, toward}
 use Rattle.nef_space.specs.Sets.{Set}
@@ -17,8 +17,8 @@ use Rattle.nef_geo.specs.declared.plane.Plane.{Plane}
 use Rattle.nef_geo.specs.declared.point.Point.{Point}
 use Rattle.nef_geo.specs.declared.sign.Sign.{Sign}
 use Rattle.nef_geo.proofs.Places.{pos_size}
-use Rattle.law_forms.proofs.Between.{place-toward}
-use Rattle.law_forms.proofs.Directions.{dot-zero, dot-comm}
+use Rattle.law_near.proofs.Mixed.{place-toward}
+use Rattle.law_near.proofs.Directions.{dot-zero, dot-comm}
 use Rattle.law_near.proofs.Rays.{same-place_sym}
 use Rattle.law_sphere.specs.Maps.{At}
 use Rattle.law_complex.specs.Shows.{Shows}

@@ -9,7 +9,7 @@ use Rattle.nef_geo.specs.Shapes.{form_of, place_of, hit_place}
 use Rattle.nef_geo.specs.declared.hit.Hit.{Hit}
 use Rattle.nef_geo.specs.declared.plane.Plane.{Plane}
 use Rattle.law_sphere.specs.Maps.{At}
-use Rattle.law_forms.proofs.Between.{between-same}
+use Rattle.law_near.proofs.Mixed.{between-same}
 use Rattle.law_near.proofs.Rays.{same-place_sym}
 use Rattle.nef_smap.proofs.Lists.{map-at}
 use Rattle.law_complex.specs.Shows.{Shows}

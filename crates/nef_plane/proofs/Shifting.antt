@@ -2,7 +2,7 @@
 use Rattle.std.proofs.Common.{◌≡◌, ℤ, pos, ◌-ℤ◌, ◌*ℤ◌, nat_abs, ◌≤◌, w64, Bool, true, false, cond, ◌&&◌, sym, ap, ◌∙◌, [], ◌∷◌}
 use Rattle.std.specs.Ordering.{int_eq}
 use mir.Val.{to_z, of_z}
-use Rattle.law_arithmetic.proofs.Machine.{load, wrap, exact_of}
+use Rattle.nef_space.proofs.Machine.{load, wrap, exact_of}
 use Rattle.nef_space.specs.Place.{Place, form_at, toward}
 use Rattle.nef_space.specs.Vectors.{Vector, vector, dot}
 use Rattle.nef_geo.specs.Shapes.{form_of, place_of}

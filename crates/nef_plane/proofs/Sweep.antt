@@ -4,8 +4,8 @@ use Rattle.std.specs.Ordering.{int_eq}
 use Rattle.std.proofs.lemmas.Bool.Decides.{Decides-int_eq}
 use mir.Syntax.{w128}
 use mir.Val.{to_z, of_z}
-use Rattle.law_arithmetic.proofs.Machine.{load, wrap, exact_of}
-use Rattle.law_arithmetic.proofs.Ring.{ring, at, num, ◌⊕◌, ◌⊖◌, ◌⊗◌}
+use Rattle.nef_space.proofs.Machine.{load, wrap, exact_of}
+use Rattle.nef_space.proofs.Ring.{ring, at, num, ◌⊕◌, ◌⊖◌, ◌⊗◌}
 use Rattle.nef_space.specs.Limits.{direction_limit, point_limit, weight_limit}
 use Rattle.nef_space.specs.Place.{Place, form_at, plane_through, toward}
 use Rattle.nef_space.specs.Vectors.{Vector, vector, dot}

@@ -6,7 +6,7 @@ use Rattle.nef_space.specs.Vectors.{Vector}
 use Rattle.nef_geo.specs.Shapes.{form_of, place_of, far_place}
 use Rattle.nef_geo.specs.declared.hit.FarHit.{FarHit}
 use Rattle.nef_geo.specs.declared.plane.Plane.{Plane}
-use Rattle.law_forms.proofs.Between.{place-toward}
+use Rattle.law_near.proofs.Mixed.{place-toward}
 use Rattle.law_near.proofs.Rays.{same-place_sym}
 use Rattle.law_sphere.specs.Maps.{At}
 use Rattle.law_complex.specs.Shows.{Shows}

@@ -1,9 +1,9 @@
 -- Along a ray the label stays up to the first crossing of a carrier at which it changes; and it changes somewhere, since the ray leaves the frame.
 use Rattle.std.proofs.Common.{◌≡◌, ℕ, ◌*◌, ◌<◌, ◌≤◌, ℤ, pos, ◌+ℤ◌, ◌*ℤ◌, neg_ℤ, nat_abs, arith, refl, ap, sym, ◌∙◌, ◌⊎◌, inl, inr, ⊎_elim, [], ◌∷◌, subst}
 use Rattle.std.proofs.lemmas.Int.{ints}
-use Rattle.law_arithmetic.specs.Signs.{Sign, minus, nought, plus, sign, Lies}
-use Rattle.law_arithmetic.proofs.Ring.{ring, at, num, neg, ◌⊕◌, ◌⊗◌}
-use Rattle.law_arithmetic.proofs.Order.{nought-is, plus-is, minus-is, sign-plus, sign-minus, mul_nonneg}
+use Rattle.nef_space.specs.Signs.{Sign, minus, nought, plus, sign, Lies}
+use Rattle.nef_space.proofs.Ring.{ring, at, num, neg, ◌⊕◌, ◌⊗◌}
+use Rattle.nef_space.proofs.Order.{nought-is, plus-is, minus-is, sign-plus, sign-minus, mul_nonneg}
 use Rattle.nef_space.specs.Limits.{half_side}
 use Rattle.nef_space.specs.Local.{HasLabel, Germ}
 use Rattle.nef_space.specs.Place.{Place, Form, form_at, slope, Within, SamePlace, InFrame, InClosedFrame, toward, IsAhead, IsBetween}
@@ -11,9 +11,9 @@ use Rattle.nef_space.specs.Sets.{Set}
 use Rattle.nef_space.specs.Vectors.{Vector, blend, opposite, zero_vector, IsDirection, SameDirection}
 use Rattle.nef_space.specs.declared.label.Label.{Label}
 use Rattle.nef_space.specs.declared.label.Label.TheVariants.{Out}
-use Rattle.law_forms.proofs.Directions.{direction-left, factor-same}
-use Rattle.law_forms.proofs.Far.{nought-or}
-use Rattle.law_forms.proofs.Near.{reach_all}
+use Rattle.law_near.proofs.Directions.{direction-left, factor-same}
+use Rattle.law_near.proofs.Far.{nought-or}
+use Rattle.law_near.proofs.Near.{reach_all}
 use Rattle.law_near.specs.Cells.{sign_at, carriers}
 use Rattle.law_near.specs.Laws.{FirstChange}
 use Rattle.law_near.proofs.Alike.{germs-by_cell, flat-germ}

@@ -4,12 +4,12 @@ use Rattle.std.specs.List.{Contains}
 use Rattle.std.proofs.lemmas.Bool.{cases_lt}
 use Rattle.std.proofs.lemmas.List.Elements.{All-contains}
 use Rattle.std.proofs.lemmas.List.Sorted.{sorted_far}
-use Rattle.law_arithmetic.specs.Signs.{Lies}
+use Rattle.nef_space.specs.Signs.{Lies}
 use Rattle.nef_space.specs.Local.{Germ}
 use Rattle.nef_space.specs.Place.{Place, Form, SamePlace, InFrame, InClosedFrame, IsBetween}
 use Rattle.nef_space.specs.Sets.{Set}
 use Rattle.nef_space.specs.Vectors.{Vector}
-use Rattle.law_forms.proofs.Between.{between-same}
+use Rattle.law_near.proofs.Mixed.{between-same}
 use Rattle.nef_geo.specs.Hits.{IsCrossing}
 use Rattle.nef_geo.specs.Shapes.{form_of, vector_of, place_of, hit_place}
 use Rattle.nef_geo.specs.declared.plane.Plane.{Plane}

@@ -3,7 +3,7 @@ use Rattle.std.proofs.Common.{◌≡◌, ℤ, ◌*ℤ◌, ◌≤ℤ◌, ◌<ℤ�
 use Rattle.std.proofs.lemmas.Int.{ints}
 use Rattle.std.specs.Cmp.{IsStrictWeakOrder, int_ranks, int_cmp_is}
 use Rattle.std.specs.Ordering.{MatchOrdering, int_cmp, is_lt}
-use Rattle.law_arithmetic.proofs.Fractions.{fraction-le-trans}
+use Rattle.nef_space.proofs.Fractions.{fraction-le-trans}
 use Rattle.nef_space.specs.Place.{Place, SamePlace, IsAhead}
 use Rattle.nef_space.specs.Vectors.{Vector, IsDirection}
 use Rattle.nef_geo.specs.Hits.{IsReached}

@@ -6,9 +6,9 @@ use Rattle.nef_space.specs.Place.{Place, SamePlace, toward, IsAhead, IsBetween}
 use Rattle.nef_space.specs.Sets.{Set}
 use Rattle.nef_space.specs.Vectors.{Vector, opposite, SameDirection}
 use Rattle.nef_space.specs.declared.label.Label.{Label}
-use Rattle.law_forms.proofs.Between.{toward-place, place-decided}
-use Rattle.law_forms.proofs.Directions.{direction-left}
-use Rattle.law_forms.proofs.Near.{reach_all}
+use Rattle.law_near.proofs.Mixed.{toward-place, place-decided}
+use Rattle.law_near.proofs.Directions.{direction-left}
+use Rattle.law_near.proofs.Near.{reach_all}
 use Rattle.law_near.specs.Cells.{carriers}
 use Rattle.law_near.proofs.Edges.{start, start-close, start-between}
 use Rattle.law_near.proofs.Flats.{vector-same, germ-toward}

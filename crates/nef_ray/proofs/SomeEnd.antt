@@ -5,8 +5,8 @@ use Rattle.nef_space.specs.Place.{Place, InFrame, toward, IsAhead, IsBetween}
 use Rattle.nef_space.specs.Sets.{Set}
 use Rattle.nef_space.specs.Vectors.{Vector, IsDirection}
 use Rattle.nef_space.specs.declared.label.Label.{Label}
-use Rattle.law_forms.proofs.Between.{between-same}
-use Rattle.law_forms.proofs.Near.{reach_all}
+use Rattle.law_near.proofs.Mixed.{between-same}
+use Rattle.law_near.proofs.Near.{reach_all}
 use Rattle.law_near.specs.Cells.{carriers}
 use Rattle.law_near.specs.Laws.{FirstChange}
 use Rattle.law_near.proofs.Between.{between-turned, between-inner, label-along_ray}

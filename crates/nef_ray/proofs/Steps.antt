@@ -1,10 +1,10 @@
 -- The point where a ray crosses a plane, by the machine's numbers.
 use Rattle.std.proofs.Common.{◌≡◌, ℕ, ◌≤◌, ℤ, pos, ◌+ℤ◌, ◌*ℤ◌, ◌<ℤ◌, neg_ℤ, nat_abs, List, [], ◌∷◌, inl, inr, arith, refl, ap, sym, ◌∙◌, w64, to_z, of_z}
 use Rattle.std.proofs.lemmas.Int.{ints}
-use Rattle.law_arithmetic.specs.Signs.{sign}
-use Rattle.law_arithmetic.proofs.Machine.{Code, load, wrap, ◌⊞◌, ◌⊠◌, Limited, exact_of}
-use Rattle.law_arithmetic.proofs.Order.{mul_pos, nought-is}
-use Rattle.law_arithmetic.proofs.Ring.{ring, at, num, neg, ◌⊕◌, ◌⊗◌}
+use Rattle.nef_space.specs.Signs.{sign}
+use Rattle.nef_space.proofs.Machine.{Code, load, wrap, ◌⊞◌, ◌⊠◌, Limited, exact_of}
+use Rattle.nef_space.proofs.Order.{mul_pos, nought-is}
+use Rattle.nef_space.proofs.Ring.{ring, at, num, neg, ◌⊕◌, ◌⊗◌}
 use Rattle.nef_space.specs.Limits.{normal_limit, offset_limit, ray_direction_limit, ray_point_limit, ray_weight_limit}
 use Rattle.nef_space.specs.Place.{Place, Form, form_at, slope, SamePlace}
 use Rattle.nef_space.specs.Vectors.{Vector, IsAtMost}

@@ -1,8 +1,8 @@
 -- The map of a corner shows the set there.
 use Rattle.std.proofs.Common.{◌≡◌, neg_ℤ, arith, refl, sym, ◌∙◌, ap, ◌⊎◌, inl, inr, Bool, true, false, subst}
 use Rattle.std.proofs.lemmas.Int.{ints}
-use Rattle.law_arithmetic.specs.Signs.{Sign, minus, nought, plus, sign}
-use Rattle.law_arithmetic.proofs.Order.{sign-neg, sign_turned}
+use Rattle.nef_space.specs.Signs.{Sign, minus, nought, plus, sign}
+use Rattle.nef_space.proofs.Order.{sign-neg, sign_turned}
 use Rattle.nef_space.specs.Place.{Place, slope}
 use Rattle.nef_space.specs.Vectors.{Vector, dot}
 use Rattle.nef_space.specs.Sets.{Set}

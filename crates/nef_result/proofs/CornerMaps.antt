@@ -1,7 +1,7 @@
 -- The maps at the sides and the corners of the frame, from what their makers promise.
 use Rattle.std.proofs.Common.{◌≡◌, ℕ, zero, suc, ◌+◌, ◌-◌, ◌<◌, ℤ, pos, ◌*ℤ◌, ◌<ℤ◌, arith, refl, sym, ◌∙◌, ap, ◌↔◌, Bool, true, false, List, [], ◌∷◌, ◌++◌, map, take, Some, w64, to_z, of_z}
 use Rattle.std.proofs.lemmas.Int.{ints}
-use Rattle.law_arithmetic.specs.Signs.{sign}
+use Rattle.nef_space.specs.Signs.{sign}
 use Rattle.nef_space.specs.Lists.{IsAt}
 use Rattle.nef_space.specs.Place.{Form, SamePlace}
 use Rattle.nef_space.specs.Vectors.{Vector, dot, IsDirection}

@@ -1,8 +1,8 @@
 -- The frame's corners are vertices of every set, and the only ones of a set that holds all of the frame or nothing of it.
 use Rattle.std.proofs.Common.{◌≡◌, ℤ, pos, negsuc, neg_ℤ, ◌+ℤ◌, ◌*ℤ◌, ◌<ℤ◌, arith, refl, sym, ◌∙◌, ap, ◌⊎◌, inl, inr, ⊎_elim, Bool, true, false, not, subst}
 use Rattle.std.proofs.lemmas.Int.{ints}
-use Rattle.law_arithmetic.specs.Signs.{minus, nought, sign}
-use Rattle.law_arithmetic.proofs.Order.{minus-is, nought-is, sign-minus, mul_pos, by_order}
+use Rattle.nef_space.specs.Signs.{minus, nought, sign}
+use Rattle.nef_space.proofs.Order.{minus-is, nought-is, sign-minus, mul_pos, by_order}
 use Rattle.nef_space.specs.Place.{Place, Form, form_at, slope}
 use Rattle.nef_space.specs.Vectors.{Vector, vector, IsDirection}
 use Rattle.nef_space.specs.Sets.{Set}

@@ -1,9 +1,9 @@
 -- The germs of a half are those of the frame and of its plane.
 use Rattle.std.proofs.Common.{◌≡◌, ℕ, zero, suc, ◌+◌, ℤ, pos, negsuc, neg_ℤ, nat_abs, ◌<ℤ◌, ◌≤◌, arith, refl, sym, ◌∙◌, ap, ◌↔◌, Bool, true, false, cond, not, subst, [], ◌∷◌, w64, to_z, of_z}
 use Rattle.std.proofs.lemmas.Int.{ints}
-use Rattle.law_arithmetic.specs.Signs.{Sign, minus, nought, plus, sign}
-use Rattle.law_arithmetic.proofs.Order.{sign-neg, sign_turned, minus-is, nought-is, plus-is}
-use Rattle.law_arithmetic.proofs.Ring.{ring, at, neg, ◌⊕◌, ◌⊗◌}
+use Rattle.nef_space.specs.Signs.{Sign, minus, nought, plus, sign}
+use Rattle.nef_space.proofs.Order.{sign-neg, sign_turned, minus-is, nought-is, plus-is}
+use Rattle.nef_space.proofs.Ring.{ring, at, neg, ◌⊕◌, ◌⊗◌}
 use Rattle.nef_space.specs.Limits.{normal_limit}
 use Rattle.nef_space.specs.Local.{HasLabel, Germ, IsShort}
 use Rattle.nef_space.specs.Place.{Place, Form, Ratio, step, form_at, slope, normal_of}
@@ -17,8 +17,8 @@ use Rattle.nef_geo.specs.declared.plane.Plane.{Plane}
 use Rattle.nef_geo.specs.declared.plane.Oriented.{Oriented}
 use Rattle.nef_geo.specs.declared.sign.Sign.TheVariants.{Minus, Zero, Plus}
 use Rattle.nef_geo.proofs.Products.{kept}
-use Rattle.law_forms.specs.Near.{span}
-use Rattle.law_forms.proofs.Near.{ray-level, ray-keeps}
+use Rattle.law_near.specs.Near.{span}
+use Rattle.law_near.proofs.Near.{ray-level, ray-keeps}
 use Rattle.law_near.specs.Cells.{sign_at}
 use Rattle.law_near.proofs.Combine.{shorter}
 use Rattle.law_build.proofs.SideLabels.{side-same_way}

@@ -1,8 +1,8 @@
 -- The corners in order, and the planes of the frame in order.
 use Rattle.std.proofs.Common.{◌≡◌, ℕ, zero, suc, ℤ, pos, ◌*ℤ◌, ◌<ℤ◌, arith, refl, ◌⊎◌, inl, inr, Bool, true, false, subst, List, [], ◌∷◌, ◌++◌, Some, None}
 use Rattle.std.proofs.lemmas.Int.{ints}
-use Rattle.law_arithmetic.proofs.Ring.{ring, at, num, ◌⊖◌, ◌⊗◌}
-use Rattle.law_arithmetic.proofs.Order.{lt_by, mul_pos}
+use Rattle.nef_space.proofs.Ring.{ring, at, num, ◌⊖◌, ◌⊗◌}
+use Rattle.nef_space.proofs.Order.{lt_by, mul_pos}
 use Rattle.nef_space.specs.Lists.{IsAt}
 use Rattle.nef_space.specs.Limits.{half_side}
 use Rattle.nef_space.specs.Numbers.{IsBelow}

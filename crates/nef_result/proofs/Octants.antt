@@ -5,8 +5,8 @@ use Rattle.nef_space.specs.Vectors.{Vector, vector, dot, cross, triple}
 use Rattle.nef_space.specs.declared.label.Label.{Label}
 use Rattle.nef_space.specs.declared.label.Label.TheVariants.{Out}
 use Rattle.law_cyclic.specs.Arcs.{IsStrictlyOn}
-use Rattle.law_forms.proofs.Directions.{dot-zero}
-use Rattle.law_arithmetic.proofs.Ring.{ring, at, num, neg, ◌⊕◌, ◌⊖◌, ◌⊗◌}
+use Rattle.law_near.proofs.Directions.{dot-zero}
+use Rattle.nef_space.proofs.Ring.{ring, at, num, neg, ◌⊕◌, ◌⊖◌, ◌⊗◌}
 use Rattle.law_sphere.specs.Maps.{At, MapVertex, Arc, Map, Item, arc_item, items, dir_of, OnItem}
 use Rattle.nef_result.specs.Ends.{Ends, ends}
 use Rattle.nef_result.proofs.Walls.{Axis, on_x, on_y, on_z}

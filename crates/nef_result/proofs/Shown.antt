@@ -1,8 +1,8 @@
 -- The corners are the vertices of a set that holds all of the frame or nothing of it.
 use Rattle.std.proofs.Common.{◌≡◌, ℕ, zero, suc, pos, neg_ℤ, arith, refl, Bool, true, false, subst, List, map}
 use Rattle.std.proofs.lemmas.Int.{ints}
-use Rattle.law_arithmetic.specs.Signs.{Lies}
-use Rattle.law_arithmetic.proofs.Lists.{lies-left}
+use Rattle.nef_space.specs.Signs.{Lies}
+use Rattle.nef_space.proofs.Lists.{lies-left}
 use Rattle.nef_space.specs.Place.{Place, Form, form, SamePlace, IsPlaceBelow}
 use Rattle.nef_space.specs.Limits.{half_side}
 use Rattle.nef_space.specs.Sets.{Set, halves}

@@ -1,15 +1,15 @@
 -- The sides of the frame by their axis and end, and the germs of a set that holds all of the frame or nothing of it.
 use Rattle.std.proofs.Common.{◌≡◌, pos, negsuc, arith, refl, sym, ◌∙◌, ◌⊎◌, inl, inr, Bool, true, false, subst}
 use Rattle.std.proofs.lemmas.Int.{ints}
-use Rattle.law_arithmetic.specs.Signs.{Sign, minus, nought, sign, Lies}
-use Rattle.law_arithmetic.proofs.Lists.{lies-left}
+use Rattle.nef_space.specs.Signs.{Sign, minus, nought, sign, Lies}
+use Rattle.nef_space.proofs.Lists.{lies-left}
 use Rattle.nef_space.specs.Place.{Place, Form, slope, step, InFrame}
 use Rattle.nef_space.specs.Vectors.{Vector}
 use Rattle.nef_space.specs.Sets.{Set, halves, Holds}
 use Rattle.nef_space.specs.Local.{HasLabel, Germ}
 use Rattle.nef_space.specs.declared.label.Label.{Label}
 use Rattle.nef_space.specs.declared.label.Label.TheVariants.{Out, Not, In}
-use Rattle.law_forms.proofs.Near.{reach_all, step-within}
+use Rattle.law_near.proofs.Near.{reach_all, step-within}
 use Rattle.law_near.specs.Cells.{sign_at, side, frame, carriers}
 use Rattle.law_near.proofs.Cells.{keeps-all, coordinate-in}
 use Rattle.law_near.proofs.Decided.{label_of}

@@ -1,6 +1,6 @@
 -- The corners of the frame by the ends of its axes, and what the program's maps and vertices there say.
 use Rattle.std.specs.Prelude.{◌≡◌, pos, ℤ, neg_ℤ, ◌*ℤ◌, List, [], ◌∷◌, Bool, true, false}
-use Rattle.law_arithmetic.specs.Signs.{Sign, sign}
+use Rattle.nef_space.specs.Signs.{Sign, sign}
 use Rattle.nef_space.specs.Limits.{half_side}
 use Rattle.nef_space.specs.Place.{Place}
 use Rattle.nef_space.specs.Vectors.{Vector, vector, dot, IsDirection}

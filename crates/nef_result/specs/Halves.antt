@@ -1,6 +1,6 @@
 -- The labels of a half by the side of its plane.
 use Rattle.std.specs.Prelude.{◌≡◌, Bool, true, false}
-use Rattle.law_arithmetic.specs.Signs.{Sign, minus, nought, plus, sign}
+use Rattle.nef_space.specs.Signs.{Sign, minus, nought, plus, sign}
 use Rattle.nef_space.specs.Place.{Form, slope}
 use Rattle.nef_space.specs.Vectors.{Vector, IsDirection}
 use Rattle.nef_space.specs.declared.label.Label.{Label}

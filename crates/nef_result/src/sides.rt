@@ -1,7 +1,7 @@
 //! The planes of the frame, and their maps.
 
 ghost use Rattle.std.specs.Prelude.{◌≡◌, IfOk, map};
-ghost use Rattle.law_arithmetic.specs.Signs.{Lies};
+ghost use Rattle.nef_space.specs.Signs.{Lies};
 ghost use Rattle.nef_geo.specs.Shapes.{vector_of, form_of};
 ghost use Rattle.nef_result.specs.Ends.{axes, IsWall};
 ghost use Rattle.nef_result.specs.Planes.{sorted_sides};

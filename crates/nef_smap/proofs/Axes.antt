@@ -1,7 +1,7 @@
 -- Signs of the program's products, and directions along the coordinate axes.
 use Rattle.std.proofs.Common.{◌≡◌, ◌≢◌, ℤ, pos, ◌<ℤ◌, arith, ap, sym, ◌∙◌, subst}
 use Rattle.std.proofs.lemmas.Int.{ints}
-use Rattle.law_arithmetic.proofs.Order.{minus, nought, plus, sign, plus-is, minus-is, nought-is}
+use Rattle.nef_space.proofs.Order.{minus, nought, plus, sign, plus-is, minus-is, nought-is}
 use Rattle.nef_space.specs.Vectors.{Vector, vector, IsZero, cross, triple, dot, up, opposite}
 use Rattle.law_near.proofs.FlatDecided.{triple-dot}
 use Rattle.nef_geo.specs.Signs.{sign_of}

@@ -1,14 +1,14 @@
 -- What lies over the directions close to one direction has one label.
 use Rattle.std.proofs.Common.{◌≡◌, ℕ, ℤ, pos, ◌+ℤ◌, ◌-ℤ◌, ◌*ℤ◌, ◌≤ℤ◌, ◌<ℤ◌, arith, ap, sym, ◌∙◌, ◌⊎◌, inl, inr, ⊎_elim, [], ◌∷◌, subst, Option, Some, None}
 use Rattle.std.proofs.lemmas.Int.{ints}
-use Rattle.law_arithmetic.proofs.Ring.{ring, at, num, ◌⊕◌, ◌⊖◌, ◌⊗◌}
-use Rattle.law_arithmetic.proofs.Order.{minus, sign, sign-plus, sign-minus, by_order, mul_pos, cancel_lt, sign-scaled}
-use Rattle.law_arithmetic.specs.Signs.{Lies}
+use Rattle.nef_space.proofs.Ring.{ring, at, num, ◌⊕◌, ◌⊖◌, ◌⊗◌}
+use Rattle.nef_space.proofs.Order.{minus, sign, sign-plus, sign-minus, by_order, mul_pos, cancel_lt, sign-scaled}
+use Rattle.nef_space.specs.Signs.{Lies}
 use Rattle.nef_space.specs.Vectors.{Vector, IsDirection, cross, dot, SameDirection, opposite}
 use Rattle.nef_space.specs.declared.label.Label.{Label}
 use Rattle.law_near.proofs.Decided.{Decided}
-use Rattle.law_forms.proofs.Directions.{self-pos}
-use Rattle.law_forms.proofs.Far.{same-off, same-nought}
+use Rattle.law_near.proofs.Directions.{self-pos}
+use Rattle.law_near.proofs.Far.{same-off, same-nought}
 use Rattle.law_sphere.specs.Maps.{At, MapVertex, Map, Item, items, item_normal, Side, Shaped}
 use Rattle.law_sphere.specs.Forms.{Keeps}
 use Rattle.law_sphere.proofs.Vectors.{same-plus, same-minus, negative-or}

@@ -1,8 +1,8 @@
 -- The first item that is met, item by item.
 use Rattle.std.proofs.Common.{◌≡◌, ℕ, ◌+◌, pos, ◌-ℤ◌, ◌*ℤ◌, ◌≤ℤ◌, ◌<ℤ◌, arith, sym, ◌∙◌, ⊎_elim, length, [], ◌∷◌, subst, Option, Some, None}
 use Rattle.std.proofs.lemmas.Int.{ints}
-use Rattle.law_arithmetic.proofs.Ring.{ring, at, num, ◌⊕◌, ◌⊖◌, ◌⊗◌}
-use Rattle.law_arithmetic.proofs.Fractions.{fraction-le-trans}
+use Rattle.nef_space.proofs.Ring.{ring, at, num, ◌⊕◌, ◌⊖◌, ◌⊗◌}
+use Rattle.nef_space.proofs.Fractions.{fraction-le-trans}
 use Rattle.nef_space.specs.Vectors.{Vector, dot}
 use Rattle.law_sphere.specs.Maps.{At, Map, Item, items, item_normal}
 use Rattle.law_sphere.proofs.Lists.{at-one}

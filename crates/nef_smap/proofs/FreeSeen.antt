@@ -4,16 +4,16 @@ use Rattle.std.specs.Bool.{IsTrue}
 use Rattle.nef_arc.proofs.SignNumbers.{not_true}
 use Rattle.nef_space.specs.Limits.{normal_limit}
 use Rattle.std.proofs.lemmas.Int.{ints}
-use Rattle.law_arithmetic.proofs.Ring.{ring, at, num, ◌⊕◌, ◌⊖◌, ◌⊗◌}
-use Rattle.law_arithmetic.proofs.Combination.{follows, given, none}
-use Rattle.law_arithmetic.proofs.Order.{sign, nought-is, by_order, mul_pos}
+use Rattle.nef_space.proofs.Ring.{ring, at, num, ◌⊕◌, ◌⊖◌, ◌⊗◌}
+use Rattle.nef_space.proofs.Combination.{follows, given, none}
+use Rattle.nef_space.proofs.Order.{sign, nought-is, by_order, mul_pos}
 use Rattle.nef_space.specs.Vectors.{Vector, vector, IsDirection, IsNormal, IsAtMost, triple, cross, dot, blend, up as upward}
 use Rattle.nef_space.specs.declared.label.Label.{Label}
 use Rattle.law_near.proofs.FlatDecided.{triple-in_plane}
 use Rattle.law_near.proofs.Meets.{cross-none}
 use Rattle.nef_space.specs.Lists.{IsAt}
-use Rattle.law_forms.proofs.Directions.{self-pos, square_pos}
-use Rattle.law_forms.proofs.Far.{nought-or, same-off}
+use Rattle.law_near.proofs.Directions.{self-pos, square_pos}
+use Rattle.law_near.proofs.Far.{nought-or, same-off}
 use Rattle.law_sphere.specs.Maps.{At, MapVertex, Arc, MapSloop, Map, Item, arc_item, sloop_item, items, items_then, item_normal, dir_of, OnItem, IsFree, IsClear, around_svertex, pos_item, neg_item, whole, Sees, directly, by_way_of, HasArc, Shaped}
 use Rattle.law_sphere.specs.Forms.{Keeps, forms, gather}
 use Rattle.law_sphere.proofs.Vectors.{normal-is, direction-by}

@@ -2,14 +2,14 @@
 use Rattle.std.proofs.Common.{◌≡◌, ℕ, zero, suc, ◌<◌, ℤ, pos, ◌*ℤ◌, ◌<ℤ◌, arith, ap, sym, ◌∙◌, List, [], ◌∷◌, length, map, slice_get, subst, Some}
 use Rattle.std.proofs.lemmas.Int.{ints}
 use Rattle.std.proofs.lemmas.List.{length-map}
-use Rattle.law_arithmetic.proofs.Ring.{ring, at, num, ◌⊕◌, ◌⊖◌, ◌⊗◌}
-use Rattle.law_arithmetic.proofs.Combination.{follows, given, none}
-use Rattle.law_arithmetic.proofs.Order.{mul_pos}
+use Rattle.nef_space.proofs.Ring.{ring, at, num, ◌⊕◌, ◌⊖◌, ◌⊗◌}
+use Rattle.nef_space.proofs.Combination.{follows, given, none}
+use Rattle.nef_space.proofs.Order.{mul_pos}
 use Rattle.nef_space.specs.Limits.{normal_limit, svertex_limit}
 use Rattle.nef_space.specs.Vectors.{Vector, IsDirection, IsZero, IsAtMost, cross, triple, dot, up, opposite, SameDirection}
 use Rattle.law_near.proofs.FlatDecided.{triple-dot}
-use Rattle.law_forms.proofs.Directions.{self-pos, dot-zero, direction-left}
-use Rattle.law_forms.proofs.Far.{same-nought}
+use Rattle.law_near.proofs.Directions.{self-pos, dot-zero, direction-left}
+use Rattle.law_near.proofs.Far.{same-nought}
 use Rattle.nef_geo.specs.Shapes.{vector_of}
 use Rattle.law_sphere.specs.Maps.{At, MapVertex, Item, arc_item, items, item_normal}
 use Rattle.law_sphere.proofs.Vectors.{same-plus}

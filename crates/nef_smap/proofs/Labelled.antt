@@ -1,9 +1,9 @@
 -- The label of a free direction: of what lies over it. It is a labelling, which the signs of finitely many forms determine.
 use Rattle.std.proofs.Common.{◌≡◌, ℕ, pos, ◌<ℤ◌, refl, ap, sym, ◌∙◌, inl, inr, List, [], ◌∷◌, ◌++◌, Option}
-use Rattle.law_arithmetic.proofs.Ring.{ring, at, ◌⊕◌, ◌⊖◌, ◌⊗◌}
-use Rattle.law_arithmetic.proofs.Order.{sign}
-use Rattle.law_arithmetic.proofs.Lists.{lies-left, lies-right}
-use Rattle.law_arithmetic.specs.Signs.{Lies}
+use Rattle.nef_space.proofs.Ring.{ring, at, ◌⊕◌, ◌⊖◌, ◌⊗◌}
+use Rattle.nef_space.proofs.Order.{sign}
+use Rattle.nef_space.proofs.Lists.{lies-left, lies-right}
+use Rattle.nef_space.specs.Signs.{Lies}
 use Rattle.nef_space.specs.Vectors.{Vector, cross, dot}
 use Rattle.nef_space.specs.declared.label.Label.{Label}
 use Rattle.nef_space.specs.declared.label.Label.TheVariants.{Out}

@@ -4,12 +4,12 @@ use Rattle.std.specs.Ordering.{int_eq}
 use Rattle.std.proofs.lemmas.Bool.Decides.{Decides-int_eq}
 use Rattle.std.proofs.lemmas.Int.{ints, to_z-of_z}
 use mir.Syntax.{w128}
-use Rattle.law_arithmetic.proofs.Ring.{ring, at, num, ◌⊕◌, ◌⊖◌, ◌⊗◌}
-use Rattle.law_arithmetic.proofs.Order.{Sign, minus, nought, plus, sign, sign-scaled, sign_of_product, sign_turned, sign_times, sign-neg, abs_plus, abs_times}
+use Rattle.nef_space.proofs.Ring.{ring, at, num, ◌⊕◌, ◌⊖◌, ◌⊗◌}
+use Rattle.nef_space.proofs.Order.{Sign, minus, nought, plus, sign, sign-scaled, sign_of_product, sign_turned, sign_times, sign-neg, abs_plus, abs_times}
 use Rattle.nef_geo.specs.Signs.{sign_of}
 use Rattle.nef_geo.specs.declared.sign.Sign.{Sign as Answer}
 use Rattle.nef_geo.specs.declared.sign.Sign.TheVariants.{Minus, Zero, Plus}
-use Rattle.law_forms.proofs.Far.{nought-or, same-nought, same-off, sign-large, sign-level}
+use Rattle.law_near.proofs.Far.{nought-or, same-nought, same-off, sign-large, sign-level}
 use Rattle.nef_smap.specs.Linear.{leading_of, turn_value, AreAtMost, IsLarge}
 use Rattle.nef_smap.specs.declared.linear.Values.{Values}
 

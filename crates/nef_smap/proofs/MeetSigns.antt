@@ -1,7 +1,7 @@
 -- The signs of forms where a way meets a plane, from their values at its ends.
 use Rattle.std.proofs.Common.{◌≡◌, ℕ, ℤ, pos, neg_ℤ, ◌+ℤ◌, ◌-ℤ◌, ◌*ℤ◌, ◌<ℤ◌, refl, ap, sym, ◌∙◌, [], ◌∷◌, ◌↔◌, arith}
 use Rattle.std.proofs.lemmas.Int.{ints}
-use Rattle.law_arithmetic.proofs.Ring.{ring, at, num, neg, ◌⊕◌, ◌⊖◌, ◌⊗◌}
+use Rattle.nef_space.proofs.Ring.{ring, at, num, neg, ◌⊕◌, ◌⊖◌, ◌⊗◌}
 use Rattle.nef_space.specs.Vectors.{Vector, triple, cross, dot}
 use Rattle.nef_geo.specs.Signs.{sign_of, sign_number}
 use Rattle.nef_geo.specs.declared.sign.Sign.{Sign}

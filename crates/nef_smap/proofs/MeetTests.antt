@@ -2,11 +2,11 @@
 use Rattle.std.proofs.Common.{◌≡◌, ℕ, ◌+◌, ◌<◌, pos, ◌-ℤ◌, ◌*ℤ◌, ◌<ℤ◌, arith, ap, ◌∙◌, ⊎_elim, [], ◌∷◌, subst}
 use Rattle.std.proofs.lemmas.Int.{ints}
 use Rattle.std.proofs.Math.Nat.{eq-or-lt_of_le}
-use Rattle.law_arithmetic.proofs.Ring.{ring, at, num, ◌⊕◌, ◌⊖◌, ◌⊗◌}
-use Rattle.law_arithmetic.proofs.Order.{sign, sign-scaled}
+use Rattle.nef_space.proofs.Ring.{ring, at, num, ◌⊕◌, ◌⊖◌, ◌⊗◌}
+use Rattle.nef_space.proofs.Order.{sign, sign-scaled}
 use Rattle.nef_space.specs.Vectors.{Vector, IsDirection, dot, cross}
 use Rattle.law_near.proofs.Meets.{cross-none}
-use Rattle.law_forms.proofs.Directions.{square_pos}
+use Rattle.law_near.proofs.Directions.{square_pos}
 use Rattle.law_sphere.specs.Maps.{At, Map, Item, items, item_normal, OnItem}
 use Rattle.law_sphere.proofs.Lists.{at-one}
 use Rattle.law_sphere.proofs.Forms.{on-level, OnItem-by_signs}

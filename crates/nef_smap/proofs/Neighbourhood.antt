@@ -1,6 +1,6 @@
 -- Stars of directions in faces and on items show the map.
 use Rattle.std.proofs.Common.{◌≡◌, ℕ, zero, List, [], ◌∷◌, length, map, pos, true, false, Option, Some, None, Result, Ok, Err, IfOk, refl, sym, ap, subst, ◌∙◌}
-use Rattle.law_arithmetic.proofs.Order.{sign}
+use Rattle.nef_space.proofs.Order.{sign}
 use Rattle.nef_space.specs.Limits.{normal_limit, svertex_limit}
 use Rattle.nef_space.specs.Vectors.{Vector, dot, cross, IsDirection, SameDirection, IsAtMost, IsNormal}
 use Rattle.nef_space.specs.Lists.{IsAt}

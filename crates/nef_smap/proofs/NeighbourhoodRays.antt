@@ -1,12 +1,12 @@
 -- The labels near a svertex: on a ray, and in the sector after it.
 use Rattle.std.proofs.Common.{◌≡◌, ℕ, ◌+◌, ◌≤◌, List, pos, arith, refl, sym, ap, ◌∙◌, ⊎_elim}
-use Rattle.law_arithmetic.proofs.Order.{sign, sign-scaled}
+use Rattle.nef_space.proofs.Order.{sign, sign-scaled}
 use Rattle.nef_space.specs.Vectors.{Vector, IsDirection, cross, dot, SameDirection, blend}
 use Rattle.nef_space.specs.declared.label.Label.{Label}
 use Rattle.law_cyclic.specs.Arcs.{IsOnCircle}
 use Rattle.law_cyclic.proofs.Directions.{level_cross_first, same-first}
-use Rattle.law_forms.proofs.Directions.{self-pos}
-use Rattle.law_forms.proofs.Far.{nought-or}
+use Rattle.law_near.proofs.Directions.{self-pos}
+use Rattle.law_near.proofs.Far.{nought-or}
 use Rattle.law_sphere.specs.Maps.{At, MapVertex, Map, arc_item, HasSide, on_item, seen, NearLabel, Valid}
 use Rattle.law_sphere.specs.Sectors.{ArcRay, ray_left, ray_side, Unrayed, IsLastRay}
 use Rattle.law_sphere.specs.Forms.{SameSigns, forms}

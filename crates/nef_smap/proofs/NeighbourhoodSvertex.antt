@@ -7,7 +7,7 @@ use Rattle.nef_space.specs.declared.label.Label.{Label}
 use Rattle.law_cyclic.specs.Arcs.{IsOnCircle, IsStrictlyOn, Passes}
 use Rattle.law_cyclic.proofs.Cyclic.{order_is_transitive}
 use Rattle.law_cyclic.proofs.Directions.{dot-opposite, level_cross_first}
-use Rattle.law_forms.proofs.Directions.{dot-comm, self-pos}
+use Rattle.law_near.proofs.Directions.{dot-comm, self-pos}
 use Rattle.nef_geo.specs.Shapes.{vector_of}
 use Rattle.nef_geo.specs.declared.dir.Dir.{Dir}
 use Rattle.law_sphere.specs.Maps.{At, MapVertex, Arc, Map, arc_item, items, OnItem, HasArc, HasSide, at_svertex, NearLabel, Valid}

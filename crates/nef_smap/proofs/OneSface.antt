@@ -1,13 +1,13 @@
 -- Labels of sides that agree at the joins are the same for all sides of one sface.
 use Rattle.std.proofs.Common.{◌≡◌, ℕ, ◌+◌, pos, ◌<ℤ◌, arith, refl, ap, sym, ◌∙◌, inl, inr, ⊎_elim, List, [], ◌∷◌, subst, Option, Some, None}
 use Rattle.std.proofs.lemmas.Int.{ints}
-use Rattle.law_arithmetic.proofs.Order.{sign, nought-is}
-use Rattle.law_arithmetic.specs.Signs.{Lies}
+use Rattle.nef_space.proofs.Order.{sign, nought-is}
+use Rattle.nef_space.specs.Signs.{Lies}
 use Rattle.nef_space.specs.Vectors.{Vector, IsDirection, IsZero, cross, dot, opposite}
 use Rattle.nef_space.specs.declared.label.Label.{Label}
 use Rattle.nef_space.specs.declared.label.Label.TheVariants.{Out}
 use Rattle.law_near.proofs.FlatDecided.{cross-turned}
-use Rattle.law_forms.proofs.Directions.{zero-decided}
+use Rattle.law_near.proofs.Directions.{zero-decided}
 use Rattle.law_cyclic.specs.Arcs.{IsStrictlyOn}
 use Rattle.law_sphere.specs.Maps.{At, MapVertex, MapSloop, Map, Item, arc_item, sloop_item, items, item_normal, dir_of, OnItem, IsFree, Side, around_svertex, pos_item, neg_item, whole, HasArc, HasSide, Sees, Shaped}
 use Rattle.law_sphere.specs.Labelling.{Labelling, Near, Plain, PlainAt, StraightAt, IsSmooth, straight}

@@ -1,10 +1,10 @@
 -- What lies over a direction close to d lies over d, or ends over d.
 use Rattle.std.proofs.Common.{◌≡◌, ℕ, pos, ◌-ℤ◌, ◌*ℤ◌, ◌<ℤ◌, arith, refl, ap, sym, ◌∙◌, ◌⊎◌, inl, inr, ⊎_elim, [], ◌∷◌, subst, Option, Some, None}
 use Rattle.std.proofs.lemmas.Int.{ints}
-use Rattle.law_arithmetic.proofs.Ring.{ring, at, num, ◌⊕◌, ◌⊖◌, ◌⊗◌}
-use Rattle.law_arithmetic.proofs.Combination.{follows, given, none}
-use Rattle.law_arithmetic.proofs.Order.{sign, by_order, sign-scaled}
-use Rattle.law_forms.proofs.Far.{same-nought}
+use Rattle.nef_space.proofs.Ring.{ring, at, num, ◌⊕◌, ◌⊖◌, ◌⊗◌}
+use Rattle.nef_space.proofs.Combination.{follows, given, none}
+use Rattle.nef_space.proofs.Order.{sign, by_order, sign-scaled}
+use Rattle.law_near.proofs.Far.{same-nought}
 use Rattle.nef_space.specs.Vectors.{Vector, IsDirection, dot, SameDirection}
 use Rattle.law_sphere.specs.Maps.{At, MapVertex, Arc, Map, Item, arc_item, sloop_item, items, item_normal, dir_of, OnItem, Shaped}
 use Rattle.law_sphere.specs.Forms.{SameSigns, Keeps, forms}

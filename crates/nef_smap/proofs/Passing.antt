@@ -1,13 +1,13 @@
 -- Whether the way up from a direction passes an arc, by on which sides of its meridian the ends of the arc lie.
 use Rattle.std.proofs.Common.{◌≡◌, pos, ◌-ℤ◌, ◌*ℤ◌, ◌<ℤ◌, arith, ap, sym, inl, inr, ⊎_elim, [], ◌∷◌, subst}
 use Rattle.std.proofs.lemmas.Int.{ints}
-use Rattle.law_arithmetic.proofs.Ring.{at, num, ◌⊕◌, ◌⊖◌, ◌⊗◌}
-use Rattle.law_arithmetic.proofs.Combination.{follows, given, none}
-use Rattle.law_arithmetic.proofs.Order.{Sign, minus, plus, sign, sign-plus, sign-minus, plus-is, minus-is, by_order, mul_pos, mul_neg}
+use Rattle.nef_space.proofs.Ring.{at, num, ◌⊕◌, ◌⊖◌, ◌⊗◌}
+use Rattle.nef_space.proofs.Combination.{follows, given, none}
+use Rattle.nef_space.proofs.Order.{Sign, minus, plus, sign, sign-plus, sign-minus, plus-is, minus-is, by_order, mul_pos, mul_neg}
 use Rattle.nef_space.specs.Vectors.{Vector, IsDirection, cross, triple, dot, SameDirection, IsOpposite}
 use Rattle.law_near.proofs.Decided.{Decided}
 use Rattle.law_near.proofs.FlatDecided.{cross-turned}
-use Rattle.law_forms.proofs.Directions.{self-pos, dot-zero}
+use Rattle.law_near.proofs.Directions.{self-pos, dot-zero}
 use Rattle.law_cyclic.specs.Arcs.{IsStrictlyOn}
 use Rattle.law_sphere.proofs.Parallel.{parallel-in_plane}
 use Rattle.law_sphere.proofs.Shot.{product-off}

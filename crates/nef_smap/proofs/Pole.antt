@@ -1,14 +1,14 @@
 -- The directions u and -u are plain by what lies over close directions.
 use Rattle.std.proofs.Common.{◌≡◌, ℕ, ◌<◌, ◌≤◌, ℤ, pos, ◌+ℤ◌, ◌-ℤ◌, ◌*ℤ◌, ◌≤ℤ◌, ◌<ℤ◌, arith, refl, ap, sym, ◌∙◌, ⊎_elim, List, [], ◌∷◌, subst, None}
 use Rattle.std.proofs.lemmas.Int.{ints}
-use Rattle.law_arithmetic.proofs.Ring.{ring, at, num, neg, ◌⊕◌, ◌⊖◌, ◌⊗◌}
-use Rattle.law_arithmetic.proofs.Combination.{follows, given, none}
-use Rattle.law_arithmetic.proofs.Order.{sign, by_order, mul_pos, mul_nonneg, mul_neg}
-use Rattle.law_arithmetic.specs.Signs.{Lies}
+use Rattle.nef_space.proofs.Ring.{ring, at, num, neg, ◌⊕◌, ◌⊖◌, ◌⊗◌}
+use Rattle.nef_space.proofs.Combination.{follows, given, none}
+use Rattle.nef_space.proofs.Order.{sign, by_order, mul_pos, mul_nonneg, mul_neg}
+use Rattle.nef_space.specs.Signs.{Lies}
 use Rattle.nef_space.specs.Vectors.{Vector, IsDirection, IsZero, cross, dot, SameDirection, IsOpposite, opposite, blend}
 use Rattle.nef_space.specs.declared.label.Label.{Label}
-use Rattle.law_forms.proofs.Directions.{self-pos, dot-comm, dot-zero, zero-dot, zero-decided}
-use Rattle.law_forms.proofs.Far.{nought-or, same-off}
+use Rattle.law_near.proofs.Directions.{self-pos, dot-comm, dot-zero, zero-dot, zero-decided}
+use Rattle.law_near.proofs.Far.{nought-or, same-off}
 use Rattle.law_sphere.specs.Maps.{At, MapVertex, Map, Item, items, item_normal, IsFree, Side, Shaped}
 use Rattle.law_sphere.specs.Forms.{Keeps, forms}
 use Rattle.law_sphere.specs.Labelling.{Labelling, Near, Plain, PlainAt}

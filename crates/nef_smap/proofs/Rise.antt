@@ -1,18 +1,18 @@
 -- Where a way to u meets a plane, and the signs of the forms that are nought at u.
 use Rattle.std.proofs.Common.{◌≡◌, ℕ, zero, suc, pos, ◌+ℤ◌, ◌-ℤ◌, ◌*ℤ◌, refl, ap, sym, ◌∙◌, inl, inr, ⊎_elim, List, [], ◌∷◌, ◌++◌, subst}
-use Rattle.law_arithmetic.proofs.Ring.{ring, at, num, ◌⊕◌, ◌⊖◌, ◌⊗◌}
-use Rattle.law_arithmetic.proofs.Combination.{follows, given, none}
-use Rattle.law_arithmetic.proofs.Order.{sign, sign_times, sign_of_product, sign-scaled}
-use Rattle.law_arithmetic.proofs.Lists.{lies-left, lies-right}
-use Rattle.law_arithmetic.specs.Signs.{Lies}
+use Rattle.nef_space.proofs.Ring.{ring, at, num, ◌⊕◌, ◌⊖◌, ◌⊗◌}
+use Rattle.nef_space.proofs.Combination.{follows, given, none}
+use Rattle.nef_space.proofs.Order.{sign, sign_times, sign_of_product, sign-scaled}
+use Rattle.nef_space.proofs.Lists.{lies-left, lies-right}
+use Rattle.nef_space.specs.Signs.{Lies}
 use Rattle.nef_space.specs.Vectors.{Vector, IsDirection, cross, dot}
 use Rattle.law_sphere.specs.Maps.{At, MapVertex, Map, Item, items, item_normal}
 use Rattle.law_sphere.specs.Forms.{SameSigns, Keeps, gather, forms}
 use Rattle.law_sphere.proofs.Vectors.{dot-comb, comb-dot}
 use Rattle.law_sphere.proofs.Lists.{gather-has}
 use Rattle.law_sphere.proofs.Direct.{cross-self}
-use Rattle.law_forms.proofs.Directions.{self-pos}
-use Rattle.law_forms.proofs.Far.{nought-or, same-off}
+use Rattle.law_near.proofs.Directions.{self-pos}
+use Rattle.law_near.proofs.Far.{nought-or, same-off}
 use Rattle.nef_smap.specs.Above.{rise, rise_form, rise_forms, meridians, over_forms}
 
 -- ---- the meet

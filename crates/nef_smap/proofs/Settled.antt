@@ -1,13 +1,13 @@
 -- By what lies over directions, free directions are plain and directions on items straight, and round a svertex without arcs there is one label.
 use Rattle.std.proofs.Common.{◌≡◌, ℕ, ◌+◌, ◌<◌, ◌≤◌, pos, ◌+ℤ◌, ◌*ℤ◌, ◌<ℤ◌, nat_abs, arith, refl, ap, sym, ◌∙◌, inl, inr, ◌∷◌, subst, Some}
 use Rattle.std.proofs.lemmas.Int.{ints}
-use Rattle.law_arithmetic.proofs.Order.{Sign, sign, sign-plus, sign-minus, by_order, nought-is}
-use Rattle.law_arithmetic.specs.Signs.{Lies}
+use Rattle.nef_space.proofs.Order.{Sign, sign, sign-plus, sign-minus, by_order, nought-is}
+use Rattle.nef_space.specs.Signs.{Lies}
 use Rattle.nef_space.specs.Vectors.{Vector, IsDirection, IsZero, cross, dot, SameDirection, blend}
 use Rattle.nef_space.specs.declared.label.Label.{Label}
 use Rattle.nef_space.specs.declared.label.Label.TheVariants.{Out}
-use Rattle.law_forms.proofs.Directions.{self-pos}
-use Rattle.law_forms.proofs.Far.{same-off, sign-large}
+use Rattle.law_near.proofs.Directions.{self-pos}
+use Rattle.law_near.proofs.Far.{same-off, sign-large}
 use Rattle.law_sphere.specs.Maps.{At, MapVertex, Map, Item, items, item_normal, OnItem, IsFree, Side, neg_item, HasArc, Shaped}
 use Rattle.law_sphere.specs.Forms.{Keeps, forms}
 use Rattle.law_sphere.specs.Least.{by_side}

@@ -1,6 +1,6 @@
 -- The maps of one label and of one plane, as the program's.
 use Rattle.std.proofs.Common.{◌≡◌, ℕ, zero, suc, [], ◌∷◌, refl, sym, ap, ◌∙◌, inl, subst}
-use Rattle.law_arithmetic.specs.Signs.{sign}
+use Rattle.nef_space.specs.Signs.{sign}
 use Rattle.nef_space.specs.Limits.{normal_limit}
 use Rattle.nef_space.specs.Vectors.{Vector, dot, IsDirection, IsNormal, IsAtMost}
 use Rattle.nef_space.specs.declared.label.Label.{Label}

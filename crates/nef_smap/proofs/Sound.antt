@@ -1,16 +1,16 @@
 -- Joined sides are of one sface.
 use Rattle.std.proofs.Common.{◌≡◌, ℕ, zero, suc, ◌+◌, ◌<◌, ◌≤◌, ℤ, pos, ◌-ℤ◌, ◌*ℤ◌, ◌<ℤ◌, neg_ℤ, arith, refl, ap, sym, ◌∙◌, ◌⊎◌, inl, inr, ⊎_elim, [], ◌∷◌, length, subst, Option, Some, None}
 use Rattle.std.proofs.lemmas.Int.{ints}
-use Rattle.law_arithmetic.proofs.Ring.{ring, at, num, neg, ◌⊕◌, ◌⊖◌, ◌⊗◌}
-use Rattle.law_arithmetic.proofs.Combination.{follows, given, none}
-use Rattle.law_arithmetic.proofs.Order.{sign, sign-plus, plus-is, nought-is, mul_pos, sign-scaled}
-use Rattle.law_arithmetic.specs.Signs.{Lies}
+use Rattle.nef_space.proofs.Ring.{ring, at, num, neg, ◌⊕◌, ◌⊖◌, ◌⊗◌}
+use Rattle.nef_space.proofs.Combination.{follows, given, none}
+use Rattle.nef_space.proofs.Order.{sign, sign-plus, plus-is, nought-is, mul_pos, sign-scaled}
+use Rattle.nef_space.specs.Signs.{Lies}
 use Rattle.nef_space.specs.Lists.{Chained}
 use Rattle.nef_space.specs.Vectors.{Vector, IsDirection, IsZero, cross, triple, dot, opposite, SameDirection, blend}
 use Rattle.nef_space.specs.declared.label.Label.{Label}
 use Rattle.law_near.proofs.FlatDecided.{cross-turned}
-use Rattle.law_forms.proofs.Directions.{self-pos, square_pos, zero-dot}
-use Rattle.law_forms.proofs.Far.{nought-or}
+use Rattle.law_near.proofs.Directions.{self-pos, square_pos, zero-dot}
+use Rattle.law_near.proofs.Far.{nought-or}
 use Rattle.law_sphere.specs.Maps.{At, MapVertex, Arc, MapSloop, Map, Item, arc_item, sloop_item, items, item_normal, item_pos, dir_of, OnItem, IsFree, Side, around_svertex, pos_item, neg_item, whole, HasSide, IsClear, Sees, directly, HasArc, Shaped}
 use Rattle.law_sphere.specs.Forms.{Keeps, forms}
 use Rattle.law_sphere.proofs.Vectors.{normal-is, dot-comb}

@@ -3,14 +3,14 @@ use Rattle.std.proofs.Common.{◌≡◌, ℕ, zero, suc, ◌<◌, ◌≤◌, len
 use Rattle.std.proofs.lemmas.Int.{ints}
 use Rattle.std.proofs.lemmas.List.{length-map}
 use Rattle.std.proofs.lemmas.Bool.Decides.{eqb_tells}
-use Rattle.law_arithmetic.proofs.Ring.{ring, at, num, ◌⊗◌}
-use Rattle.law_arithmetic.proofs.Order.{minus, plus, sign, sign-minus, minus-is, nought-is, mul_pos}
-use Rattle.law_arithmetic.specs.Signs.{Lies}
+use Rattle.nef_space.proofs.Ring.{ring, at, num, ◌⊗◌}
+use Rattle.nef_space.proofs.Order.{minus, plus, sign, sign-minus, minus-is, nought-is, mul_pos}
+use Rattle.nef_space.specs.Signs.{Lies}
 use Rattle.nef_space.specs.Limits.{normal_limit, svertex_limit}
 use Rattle.nef_space.specs.Vectors.{Vector, vector, IsDirection, IsNormal, IsAtMost, cross, triple, dot, up, SameDirection}
 use Rattle.law_near.proofs.Decided.{Decided}
-use Rattle.law_forms.proofs.Directions.{self-pos, square_pos, zero-dot}
-use Rattle.law_forms.proofs.Far.{nought-or}
+use Rattle.law_near.proofs.Directions.{self-pos, square_pos, zero-dot}
+use Rattle.law_near.proofs.Far.{nought-or}
 use Rattle.nef_geo.specs.Shapes.{vector_of}
 use Rattle.law_sphere.specs.Maps.{At, MapVertex, Arc, MapSloop, Map, Item, arc_item, sloop_item, items, item_normal, dir_of, ArcBetween, Shaped}
 use Rattle.law_sphere.specs.Forms.{axis_x, axis_y, axis_z}

@@ -1,6 +1,6 @@
 -- The program's stars are well formed.
 use Rattle.std.proofs.Common.{◌≡◌, ℕ, zero, suc, List, [], ◌∷◌, length, map, Bool, true, false, cond, arith, refl, sym, ap, subst, ◌∙◌, inl, inr, ◌⊎◌}
-use Rattle.law_arithmetic.proofs.Order.{by_order}
+use Rattle.nef_space.proofs.Order.{by_order}
 use Rattle.nef_space.specs.Numbers.{IsBelow}
 use Rattle.nef_space.specs.Vectors.{Vector, opposite, triple_of, IsDirection, SameDirection}
 use Rattle.law_near.proofs.Flats.{vector-same}
@@ -10,7 +10,7 @@ use Rattle.nef_geo.proofs.Unique.{same_directions_equal}
 use Rattle.law_sphere.specs.Vectors.{IsPrimitive, VectorBelow}
 use Rattle.law_sphere.specs.Maps.{At}
 use Rattle.law_sphere.specs.Stars.{Ray as PlainRay, IsRay as IsPlainRay}
-use Rattle.law_build.specs.Raw.{IsWellFormed, RayBelow, sector_count as plain_count}
+use Rattle.law_sphere.specs.Raw.{IsWellFormed, RayBelow, sector_count as plain_count}
 use Rattle.nef_star.specs.declared.star.Ray.{Ray}
 use Rattle.nef_star.specs.declared.star.Star.{Star}
 use Rattle.nef_star.specs.Stars.{ray_of, star_of, left_of, left_at, sector_count, IsRayBelow, IsRay, IsStar}

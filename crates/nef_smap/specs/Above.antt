@@ -1,6 +1,6 @@
 -- What lies over a direction: what the way from it to a fixed direction u meets first.
 use Rattle.std.specs.Prelude.{◌≡◌, ℕ, ◌<◌, pos, ◌-ℤ◌, ◌≤ℤ◌, ◌<ℤ◌, List, [], ◌∷◌, ◌++◌, Option, Some, None}
-use Rattle.law_arithmetic.specs.Signs.{Sign, minus, nought, plus, sign, Lies}
+use Rattle.nef_space.specs.Signs.{Sign, minus, nought, plus, sign, Lies}
 use Rattle.nef_space.specs.Vectors.{Vector, dot, cross}
 use Rattle.law_sphere.specs.Vectors.{comb}
 use Rattle.law_sphere.specs.Maps.{At, Map, Item, items, item_normal, OnItem}

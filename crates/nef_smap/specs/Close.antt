@@ -1,6 +1,6 @@
 -- Directions close to one, for the program: their signs on a form, and whether they have an arc over them.
 use Rattle.std.specs.Prelude.{◌≡◌, ◌⊎◌}
-use Rattle.law_arithmetic.specs.Signs.{Sign, minus, nought, plus, sign}
+use Rattle.nef_space.specs.Signs.{Sign, minus, nought, plus, sign}
 use Rattle.nef_space.specs.Vectors.{Vector, dot, cross, triple, opposite, up}
 use Rattle.nef_geo.specs.Shapes.{vector_of}
 use Rattle.nef_geo.specs.declared.sign.Sign.{Sign as GeoSign}

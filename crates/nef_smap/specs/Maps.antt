@@ -7,7 +7,7 @@ use Rattle.nef_space.specs.Vectors.{IsAtMost}
 use Rattle.nef_geo.specs.Shapes.{vector_of}
 use Rattle.law_sphere.specs.Maps.{At, MapVertex, Arc, MapSloop, Item, Map, items, item_normal, Valid}
 use Rattle.law_sphere.specs.Least.{Least, Ordered}
-use Rattle.law_build.specs.Raw.{RawMap}
+use Rattle.law_sphere.specs.Raw.{RawMap}
 use Rattle.nef_star.specs.Stars.{star_of, IsStar}
 use Rattle.nef_smap.specs.declared.map.SVertex.{SVertex}
 use Rattle.nef_smap.specs.declared.map.SArc.{SArc}

@@ -2,7 +2,7 @@
 
 ghost use Rattle.std.specs.Prelude.{◌≡◌, ◌+◌, ◌<◌, ℕ, IfSome, pos, ◌<ℤ◌, ◌↔◌, IsTrue, length};
 ghost use Rattle.nef_space.specs.Limits.{normal_limit, svertex_limit};
-ghost use Rattle.law_arithmetic.specs.Signs.{Sign as Signum};
+ghost use Rattle.nef_space.specs.Signs.{Sign as Signum};
 ghost use Rattle.nef_space.specs.Vectors.{Vector, dot, cross, up, IsAtMost};
 ghost use Rattle.nef_geo.specs.Shapes.{vector_of};
 ghost use Rattle.law_sphere.specs.Maps.{At, items};

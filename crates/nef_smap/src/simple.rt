@@ -3,7 +3,7 @@
 ghost use Rattle.std.specs.Prelude.{◌≡◌};
 ghost use Rattle.nef_space.specs.Limits.{normal_limit};
 ghost use Rattle.nef_space.specs.Vectors.{Vector, dot, IsDirection, IsNormal, IsAtMost};
-ghost use Rattle.law_arithmetic.specs.Signs.{sign};
+ghost use Rattle.nef_space.specs.Signs.{sign};
 ghost use Rattle.nef_geo.specs.Shapes.{vector_of};
 ghost use Rattle.law_sphere.specs.Least.{by_side};
 ghost use Rattle.law_sphere.specs.Maps.{MapLabel};

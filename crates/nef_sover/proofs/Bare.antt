@@ -1,11 +1,11 @@
 -- A map's labels along a circle that nothing of the map crosses.
 use Rattle.std.proofs.Common.{◌≡◌, ℕ, ◌<◌, pos, ◌+ℤ◌, ◌*ℤ◌, ◌-ℤ◌, Some, arith, refl, sym, ap, subst, ◌∙◌, inl, inr, [], ◌∷◌}
 use Rattle.std.proofs.lemmas.Int.{ints}
-use Rattle.law_arithmetic.proofs.Ring.{ring, at, num, neg, ◌⊕◌, ◌⊖◌, ◌⊗◌}
-use Rattle.law_arithmetic.proofs.Order.{sign-plus, sign-minus}
+use Rattle.nef_space.proofs.Ring.{ring, at, num, neg, ◌⊕◌, ◌⊖◌, ◌⊗◌}
+use Rattle.nef_space.proofs.Order.{sign-plus, sign-minus}
 use Rattle.nef_space.specs.Vectors.{Vector, IsDirection, IsNormal, IsZero, blend, cross, dot, opposite}
 use Rattle.nef_space.specs.declared.label.Label.{Label}
-use Rattle.law_forms.proofs.Directions.{zero-decided, self-pos}
+use Rattle.law_near.proofs.Directions.{zero-decided, self-pos}
 use Rattle.law_near.proofs.Decided.{Decided}
 use Rattle.law_near.proofs.FlatDecided.{cross-turned}
 use Rattle.law_cyclic.specs.Arcs.{IsOnCircle}

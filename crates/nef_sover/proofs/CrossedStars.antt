@@ -1,6 +1,6 @@
 -- The star of a direction in which items of two maps cross.
 use Rattle.std.proofs.Common.{◌≡◌, ℕ, pos, Result, Ok, Err, IfOk, refl, sym, subst}
-use Rattle.law_arithmetic.specs.Signs.{sign}
+use Rattle.nef_space.specs.Signs.{sign}
 use Rattle.nef_space.specs.Limits.{normal_limit}
 use Rattle.nef_space.specs.Vectors.{Vector, IsParallel, IsAtMost, IsNormal, dot}
 use Rattle.nef_geo.specs.Shapes.{vector_of}

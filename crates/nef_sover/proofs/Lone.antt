@@ -2,7 +2,7 @@
 use Rattle.std.proofs.Common.{◌≡◌, ℕ, pos, Some, sym, subst, inl, inr, ◌⊎◌}
 use Rattle.nef_space.specs.Vectors.{Vector, IsDirection, IsZero, cross, dot}
 use Rattle.law_near.proofs.FlatDecided.{cross-turned}
-use Rattle.law_forms.proofs.Directions.{zero-decided}
+use Rattle.law_near.proofs.Directions.{zero-decided}
 use Rattle.law_near.proofs.Decided.{Decided}
 use Rattle.law_near.proofs.Meets.{cross-self}
 use Rattle.law_cyclic.specs.Arcs.{IsOnCircle}

@@ -1,7 +1,7 @@
 -- A map of one sloop is a sphere map.
 use Rattle.std.proofs.Common.{◌≡◌, ℕ, zero, suc, pos, ◌≤ℤ◌, List, [], Some, None, arith, sym, subst}
 use Rattle.std.proofs.lemmas.Int.{ints}
-use Rattle.law_arithmetic.proofs.Order.{by_order}
+use Rattle.nef_space.proofs.Order.{by_order}
 use Rattle.nef_space.specs.Limits.{normal_limit}
 use Rattle.nef_space.specs.Vectors.{Vector, IsAtMost, IsDirection, IsNormal}
 use Rattle.nef_space.specs.declared.label.Label.{Label}

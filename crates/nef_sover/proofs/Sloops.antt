@@ -1,6 +1,6 @@
 -- The sloop of an overlay.
 use Rattle.std.proofs.Common.{◌≡◌, pos, List, Option, Some, None, option_map, refl, sym, ap, subst, ◌∙◌, inl, inr, ◌⊎◌}
-use Rattle.law_arithmetic.proofs.Ring.{neg}
+use Rattle.nef_space.proofs.Ring.{neg}
 use Rattle.nef_space.specs.Limits.{normal_limit}
 use Rattle.nef_space.specs.Vectors.{Vector, IsAtMost, IsNormal, opposite}
 use Rattle.nef_space.specs.declared.label.Label.{Label}

@@ -1,1 +1,11 @@
+pub mod Products
+pub mod Ring
+pub mod Order
+pub mod Combination
+pub mod Fractions
+pub mod Sizes
+pub mod Machine
+pub mod Lists
+pub mod Samples
+pub mod ArithmeticExamples
 pub mod Examples

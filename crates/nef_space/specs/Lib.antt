@@ -1,3 +1,8 @@
+pub mod Polynomial
+pub mod Machine
+pub mod Signs
+pub mod Linear
+pub mod ArithmeticLaws
 pub mod Limits
 pub mod Numbers
 pub mod Lists

@@ -1,13 +1,20 @@
 //! The definitions that the other crates cite: vectors, points, the frame, planes as linear forms,
 //! sets and where they hold, labels, and what a set looks like near a point.
 //!
-//! The definitions stand in specs/, over whole numbers of any size.
+//! The definitions stand in specs/, over whole numbers of any size. Beside them stands exact arithmetic in proofs:
+//! polynomial identities and bounds of machine arithmetic, both by computation, and facts on signs, fractions and sizes.
+//! No law runs; each is a clause of a function with an empty body, and the lemmas that prove it are cited by the crates
+//! above.
 #![tactic(auto)]
 
+mod arithmetic;
 mod label;
 mod laws;
 mod limits;
 
+pub use arithmetic::{
+    fraction_laws, identity_laws, machine_laws, sample_laws, sign_laws, size_laws,
+};
 pub use label::Label;
 pub use laws::definition_examples;
 pub use limits::{

@@ -8,7 +8,7 @@ use Rattle.law_sphere.specs.Forms.{forms}
 use Rattle.law_sphere.specs.Labelling.{ByOp}
 use Rattle.law_sphere.proofs.Labels.{label-unique}
 use Rattle.law_sphere.proofs.Equal.{least-unique}
-use Rattle.law_build.specs.Raw.{IsLabelling, IsRawOf}
+use Rattle.law_sphere.specs.Raw.{IsLabelling, IsRawOf}
 use Rattle.law_build.specs.Overlays.{Raw}
 use Rattle.law_build.proofs.KeptStars.{kept-show}
 use Rattle.law_build.proofs.BuiltKept.{from-stars}

@@ -6,7 +6,7 @@ use Rattle.nef_geo.specs.Shapes.{vector_of}
 use Rattle.law_sphere.specs.Maps.{At}
 use Rattle.law_sphere.specs.Stars.{Star as PlainStar}
 use Rattle.law_sphere.proofs.Lists.{at-one}
-use Rattle.law_build.specs.Raw.{IsBare}
+use Rattle.law_sphere.specs.Raw.{IsBare}
 use Rattle.nef_star.specs.declared.star.Star.{Star}
 use Rattle.nef_star.specs.Stars.{star_of}
 use Rattle.nef_smap.proofs.Lists.{at-map, map-at, at-within}

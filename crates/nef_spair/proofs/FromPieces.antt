@@ -8,7 +8,7 @@ use Rattle.nef_geo.specs.Shapes.{vector_of}
 use Rattle.law_sphere.specs.Maps.{At, MapVertex, Arc, MapSloop, Item, items_then, item_normal}
 use Rattle.law_sphere.specs.Least.{InOrder, ArcBelow}
 use Rattle.law_sphere.specs.Stars.{Ray as PlainRay, Star as PlainStar, IsStraight}
-use Rattle.law_build.specs.Raw.{IsBare, IsRawOf}
+use Rattle.law_sphere.specs.Raw.{IsBare, IsRawOf}
 use Rattle.law_build.specs.From.{svertex_at, IsArcFrom, IsSloopFrom, raw_sloop, straight_sloop, IsRawLabel, IsBuiltFrom}
 use Rattle.nef_star.specs.Stars.{ray_of, star_of, IsStar}
 use Rattle.nef_smap.specs.declared.map.SArc.{SArc}

@@ -8,7 +8,7 @@ use Rattle.nef_geo.specs.Shapes.{vector_of}
 use Rattle.law_sphere.specs.Maps.{At, MapSloop}
 use Rattle.law_sphere.specs.Stars.{Star as PlainStar, IsPlain, IsStraight, IsSimplified}
 use Rattle.law_sphere.specs.Builds.{Proper}
-use Rattle.law_build.specs.Raw.{IsBare}
+use Rattle.law_sphere.specs.Raw.{IsBare}
 use Rattle.law_build.specs.From.{sloop_at, IsRawLabel}
 use Rattle.nef_star.specs.declared.star.Star.{Star}
 use Rattle.nef_star.specs.Stars.{star_of, IsStar, IsKept}

@@ -6,7 +6,7 @@ ghost use Rattle.nef_space.specs.Vectors.{Vector, IsDirection};
 ghost use Rattle.law_sphere.specs.Maps.{Map, MapLabel, Valid};
 ghost use Rattle.law_sphere.specs.Least.{Least, SameLabels, Ordered};
 ghost use Rattle.law_sphere.specs.Labelling.{ByOp};
-ghost use Rattle.law_build.specs.Raw.{IsLabelling, IsRawOf};
+ghost use Rattle.law_sphere.specs.Raw.{IsLabelling, IsRawOf};
 ghost use Rattle.law_build.specs.Overlays.{Raw};
 ghost use Rattle.nef_star.specs.Stars.{IsStar};
 ghost use Rattle.nef_smap.specs.Maps.{map_of, raw_of, IsLeastMap, IsRawStars};

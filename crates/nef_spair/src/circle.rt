@@ -4,7 +4,7 @@ ghost use Rattle.std.specs.Prelude.{◌≡◌, ◌↔◌, ℕ, map, pos, IsTrue,
 ghost use Rattle.nef_space.specs.Vectors.{dot};
 ghost use Rattle.nef_geo.specs.Shapes.{vector_of};
 ghost use Rattle.law_sphere.specs.Maps.{At};
-ghost use Rattle.law_build.specs.Raw.{IsBare};
+ghost use Rattle.law_sphere.specs.Raw.{IsBare};
 ghost use Rattle.nef_star.specs.Stars.{star_of};
 ghost use Rattle.nef_spair.specs.Pieces.{IsBareCircle, IsProperCircle, IsChosen};
 

@@ -1,7 +1,7 @@
 -- What a star gives a direction e is what its left directions give axis x e.
 use Rattle.std.proofs.Common.{◌≡◌, ℕ, zero, suc, ◌<◌, neg_ℤ, ◌*ℤ◌, ◌-ℤ◌, List, [], ◌∷◌, length, map, true, false, cond, arith, refl, sym, ap, subst, ◌∙◌, inl, inr}
 use Rattle.std.proofs.lemmas.List.{length-map}
-use Rattle.law_arithmetic.proofs.Ring.{ring, at, neg, ◌⊖◌, ◌⊗◌}
+use Rattle.nef_space.proofs.Ring.{ring, at, neg, ◌⊖◌, ◌⊗◌}
 use Rattle.nef_space.specs.Vectors.{Vector, cross, opposite, IsDirection}
 use Rattle.std.proofs.Common.{ℤ, Bool}
 use Rattle.nef_space.specs.declared.label.Label.{Label}

@@ -1,8 +1,8 @@
 -- The directions that rays leave the axis in turn as their left ones do.
 use Rattle.std.proofs.Common.{◌≡◌, ℕ, ◌+◌, pos, ◌<ℤ◌, ◌*ℤ◌, refl, sym, ap, subst, ◌∙◌}
 use lib.Dec.{T}
-use Rattle.law_arithmetic.proofs.Ring.{ring, at, num, ◌⊕◌, ◌⊖◌, ◌⊗◌}
-use Rattle.law_arithmetic.proofs.Combination.{follows, given, none}
+use Rattle.nef_space.proofs.Ring.{ring, at, num, ◌⊕◌, ◌⊖◌, ◌⊗◌}
+use Rattle.nef_space.proofs.Combination.{follows, given, none}
 use Rattle.nef_space.specs.Vectors.{Vector, dot, cross, triple, IsDirection, IsZero, SameDirection}
 use Rattle.law_cyclic.specs.Arcs.{IsOnCircle, Passes}
 use Rattle.law_cyclic.proofs.Signs.{sgn, sgn-scaled}

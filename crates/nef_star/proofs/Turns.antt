@@ -10,7 +10,7 @@ use Rattle.law_cyclic.proofs.StrictlyOn.{same-sym}
 use Rattle.law_cyclic.proofs.Directions.{same-trans}
 use Rattle.law_cyclic.proofs.Cyclic.{one_is_first, never_both_ways, order_is_transitive, same_in_place, order_is_cyclic, nearer_ones, in_sector, no_ray_between}
 use Rattle.law_near.proofs.Decided.{Decided}
-use Rattle.law_forms.proofs.Directions.{zero-decided}
+use Rattle.law_near.proofs.Directions.{zero-decided}
 use Rattle.law_sphere.proofs.Vectors.{positive-or}
 use Rattle.nef_star.specs.Turning.{IsTurning, IsNext, Gives, on_ray, in_sector as of_sector, in_only_sector, IsUnder}
 use Rattle.nef_geo.proofs.Directions.{SameDirection-itself as self-same}

@@ -1,6 +1,6 @@
 -- Great circles that cross in a direction, and the star there.
 use Rattle.std.specs.Prelude.{◌≡◌, pos, Bool, true, false, not, cond, [], ◌∷◌}
-use Rattle.law_arithmetic.specs.Signs.{sign}
+use Rattle.nef_space.specs.Signs.{sign}
 use Rattle.nef_space.specs.Limits.{normal_limit}
 use Rattle.nef_space.specs.Vectors.{Vector, dot, cross, IsDirection, IsAtMost, IsNormal}
 use Rattle.nef_space.specs.declared.label.Label.{Label}

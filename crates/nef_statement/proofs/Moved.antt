@@ -6,8 +6,8 @@ use Rattle.nef_space.specs.Sets.{Set, Holds}
 use Rattle.nef_space.specs.Vectors.{Vector, SameDirection}
 use Rattle.nef_space.specs.declared.label.Label.{Label}
 use Rattle.nef_space.specs.declared.label.Label.TheVariants.{In}
-use Rattle.law_forms.proofs.Between.{between-same}
-use Rattle.law_forms.proofs.Directions.{direction-left}
+use Rattle.law_near.proofs.Mixed.{between-same}
+use Rattle.law_near.proofs.Directions.{direction-left}
 use Rattle.law_near.specs.Cells.{carriers}
 use Rattle.law_near.proofs.Alike.{Joined-same, cones-of_same}
 use Rattle.law_near.proofs.Germs.{Label-cells}

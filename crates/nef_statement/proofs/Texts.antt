@@ -5,11 +5,10 @@ use Rattle.nef_space.specs.Place.{Place, InFrame}
 use Rattle.nef_space.specs.Sets.{Set, Holds}
 use Rattle.law_complex.specs.Belongs.{Belongs}
 use Rattle.law_complex.specs.Complexes.{Vertex, Edge, Edges}
-use Rattle.law_complex.proofs.FacetNames.{facet-of}
+use Rattle.law_complex.proofs.FacetNames.{facet-at, facet-of}
 use Rattle.law_complex.proofs.Skeletons.{belongs-holds}
 use Rattle.nef_complex.specs.Complexes.{complex_of, vertex_of, edge_of, ShowsSet}
 use Rattle.nef_core.specs.declared.how.TextVersion.{TextVersion}
-use Rattle.nef_locate.proofs.Cones.{facet-at}
 use Rattle.nef_unique.proofs.Vertices.{edges-one, set-vertices}
 use Rattle.law_text.proofs.SameText.{same-parts, same-set_text, text-set, spelled-holds}
 use Rattle.nef_parts.specs.Numbers.{IsParts}

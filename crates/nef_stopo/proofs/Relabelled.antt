@@ -13,7 +13,7 @@ use Rattle.law_sphere.specs.Forms.{forms}
 use Rattle.law_sphere.specs.Least.{Cone}
 use Rattle.law_sphere.specs.Stars.{Star as PlainStar}
 use Rattle.law_sphere.proofs.Arcs.{at-sloop}
-use Rattle.law_build.specs.Raw.{IsLabelling, IsRawOf}
+use Rattle.law_sphere.specs.Raw.{IsLabelling, IsRawOf}
 use Rattle.law_border.specs.Topology.{Topology, set_by, IsTopologyMap, MarkLabel}
 use Rattle.law_border.specs.Marks.{label_from, face_label, sloop_by, map_labels, IsRemarkedAt, IsTopologyRaw}
 use Rattle.law_build.proofs.KeptStars.{at-other}

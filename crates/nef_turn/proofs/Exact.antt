@@ -1,7 +1,7 @@
 -- Turned numbers make one direction and one plane in lowest terms.
 use Rattle.std.proofs.Common.{◌≡◌, ℕ, ◌≤◌, ℤ, pos, ◌*ℤ◌, ◌-ℤ◌, ◌<ℤ◌, neg_ℤ, nat_abs, Bool, true, false, cond, [], ◌∷◌, arith, ap, sym, ◌∙◌, subst, w64, to_z, of_z}
 use Rattle.std.proofs.lemmas.Int.{ints}
-use Rattle.law_arithmetic.proofs.Ring.{ring, at, num, neg, ◌⊖◌, ◌⊗◌}
+use Rattle.nef_space.proofs.Ring.{ring, at, num, neg, ◌⊖◌, ◌⊗◌}
 use Rattle.nef_space.specs.Limits.{direction_limit, normal_limit, point_limit}
 use Rattle.nef_space.specs.Place.{Place, Form, form, SamePlace, normal_of}
 use Rattle.nef_space.specs.Vectors.{Vector, vector, IsDirection, IsAtMost, IsNormal, SameDirection}

@@ -5,7 +5,7 @@ use Rattle.nef_space.specs.Place.{Place, SamePlace}
 use Rattle.nef_space.specs.Sets.{Set}
 use Rattle.nef_space.specs.Vectors.{Vector, IsZero}
 use Rattle.nef_space.specs.declared.label.Label.{Label}
-use Rattle.law_forms.proofs.Far.{nought-or}
+use Rattle.law_near.proofs.Far.{nought-or}
 use Rattle.law_near.specs.Cells.{carriers}
 use Rattle.law_near.specs.Cones.{SameCone}
 use Rattle.law_near.proofs.Alike.{germs-by_cell}

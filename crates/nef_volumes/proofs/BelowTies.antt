@@ -1,14 +1,14 @@
 -- The side above the point where a ray down ends is one, up to its sface.
 use Rattle.std.proofs.Common.{◌≡◌, ℕ, ◌+◌, pos, ◌⊎◌, inl, inr, [], ◌∷◌, arith, ap, sym, ◌∙◌, subst}
 use Rattle.std.proofs.lemmas.Int.{ints}
-use Rattle.law_arithmetic.proofs.Ring.{ring, at, num, ◌⊕◌, ◌⊖◌, ◌⊗◌}
+use Rattle.nef_space.proofs.Ring.{ring, at, num, ◌⊕◌, ◌⊖◌, ◌⊗◌}
 use Rattle.nef_space.specs.Place.{Place, Form, form_at, normal_of, SamePlace, toward, IsBetween}
 use Rattle.nef_space.specs.Sets.{Set}
 use Rattle.nef_space.specs.Vectors.{Vector, IsDirection, SameDirection, dot, cross, opposite, blend, plane_axis, up}
 use Rattle.nef_space.specs.declared.label.Label.{Label}
 use Rattle.law_near.proofs.Rays.{same-place_sym}
 use Rattle.law_cones.proofs.Smooth.{parallel-by}
-use Rattle.law_forms.proofs.Between.{between-same}
+use Rattle.law_near.proofs.Mixed.{between-same}
 use Rattle.law_sphere.specs.Maps.{At, item_normal, pos_item, Side, dir_of, HasSide, Sees, InOneSface, here, link}
 use Rattle.law_sphere.specs.Sectors.{BoundsSector}
 use Rattle.law_sphere.proofs.Compare.{SameDirection-turned, SameDirection-trans, normals-same}

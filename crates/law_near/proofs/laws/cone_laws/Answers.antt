@@ -1,6 +1,6 @@
 use Rattle.law_near.specs.Cells.{carriers}
 use Rattle.law_near.proofs.Cells.{reach-some}
-use Rattle.law_forms.proofs.Near.{reach_all}
+use Rattle.law_near.proofs.Near.{reach_all}
 use Rattle.law_near.proofs.Germs.{label-one, Germ-unique}
 use Rattle.law_near.proofs.Flats.{germ-toward, label-toward, Germ-by_signs}
 use Rattle.law_near.proofs.Decided.{label_of, germ_of}

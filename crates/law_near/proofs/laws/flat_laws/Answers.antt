@@ -6,7 +6,7 @@ use Rattle.law_near.proofs.Meets.{vertex-meets}
 use Rattle.nef_space.specs.Place.{toward}
 use Rattle.law_near.specs.Cells.{carriers}
 use Rattle.law_near.proofs.Cells.{reach-some}
-use Rattle.law_forms.proofs.Near.{reach_all}
+use Rattle.law_near.proofs.Near.{reach_all}
 use Rattle.law_near.proofs.FlatDecided.{near-of_flat, flat-of_near, flat-by_signs}
 use Rattle.law_near.proofs.Even.{flat-toward, flat-nearby, span-3}
 use Rattle.law_near.proofs.Supports.{flat-held, flat-line, flat-plane, edge-support, facet-support}

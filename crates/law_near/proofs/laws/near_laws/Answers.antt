@@ -5,7 +5,7 @@ use Rattle.law_near.proofs.Decisions.{near-germ_of, near-germ_one}
 use Rattle.law_near.proofs.Topology.{near-germ_zero}
 use Rattle.law_near.specs.Cells.{carriers}
 use Rattle.law_near.proofs.Cells.{reach-some}
-use Rattle.law_forms.proofs.Near.{reach_all}
+use Rattle.law_near.proofs.Near.{reach_all}
 use Rattle.law_near.proofs.FlatDecided.{near-by_signs}
 use Rattle.law_near.proofs.Even.{germ-nearby}
 use Rattle.law_near.proofs.laws.near_laws.Goals as goal

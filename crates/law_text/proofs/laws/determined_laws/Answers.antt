@@ -2,9 +2,8 @@ use Rattle.std.proofs.Common.{subst}
 use Rattle.nef_space.specs.Sets.{Set}
 use Rattle.nef_complex.specs.Complexes.{ShowsSet}
 use Rattle.law_turns.proofs.Twice.{set-back}
-use Rattle.law_complex.proofs.FacetNames.{facet-of}
+use Rattle.law_complex.proofs.FacetNames.{facet-at, facet-of}
 use Rattle.law_complex.proofs.Skeletons.{belongs-holds}
-use Rattle.nef_locate.proofs.Cones.{facet-at}
 use Rattle.law_text.proofs.SameText.{same-parts, same-set_text, text-set, spelled-holds}
 use Rattle.law_text.proofs.laws.determined_laws.Goals as goal
 

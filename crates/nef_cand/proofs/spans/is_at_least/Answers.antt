@@ -2,7 +2,7 @@ use Rattle.std.proofs.Common.{◌≡◌, ◌≤◌, ◌^◌, ℕ, ℤ, pos, negs
 use Rattle.std.proofs.lemmas.Int.{ints, to_z-of_z}
 use mir.Syntax.{w128}
 use Rattle.nef_space.specs.Limits.{weight_limit}
-use Rattle.law_arithmetic.proofs.Machine.{Code, load, wrap, ◌⊠◌, Limited, exact_of, fits_of}
+use Rattle.nef_space.proofs.Machine.{Code, load, wrap, ◌⊠◌, Limited, exact_of, fits_of}
 use Rattle.nef_cand.proofs.spans.is_at_least.Goals as goal
 
 -- ---- a whole number times a weight

@@ -2,8 +2,8 @@ use Rattle.std.proofs.Common.{◌≡◌, ◌≤◌, ℤ, ◌*ℤ◌, nat_abs, []
 use mir.Syntax.{w128}
 use Rattle.std.specs.Ordering.{MatchOrdering, int_cmp}
 use Rattle.std.proofs.lemmas.Cmp.{int_ranked}
-use Rattle.law_arithmetic.proofs.Machine.{load, wrap, ◌⊠◌, exact_of, fits_of}
-use Rattle.law_arithmetic.proofs.Order.{abs_times}
+use Rattle.nef_space.proofs.Machine.{load, wrap, ◌⊠◌, exact_of, fits_of}
+use Rattle.nef_space.proofs.Order.{abs_times}
 use Rattle.nef_geo.specs.Widths.{far_num_limit, far_den_limit, far_product_limit}
 use Rattle.nef_geo.specs.Shapes.{far_place}
 use Rattle.nef_geo.specs.declared.hit.FarHit.{FarHit}

@@ -2,7 +2,7 @@ use Rattle.std.proofs.Common.{◌≡◌, ◌≤◌, ℤ, ◌*ℤ◌, nat_abs, []
 use mir.Syntax.{w128}
 use Rattle.std.specs.Ordering.{MatchOrdering, int_cmp}
 use Rattle.std.proofs.lemmas.Cmp.{int_ranked}
-use Rattle.law_arithmetic.proofs.Machine.{load, wrap, ◌⊠◌, exact_of, fits_of}
+use Rattle.nef_space.proofs.Machine.{load, wrap, ◌⊠◌, exact_of, fits_of}
 use Rattle.nef_geo.specs.Widths.{point_form_limit, ray_slope_limit}
 use Rattle.nef_geo.specs.Shapes.{hit_place}
 use Rattle.nef_geo.specs.declared.hit.Hit.{Hit}

@@ -2,7 +2,7 @@ use Rattle.std.proofs.Common.{◌≡◌, ◌≤◌, ℤ, pos, ◌+ℤ◌, ◌*�
 use Rattle.std.proofs.lemmas.Int.{ints}
 use mir.Syntax.{w128}
 use Rattle.nef_space.specs.Limits.{point_limit}
-use Rattle.law_arithmetic.proofs.Machine.{load, wrap, exact_of}
+use Rattle.nef_space.proofs.Machine.{load, wrap, exact_of}
 use Rattle.nef_geo.specs.Hits.{IsReachedBy}
 use Rattle.nef_geo.specs.Shapes.{place_of}
 use Rattle.nef_geo.proofs.Crossings.{IsReached-by}

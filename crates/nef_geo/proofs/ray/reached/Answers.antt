@@ -3,8 +3,8 @@ use Rattle.std.proofs.lemmas.Int.{ints}
 use mir.Syntax.{w128}
 use Rattle.nef_space.specs.Limits.{point_limit, weight_limit}
 use Rattle.nef_space.specs.Vectors.{IsAtMost}
-use Rattle.law_arithmetic.proofs.Machine.{Code, load, wrap, Limited, exact_of, fits_of, size_of}
-use Rattle.law_arithmetic.proofs.Order.{mul_pos}
+use Rattle.nef_space.proofs.Machine.{Code, load, wrap, Limited, exact_of, fits_of, size_of}
+use Rattle.nef_space.proofs.Order.{mul_pos}
 use Rattle.nef_geo.specs.Shapes.{vector_of}
 use Rattle.nef_geo.specs.Widths.{point_form_limit, ray_limit, ray_slope_limit, hit_limit, hit_weight_limit}
 use Rattle.nef_geo.specs.declared.dir.Dir.{Dir}

@@ -2,8 +2,8 @@ use Rattle.std.proofs.Common.{ℕ, ◌≤◌, ℤ, pos, ◌<ℤ◌, nat_abs, Lis
 use mir.Syntax.{w128}
 use Rattle.nef_space.specs.Limits.{normal_limit}
 use Rattle.nef_space.specs.Vectors.{IsAtMost}
-use Rattle.law_arithmetic.proofs.Machine.{Code, load, wrap, Limited, exact_of, fits_of, size_of}
-use Rattle.law_arithmetic.proofs.Order.{mul_pos}
+use Rattle.nef_space.proofs.Machine.{Code, load, wrap, Limited, exact_of, fits_of, size_of}
+use Rattle.nef_space.proofs.Order.{mul_pos}
 use Rattle.nef_geo.specs.Hits.{IsPlaceAtMost}
 use Rattle.nef_geo.specs.Shapes.{vector_of, hit_place}
 use Rattle.nef_geo.specs.Widths.{upright_limit, upright_weight_limit, far_limit, far_weight_limit, far_num_limit, far_den_limit}

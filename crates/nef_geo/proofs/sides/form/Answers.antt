@@ -1,7 +1,7 @@
 use Rattle.std.proofs.Common.{ℕ, ℤ, List, [], ◌∷◌, w64, sym, ◌∙◌}
 use mir.Syntax.{w128}
 use Rattle.nef_space.specs.Limits.{normal_limit, offset_limit, point_limit, weight_limit}
-use Rattle.law_arithmetic.proofs.Machine.{Code, load, wrap, ◌⊞◌, ◌⊠◌, Limited, exact_of, fits_of, size_of}
+use Rattle.nef_space.proofs.Machine.{Code, load, wrap, ◌⊞◌, ◌⊠◌, Limited, exact_of, fits_of, size_of}
 use Rattle.nef_geo.specs.Shapes.{form_of}
 use Rattle.nef_geo.specs.Widths.{point_form_limit}
 use Rattle.nef_geo.specs.declared.plane.Plane.{Plane}

@@ -1,7 +1,7 @@
 use Rattle.std.proofs.Common.{ℕ, ◌≤◌, ℤ, nat_abs, List, [], ◌∷◌, w64}
 use mir.Syntax.{w128}
 use Rattle.nef_space.specs.Limits.{normal_limit, offset_limit}
-use Rattle.law_arithmetic.proofs.Machine.{Code, load, wrap, ◌⊞◌, ◌⊠◌, Limited, exact_of, fits_of}
+use Rattle.nef_space.proofs.Machine.{Code, load, wrap, ◌⊞◌, ◌⊠◌, Limited, exact_of, fits_of}
 use Rattle.nef_geo.specs.Widths.{far_limit, far_weight_limit}
 use Rattle.nef_geo.specs.declared.plane.Plane.{Plane}
 use Rattle.nef_geo.proofs.sides.wide_form.Goals as goal

@@ -1,6 +1,6 @@
 use Rattle.std.proofs.Common.{w64}
 use Rattle.nef_space.specs.Limits.{normal_limit, svertex_limit}
-use Rattle.law_arithmetic.proofs.Machine.{Code, wrap, exact_of, fits_of, size_of}
+use Rattle.nef_space.proofs.Machine.{Code, wrap, exact_of, fits_of, size_of}
 use Rattle.nef_geo.specs.Triples.{triple_vector}
 use Rattle.nef_geo.proofs.Products.{bounds, numbers, limited, factor, minor, same_vector}
 use Rattle.nef_geo.proofs.vectors.cross_narrow.Goals as goal

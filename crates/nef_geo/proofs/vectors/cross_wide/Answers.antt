@@ -2,7 +2,7 @@ use Rattle.std.proofs.Common.{◌*◌, subst, sym}
 use mir.Syntax.{w128}
 use Rattle.nef_space.specs.Limits.{direction_limit}
 use Rattle.nef_space.specs.Vectors.{IsAtMost}
-use Rattle.law_arithmetic.proofs.Machine.{Code, wrap, exact_of, fits_of}
+use Rattle.nef_space.proofs.Machine.{Code, wrap, exact_of, fits_of}
 use Rattle.nef_geo.specs.Triples.{wide_vector}
 use Rattle.nef_geo.proofs.Products.{bounds, numbers, limited, factor, minor, same_vector, cross_size}
 use Rattle.nef_geo.proofs.vectors.cross_wide.Goals as goal

@@ -1,6 +1,6 @@
 use Rattle.std.proofs.Common.{◌^◌}
 use mir.Syntax.{w128}
-use Rattle.law_arithmetic.proofs.Machine.{wrap, exact_of, fits_of}
+use Rattle.nef_space.proofs.Machine.{wrap, exact_of, fits_of}
 use Rattle.nef_geo.specs.Triples.{wide_vector}
 use Rattle.nef_geo.proofs.Products.{bounds, numbers, limited, factor, two, three}
 use Rattle.nef_geo.proofs.vectors.dot_wide.Goals as goal

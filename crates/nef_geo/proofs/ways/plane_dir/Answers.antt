@@ -3,7 +3,7 @@ use Rattle.std.proofs.lemmas.Int.{ints}
 use Rattle.nef_space.specs.Limits.{normal_limit, direction_limit, axis_factor}
 use Rattle.nef_space.specs.Place.{normal_of}
 use Rattle.nef_space.specs.Vectors.{Vector, vector, plane_axis, plane_dir, IsAtMost, IsDirection}
-use Rattle.law_arithmetic.proofs.Machine.{load, const, wrap, ◌⊞◌, ◌⊠◌, exact_of, fits_of}
+use Rattle.nef_space.proofs.Machine.{load, const, wrap, ◌⊞◌, ◌⊠◌, exact_of, fits_of}
 use Rattle.nef_geo.specs.Meet.{IsStretched}
 use Rattle.nef_geo.specs.Shapes.{form_of, vector_of}
 use Rattle.nef_geo.specs.Triples.{triple_vector}

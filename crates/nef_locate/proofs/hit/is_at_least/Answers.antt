@@ -3,8 +3,8 @@ use Rattle.std.proofs.lemmas.Int.{ints, to_z-of_z}
 use Rattle.std.specs.Int.{int_div_euclid}
 use mir.Syntax.{w128}
 use Rattle.nef_space.specs.Limits.{half_side}
-use Rattle.law_arithmetic.proofs.Machine.{Code, load, wrap, ◌⊠◌, Limited, exact_of, fits_of}
-use Rattle.law_arithmetic.proofs.Order.{mul_le_right, cancel_lt}
+use Rattle.nef_space.proofs.Machine.{Code, load, wrap, ◌⊠◌, Limited, exact_of, fits_of}
+use Rattle.nef_space.proofs.Order.{mul_le_right, cancel_lt}
 use Rattle.nef_geo.specs.Widths.{upright_weight_limit}
 use Rattle.nef_complex.proofs.Spanning.{euclid-below, euclid-above}
 use Rattle.nef_locate.proofs.hit.is_at_least.Goals as goal

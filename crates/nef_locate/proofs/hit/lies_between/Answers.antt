@@ -2,7 +2,7 @@ use Rattle.std.proofs.Common.{◌≡◌, ℤ, pos, ◌-ℤ◌, ◌*ℤ◌, ◌�
 use Rattle.std.proofs.lemmas.Int.{ints, to_z-of_z}
 use mir.Syntax.{w128}
 use mir.Val.{to_z, of_z}
-use Rattle.law_arithmetic.proofs.Ring.{ring, at, num, ◌⊖◌, ◌⊗◌}
+use Rattle.nef_space.proofs.Ring.{ring, at, num, ◌⊖◌, ◌⊗◌}
 use Rattle.nef_arc.proofs.SignNumbers.{not_true}
 use Rattle.nef_geo.specs.Widths.{upright_limit}
 use Rattle.nef_locate.proofs.hit.lies_between.Goals as goal

@@ -3,7 +3,7 @@ use mir.Syntax.{w128}
 use Rattle.std.specs.Ordering.{int_cmp}
 use Rattle.std.proofs.lemmas.Cmp.{int_ranked}
 use Rattle.nef_space.specs.Limits.{point_limit, weight_limit}
-use Rattle.law_arithmetic.proofs.Machine.{Code, load, wrap, ◌⊠◌, Limited, exact_of, fits_of}
+use Rattle.nef_space.proofs.Machine.{Code, load, wrap, ◌⊠◌, Limited, exact_of, fits_of}
 use Rattle.nef_geo.specs.Widths.{upright_limit, upright_weight_limit}
 use Rattle.nef_locate.proofs.order.ratio_cmp.Goals as goal
 

@@ -1,7 +1,7 @@
 use Rattle.std.proofs.Common.{ℕ, ℤ, ◌≤◌, nat_abs, List, [], ◌∷◌, w64}
 use mir.Syntax.{w128}
 use Rattle.nef_space.specs.Limits.{direction_limit, point_limit}
-use Rattle.law_arithmetic.proofs.Machine.{Code, load, wrap, ◌⊞◌, ◌⊠◌, Limited, exact_of, fits_of, size_of}
+use Rattle.nef_space.proofs.Machine.{Code, load, wrap, ◌⊞◌, ◌⊠◌, Limited, exact_of, fits_of, size_of}
 use Rattle.nef_plane.specs.Parting.{product_limit}
 use Rattle.nef_plane.proofs.parting.product.Goals as goal
 

@@ -1,5 +1,5 @@
 use Rattle.std.proofs.Common.{[], ◌∷◌, refl, ◌∙◌, w64}
-use Rattle.law_arithmetic.proofs.Machine.{wrap, exact_of, fits_of, size_of}
+use Rattle.nef_space.proofs.Machine.{wrap, exact_of, fits_of, size_of}
 use Rattle.nef_ray.specs.Widths.{start_form_limit}
 use Rattle.nef_ray.proofs.Steps.{form_sizes, form-limits, form-is, times, two, three, four}
 use Rattle.nef_ray.proofs.crossing.form.Goals as goal

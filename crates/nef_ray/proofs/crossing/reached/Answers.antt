@@ -1,6 +1,6 @@
 use Rattle.std.proofs.Common.{ℤ, pos, ◌*ℤ◌, ◌<ℤ◌, [], ◌∷◌, sym, ◌∙◌, ap, refl, subst, w64}
-use Rattle.law_arithmetic.proofs.Machine.{wrap, exact_of, fits_of, size_of}
-use Rattle.law_arithmetic.proofs.Order.{mul_pos}
+use Rattle.nef_space.proofs.Machine.{wrap, exact_of, fits_of, size_of}
+use Rattle.nef_space.proofs.Order.{mul_pos}
 use Rattle.nef_space.specs.Limits.{point_limit, weight_limit}
 use Rattle.nef_geo.specs.Shapes.{place_of}
 use Rattle.nef_ray.proofs.Steps.{step_sizes, step-limits, step-is, step_code, weight_sizes, weight-limits, times, same-at}

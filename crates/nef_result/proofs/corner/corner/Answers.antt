@@ -1,6 +1,6 @@
 use Rattle.std.proofs.Common.{pos, ◌<ℤ◌, arith, refl, sym, subst, inl, inr}
 use Rattle.std.proofs.lemmas.Int.{ints}
-use Rattle.law_arithmetic.specs.Signs.{Lies}
+use Rattle.nef_space.specs.Signs.{Lies}
 use Rattle.nef_space.specs.Vectors.{Vector}
 use Rattle.nef_result.specs.Ends.{axes, IsWall}
 use Rattle.nef_result.proofs.CornerMaps.{corner-of, corner-place}

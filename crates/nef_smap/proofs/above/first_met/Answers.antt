@@ -1,6 +1,6 @@
 use Rattle.std.proofs.Common.{◌≡◌, ◌≢◌, ℕ, pos, ◌≤ℤ◌, arith, sym, ap, ◌∙◌, subst, IsTrue, rules, Option}
 use Rattle.std.proofs.lemmas.Int.{ints}
-use Rattle.law_arithmetic.proofs.Order.{minus, sign-minus, minus-is, by_order}
+use Rattle.nef_space.proofs.Order.{minus, sign-minus, minus-is, by_order}
 use Rattle.nef_space.specs.Vectors.{Vector, dot, up}
 use Rattle.nef_geo.specs.Shapes.{vector_of}
 use Rattle.nef_geo.specs.declared.sign.Sign.TheVariants.{Minus}

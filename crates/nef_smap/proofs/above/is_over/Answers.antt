@@ -1,5 +1,5 @@
 use Rattle.std.proofs.Common.{◌≡◌, ◌≢◌, ◌<ℤ◌, pos, refl, sym, ap, ◌∙◌, subst, IsTrue, ◌↔◌, rules, true, false}
-use Rattle.law_arithmetic.specs.Signs.{minus}
+use Rattle.nef_space.specs.Signs.{minus}
 use Rattle.nef_space.specs.Vectors.{Vector, dot, up}
 use Rattle.nef_geo.specs.declared.sign.Sign.TheVariants.{Minus}
 use Rattle.law_sphere.specs.Maps.{At, Item, items, item_normal}

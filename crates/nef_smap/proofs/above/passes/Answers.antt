@@ -1,6 +1,6 @@
 use Rattle.std.proofs.Common.{◌≡◌, ℕ, sym, ◌∙◌, subst, IsTrue, ◌↔◌, nat_eq, rules, Bool}
 use Rattle.nef_geo.specs.declared.sign.Sign.TheVariants.{Minus, Plus}
-use Rattle.law_arithmetic.specs.Signs.{Sign, minus, plus, sign}
+use Rattle.nef_space.specs.Signs.{Sign, minus, plus, sign}
 use Rattle.nef_space.specs.Vectors.{Vector, cross, triple, up}
 use Rattle.nef_geo.specs.Shapes.{vector_of}
 use Rattle.law_sphere.specs.Maps.{dir_of}
@@ -27,7 +27,7 @@ returns-then-not-is_whole c =
     record {
       passes = subst (λ (x : Vector). at x (dir_of (map_of c.args.map.now).svertices arc.target)) (sym s')
           (subst (λ (y : Vector). at s y) (sym t') (passes-agreed (sign (triple (vector_of arc.normal) s t)) c.eq-past_source.result c.eq-before_target.result
-              (close_sign (cross up s) w ≡ plus) (close_sign (cross up t) w ≡ minus) (arc.source ≡ arc.target) one past before apart));
+          (close_sign (cross up s) w ≡ plus) (close_sign (cross up t) w ≡ minus) (arc.source ≡ arc.target) one past before apart));
     }
 
 pub returns : goal.returns

@@ -1,7 +1,7 @@
 use Rattle.std.proofs.Common.{pos, sym, ◌∙◌}
 use Rattle.nef_space.specs.Vectors.{dot}
 use Rattle.nef_geo.specs.Shapes.{vector_of}
-use Rattle.law_arithmetic.proofs.Order.{by_order}
+use Rattle.nef_space.proofs.Order.{by_order}
 use Rattle.nef_arc.proofs.SignNumbers.{not_true}
 use Rattle.nef_smap.proofs.Axes.{back-along}
 use Rattle.nef_smap.proofs.join.axis_along.Goals as goal

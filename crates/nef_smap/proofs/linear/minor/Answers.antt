@@ -1,6 +1,6 @@
 use Rattle.std.proofs.Common.{◌^◌, [], ◌∷◌}
 use mir.Syntax.{w128}
-use Rattle.law_arithmetic.proofs.Machine.{load, wrap, ◌⊟◌, ◌⊠◌, exact_of, fits_of}
+use Rattle.nef_space.proofs.Machine.{load, wrap, ◌⊟◌, ◌⊠◌, exact_of, fits_of}
 use Rattle.nef_smap.proofs.linear.minor.Goals as goal
 
 pub overflow_mul-result : goal.overflow_mul-result

@@ -1,4 +1,4 @@
-use Rattle.law_arithmetic.specs.Signs.{sign}
+use Rattle.nef_space.specs.Signs.{sign}
 use Rattle.nef_space.specs.Vectors.{dot}
 use Rattle.nef_geo.specs.Shapes.{vector_of}
 use Rattle.nef_smap.specs.Close.{beyond_sign}

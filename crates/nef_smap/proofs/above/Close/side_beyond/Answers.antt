@@ -1,5 +1,5 @@
 use Rattle.std.proofs.Common.{refl}
-use Rattle.law_arithmetic.specs.Signs.{plus, sign}
+use Rattle.nef_space.specs.Signs.{plus, sign}
 use Rattle.nef_space.specs.Vectors.{dot}
 use Rattle.nef_geo.specs.Shapes.{vector_of}
 use Rattle.nef_geo.specs.declared.sign.Sign.TheVariants.{Minus, Plus}

@@ -1,5 +1,5 @@
 use Rattle.std.proofs.Common.{◌≡◌, sym, ap, ◌∙◌}
-use Rattle.law_arithmetic.specs.Signs.{sign}
+use Rattle.nef_space.specs.Signs.{sign}
 use Rattle.nef_space.specs.Vectors.{Vector, dot, cross, up}
 use Rattle.nef_geo.specs.Shapes.{vector_of}
 use Rattle.law_sphere.proofs.Direct.{cross-self}

@@ -1,3 +1,0 @@
-pub mod Homogeneous
-pub mod Near
-pub mod Laws

@@ -1,0 +1,54 @@
+-- Worked uses of this crate's lemmas.
+use Rattle.std.proofs.Common.{◌≡◌, pos, ◌<ℤ◌, arith, refl, sym, ◌∙◌, inl, inr, List, [], ◌∷◌}
+use Rattle.std.proofs.lemmas.Int.{ints}
+use Rattle.nef_space.proofs.Order.{nought-is, plus-is, sign-plus}
+use Rattle.nef_space.specs.Vectors.{Vector, vector, dot, blend}
+use Rattle.nef_space.specs.Place.{Place, Form, form_at}
+use Rattle.law_near.specs.Homogeneous.{OnPlaces}
+use Rattle.law_near.proofs.Near.{sign_at, keeps, reach}
+use Rattle.law_near.proofs.Places.{settled-segment_places}
+use Rattle.law_near.proofs.Generic.{generic_direction, direction-avoids, direction_bound, direction-near}
+
+-- ---- along a segment: a form that is nought at no point of it has one sign
+module _ (h : Form) (p q : Place) (off : (r : Place) → OnPlaces p r q → form_at h r ≡ pos 0 → ⊥) where
+  -- the property that is carried along
+  abbrev AsAtStart : Place → Type 0
+  AsAtStart r = sign_at h r ≡ sign_at h p
+
+  pub one_sign : sign_at h q ≡ sign_at h p
+  one_sign = settled-segment_places (h ∷ []) AsAtStart p q
+      -- points with the same signs on the list h agree on it
+      (λ r s a b same f. sym (same h (inl refl)) ∙ f)
+      -- and each r agrees with the points within 1 / reach h r
+      (λ r a. (
+        reach h r,
+        omega arith,
+        λ s b near.
+            let e = keeps h r s near (λ z. off r a (nought-is (form_at h r) z)) in
+            (λ f. e ∙ f, λ f. sym e ∙ f),
+      )) refl
+
+-- ---- general position: a direction that lies in none of three planes, which all hold the z axis
+abbrev pub axis_x : Vector
+axis_x = vector (pos 1) (pos 0) (pos 0)
+
+abbrev pub axis_y : Vector
+axis_y = vector (pos 0) (pos 1) (pos 0)
+
+abbrev pub diagonal : Vector
+diagonal = vector (pos 1) (pos 1) (pos 0)
+
+abbrev pub planes : List Vector
+planes = axis_x ∷ axis_y ∷ diagonal ∷ []
+
+pub slanted_avoids : dot diagonal (generic_direction planes) ≡ pos 0 → ⊥
+slanted_avoids = direction-avoids planes diagonal (inr (inr (inl refl))) (λ z. let x = z.0 in omega (arith, ints))
+
+-- and one that lies in none of them on the side of x = 0 on which d lies: d, turned a little
+pub beside : (d : Vector) → pos 0 <ℤ dot axis_x d → (e : Vector) × (pos 0 <ℤ dot axis_x e) × (dot axis_y e ≡ pos 0 → ⊥)
+beside d h =
+    let k = direction_bound planes in
+    let e = blend k d 1 (generic_direction planes) in
+    let x = direction-near planes d k (omega arith) axis_x (inl refl) in
+    let y = direction-near planes d k (omega arith) axis_y (inr (inl refl)) in
+    (e, plus-is (dot axis_x e) (x.0 (λ z. omega (arith, ints)) ∙ sign-plus (dot axis_x d) h), y.1 (λ z. let i = z.1 in omega (arith, ints)))
