@@ -29,7 +29,7 @@ pub(crate) fn parted(
     requires maps { AreLeastAt points.now (maps_at maps.items) }
     ensures vertices { IfOk result (λ p. AreVerticesAmong points.now (maps_at maps.items) p.vertices.items) }
 {
-    // Most points are vertices, since those alone are points that may be.
+    // Most points are vertices of the set: of the operands' edges only points near what the other set has are among them.
     let mut vertices = Vec::with_capacity(alloc, points.len())?;
     let mut others = Vec::new(alloc);
     for (point, found) in points.iter().zip(maps) {
