@@ -14,12 +14,12 @@ ghost use Rattle.nef_shell.specs.Operations.{AreMeans, AreShown, IsKept};
 
 use crate::bindings::{Binding, bindings_of};
 use crate::operation::Means;
-use crate::places::empty_places;
 use crate::stage::work_bindings;
 use crate::uses::{bound_node, looked_at};
 use nef_complex::Complex;
 use nef_expr::Nodes;
 use nef_io::Gate;
+use nef_sched::empty_places;
 use nef_script::{Command, Script};
 use std::alloc::{AllocError, Global};
 use std::mem;

@@ -9,10 +9,9 @@ ghost use Rattle.nef_shell.specs.Commands.{AreWorkable};
 ghost use Rattle.nef_shell.specs.Operations.{set_by, first_operand, second_operand, HasOperand, HasTurn};
 
 use crate::operation::Operation;
-use crate::places::empty_places;
 use crate::uses::bound;
 use nef_expr::Nodes;
-use nef_sched::Needs;
+use nef_sched::{Needs, empty_places};
 use nef_script::{Command, Script};
 use std::alloc::{AllocError, Global};
 

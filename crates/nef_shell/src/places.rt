@@ -1,25 +1,8 @@
 //! Places, at each of which a thing is or isn't.
 
-ghost use Rattle.std.specs.Prelude.{◌≡◌, ◌<◌, ℕ, true, false, Some, IfOk, IsSome, length, slice_get, slice_set, vec_len};
+ghost use Rattle.std.specs.Prelude.{◌≡◌, ◌<◌, true, false, Some, IsSome, length, slice_get, slice_set, vec_len};
 ghost use Rattle.std.specs.Option.{option_copied};
 ghost use Rattle.nef_shell.specs.Operations.{IsGone, IsThere};
-
-use std::alloc::{AllocError, Global};
-
-/// So many places with nothing there. `AllocError` says that memory was wanted and not found.
-pub(crate) fn empty_places<X: Drop>(
-    alloc: Global,
-    count: usize,
-) -> Result<Vec<Option<X>>, AllocError>
-    ensures count { IfOk result (λ v. vec_len v ≡ count) }
-    ensures empty { IfOk result (λ v. (k : ℕ) (x : X) → slice_get v.items k ≡ Some (Some x) → ⊥) }
-{
-    let mut list = Vec::with_capacity(alloc, count)?;
-    for _ in 0..count {
-        list.push_reserved(None);
-    }
-    Ok(list)
-}
 
 /// Whether something is there.
 pub(crate) fn is_there<X>(places: &Vec<Option<X>>, k: usize) -> bool

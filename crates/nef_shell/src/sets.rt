@@ -15,7 +15,7 @@ ghost use Rattle.nef_shell.specs.Operations.{set_by, HasOperand, HasTurn, AreMea
 ghost use Rattle.nef_statement.specs.Texts.{IsWrittenOf};
 
 use crate::operation::{Means, Operation, made};
-use crate::places::{empty_places, is_there, put_at, thing_at};
+use crate::places::{is_there, put_at, thing_at};
 use crate::uses::{bound_node, looked_at};
 use nef_canon::write_text;
 use nef_complex::Complex;
@@ -24,6 +24,7 @@ use nef_expr::Nodes;
 use nef_io::Gate;
 use nef_ops::same;
 use nef_parts::Parts;
+use nef_sched::empty_places;
 use nef_script::Command;
 use nef_volumes::parts_by_threads;
 use std::alloc::{AllocError, Global};
