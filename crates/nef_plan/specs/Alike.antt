@@ -1,0 +1,11 @@
+-- Expressions for one set that are made of the same halves.
+use Rattle.std.specs.Prelude.{◌↔◌}
+use Rattle.nef_space.specs.Local.{SameSet}
+use Rattle.nef_space.specs.Place.{Form}
+use Rattle.nef_space.specs.Sets.{Set, halves}
+use Rattle.nef_space.specs.Signs.{Lies}
+
+-- both are one set, and the halves of either have the same planes
+pub record AreAlike (s t : Set) : Type 0 where
+  pub same : SameSet s t
+  pub planes : (f : Form) → Lies (halves s) f ↔ Lies (halves t) f

@@ -1,0 +1,87 @@
+-- The steps of a script's work.
+use Rattle.std.specs.Prelude.{◌≡◌, ◌⊎◌, ℕ, ◌<◌, ◌≤◌, Bool, true, false, List, [], ◌∷◌, Some, All, length, slice_get}
+use Rattle.law_turns.specs.Turned.{turned_set}
+use Rattle.nef_expr.specs.declared.nodes.Node.{Node}
+use Rattle.nef_expr.specs.Nodes.{node_set, set_of, sets_after, NamesBelow, IsOperand}
+use Rattle.nef_script.specs.declared.script.Command.{Command}
+use Rattle.nef_script.specs.declared.script.Command.TheVariants as command
+use Rattle.nef_script.specs.Commands.{TurnsRight, AreBoundBefore}
+use Rattle.nef_script.specs.Meaning.{IsWithin}
+use Rattle.nef_plan.specs.declared.step.Step.{Step}
+use Rattle.nef_plan.specs.declared.step.Step.TheVariants.{Make, Turn, Ask}
+use Rattle.nef_plan.specs.Alike.{AreAlike}
+
+-- what is known of the commands of a script that isn't refused: each is within the nodes, turns what it says, and looks at nodes that earlier ones bind
+pub record AreWorkable (nodes : List Node) (commands : List Command) : Type 0 where
+  pub within : All (IsWithin (length nodes)) commands
+  pub turned : All (TurnsRight nodes) commands
+  pub bound_before : AreBoundBefore nodes commands
+
+-- the command asks a question
+abbrev pub is_question : Command → Bool
+is_question (command.Bind line n) = false
+is_question (command.Turn line n j t) = false
+is_question _ = true
+
+-- it asks about the set of node k
+abbrev pub AsksAbout : Command → ℕ → Type 0
+AsksAbout (command.Bind line n) k = ⊥
+AsksAbout (command.Turn line n j t) k = ⊥
+AsksAbout (command.Has line n p) k = k ≡ n
+AsksAbout (command.Joined line n p q) k = k ≡ n
+AsksAbout (command.Ray line n p d) k = k ≡ n
+AsksAbout (command.Same line i j) k = (k ≡ i) ⊎ (k ≡ j)
+AsksAbout (command.Count line n) k = k ≡ n
+AsksAbout (command.Print line n name) k = k ≡ n
+
+-- the step makes the set of node k
+abbrev pub Makes : Step → ℕ → Type 0
+Makes (Make n m) k = k ≡ n
+Makes (Turn n j t) k = k ≡ n
+Makes (Ask c) k = ⊥
+
+-- the step looks at the set of node k: it makes another of it, or asks about it
+abbrev pub LooksAt : Step → ℕ → Type 0
+LooksAt (Make n m) k = IsOperand k m
+LooksAt (Turn n j t) k = k ≡ j
+LooksAt (Ask c) k = AsksAbout c.now k
+
+-- m, whose operands are nodes, is an expression for the set of the node n with the same planes
+pub record IsMadeAs (nodes : List Node) (n : ℕ) (m : Node) : Type 0 where
+  pub within : n < length nodes
+  pub operands : NamesBelow (length nodes) m
+  pub set : AreAlike (set_of (sets_after [] nodes) m) (node_set nodes n)
+
+-- the set of node n is that of node j under the turn t
+pub record IsTurnedFrom (nodes : List Node) (n j t : ℕ) : Type 0 where
+  pub within : n < length nodes
+  pub operand : j < length nodes
+  pub turn : t < 48
+  pub set : node_set nodes n ≡ turned_set t (node_set nodes j)
+
+-- the step makes what it says, or asks a question about nodes
+abbrev pub IsRight : List Node → Step → Type 0
+IsRight nodes (Make n m) = IsMadeAs nodes n m
+IsRight nodes (Turn n j t) = IsTurnedFrom nodes n j t
+IsRight nodes (Ask c) = (is_question c.now ≡ true) × IsWithin (length nodes) c.now
+
+-- some step makes the set of node k
+abbrev pub IsMade : List Step → ℕ → Type 0
+IsMade steps k = (j : ℕ) × (d : Step) × (slice_get steps j ≡ Some d) × Makes d k
+
+-- each step is right, and looks at nodes whose sets earlier steps make
+pub record AreSteps (nodes : List Node) (steps : List Step) : Type 0 where
+  pub right : (i : ℕ) (s : Step) → slice_get steps i ≡ Some s → IsRight nodes s
+  pub made_before : (i : ℕ) (s : Step) → slice_get steps i ≡ Some s → (k : ℕ) → LooksAt s k → (j : ℕ) × (d : Step) × (j < i) × (slice_get steps j ≡ Some d) × Makes d k
+
+-- the questions of the steps, in order
+abbrev pub asked : List Step → List Command
+asked [] = []
+asked (Make n m ∷ steps) = asked steps
+asked (Turn n j t ∷ steps) = asked steps
+asked (Ask c ∷ steps) = c.now ∷ asked steps
+
+-- the later list has nodes more, and the earlier ones have their sets there
+pub record HasMore (old new : List Node) : Type 0 where
+  pub as_many : length old ≤ length new
+  pub sets : (k : ℕ) → k < length old → node_set new k ≡ node_set old k
