@@ -13,6 +13,8 @@ mod lexing;
 #[cfg(test)]
 mod options;
 #[cfg(test)]
+mod planned;
+#[cfg(test)]
 mod same;
 #[cfg(test)]
 mod scripts;

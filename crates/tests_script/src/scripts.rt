@@ -120,8 +120,8 @@ line 11 turns 2 from 5 by 16
 line 12 has 2 at 0 0 0 1
 ";
 
-// The lines between the `/`.
-fn unfolded(alloc: Global, script: &str) -> Result<String, OutOfMemory> {
+/// The lines between the `/`.
+pub(crate) fn unfolded(alloc: Global, script: &str) -> Result<String, OutOfMemory> {
     let mut lines = String::new(alloc);
     for line in script.split(" / ") {
         lines.push_str(line)?;
