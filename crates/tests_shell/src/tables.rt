@@ -49,6 +49,23 @@ half A 0 0 1 0 closed / half B 0 0 -1 0 closed / half C 0 1 0 0 closed / \
     half D 0 -1 0 0 closed / half E -1 0 0 0 closed / and F A B / and G F C / and H G D / \
     and R H E / diff K A R / count K / has K 0 0 0 1 / has K -1 0 0 1 => 14 22 11 3 / not / in";
 
+/// Rows of unions, of symmetric differences and of differences, which are worked as trees, beside the same rows worked one
+/// by one, since each set of theirs is asked about. In the third what one set changes another one changes back.
+pub(crate) const ROWS: &str =
+    "half A 1 0 0 0 closed / half B 0 1 0 0 open / half C 0 0 1 0 closed / half D 1 1 1 2 open / \
+    or U A B / or V U C / or W V D / or P A B / has P 0 0 0 1 / or Q P C / has Q 0 0 0 1 / \
+    or R Q D / same W R => in / in / same
+half A 1 0 0 0 closed / half B 0 1 0 0 open / half C 0 0 1 0 closed / half D 1 1 1 2 open / \
+    xor U A B / xor V U C / xor W V D / xor P A B / has P 0 0 0 1 / xor Q P C / has Q 0 0 0 1 / \
+    xor R Q D / same W R => in / not / same
+half A 1 0 0 0 closed / half B 0 1 0 0 open / half C 0 0 1 0 closed / xor U A B / xor V U C / \
+    xor W V B / xor X A C / same W X / same W A => same / differs
+half a 1 0 0 0 closed / half b -1 0 0 0 closed / half c 0 1 0 0 closed / half d 0 -1 0 0 open / \
+    half e 0 0 1 0 closed / and f a c / and g f e / and h b c / and i h e / and j a d / and k j e / \
+    full F / diff L F g / diff M L i / diff N M k / diff P F g / has P 0 0 0 1 / diff Q P i / \
+    has Q 1 -1 -1 1 / diff R Q k / has R -1 1 -1 1 / same N R / has N 1 1 -1 1 => \
+    not / not / not / same / in";
+
 /// The numbers of a half-space, boxes, a point, an axis, two axes that cross, and a box with corners at halves.
 pub(crate) const COUNTS: &str = "half A 1 0 0 0 closed / count A => 12 20 11 3
 half Aa -1 0 0 0 closed / half Ab 1 0 0 -1 closed / half Ac 0 -1 0 0 closed / \
@@ -179,6 +196,7 @@ fn all_fit<R: Threads + Wait + Sync>(rt: &R, alloc: Global, words: &str) -> Resu
     Ok(
         fits(rt, alloc, words, ANSWERS, 0)?
             && fits(rt, alloc, words, SOLIDS, 0)?
+            && fits(rt, alloc, words, ROWS, 0)?
             && fits(rt, alloc, words, COUNTS, 0)?
             && fits(rt, alloc, words, COMPARISONS, 0)?
             && fits(rt, alloc, words, RAYS, 0)?
