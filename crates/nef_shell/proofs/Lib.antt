@@ -1,4 +1,5 @@
 pub mod Complexes
+pub mod ShownAlike
 pub mod Outputs
 pub mod Walk
 pub mod Pieces
