@@ -1,5 +1,5 @@
 -- The complexes of the nodes that questions ask about.
-use Rattle.std.proofs.Common.{◌≡◌, ◌⊎◌, ◌∙◌, ℕ, Bool, true, false, zero, suc, ◌+◌, ◌<◌, ◌≤◌, ap, arith, refl, sym, subst, List, [], ◌∷◌, ◌++◌, append-nil, length, Option, Some, None, IfSome, slice_get, inl, inr}
+use Rattle.std.proofs.Common.{◌≡◌, ◌⊎◌, ◌∙◌, ℕ, Bool, true, false, zero, suc, ◌+◌, ◌<◌, ◌≤◌, ap, arith, refl, sym, subst, List, [], ◌∷◌, ◌++◌, length, Option, Some, None, IfSome, slice_get, inl, inr}
 use Rattle.std.specs.Prelude.{slice_set, is_some}
 use Rattle.std.proofs.lemmas.Bool.{cases_eq, cases_lt}
 use Rattle.std.proofs.lemmas.Option.{slice_get_within}
@@ -10,21 +10,13 @@ use Rattle.nef_expr.specs.declared.nodes.Node.{Node}
 use Rattle.nef_expr.specs.Nodes.{node_set}
 use Rattle.nef_sched.specs.Marks.{IsMarked, IsUnmarked}
 use Rattle.nef_sched.specs.Results.{flat, kept, IsKept as HasResult, AreSound}
-use Rattle.nef_io.specs.Bytes.{Grows}
-use Rattle.nef_script.specs.declared.script.Command.{Command}
-use Rattle.nef_script.specs.declared.script.Command.TheVariants.{Bind, Turn, Has, Joined, Ray, Same, Count, Print}
-use Rattle.nef_script.specs.Commands.{Binds, LooksAt, AreBoundBefore}
+use Rattle.nef_plan.specs.declared.step.Step.{Step}
+use Rattle.nef_plan.specs.declared.step.Step.TheVariants.{Make, Turn, Ask}
+use Rattle.nef_plan.specs.Steps.{LooksAt, Makes, AreSteps}
 use Rattle.nef_shell.specs.declared.bindings.Binding.{Binding}
-use Rattle.nef_shell.specs.Bindings.{IsBoundAt, IsQuestion, AsksAbout, IsAskedAbout, AreMarkedAsked, AreAllBound, Fits, ArePlaced, AreFirst}
+use Rattle.nef_shell.specs.Bindings.{IsBoundAt, Asks, Needs, IsAskedAbout, AreMarkedAsked, AreAllBound, Fits, ArePlaced, AreFirst}
 use Rattle.nef_shell.specs.Operations.{AreShown, IsKept, IsGone, AreBound}
 use Rattle.nef_shell.proofs.Complexes.{shown-put}
-
-pub none-some : (k : ℕ) → (None ≡ Some k) ⊎ (None ≡ Some k) → ⊥
-none-some k h = elim h [ inl e ↦ (let f : None ≡ Some k = e in cc) | inr e ↦ (let f : None ≡ Some k = e in cc) ]
-
-pub true-or-false : (b : Bool) → (b ≡ true) ⊎ (b ≡ false)
-true-or-false true = inl refl
-true-or-false false = inr refl
 
 -- a place more, with nothing there
 pub none-more : {X : Type 0} (list : List (Option X)) → ((k : ℕ) (x : X) → slice_get list k ≡ Some (Some x) → ⊥) → (k : ℕ) (x : X) → slice_get (list ++ None ∷ []) k ≡ Some (Some x) → ⊥
@@ -59,35 +51,45 @@ those-marked nodes bindings wanted results list count has lean placed = record {
       ];
 }
 
--- no complex is there before the first command, unless all bindings are worked ahead
-pub none-first : (nodes : List Node) (commands : List Command) (list : List (Option Complex)) → ((k : ℕ) (c : Complex) → slice_get list k ≡ Some (Some c) → ⊥) → AreFirst nodes commands false list
-none-first nodes commands list none = record { shown = λ k c at. absurd (none k c at); asked = λ on. absurd (let f : false ≡ true = on in cc); only = λ k c at. absurd (none k c at) }
+-- no complex is there before the first step, unless all bindings are worked ahead
+pub none-first : (nodes : List Node) (steps : List Step) (list : List (Option Complex)) → ((k : ℕ) (c : Complex) → slice_get list k ≡ Some (Some c) → ⊥) → AreFirst nodes steps false list
+none-first nodes steps list none = record { shown = λ k c at. absurd (none k c at); asked = λ on. absurd (let f : false ≡ true = on in cc); only = λ k c at. absurd (none k c at) }
+
+-- a step looks at what it asks about
+pub asks-looks : (s : Step) (k : ℕ) → Asks s k → LooksAt s k
+asks-looks (Make n m) k asks = absurd asks
+asks-looks (Turn n j t) k asks = absurd asks
+asks-looks (Ask c) k asks = asks
+
+-- and needs it
+pub asks-needs : (ahead : Bool) (s : Step) (k : ℕ) → Asks s k → Needs ahead s k
+asks-needs true s k asks = asks
+asks-needs false s k asks = asks-looks s k asks
+
+pub needs-looks : (ahead : Bool) (s : Step) (k : ℕ) → Needs ahead s k → LooksAt s k
+needs-looks true s k needs = asks-looks s k needs
+needs-looks false s k needs = needs
+
+-- what it needs was there at first, or an earlier step makes it
+pub needs-first : (nodes : List Node) (steps : List Step) (ahead : Bool) (list : List (Option Complex)) → AreSteps nodes steps → AreFirst nodes steps ahead list → (i : ℕ) (s : Step) → slice_get steps i ≡ Some s → (k : ℕ) → Needs ahead s k
+    → IsKept nodes list k ⊎ ((ahead ≡ false) × (j : ℕ) × (d : Step) × (j < i) × (slice_get steps j ≡ Some d) × Makes d k)
+needs-first nodes steps true list are first i s at k needs = inl (first.asked refl k (i, s, at, needs))
+needs-first nodes steps false list are first i s at k needs = let (j, d, low, seen, makes) = are.made_before i s at k needs in inr (refl, j, d, low, seen, makes)
 
 -- a node that a question asks about is bound by a binding, which is marked, so that the node's complex stands at its place; and nothing else stands at any place
-pub marked-first : (nodes : List Node) (commands : List Command) (bindings : List Binding) (wanted : List Bool) (list : List (Option Complex)) → AreBoundBefore nodes commands → AreAllBound commands bindings
-    → AreMarkedAsked nodes commands bindings wanted → ArePlaced nodes bindings (IsMarked wanted) list → AreFirst nodes commands true list
-marked-first nodes commands bindings wanted list before all marks placed = record {
+pub marked-first : (nodes : List Node) (steps : List Step) (bindings : List Binding) (wanted : List Bool) (list : List (Option Complex)) → AreSteps nodes steps → AreAllBound steps bindings → AreMarkedAsked steps bindings wanted
+    → ArePlaced nodes bindings (IsMarked wanted) list → AreFirst nodes steps true list
+marked-first nodes steps bindings wanted list are all marks placed = record {
   shown = placed.shown;
   asked = λ on k about.
-      let (i, c, at, asks, looks) = about in
-      let (j, d, low, seen, binds) = before i c at k looks in
-      let (n, (b, here, is)) = all j k d seen binds in
-      placed.there n k (b, here, is) ((marks n b here).1 (subst (IsAskedAbout nodes commands) (sym is) about));
+      let (i, s, at, asks) = about in
+      let (j, d, low, seen, makes) = are.made_before i s at k (asks-looks s k asks) in
+      let (n, (b, here, is)) = all k (j, d, seen, makes) in
+      placed.there n k (b, here, is) ((marks n b here).1 (subst (IsAskedAbout steps) (sym is) about));
   only = λ k c there.
       let (n, (b, here, is), marked) = placed.only k c there in
-      subst (IsAskedAbout nodes commands) is ((marks n b here).0 marked);
+      subst (IsAskedAbout steps) is ((marks n b here).0 marked);
 }
-
--- a command that asks is a question, and looks at what it asks about
-pub asks-looks : (nodes : List Node) (c : Command) (k : ℕ) → AsksAbout nodes c k → IsQuestion c × LooksAt nodes c k
-asks-looks nodes (Bind line n) k asks = absurd asks
-asks-looks nodes (Turn line n j t) k asks = absurd asks
-asks-looks nodes (Has line n p) k asks = (λ j binds. binds, asks)
-asks-looks nodes (Joined line n p q) k asks = (λ j binds. binds, asks)
-asks-looks nodes (Ray line n p d) k asks = (λ j binds. binds, asks)
-asks-looks nodes (Same line i j) k asks = (λ m binds. binds, asks)
-asks-looks nodes (Count line n) k asks = (λ j binds. binds, asks)
-asks-looks nodes (Print line n name) k asks = (λ j binds. binds, asks)
 
 -- where no node is in question nothing changes
 pub unbound : (nodes : List Node) (InQuestion : ℕ → Type 0) (list : List (Option Complex)) → ((k : ℕ) → InQuestion k → ⊥) → AreBound nodes InQuestion list list
@@ -117,10 +119,6 @@ put-there nodes list n (Some x) within shows c e = (x, get_set_here list n (Some
 pub put-only : (list : List (Option Complex)) (n : ℕ) (o : Option Complex) → is_some o ≡ true → (k : ℕ) (c : Complex) → slice_get (slice_set list n o) k ≡ Some (Some c) → (slice_get list k ≡ Some (Some c)) ⊎ ((n ≡ k) × (d : Complex) × (o ≡ Some d))
 put-only list n None e k c at = absurd (let f : false ≡ true = e in cc)
 put-only list n (Some x) e k c at = elim (cases_eq k n) [ inl same ↦ inr (sym same, x, refl) | inr other ↦ inl (sym (get_set_other list n k (Some x) other) ∙ at) ]
-
-pub grows-none : (a : Option (List ℕ)) → Grows a a []
-grows-none None = tt
-grows-none (Some bs) = sym (append-nil bs)
 
 -- what the result of the n-th binding shows
 pub result-shows : (nodes : List Node) (bindings : List Binding) (results : List (Option Complex)) (n : ℕ) (b : Binding) (o : Option Complex) → AreSound (length bindings) (Fits nodes bindings) results → slice_get bindings n ≡ Some b → slice_get results n ≡ Some o

@@ -8,11 +8,13 @@ use Rattle.nef_complex.specs.Complexes.{ShowsSet}
 use Rattle.nef_core.proofs.Places.{get_set_here, get_set_other}
 use Rattle.nef_expr.specs.declared.nodes.Node.{Node}
 use Rattle.nef_expr.specs.Nodes.{node_set, sets_after}
+use Rattle.nef_plan.specs.Alike.{AreAlike}
 use Rattle.nef_sched.specs.Results.{kept, IsReady}
 use Rattle.nef_shell.specs.declared.bindings.Binding.{Binding}
 use Rattle.nef_shell.specs.declared.operation.Operation.{Operation}
 use Rattle.nef_shell.specs.Bindings.{IsBound, IsNeeded, IsBinding, AreBindings, AreNumbered, first_need, second_need, needed_complex, Fits}
 use Rattle.nef_shell.specs.Operations.{set_by, first_operand, second_operand, HasTurn, IsLent, AreLent}
+use Rattle.nef_shell.proofs.ShownAlike.{shown-alike}
 
 inner : (m n : ℕ) → Some (Some m) ≡ Some (Some n) → m ≡ n
 inner m n e = cc
@@ -49,13 +51,13 @@ bindings-more nodes old b are is n c at = elim (old-or-last old b n c at) [
   | inr l ↦ subst (λ (z : ℕ × Binding). IsBinding nodes (old ++ b ∷ []) z.0 z.1) (λ t. (sym l.0 t, sym l.1 t)) (binding-more nodes old b (length old) b is)
 ]
 
--- a binding by the operation that makes its node's set
-pub binding-by : (nodes : List Node) (bindings : List Binding) (k : ℕ) (op : Operation) (b : Binding) → k < length nodes → HasTurn op → node_set nodes k ≡ set_by (sets_after [] nodes) op → b.node ≡ k → b.operation ≡ op
+-- a binding by an operation that makes its node's set
+pub binding-by : (nodes : List Node) (bindings : List Binding) (k : ℕ) (op : Operation) (b : Binding) → k < length nodes → HasTurn op → AreAlike (set_by (sets_after [] nodes) op) (node_set nodes k) → b.node ≡ k → b.operation ≡ op
     → IsNeeded bindings (length bindings) (first_operand op) b.needs.first → IsNeeded bindings (length bindings) (second_operand op) b.needs.second → IsBinding nodes bindings (length bindings) b
 binding-by nodes bindings k op b within turn set here by first second = record {
   within = subst (λ z. z < length nodes) (sym here) within;
   turn = subst HasTurn (sym by) turn;
-  set = ap (node_set nodes) here ∙ set ∙ ap (set_by (sets_after [] nodes)) (sym by);
+  set = subst (λ (z : ℕ). AreAlike (set_by (sets_after [] nodes) b.operation) (node_set nodes z)) (sym here) (subst (λ (z : Operation). AreAlike (set_by (sets_after [] nodes) z) (node_set nodes k)) (sym by) set);
   first = subst (λ z. IsNeeded bindings (length bindings) (first_operand z) b.needs.first) (sym by) first;
   second = subst (λ z. IsNeeded bindings (length bindings) (second_operand z) b.needs.second) (sym by) second;
 }
@@ -150,7 +152,7 @@ lent-both nodes bindings n b list are at there =
 
 -- what the operation of the n-th binding makes fits it
 pub fits-of : (nodes : List Node) (bindings : List Binding) (n : ℕ) (b : Binding) (x : Complex) → AreBindings nodes bindings → slice_get bindings n ≡ Some b → ShowsSet (set_by (sets_after [] nodes) b.operation) x → Fits nodes bindings n x
-fits-of nodes bindings n b x are at shows d at-d = subst (λ (z : Binding). ShowsSet (node_set nodes z.node) x) same (subst (λ s. ShowsSet s x) (sym (are n b at).set) shows)
+fits-of nodes bindings n b x are at shows d at-d = subst (λ (z : Binding). ShowsSet (node_set nodes z.node) x) same (shown-alike _ _ x (are n b at).set shows)
   where
     inj : (y z : Binding) → Some y ≡ Some z → y ≡ z
     inj y z q = cc

@@ -1,5 +1,5 @@
--- The complexes of nodes: each is made of those of its operands, and is kept as long as a command looks at it.
-use Rattle.std.proofs.Common.{◌≡◌, ◌↔◌, ℕ, Bool, true, false, ◌<◌, ◌≤◌, ap, arith, refl, sym, ◌∙◌, subst, List, [], length, Option, Some, None, IfSome, Result, Ok, Err, IfOk, inl, inr}
+-- The complexes of nodes: each is made of those of its operands, and is kept as long as a step looks at it.
+use Rattle.std.proofs.Common.{◌≡◌, ◌↔◌, ℕ, Bool, true, false, ◌<◌, ◌≤◌, ap, arith, refl, sym, ◌∙◌, subst, List, length, Option, Some, None, IfSome, Result, Ok, Err, IfOk, inl, inr}
 use Rattle.std.specs.Prelude.{slice_get, slice_set, slice_index, is_some}
 use Rattle.std.proofs.lemmas.Bool.{cases_eq}
 use Rattle.std.proofs.lemmas.List.{length-set}
@@ -14,17 +14,12 @@ use Rattle.law_turns.specs.Turned.{turned_set}
 use Rattle.nef_star.specs.declared.op.Op.{Op}
 use Rattle.nef_ops.specs.Nodes.{unary_set}
 use Rattle.nef_ops.specs.declared.op.UnaryOp.{UnaryOp}
-use Rattle.nef_expr.specs.Nodes.{operand, set_of, sets_after, node_set, NamesBelow, IsOperand}
-use Rattle.nef_expr.proofs.Sets.{each-set}
-use Rattle.nef_script.specs.declared.script.Command.{Command}
-use Rattle.nef_script.specs.Commands.{Binds}
+use Rattle.nef_expr.specs.Nodes.{operand, node_set, NamesBelow, IsOperand}
+use Rattle.nef_plan.specs.declared.step.Step.{Step}
+use Rattle.nef_plan.specs.Steps.{Makes}
 use Rattle.nef_shell.specs.Operations.{set_by, first_operand, second_operand, HasOperand, IsLent, AreLent, AreShown, IsKept, IsGone, AreBound}
 use Rattle.nef_shell.specs.declared.operation.Operation.{Operation}
 use Rattle.nef_shell.specs.declared.operation.Operation.TheVariants.{Unary, Binary, Turned}
-
--- the operation of a node makes its set
-pub node-by : (nodes : List Node) (k : ℕ) (n : Node) (op : Operation) → slice_get nodes k ≡ Some n → NamesBelow k n → ((ss : List Set) → set_of ss n ≡ set_by ss op) → node_set nodes k ≡ set_by (sets_after [] nodes) op
-node-by nodes k n op at below by = each-set nodes k n at below ∙ by (sets_after [] nodes)
 
 pub ok-then : {E : Type 0} (r : Result Complex E) (P Q : Complex → Type 0) → ((c : Complex) → P c → Q c) → IfOk r P → IfOk r Q
 ok-then (Ok c) P Q then p = then c p
@@ -82,10 +77,10 @@ shown-less nodes list n within shown k d at = elim (cases_eq k n) [
   | inr other ↦ shown k d (sym (get_set_other list n k None other) ∙ at)
 ]
 
--- a command that binds a node has it bound
-pub binds-that : (nodes : List Node) (ahead : Bool) (c : Command) (n : ℕ) (old new : List (Option Complex)) → ((k : ℕ) → Binds c k ↔ (k ≡ n)) → ahead ≡ false → AreBound nodes (λ k. k ≡ n) old new
-    → AreBound nodes (λ k. (ahead ≡ false) × Binds c k) old new
-binds-that nodes ahead c n old new binds off b = record {
+-- a step that makes the set of a node has it bound
+pub binds-that : (nodes : List Node) (ahead : Bool) (s : Step) (n : ℕ) (old new : List (Option Complex)) → ((k : ℕ) → Makes s k ↔ (k ≡ n)) → ahead ≡ false → AreBound nodes (λ k. k ≡ n) old new
+    → AreBound nodes (λ k. (ahead ≡ false) × Makes s k) old new
+binds-that nodes ahead s n old new binds off b = record {
   count = b.count;
   stays = b.stays;
   gone = λ k g. elim (b.gone k g) [ inl h ↦ inl h | inr is ↦ inr (off, (binds k).1 is) ];
@@ -111,7 +106,7 @@ operand-below n k (node.Cl i) below is = rw is below
 operand-below n k (node.Bd i) below is = rw is below
 operand-below n k (node.Reg i) below is = rw is below
 
--- the others are kept that a later command looks at
+-- the others are kept that a later step looks at
 pub kept-less : (nodes : List Node) (list : List (Option Complex)) (uses : List ℕ) (n k now : ℕ) → slice_index uses n ≤ now → now < slice_index uses k → IsKept nodes list k → IsKept nodes (slice_set list n None) k
 kept-less nodes list uses n k now done later (c, at, shows) = elim (cases_eq k n) [
   | inl e ↦ let same : slice_index uses k ≡ slice_index uses n = ap (slice_index uses) e in absurd (omega arith)

@@ -1,6 +1,7 @@
 pub mod Complexes
 pub mod ShownAlike
 pub mod Outputs
+pub mod Questions
 pub mod Walk
 pub mod Pieces
 pub mod Statuses

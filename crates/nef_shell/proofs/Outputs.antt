@@ -1,28 +1,34 @@
 -- Output that grows by one piece after another.
-use Rattle.std.proofs.Common.{◌≡◌, ◌↔◌, ℕ, ◌+◌, ◌<◌, ◌≤◌, Bool, true, false, refl, sym, ap, ◌∙◌, List, [], ◌∷◌, ◌++◌, length, take, Option, Some, None, Result, Err, append_assoc, append-nil, subst, get_or, arith, inl, inr}
-use Rattle.std.proofs.lemmas.List.{take_more}
+use Rattle.std.proofs.Common.{◌≡◌, ◌↔◌, ℕ, zero, suc, ◌+◌, ◌<◌, Bool, true, false, refl, sym, ap, ◌∙◌, List, [], ◌∷◌, ◌++◌, length, take, drop, Option, Some, None, Result, Err, append_assoc, append-nil, subst, get_or, inl, inr}
+use Rattle.std.proofs.lemmas.List.{take_more, take-append-drop}
 use Rattle.std.proofs.Math.Seq.{take-append-add}
 use Rattle.std.specs.Prelude.{IsTrue}
 use Rattle.nef_space.specs.Local.{Joined, SameSet}
 use Rattle.nef_space.specs.Place.{Place, InFrame}
 use Rattle.nef_space.specs.Sets.{Set}
-use Rattle.nef_io.specs.Bytes.{Rose, Grows, GrowsWithin}
+use Rattle.nef_io.specs.Bytes.{Grows, GrowsWithin}
 use Rattle.nef_core.specs.declared.how.TextVersion.{TextVersion}
 use Rattle.nef_expr.specs.declared.nodes.Node.{Node}
+use Rattle.nef_plan.specs.declared.step.Step.{Step}
+use Rattle.nef_plan.specs.declared.step.Step.TheVariants.{Make, Turn, Ask}
+use Rattle.nef_plan.specs.Steps.{asked}
 use Rattle.nef_script.specs.declared.script.Command.{Command}
 use Rattle.nef_shell.specs.declared.stop.Stop.{Stop}
-use Rattle.nef_shell.specs.declared.stop.Stop.TheVariants.{WriteFault, OutOfMemory}
-use Rattle.nef_shell.specs.Working.{FrontOf, PieceEnds, WorkEnds}
-use Rattle.nef_shell.specs.Stops.{MatchStop}
+use Rattle.nef_shell.specs.declared.stop.Stop.TheVariants.{OutOfMemory}
+use Rattle.nef_shell.specs.Working.{FrontOf, WorkEnds}
 use Rattle.nef_statement.specs.Output.{same_answer, joined_answer, IsSameAnswer, IsJoinedAnswer}
-use Rattle.nef_statement.proofs.Grown.{grows_within-all, grows_within-none}
+use Rattle.nef_statement.proofs.Grown.{grows_within-none}
 use Rattle.nef_shell.specs.Output.{IsPiece, IsOutput}
 
--- one more command
-pub output-more : (version : TextVersion) (nodes : List Node) (cs : List Command) (c : Command) (output piece : List ℕ) → IsOutput version nodes cs output → IsPiece version nodes c piece → IsOutput version nodes (cs ++ c ∷ []) (output ++ piece)
-output-more version nodes [] c output piece none is = (piece, [], is, refl, ap (λ z. z ++ piece) none ∙ sym (append-nil piece))
-output-more version nodes (d ∷ cs) c output piece (first, rest, first_is, rest_is, whole) is =
-    (first, rest ++ piece, first_is, output-more version nodes cs c rest piece rest_is is, ap (λ z. z ++ piece) whole ∙ append_assoc first rest piece)
+-- the output of commands, and of more
+pub output-append : (version : TextVersion) (nodes : List Node) (cs ds : List Command) (x y : List ℕ) → IsOutput version nodes cs x → IsOutput version nodes ds y → IsOutput version nodes (cs ++ ds) (x ++ y)
+output-append version nodes [] ds x y none is = subst (λ z. IsOutput version nodes ds (z ++ y)) (sym none) is
+output-append version nodes (c ∷ cs) ds x y (first, rest, first_is, rest_is, whole) is =
+    (first, rest ++ y, first_is, output-append version nodes cs ds rest y rest_is is, ap (λ z. z ++ y) whole ∙ append_assoc first rest y)
+
+pub grows-none : (a : Option (List ℕ)) → Grows a a []
+grows-none None = tt
+grows-none (Some bs) = sym (append-nil bs)
 
 pub grows-more : (a b c : Option (List ℕ)) (xs ys : List ℕ) → Grows a b xs → Grows b c ys → Grows a c (xs ++ ys)
 grows-more a b None xs ys h k = tt
@@ -35,35 +41,51 @@ pub grows_within-more : (a b c : Option (List ℕ)) (xs ys : List ℕ) → Grows
 grows_within-more a b c xs ys h (n, k) =
     (length xs + n, subst (λ z. Grows a c z) (sym (take-append-add xs ys n)) (grows-more a b c xs (take n ys) h k))
 
--- the output of the commands so far, and of one more
-pub output-next : (version : TextVersion) (nodes : List Node) (cs : List Command) (i : ℕ) (c : Command) (output piece : List ℕ) → i < length cs → c ≡ get_or cs i c → IsOutput version nodes (take i cs) output → IsPiece version nodes c piece → IsOutput version nodes (take (i + 1) cs) (output ++ piece)
-output-next version nodes cs i c output piece within at so_far is =
-    let next : take (i + 1) cs ≡ take i cs ++ c ∷ [] = take_more cs i c within ∙ ap (λ z. take i cs ++ z ∷ []) (sym at) in
-    subst (λ z. IsOutput version nodes z (output ++ piece)) (sym next) (output-more version nodes (take i cs) c output piece so_far is)
+asked-append : (xs ys : List Step) → asked (xs ++ ys) ≡ asked xs ++ asked ys
+asked-append [] ys = refl
+asked-append (Make n m ∷ xs) ys = asked-append xs ys
+asked-append (Turn n j t ∷ xs) ys = asked-append xs ys
+asked-append (Ask c ∷ xs) ys = ap (λ z. c.now ∷ z) (asked-append xs ys)
 
--- what was written where the work stopped at a command
-pub front-at : (version : TextVersion) (stop : Stop) (nodes : List Node) (cs : List Command) (i : ℕ) (c : Command) (first before after : Option (List ℕ)) (g g' : ℕ) (output : List ℕ) → i < length cs → c ≡ get_or cs i c → IsOutput version nodes (take i cs) output → Grows first before output
-    → MatchStop stop (Rose g g' × ((piece : List ℕ) × IsPiece version nodes c piece × GrowsWithin before after piece)) (after ≡ before) → FrontOf version nodes cs first after
-front-at version WriteFault nodes cs i c first before after g g' output within at so_far grown (rose, (piece, is, part)) =
-    (i + 1, output ++ piece, output-next version nodes cs i c output piece within at so_far is, grows_within-more first before after output piece grown part)
-front-at version OutOfMemory nodes cs i c first before after g g' output within at so_far grown same =
-    (i, output, so_far, grows_within-all first after output (subst (λ z. Grows first z output) (sym same) grown))
+-- the questions of the steps so far, and of one more
+asked-next : (steps : List Step) (i : ℕ) (s : Step) → i < length steps → s ≡ get_or steps i s → asked (take (i + 1) steps) ≡ asked (take i steps) ++ asked (s ∷ [])
+asked-next steps i s within at = ap asked (take_more steps i s within ∙ ap (λ z. take i steps ++ z ∷ []) (sym at)) ∙ asked-append (take i steps) (s ∷ [])
 
-pub rose-from : (first old new : ℕ) → first ≤ old → Rose old new → Rose first new
-rose-from first old new le r = elim r [ inl less ↦ inl (omega arith) | inr last ↦ inr last ]
+pub output-next : (version : TextVersion) (nodes : List Node) (steps : List Step) (i : ℕ) (s : Step) (x y : List ℕ) → i < length steps → s ≡ get_or steps i s → IsOutput version nodes (asked (take i steps)) x → IsOutput version nodes (asked (s ∷ [])) y
+    → IsOutput version nodes (asked (take (i + 1) steps)) (x ++ y)
+output-next version nodes steps i s x y within at so_far is =
+    subst (λ z. IsOutput version nodes z (x ++ y)) (sym (asked-next steps i s within at)) (output-append version nodes (asked (take i steps)) (asked (s ∷ [])) x y so_far is)
 
--- why it stopped there
-pub stop-rose : (stop : Stop) (first old new : ℕ) (P Q : Type 0) → first ≤ old → MatchStop stop (Rose old new × P) Q → MatchStop stop (Rose first new) (Unit {0})
-stop-rose WriteFault first old new P Q le (rose, rest) = rose-from first old new le rose
-stop-rose OutOfMemory first old new P Q le same = tt
+-- the first of some commands are the first of more
+first-of-more : (cs ds : List Command) (n : ℕ) → (m : ℕ) × (take m (cs ++ ds) ≡ take n cs)
+first-of-more [] ds zero = (0, refl)
+first-of-more [] ds (suc n) = (0, refl)
+first-of-more (c ∷ cs) ds zero = (0, refl)
+first-of-more (c ∷ cs) ds (suc n) = let (m, same) = first-of-more cs ds n in (suc m, ap (λ z. c ∷ z) same)
+
+-- what was written where the work stopped at a step
+pub front-at : (version : TextVersion) (nodes : List Node) (steps : List Step) (i : ℕ) (s : Step) (first before after : Option (List ℕ)) (output : List ℕ) → i < length steps → s ≡ get_or steps i s → IsOutput version nodes (asked (take i steps)) output → Grows first before output
+    → FrontOf version nodes (asked (s ∷ [])) before after → FrontOf version nodes (asked steps) first after
+front-at version nodes steps i s first before after output within at so_far grown (count, piece, is, part) =
+    let done = asked (take i steps) in
+    let now = asked (s ∷ []) in
+    let (m, same) = first-of-more (done ++ now) (asked (drop (i + 1) steps)) (length done + count) in
+    let whole : (done ++ now) ++ asked (drop (i + 1) steps) ≡ asked steps =
+    ap (λ z. z ++ asked (drop (i + 1) steps)) (sym (asked-next steps i s within at)) ∙ (sym (asked-append (take (i + 1) steps) (drop (i + 1) steps)) ∙ ap asked (take-append-drop (i + 1) steps)) in
+    let these : take m (asked steps) ≡ done ++ take count now = ap (take m) (sym whole) ∙ (same ∙ take-append-add done now count) in (
+      m,
+      output ++ piece,
+      subst (λ z. IsOutput version nodes z (output ++ piece)) (sym these) (output-append version nodes done (take count now) output piece so_far is),
+      grows_within-more first before after output piece grown part,
+    )
 
 -- the work ended before its first command, for want of memory
 pub ends-before : {A : Type 0} (version : TextVersion) (nodes : List Node) (cs : List Command) (before : Option (List ℕ)) (faults : ℕ) (r : Result A Stop) → r ≡ Err OutOfMemory → WorkEnds version nodes cs before before faults faults r
 ends-before version nodes cs before faults r is = rw is (record { done = tt; quiet = tt; stopped = tt; front = (0, [], refl, grows_within-none before []) })
 
--- the work of one command ended before its piece, for want of memory
-pub piece-before : {A : Type 0} (version : TextVersion) (nodes : List Node) (c : Command) (before : Option (List ℕ)) (faults : ℕ) (r : Result A Stop) → r ≡ Err OutOfMemory → PieceEnds version nodes c before before faults faults r
-piece-before version nodes c before faults r is = rw is (record { done = tt; quiet = tt; stopped = refl; count = omega arith })
+-- the output of one command
+pub one-output : (version : TextVersion) (nodes : List Node) (c : Command) (piece : List ℕ) → IsPiece version nodes c piece → IsOutput version nodes (c ∷ []) piece
+one-output version nodes c piece is = (piece, [], is, refl, sym (append-nil piece))
 
 -- the answer says whether the two sets are one
 pub same-piece : (s t : Set) (same : Bool) → IsTrue same ↔ SameSet s t → IsSameAnswer s t (same_answer same)

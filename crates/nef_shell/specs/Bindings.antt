@@ -1,14 +1,15 @@
--- The bindings of a script, each the first command that binds its node, and what they need.
-use Rattle.std.specs.Prelude.{◌≡◌, ◌↔◌, ℕ, ◌<◌, Bool, true, List, [], Option, Some, None, length, option_and_then, slice_get}
+-- The bindings of a script's steps, each the first step that makes its node's set, and what they need.
+use Rattle.std.specs.Prelude.{◌≡◌, ◌↔◌, ℕ, ◌<◌, Bool, true, false, List, [], Option, Some, None, length, option_and_then, slice_get}
 use Rattle.nef_complex.specs.declared.complex.Complex.{Complex}
 use Rattle.nef_complex.specs.Complexes.{ShowsSet}
 use Rattle.nef_expr.specs.declared.nodes.Node.{Node}
 use Rattle.nef_expr.specs.Nodes.{node_set, sets_after}
 use Rattle.nef_sched.specs.Marks.{IsMarked}
 use Rattle.nef_sched.specs.Results.{kept}
-use Rattle.nef_script.specs.declared.script.Command.{Command}
-use Rattle.nef_script.specs.declared.script.Command.TheVariants.{Bind, Turn}
-use Rattle.nef_script.specs.Commands.{LooksAt, Binds}
+use Rattle.nef_plan.specs.declared.step.Step.{Step}
+use Rattle.nef_plan.specs.declared.step.Step.TheVariants.{Make, Turn, Ask}
+use Rattle.nef_plan.specs.Alike.{AreAlike}
+use Rattle.nef_plan.specs.Steps.{AsksAbout, Makes, LooksAt, IsMade}
 use Rattle.nef_shell.specs.declared.bindings.Binding.{Binding}
 use Rattle.nef_shell.specs.declared.operation.Operation.{Operation}
 use Rattle.nef_shell.specs.Operations.{set_by, first_operand, second_operand, HasOperand, HasTurn, AreShown, IsKept, IsThere}
@@ -26,20 +27,20 @@ abbrev pub IsNeeded : List Binding → ℕ → Option ℕ → Option ℕ → Typ
 IsNeeded bindings n None need = need ≡ None
 IsNeeded bindings n (Some i) need = (j : ℕ) × (need ≡ Some j) × (j < n) × IsBoundAt bindings j i
 
--- the n-th binding has the operation that makes its node's set, and names the bindings of its operands
+-- the n-th binding has an operation that makes its node's set, and names the bindings of its operands
 pub record IsBinding (nodes : List Node) (bindings : List Binding) (n : ℕ) (b : Binding) : Type 0 where
   pub within : b.node < length nodes
   pub turn : HasTurn b.operation
-  pub set : node_set nodes b.node ≡ set_by (sets_after [] nodes) b.operation
+  pub set : AreAlike (set_by (sets_after [] nodes) b.operation) (node_set nodes b.node)
   pub first : IsNeeded bindings n (first_operand b.operation) b.needs.first
   pub second : IsNeeded bindings n (second_operand b.operation) b.needs.second
 
 abbrev pub AreBindings : List Node → List Binding → Type 0
 AreBindings nodes bindings = (n : ℕ) (b : Binding) → slice_get bindings n ≡ Some b → IsBinding nodes bindings n b
 
--- each node that a command binds is bound by a binding
-abbrev pub AreAllBound : List Command → List Binding → Type 0
-AreAllBound commands bindings = (i k : ℕ) (c : Command) → slice_get commands i ≡ Some c → Binds c k → IsBound bindings k
+-- each node whose set a step makes is bound by a binding
+abbrev pub AreAllBound : List Step → List Binding → Type 0
+AreAllBound steps bindings = (k : ℕ) → IsMade steps k → IsBound bindings k
 
 -- at the place of each node that a binding binds stands the number of one that does, and at other places nothing
 pub record AreNumbered (bindings : List Binding) (numbers : List (Option ℕ)) : Type 0 where
@@ -62,31 +63,28 @@ needed_complex list (Some n) = kept list n
 abbrev pub Fits : List Node → List Binding → ℕ → Complex → Type 0
 Fits nodes bindings n c = (b : Binding) → slice_get bindings n ≡ Some b → ShowsSet (node_set nodes b.node) c
 
--- the command binds the node, whose set the operation makes of those that the command looks at
-pub record IsBoundBy (nodes : List Node) (c : Command) (node : ℕ) (operation : Operation) : Type 0 where
-  pub binds : (k : ℕ) → Binds c k ↔ (k ≡ node)
+-- the step makes the set of the node, which the operation makes of those that the step looks at
+pub record IsBoundBy (nodes : List Node) (s : Step) (node : ℕ) (operation : Operation) : Type 0 where
+  pub binds : (k : ℕ) → Makes s k ↔ (k ≡ node)
   pub within : node < length nodes
   pub turn : HasTurn operation
-  pub set : node_set nodes node ≡ set_by (sets_after [] nodes) operation
-  pub operands : (k : ℕ) → HasOperand operation k → LooksAt nodes c k
+  pub set : AreAlike (set_by (sets_after [] nodes) operation) (node_set nodes node)
+  pub operands : (k : ℕ) → HasOperand operation k → LooksAt s k
 
--- the command asks a question
-abbrev pub IsQuestion : Command → Type 0
-IsQuestion c = (k : ℕ) → Binds c k → ⊥
+-- the step asks about the set of node k
+abbrev pub Asks : Step → ℕ → Type 0
+Asks (Make n m) k = ⊥
+Asks (Turn n j t) k = ⊥
+Asks (Ask c) k = AsksAbout c.now k
 
--- the command is worked in its turn: each one is, but only questions where all bindings are worked ahead
-abbrev pub IsWorked : Bool → Command → Type 0
-IsWorked ahead c = ahead ≡ true → IsQuestion c
+-- the step needs the set of node k when its turn comes: it asks about it, or looks at it and not all bindings are worked ahead
+abbrev pub Needs : Bool → Step → ℕ → Type 0
+Needs true s k = Asks s k
+Needs false s k = LooksAt s k
 
--- the command asks about the set of node k
-abbrev pub AsksAbout : List Node → Command → ℕ → Type 0
-AsksAbout nodes (Bind line n) k = ⊥
-AsksAbout nodes (Turn line n j t) k = ⊥
-AsksAbout nodes c k = LooksAt nodes c k
-
--- one of the commands asks about the set of node k
-abbrev pub IsAskedAbout : List Node → List Command → ℕ → Type 0
-IsAskedAbout nodes commands k = (i : ℕ) × (c : Command) × (slice_get commands i ≡ Some c) × IsQuestion c × LooksAt nodes c k
+-- one of the steps asks about the set of node k
+abbrev pub IsAskedAbout : List Step → ℕ → Type 0
+IsAskedAbout steps k = (i : ℕ) × (s : Step) × (slice_get steps i ≡ Some s) × Asks s k
 
 -- a complex stands at the place of each node that a binding binds whose number is in question, and nothing else stands anywhere
 pub record ArePlaced (nodes : List Node) (bindings : List Binding) (InQuestion : ℕ → Type 0) (list : List (Option Complex)) : Type 0 where
@@ -95,12 +93,12 @@ pub record ArePlaced (nodes : List Node) (bindings : List Binding) (InQuestion :
   pub only : (k : ℕ) (c : Complex) → slice_get list k ≡ Some (Some c) → (n : ℕ) × IsBoundAt bindings n k × InQuestion n
 
 -- a binding is marked exactly where a question asks about its node
-abbrev pub AreMarkedAsked : List Node → List Command → List Binding → List Bool → Type 0
-AreMarkedAsked nodes commands bindings marks = (n : ℕ) (b : Binding) → slice_get bindings n ≡ Some b → IsMarked marks n ↔ IsAskedAbout nodes commands b.node
+abbrev pub AreMarkedAsked : List Step → List Binding → List Bool → Type 0
+AreMarkedAsked steps bindings marks = (n : ℕ) (b : Binding) → slice_get bindings n ≡ Some b → IsMarked marks n ↔ IsAskedAbout steps b.node
 
--- the complexes that the work of the commands begins with: each shows its node's set, and stands at the place of a node that a question asks about; and where all bindings are
+-- the complexes that the work of the steps begins with: each shows its node's set, and stands at the place of a node that a question asks about; and where all bindings are
 -- worked ahead, those of all such nodes are there
-pub record AreFirst (nodes : List Node) (commands : List Command) (ahead : Bool) (list : List (Option Complex)) : Type 0 where
+pub record AreFirst (nodes : List Node) (steps : List Step) (ahead : Bool) (list : List (Option Complex)) : Type 0 where
   pub shown : AreShown nodes list
-  pub asked : ahead ≡ true → (k : ℕ) → IsAskedAbout nodes commands k → IsKept nodes list k
-  pub only : (k : ℕ) (c : Complex) → slice_get list k ≡ Some (Some c) → IsAskedAbout nodes commands k
+  pub asked : ahead ≡ true → (k : ℕ) → IsAskedAbout steps k → IsKept nodes list k
+  pub only : (k : ℕ) (c : Complex) → slice_get list k ≡ Some (Some c) → IsAskedAbout steps k

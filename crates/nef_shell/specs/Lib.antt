@@ -6,7 +6,7 @@ pub mod Written
 pub mod Prints
 pub mod Ended
 pub mod Program
-pub mod Commands
+pub mod Uses
 pub mod Operations
 pub mod Stops
 pub mod Working

@@ -1,5 +1,5 @@
 -- The sets of operations, the sets that are kept, and what was worked of them.
-use Rattle.std.specs.Prelude.{◌≡◌, ◌⊎◌, ℕ, ◌<◌, ◌≤◌, List, Option, Some, None, slice_get, slice_index, length}
+use Rattle.std.specs.Prelude.{◌≡◌, ◌⊎◌, ℕ, ◌<◌, List, Option, Some, None, slice_get, slice_index, length}
 use Rattle.nef_space.specs.Sets.{Set}
 use Rattle.nef_geo.specs.Shapes.{given_form}
 use Rattle.law_turns.specs.Turned.{turned_set}
@@ -80,7 +80,7 @@ IsKept nodes list k = (c : Complex) × (slice_get list k ≡ Some (Some c)) × S
 abbrev pub IsGone : {X : Type 0} → List (Option X) → ℕ → Type 0
 IsGone list k = slice_get list k ≡ Some None
 
--- no complex is kept whose last use is among the first n commands
+-- no complex is kept whose last use is among the first n steps
 abbrev pub IsLean : List ℕ → ℕ → List (Option Complex) → Type 0
 IsLean uses n list = (k : ℕ) → k < length list → slice_index uses k < n → IsGone list k
 

@@ -1,40 +1,39 @@
-//! Works all bindings of a script ahead of its questions, in rounds.
+//! Works all bindings of a script's steps ahead of its questions, in rounds.
 
-ghost use Rattle.std.specs.Prelude.{◌≡◌, ◌<◌, ◌↔◌, ◌⊎◌, ℕ, Some, true, All, IfOk, IfSome, length, slice_get, vec_len};
+ghost use Rattle.std.specs.Prelude.{◌≡◌, ◌<◌, ◌↔◌, ◌⊎◌, ℕ, List, Some, true, IfOk, IfSome, length, slice_get, vec_len};
 ghost use Rattle.nef_complex.specs.declared.complex.Complex.{Complex};
 ghost use Rattle.nef_complex.specs.Complexes.{ShowsSet};
 ghost use Rattle.nef_expr.specs.Nodes.{node_set};
+ghost use Rattle.nef_expr.specs.declared.nodes.Node.{Node};
+ghost use Rattle.nef_plan.specs.declared.step.Step.{Step};
+ghost use Rattle.nef_plan.specs.Steps.{IsRight, AreSteps};
 ghost use Rattle.nef_sched.specs.Marks.{IsMarked};
 ghost use Rattle.nef_sched.specs.Results.{AreSound, IsKept as HasResult};
-ghost use Rattle.nef_script.specs.Commands.{LooksAt};
-ghost use Rattle.nef_script.specs.Meaning.{IsWithin};
-ghost use Rattle.nef_shell.specs.Bindings.{AreBindings, Fits, IsQuestion, IsAskedAbout, AreMarkedAsked, ArePlaced, AreFirst};
-ghost use Rattle.nef_shell.specs.Commands.{AreWorkable};
+ghost use Rattle.nef_shell.specs.Bindings.{AreBindings, Fits, Asks, IsAskedAbout, AreMarkedAsked, ArePlaced, AreFirst};
 ghost use Rattle.nef_shell.specs.Operations.{AreMeans, AreShown, IsKept};
 
 use crate::bindings::{Binding, bindings_of};
 use crate::operation::Means;
 use crate::stage::work_bindings;
-use crate::uses::{bound_node, looked_at};
+use crate::uses::asked_nodes;
 use nef_complex::Complex;
 use nef_expr::Nodes;
 use nef_io::Gate;
+use nef_plan::Step;
 use nef_sched::empty_places;
-use nef_script::{Command, Script};
 use std::alloc::{AllocError, Global};
 use std::mem;
 use std::sync::Wait;
 use std::thread::Threads;
 
-// The nodes that the command asks about: none, where it binds one.
-fn asked_nodes(nodes: &Nodes, command: &Command) -> (Option<usize>, Option<usize>)
-    requires within { IsWithin (length nodes.now) command.now }
-    ensures asked { (k : ℕ) → (IsQuestion command.now × LooksAt nodes.now command.now k) ↔ ((result.0 ≡ Some k) ⊎ (result.1 ≡ Some k)) }
-    ensures within { IfSome result.0 (λ k. k < length nodes.now) × IfSome result.1 (λ k. k < length nodes.now) }
+// The nodes that the step asks about: none, where it makes a set.
+fn asked_by(step: &Step) -> (Option<usize>, Option<usize>)
+    ensures asked { (k : ℕ) → Asks step.now k ↔ ((result.0 ≡ Some k) ⊎ (result.1 ≡ Some k)) }
+    ensures within { (nodes : List Node) → IsRight nodes step.now → IfSome result.0 (λ k. k < length nodes) × IfSome result.1 (λ k. k < length nodes) }
 {
-    match bound_node(command) {
-        Some(_) => (None, None),
-        None => looked_at(nodes, command),
+    match step {
+        Step::Ask(command) => asked_nodes(command),
+        Step::Make { .. } | Step::Turn { .. } => (None, None),
     }
 }
 
@@ -50,16 +49,15 @@ fn mark(marks: &mut [bool], node: Option<usize>)
 }
 
 // Marks on the nodes that questions ask about.
-fn asked_about(alloc: Global, script: &Script) -> Result<Vec<bool>, AllocError>
-    requires within { All (IsWithin (length script.now.nodes)) script.now.commands }
-    ensures count { IfOk result (λ v. vec_len v ≡ length script.now.nodes) }
-    ensures asked { IfOk result (λ v. (k : ℕ) → IsMarked v.items k ↔ IsAskedAbout script.now.nodes script.now.commands k) }
+fn asked_about(alloc: Global, nodes: &Nodes, steps: &[Step]) -> Result<Vec<bool>, AllocError>
+    requires right { (i : ℕ) (s : Step) → slice_get steps.now i ≡ Some s → IsRight nodes.now s }
+    ensures count { IfOk result (λ v. vec_len v ≡ length nodes.now) }
+    ensures asked { IfOk result (λ v. (k : ℕ) → IsMarked v.items k ↔ IsAskedAbout steps.now k) }
 {
-    let nodes = script.nodes();
     let mut marks = vec![in alloc; false; nodes.len()]?;
     let asked = marks.as_mut_slice();
-    for command in script.commands() {
-        let (first, second) = asked_nodes(nodes, command);
+    for step in steps {
+        let (first, second) = asked_by(step);
         mark(asked, first);
         mark(asked, second);
     }
@@ -80,13 +78,18 @@ fn wanted(alloc: Global, bindings: &[Binding], asked: &[bool]) -> Result<Vec<boo
 }
 
 // Marks on the bindings whose nodes questions ask about.
-fn wanted_for(alloc: Global, script: &Script, bindings: &[Binding]) -> Result<Vec<bool>, AllocError>
-    requires within { All (IsWithin (length script.now.nodes)) script.now.commands }
-    requires are { AreBindings script.now.nodes bindings.now }
+fn wanted_for(
+    alloc: Global,
+    nodes: &Nodes,
+    steps: &[Step],
+    bindings: &[Binding],
+) -> Result<Vec<bool>, AllocError>
+    requires right { (i : ℕ) (s : Step) → slice_get steps.now i ≡ Some s → IsRight nodes.now s }
+    requires are { AreBindings nodes.now bindings.now }
     ensures count { IfOk result (λ v. vec_len v ≡ length bindings.now) }
-    ensures marks { IfOk result (λ v. AreMarkedAsked script.now.nodes script.now.commands bindings.now v.items) }
+    ensures marks { IfOk result (λ v. AreMarkedAsked steps.now bindings.now v.items) }
 {
-    let asked = asked_about(alloc, script)?;
+    let asked = asked_about(alloc, nodes, steps)?;
     wanted(alloc, bindings, &asked)
 }
 
@@ -153,16 +156,17 @@ fn worked<R: Threads + Wait + Sync, G: Gate + Sync>(
 pub(crate) fn worked_ahead<R: Threads + Wait + Sync, G: Gate + Sync>(
     rt: &R,
     alloc: Global,
-    script: &Script,
+    nodes: &Nodes,
+    steps: &[Step],
     means: &Means,
     gate: &G,
 ) -> Result<Vec<Option<Complex>>, AllocError>
     requires means { AreMeans means.now }
-    requires workable { AreWorkable script.now.nodes script.now.commands }
-    ensures count { IfOk result (λ v. vec_len v ≡ length script.now.nodes) }
-    ensures first { IfOk result (λ v. AreFirst script.now.nodes script.now.commands true v.items) }
+    requires steps { AreSteps nodes.now steps.now }
+    ensures count { IfOk result (λ v. vec_len v ≡ length nodes.now) }
+    ensures first { IfOk result (λ v. AreFirst nodes.now steps.now true v.items) }
 {
-    let bindings = bindings_of(alloc, script)?;
-    let wanted = wanted_for(alloc, script, &bindings)?;
-    worked(rt, alloc, script.nodes(), &bindings, &wanted, means, gate)
+    let bindings = bindings_of(alloc, nodes, steps)?;
+    let wanted = wanted_for(alloc, nodes, steps, &bindings)?;
+    worked(rt, alloc, nodes, &bindings, &wanted, means, gate)
 }

@@ -1,21 +1,20 @@
-//! The bindings of a script, in order, and what they need.
+//! The bindings of a script's steps, in order, and what they need.
 
 ghost use Rattle.std.specs.Prelude.{◌≡◌, ◌<◌, ℕ, IfOk, IfSome, OnOk, length, []};
 ghost use Rattle.nef_expr.specs.Nodes.{node_set, sets_after};
-ghost use Rattle.nef_script.specs.Commands.{LooksAt, Binds, TurnsRight};
-ghost use Rattle.nef_script.specs.Meaning.{IsWithin};
+ghost use Rattle.nef_plan.specs.Alike.{AreAlike};
+ghost use Rattle.nef_plan.specs.Steps.{LooksAt, Makes, IsRight, AreSteps};
 ghost use Rattle.nef_shell.specs.Bindings.{IsBound, IsNeeded, AreBindings, AreAllBound, AreNumbered};
-ghost use Rattle.nef_shell.specs.Commands.{AreWorkable};
 ghost use Rattle.nef_shell.specs.Operations.{set_by, first_operand, second_operand, HasOperand, HasTurn};
 
 use crate::operation::Operation;
 use crate::uses::bound;
 use nef_expr::Nodes;
+use nef_plan::Step;
 use nef_sched::{Needs, empty_places};
-use nef_script::{Command, Script};
 use std::alloc::{AllocError, Global};
 
-/// The first command that binds a node.
+/// The first step that makes a node's set.
 #[derive(Drop)]
 pub(crate) struct Binding {
     /// The node's number.
@@ -76,7 +75,7 @@ fn add_binding(
 ) -> Result<(), AllocError>
     requires node { node < length nodes.now }
     requires turn { HasTurn operation }
-    requires set { node_set nodes.now node ≡ set_by (sets_after [] nodes.now) operation }
+    requires set { AreAlike (set_by (sets_after [] nodes.now) operation) (node_set nodes.now node) }
     requires operands { (k : ℕ) → HasOperand operation k → IsBound bindings.old.items k }
     requires are { AreBindings nodes.now bindings.old.items }
     requires count { length numbers.old ≡ length nodes.now }
@@ -97,16 +96,15 @@ fn add_binding(
     Ok(())
 }
 
-// Adds the binding of the node that the command binds, if it binds one, and its number at the node's place.
-fn add_command(
+// Adds the binding of the node whose set the step makes, if it makes one, and its number at the node's place.
+fn add_step(
     bindings: &mut Vec<Binding>,
     numbers: &mut [Option<usize>],
     nodes: &Nodes,
-    command: &Command,
+    step: &Step,
 ) -> Result<(), AllocError>
-    requires within { IsWithin (length nodes.now) command.now }
-    requires turned { TurnsRight nodes.now command.now }
-    requires operands { (k : ℕ) → LooksAt nodes.now command.now k → IsBound bindings.old.items k }
+    requires right { IsRight nodes.now step.now }
+    requires operands { (k : ℕ) → LooksAt step.now k → IsBound bindings.old.items k }
     requires are { AreBindings nodes.now bindings.old.items }
     requires count { length numbers.old ≡ length nodes.now }
     requires numbered { AreNumbered bindings.old.items numbers.old }
@@ -114,27 +112,30 @@ fn add_command(
     ensures count { length numbers.new ≡ length numbers.old }
     ensures numbered { OnOk result (AreNumbered bindings.new.items numbers.new) }
     ensures still { OnOk result ((k : ℕ) → IsBound bindings.old.items k → IsBound bindings.new.items k) }
-    ensures bound { OnOk result ((k : ℕ) → Binds command.now k → IsBound bindings.new.items k) }
+    ensures bound { OnOk result ((k : ℕ) → Makes step.now k → IsBound bindings.new.items k) }
 {
-    match bound(nodes, command) {
+    match bound(nodes, step) {
         Some((node, operation)) => add_binding(bindings, numbers, nodes, node, operation),
         None => Ok(()),
     }
 }
 
-/// The bindings of the script, in order: of each node that a command binds, the first that does.
+/// The bindings of the steps, in order: of each node whose set a step makes, the first that does.
 /// `AllocError` says that memory was wanted and not found.
-pub(crate) fn bindings_of(alloc: Global, script: &Script) -> Result<Vec<Binding>, AllocError>
-    requires workable { AreWorkable script.now.nodes script.now.commands }
-    ensures are { IfOk result (λ v. AreBindings script.now.nodes v.items) }
-    ensures all { IfOk result (λ v. AreAllBound script.now.commands v.items) }
+pub(crate) fn bindings_of(
+    alloc: Global,
+    nodes: &Nodes,
+    steps: &[Step],
+) -> Result<Vec<Binding>, AllocError>
+    requires steps { AreSteps nodes.now steps.now }
+    ensures are { IfOk result (λ v. AreBindings nodes.now v.items) }
+    ensures all { IfOk result (λ v. AreAllBound steps.now v.items) }
 {
-    let nodes = script.nodes();
     let mut places = empty_places(alloc, nodes.len())?;
     let numbers = places.as_mut_slice();
     let mut bindings = Vec::new(alloc);
-    for command in script.commands() {
-        add_command(&mut bindings, numbers, nodes, command)?;
+    for step in steps {
+        add_step(&mut bindings, numbers, nodes, step)?;
     }
     Ok(bindings)
 }

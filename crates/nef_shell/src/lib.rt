@@ -1,5 +1,5 @@
-//! The top call of the program: reads the words and the script, checks them, works the commands in
-//! order and writes their answers.
+//! The top call of the program: reads the words and the script, checks them, works the steps of the
+//! script's plan and writes the answers in the order of the commands.
 //!
 //! What a run and the program say stands in the specs of `nef_statement`, where `Statement` is to be
 //! read first. The definitions in specs/ here are for the proofs, and for those who take apart what

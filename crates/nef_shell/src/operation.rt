@@ -1,18 +1,16 @@
 //! The operation that makes a node's set.
 
-ghost use Rattle.std.specs.Prelude.{◌≡◌, ◌<◌, ◌↔◌, ℕ, List, IfOk, length, slice_index_or, []};
+ghost use Rattle.std.specs.Prelude.{◌≡◌, ◌↔◌, ℕ, List, IfOk};
 ghost use Rattle.std.specs.Option.{option_copied};
 ghost use Rattle.nef_space.specs.Sets.{Set};
 ghost use Rattle.nef_complex.specs.Complexes.{ShowsSet};
-ghost use Rattle.nef_expr.specs.Nodes.{node_set, set_of, sets_after, IsOperand};
-ghost use Rattle.nef_expr.specs.Turns.{TurnOf};
-ghost use Rattle.nef_expr.specs.declared.nodes.Node.TheVariants as variant;
+ghost use Rattle.nef_expr.specs.Nodes.{set_of, IsOperand};
 ghost use Rattle.nef_shell.specs.Operations.{set_by, first_operand, second_operand, HasOperand, HasTurn, AreLent, AreMeans};
 
 use crate::places::given;
 use nef_complex::Complex;
 use nef_core::How;
-use nef_expr::{Node, Nodes};
+use nef_expr::Node;
 use nef_geo::Oriented;
 use nef_io::Gate;
 use nef_ops::{UnaryOp, binary, constant, half_within, unary};
@@ -57,7 +55,7 @@ impl Operation {
     }
 }
 
-/// The operation that makes the node's set of those of earlier nodes.
+/// The operation that makes the set of the node's expression.
 pub(crate) fn operation_of(node: &Node) -> Operation
     ensures set { (ss : List Set) → set_of ss node.now ≡ set_by ss result }
     ensures operands { (k : ℕ) → IsOperand k node.now ↔ HasOperand result k }
@@ -77,28 +75,6 @@ pub(crate) fn operation_of(node: &Node) -> Operation
         Node::Bd(i) => Operation::Unary(UnaryOp::Bd, i),
         Node::Reg(i) => Operation::Unary(UnaryOp::Reg, i),
     }
-}
-
-/// The operation that makes the set of a node.
-pub(crate) fn bound_operation(nodes: &Nodes, node: usize) -> Operation
-    requires node { node < length nodes.now }
-    ensures turn { HasTurn result }
-    ensures set { node_set nodes.now node ≡ set_by (sets_after [] nodes.now) result }
-    ensures operands { (k : ℕ) → HasOperand result k ↔ IsOperand k (slice_index_or nodes.now node variant.Empty) }
-{
-    operation_of(nodes.get(node))
-}
-
-/// The operation that makes the set of each image of the node `from` under the turn, which is below 48.
-pub(crate) fn turned_operation(nodes: &Nodes, from: usize, turn: u8) -> Operation
-    requires turn { turn < 48 }
-    ensures turn { HasTurn result }
-    ensures set { (image : ℕ) → TurnOf nodes.now turn from image → node_set nodes.now image ≡ set_by (sets_after [] nodes.now) result }
-    ensures operands { (k : ℕ) → HasOperand result k ↔ (k ≡ from) }
-{
-    // Each node names earlier ones, so the image of a node has the turned set.
-    let _count = nodes.len();
-    Operation::Turned(usize::from(turn), from)
 }
 
 /// The complex that the operation makes of those of its operands. `AllocError` says that memory was

@@ -5,7 +5,7 @@ ghost use Rattle.nef_space.specs.Local.{HasLabel};
 ghost use Rattle.nef_geo.specs.Shapes.{place_of};
 ghost use Rattle.nef_expr.specs.Nodes.{node_set};
 ghost use Rattle.nef_script.specs.Meaning.{IsWithin};
-ghost use Rattle.nef_shell.specs.Bindings.{AsksAbout};
+ghost use Rattle.nef_plan.specs.Steps.{AsksAbout};
 ghost use Rattle.nef_shell.specs.Operations.{IsKept, AreHeld};
 ghost use Rattle.nef_shell.specs.Output.{IsPiece};
 ghost use Rattle.nef_shell.specs.Pieces.{piece_bytes};
@@ -67,7 +67,7 @@ pub(crate) fn piece_of<R: Threads + Sync>(
     workers: u32,
 ) -> Result<Piece, AllocError>
     requires within { IsWithin (length sets.old.nodes.now) command.now }
-    requires kept { (k : ℕ) → AsksAbout sets.old.nodes.now command.now k → IsKept sets.old.nodes.now sets.old.list.items k }
+    requires kept { (k : ℕ) → AsksAbout command.now k → IsKept sets.old.nodes.now sets.old.list.items k }
     requires held { AreHeld text sets.old.nodes.now sets.old.list.items sets.old.parts.items sets.old.texts.items }
     ensures piece { IfOk result (λ p. IsPiece text sets.old.nodes.now command.now (piece_bytes p)) }
     ensures held { OnOk result (AreHeld text sets.old.nodes.now sets.old.list.items sets.new.parts.items sets.new.texts.items) }

@@ -9,8 +9,8 @@ ghost use Rattle.nef_core.specs.declared.how.TextVersion.{TextVersion};
 ghost use Rattle.nef_expr.specs.Nodes.{node_set, sets_after};
 ghost use Rattle.nef_parts.specs.Numbers.{IsParts};
 ghost use Rattle.nef_parts.specs.Text.{text};
-ghost use Rattle.nef_script.specs.Commands.{LooksAt, Binds};
-ghost use Rattle.nef_script.specs.Meaning.{IsWithin};
+ghost use Rattle.nef_plan.specs.Alike.{AreAlike};
+ghost use Rattle.nef_plan.specs.Steps.{LooksAt, Makes, IsRight};
 ghost use Rattle.nef_shell.specs.Operations.{set_by, HasOperand, HasTurn, AreMeans, IsLent, AreShown, IsKept, IsGone, IsLean, AreBound, ArePartsOf, AreTextsOf, HasParts, HasText, AreHeld};
 ghost use Rattle.nef_statement.specs.Texts.{IsWrittenOf};
 
@@ -24,14 +24,14 @@ use nef_expr::Nodes;
 use nef_io::Gate;
 use nef_ops::same;
 use nef_parts::Parts;
+use nef_plan::Step;
 use nef_sched::empty_places;
-use nef_script::Command;
 use nef_volumes::parts_by_threads;
 use std::alloc::{AllocError, Global};
 use std::sync::Wait;
 use std::thread::Threads;
 
-/// The complexes of a script's nodes: of each node that a command binds, from that command to the last
+/// The complexes of a script's nodes: of each node whose set a step makes, from that step to the last
 /// one that looks at it. Parts and text of a complex are worked when they are first asked for, and go with it.
 #[derive(Drop)]
 pub(crate) struct Sets<'a> {
@@ -129,7 +129,7 @@ impl<'a> Sets<'a> {
         requires means { AreMeans means.now }
         requires node { node < length self.old.nodes.now }
         requires turn { HasTurn operation }
-        requires set { node_set self.old.nodes.now node ≡ set_by (sets_after [] self.old.nodes.now) operation }
+        requires set { AreAlike (set_by (sets_after [] self.old.nodes.now) operation) (node_set self.old.nodes.now node) }
         requires shown { AreShown self.old.nodes.now self.old.list.items }
         requires operands { (k : ℕ) → HasOperand operation k → IsKept self.old.nodes.now self.old.list.items k }
         ensures shown { OnOk result (AreShown self.old.nodes.now self.new.list.items) }
@@ -216,7 +216,7 @@ impl<'a> Sets<'a> {
         thing_at(&self.texts, node)
     }
 
-    // Lets the complex of the node go, with its parts and its text, if there is a node and no command after this one
+    // Lets the complex of the node go, with its parts and its text, if there is a node and no step after this one
     // looks at it.
     fn release_one(&mut self, node: Option<usize>, now: usize, uses: &[usize])
         requires within { IfSome node (λ k. k < length self.old.nodes.now) }
@@ -237,21 +237,21 @@ impl<'a> Sets<'a> {
         }
     }
 
-    /// Lets the complexes go, with their parts and texts, that no command after this one looks at. `now` is the number
-    /// of the command, counted from 0, and `uses` has the last uses.
-    pub(crate) fn release(&mut self, command: &Command, now: usize, uses: &[usize])
-        requires within { IsWithin (length self.old.nodes.now) command.now }
+    /// Lets the complexes go, with their parts and texts, that no step after this one looks at. `now` is the number
+    /// of the step, counted from 0, and `uses` has the last uses.
+    pub(crate) fn release(&mut self, step: &Step, now: usize, uses: &[usize])
+        requires right { IsRight self.old.nodes.now step.now }
         requires uses { length uses.now ≡ length self.old.nodes.now }
-        requires used { (k : ℕ) → k < length self.old.list.items → slice_index uses.now k < now + 1 → IsGone self.old.list.items k ⊎ (LooksAt self.old.nodes.now command.now k ⊎ Binds command.now k) }
+        requires used { (k : ℕ) → k < length self.old.list.items → slice_index uses.now k < now + 1 → IsGone self.old.list.items k ⊎ (LooksAt step.now k ⊎ Makes step.now k) }
         ensures count { length self.new.list.items ≡ length self.old.list.items }
         ensures held { (version : TextVersion) → AreHeld version self.old.nodes.now self.old.list.items self.old.parts.items self.old.texts.items → AreHeld version self.new.nodes.now self.new.list.items self.new.parts.items self.new.texts.items }
         ensures kept { (k : ℕ) → now < slice_index uses.now k → IsKept self.old.nodes.now self.old.list.items k → IsKept self.new.nodes.now self.new.list.items k }
         ensures lean { IsLean uses.now (now + 1) self.new.list.items }
         ensures nodes { self.new.nodes ≡ self.old.nodes }
     {
-        let (first, second) = looked_at(self.nodes, command);
+        let (first, second) = looked_at(step);
         self.release_one(first, now, uses);
         self.release_one(second, now, uses);
-        self.release_one(bound_node(command), now, uses);
+        self.release_one(bound_node(step), now, uses);
     }
 }

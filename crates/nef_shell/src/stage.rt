@@ -1,4 +1,4 @@
-//! The bindings of a script as a stage of rounds.
+//! The bindings of a script's steps as a stage of rounds.
 
 ghost use Rattle.std.specs.Prelude.{◌≡◌, ◌<◌, ℕ, None, IfOk, length};
 ghost use Rattle.std.specs.Option.{option_copied};
@@ -18,7 +18,7 @@ use std::alloc::{AllocError, Global};
 use std::sync::Wait;
 use std::thread::Threads;
 
-/// The bindings of a script, each of which is worked by a call.
+/// The bindings of a script's steps, each of which is worked by a call.
 ///
 /// The call is no method, since a method of a stage can't hand the stage's own runtime to a thread.
 /// Where the gate holds jobs back, each binding counts as heavy.

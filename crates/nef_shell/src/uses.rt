@@ -1,26 +1,26 @@
-//! Which commands look at which nodes.
+//! Which steps look at which nodes.
 
-ghost use Rattle.std.specs.Prelude.{◌≡◌, ◌≤◌, ◌<◌, ◌↔◌, ◌⊎◌, ℕ, None, Some, IfOk, IfSome, All, length, slice_index, vec_len};
-ghost use Rattle.nef_script.specs.Commands.{LooksAt, Binds, TurnsRight};
+ghost use Rattle.std.specs.Prelude.{◌≡◌, ◌≤◌, ◌<◌, ◌↔◌, ◌⊎◌, ℕ, List, None, Some, IfOk, IfSome, length, slice_get, slice_index, vec_len};
+ghost use Rattle.nef_expr.specs.declared.nodes.Node.{Node};
+ghost use Rattle.nef_plan.specs.declared.step.Step.{Step};
+ghost use Rattle.nef_plan.specs.Steps.{AsksAbout, Makes, LooksAt, IsRight};
 ghost use Rattle.nef_script.specs.Meaning.{IsWithin};
-ghost use Rattle.nef_shell.specs.Bindings.{IsQuestion, IsBoundBy};
-ghost use Rattle.nef_shell.specs.Commands.{AreLastUses, AreUses};
+ghost use Rattle.nef_shell.specs.Bindings.{IsBoundBy};
+ghost use Rattle.nef_shell.specs.Uses.{AreLastUses, AreUses};
 
-use crate::operation::{Operation, bound_operation, operation_of, turned_operation};
+use crate::operation::{Operation, operation_of};
 use nef_expr::Nodes;
-use nef_script::{Command, Script};
+use nef_plan::Step;
+use nef_script::Command;
 use std::alloc::{AllocError, Global};
 
-/// The nodes whose sets the command looks at: the operands of the node that it binds, or those that
-/// it asks about.
-pub(crate) fn looked_at(nodes: &Nodes, command: &Command) -> (Option<usize>, Option<usize>)
-    requires within { IsWithin (length nodes.now) command.now }
-    ensures looked_at { (k : ℕ) → LooksAt nodes.now command.now k ↔ ((result.0 ≡ Some k) ⊎ (result.1 ≡ Some k)) }
-    ensures within { IfSome result.0 (λ k. k < length nodes.now) × IfSome result.1 (λ k. k < length nodes.now) }
+/// The nodes whose sets the command asks about: none, where it binds one.
+pub(crate) fn asked_nodes(command: &Command) -> (Option<usize>, Option<usize>)
+    ensures asked { (k : ℕ) → AsksAbout command.now k ↔ ((result.0 ≡ Some k) ⊎ (result.1 ≡ Some k)) }
+    ensures within { (n : ℕ) → IsWithin n command.now → IfSome result.0 (λ k. k < n) × IfSome result.1 (λ k. k < n) }
 {
     match command {
-        Command::Bind { node, .. } => operation_of(nodes.get(*node)).operands(),
-        Command::Turn { from, .. } => (Some(*from), None),
+        Command::Bind { .. } | Command::Turn { .. } => (None, None),
         Command::Same { left, right, .. } => (Some(*left), Some(*right)),
         Command::Has { node, .. }
         | Command::Joined { node, .. }
@@ -30,39 +30,43 @@ pub(crate) fn looked_at(nodes: &Nodes, command: &Command) -> (Option<usize>, Opt
     }
 }
 
-/// The node that the command binds.
-pub(crate) fn bound_node(command: &Command) -> Option<usize>
-    ensures bound { (k : ℕ) → Binds command.now k ↔ (result ≡ Some k) }
-    ensures within { (n : ℕ) → IsWithin n command.now → IfSome result (λ k. k < n) }
+/// The nodes whose sets the step looks at: those of which it makes another, or those that it asks about.
+pub(crate) fn looked_at(step: &Step) -> (Option<usize>, Option<usize>)
+    ensures looked_at { (k : ℕ) → LooksAt step.now k ↔ ((result.0 ≡ Some k) ⊎ (result.1 ≡ Some k)) }
+    ensures within { (nodes : List Node) → IsRight nodes step.now → IfSome result.0 (λ k. k < length nodes) × IfSome result.1 (λ k. k < length nodes) }
 {
-    match command {
-        Command::Bind { node, .. } | Command::Turn { node, .. } => Some(*node),
-        _ => None,
+    match step {
+        Step::Make { made, .. } => operation_of(made).operands(),
+        Step::Turn { from, .. } => (Some(*from), None),
+        Step::Ask(command) => asked_nodes(command),
     }
 }
 
-/// The node that the command binds, if it binds one, and the operation that makes the node's set.
-pub(crate) fn bound(nodes: &Nodes, command: &Command) -> Option<(usize, Operation)>
-    requires within { IsWithin (length nodes.now) command.now }
-    requires turned { TurnsRight nodes.now command.now }
-    ensures question { result ≡ None → IsQuestion command.now }
-    ensures bound { IfSome result (λ b. IsBoundBy nodes.now command.now b.0 b.1) }
+/// The node whose set the step makes.
+pub(crate) fn bound_node(step: &Step) -> Option<usize>
+    ensures bound { (k : ℕ) → Makes step.now k ↔ (result ≡ Some k) }
+    ensures within { (nodes : List Node) → IsRight nodes step.now → IfSome result (λ k. k < length nodes) }
 {
-    match command {
-        Command::Bind { node, .. } => {
-            let operation = bound_operation(nodes, *node);
+    match step {
+        Step::Make { node, .. } | Step::Turn { node, .. } => Some(*node),
+        Step::Ask(_) => None,
+    }
+}
+
+/// The node whose set the step makes, if it makes one, and the operation that does.
+pub(crate) fn bound(nodes: &Nodes, step: &Step) -> Option<(usize, Operation)>
+    requires right { IsRight nodes.now step.now }
+    ensures question { result ≡ None → (k : ℕ) → Makes step.now k → ⊥ }
+    ensures bound { IfSome result (λ b. IsBoundBy nodes.now step.now b.0 b.1) }
+{
+    let _nodes = nodes;
+    match step {
+        Step::Make { node, made } => Some((*node, operation_of(made))),
+        Step::Turn { node, from, turn } => {
+            let operation = Operation::Turned(usize::from(*turn), *from);
             Some((*node, operation))
         }
-        Command::Turn {
-            node,
-            from,
-            turn,
-            ..
-        } => {
-            let operation = turned_operation(nodes, *from, *turn);
-            Some((*node, operation))
-        }
-        _ => None,
+        Step::Ask(_) => None,
     }
 }
 
@@ -79,18 +83,21 @@ fn mark(uses: &mut [usize], node: Option<usize>, now: usize)
     }
 }
 
-/// For each node the number of the last command that looks at it, counted from 0, and 0 where none does.
-pub(crate) fn last_uses(alloc: Global, script: &Script) -> Result<Vec<usize>, AllocError>
-    requires within { All (IsWithin (length script.now.nodes)) script.now.commands }
-    ensures count { IfOk result (λ v. vec_len v ≡ length script.now.nodes) }
-    ensures last { IfOk result (λ v. AreLastUses script.now.nodes script.now.commands v.items) }
-    ensures uses { IfOk result (λ v. AreUses script.now.nodes script.now.commands v.items) }
+/// For each node the number of the last step that looks at it, counted from 0, and 0 where none does.
+pub(crate) fn last_uses(
+    alloc: Global,
+    nodes: &Nodes,
+    steps: &[Step],
+) -> Result<Vec<usize>, AllocError>
+    requires right { (i : ℕ) (s : Step) → slice_get steps.now i ≡ Some s → IsRight nodes.now s }
+    ensures count { IfOk result (λ v. vec_len v ≡ length nodes.now) }
+    ensures last { IfOk result (λ v. AreLastUses steps.now v.items) }
+    ensures uses { IfOk result (λ v. AreUses nodes.now steps.now v.items) }
 {
-    let nodes = script.nodes();
     let mut uses = vec![in alloc; 0; nodes.len()]?;
     let places = uses.as_mut_slice();
-    for (now, command) in script.commands().iter().enumerate() {
-        let (first, second) = looked_at(nodes, command);
+    for (now, step) in steps.iter().enumerate() {
+        let (first, second) = looked_at(step);
         mark(places, first, now);
         mark(places, second, now);
     }

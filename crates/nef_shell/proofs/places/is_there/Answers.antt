@@ -1,4 +1,4 @@
-use Rattle.std.proofs.Common.{◌∙◌, arith, refl, sym}
+use Rattle.std.proofs.Common.{◌∙◌, refl, sym}
 use Rattle.std.proofs.lemmas.Option.{slice_get_read}
 use Rattle.nef_shell.proofs.Complexes.{there-of, none-of}
 use Rattle.nef_shell.proofs.places.is_there.Goals as goal

@@ -6,4 +6,4 @@ pub returns-then-ahead-clause-first : goal.returns-then-ahead-clause-first
 returns-then-ahead-clause-first g c = rw c.if-ahead.true c.worked_ahead.ensures.first
 
 pub returns-else-ahead-clause-first : goal.returns-else-ahead-clause-first
-returns-else-ahead-clause-first g c = rw c.if-ahead.false (IfOk-weaker c.empty_places.result _ _ (λ v none. none-first c.args.script.now.nodes c.args.script.now.commands v.items none) c.empty_places.ensures.empty)
+returns-else-ahead-clause-first g c = rw c.if-ahead.false (IfOk-weaker c.empty_places.result _ _ (λ v none. none-first c.args.nodes.now c.args.steps.now v.items none) c.empty_places.ensures.empty)

@@ -1,6 +1,6 @@
 use Rattle.std.proofs.Common.{◌∙◌, ap, sym, subst, Err}
 use Rattle.std.proofs.lemmas.Result.{err_from_is_err_and}
-use Rattle.nef_shell.specs.Operations.{AreShown}
+use Rattle.nef_shell.specs.Operations.{AreHeld, AreShown}
 use Rattle.nef_shell.proofs.Outputs.{ends-before}
 use Rattle.nef_shell.proofs.work.work_all.Goals as goal
 
@@ -19,11 +19,12 @@ returns-in_err-uses g c =
     let p = err_from_is_err_and c.from_residual.result c.from_residual.ensures.1 in
     record { ends = ends-before _ _ _ _ _ c.from_residual.result (p.1 ∙ ap (λ z. Err z) p.2) }
 
-pub work_commands-requires-clause-held : goal.work_commands-requires-clause-held
-work_commands-requires-clause-held g c κs within =
+pub work_steps-requires-clause-held : goal.work_steps-requires-clause-held
+work_steps-requires-clause-held g c κs within =
     let made = c.in_ok-sets.ensures in
-    record {
-      shown = subst (λ z. AreShown c.args.script.now.nodes z.items) (sym made.list) c.in_ok-list.ensures.first.shown;
+    let sets = c.in_ok-sets.sets in
+    subst (λ z. AreHeld c.args.text z sets.list.items sets.parts.items sets.texts.items) (sym made.nodes) (record {
+      shown = subst (λ z. AreShown c.args.nodes.now z.items) (sym made.list) c.in_ok-list.ensures.first.shown;
       parts_of = made.parts;
       texts_of = made.texts c.args.text;
-    }
+    })

@@ -1,7 +1,8 @@
-use Rattle.std.proofs.Common.{◌∙◌, arith, subst, sym}
+use Rattle.std.proofs.Common.{arith}
 use Rattle.nef_complex.specs.Complexes.{ShowsSet}
 use Rattle.nef_expr.specs.Nodes.{node_set}
 use Rattle.nef_shell.proofs.Complexes.{bound-put, bound-there, shown-put}
+use Rattle.nef_shell.proofs.ShownAlike.{shown-alike}
 use Rattle.nef_shell.proofs.sets.Sets.bind.Goals as goal
 
 pub returns-then-is_there-clause-bound : goal.returns-then-is_there-clause-bound
@@ -15,7 +16,7 @@ returns-clause-shown g c =
     let counted = c.args.self.now.counted in
     let ok = c.args.self.now.list.ok in
     let node = c.requires.node in
-    let shows : ShowsSet (node_set nodes c.args.node) c.in_ok-complex.complex = subst (λ s. ShowsSet s c.in_ok-complex.complex) (sym c.requires.set) c.in_ok-complex.ensures.shows in
+    let shows : ShowsSet (node_set nodes c.args.node) c.in_ok-complex.complex = shown-alike _ _ c.in_ok-complex.complex c.requires.set c.in_ok-complex.ensures.shows in
     rw c.put_at.ensures.put (shown-put nodes c.args.self.now.list.items c.args.node c.in_ok-complex.complex (omega arith) c.requires.shown shows)
 
 pub returns-clause-bound : goal.returns-clause-bound
@@ -25,5 +26,5 @@ returns-clause-bound g c =
     let counted = c.args.self.now.counted in
     let ok = c.args.self.now.list.ok in
     let node = c.requires.node in
-    let shows : ShowsSet (node_set nodes c.args.node) c.in_ok-complex.complex = subst (λ s. ShowsSet s c.in_ok-complex.complex) (sym c.requires.set) c.in_ok-complex.ensures.shows in
+    let shows : ShowsSet (node_set nodes c.args.node) c.in_ok-complex.complex = shown-alike _ _ c.in_ok-complex.complex c.requires.set c.in_ok-complex.ensures.shows in
     rw c.put_at.ensures.put (bound-put nodes list c.args.node c.in_ok-complex.complex (omega arith) (c.is_there.ensures.gone c.if-is_there.false) shows)

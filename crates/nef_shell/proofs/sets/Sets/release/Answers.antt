@@ -1,5 +1,11 @@
-use Rattle.std.proofs.Common.{◌∙◌, arith, inl, inr}
+use Rattle.std.proofs.Common.{arith, inl, inr}
 use Rattle.nef_shell.proofs.sets.Sets.release.Goals as goal
+
+pub release_one-requires-clause-within : goal.release_one-requires-clause-within
+release_one-requires-clause-within c = (c.looked_at-first.ensures.within c.args.self.now.nodes.now c.requires.right).0
+
+pub release_one-requires-2-clause-within : goal.release_one-requires-2-clause-within
+release_one-requires-2-clause-within c = rw c.release_one.ensures.nodes (c.looked_at-first.ensures.within c.args.self.now.nodes.now c.requires.right).1
 
 pub returns-clause-lean : goal.returns-clause-lean
 returns-clause-lean c k within used =

@@ -1,5 +1,4 @@
-use Rattle.std.proofs.Common.{◌∙◌, arith, refl, sym}
-use Rattle.std.proofs.lemmas.Option.{slice_get_read, get_or_from_slice_get}
+use Rattle.std.proofs.Common.{◌∙◌, arith, sym}
 use Rattle.nef_shell.proofs.Complexes.{kept-less, gone-here, gone-stays}
 use Rattle.nef_shell.proofs.Held.{held-less}
 use Rattle.nef_shell.proofs.sets.Sets.release_one.Goals as goal

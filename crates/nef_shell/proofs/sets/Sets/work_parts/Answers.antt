@@ -1,4 +1,4 @@
-use Rattle.std.proofs.Common.{◌∙◌, arith, Some}
+use Rattle.std.proofs.Common.{arith, Some}
 use Rattle.std.proofs.lemmas.Option.{slice_get_within}
 use Rattle.nef_core.proofs.Places.{get_set_here}
 use Rattle.nef_shell.proofs.Held.{made-of, made-put}
