@@ -1,5 +1,5 @@
 -- Rows of operations that are worked as trees, and what is known of a plan while it's made.
-use Rattle.std.specs.Prelude.{◌≡◌, ℕ, ◌<◌, ◌≤◌, List, [], ◌∷◌, ◌++◌, All, Some, length, slice_get}
+use Rattle.std.specs.Prelude.{◌≡◌, ℕ, ◌<◌, List, [], ◌∷◌, ◌++◌, Some, length, slice_get}
 use Rattle.nef_space.specs.Sets.{Set}
 use Rattle.nef_expr.specs.declared.nodes.Node.{Node}
 use Rattle.nef_expr.specs.Nodes.{node_set}
@@ -63,16 +63,22 @@ BeginsWith Union k = Unit {0}
 BeginsWith Exclusive k = Unit {0}
 BeginsWith (Difference from) k = k ≡ from
 
--- the row's nodes are ready
-pub record AreReady (plan : Plan) (row : Row) : Type 0 where
-  pub from : (k : ℕ) → row.kind ≡ Difference k → IsReady plan k
-  pub parts : All (λ p. IsReady plan p.node) (row.others.items ++ row.last ∷ [])
+-- the nodes of a row with these parts are ready
+pub record AreReady (plan : Plan) (kind : RowKind) (parts : List Part) : Type 0 where
+  pub from : (k : ℕ) → kind ≡ Difference k → IsReady plan k
+  pub each : (i : ℕ) (p : Part) → slice_get parts i ≡ Some p → IsReady plan p.node
 
--- the row makes the set of node k of sets that are ready
-pub record IsRowOf (plan : Plan) (row : Row) (k : ℕ) : Type 0 where
+-- the row with these parts makes the set of node k, of sets that are ready
+pub record MakesSet (plan : Plan) (kind : RowKind) (parts : List Part) (k : ℕ) : Type 0 where
   pub within : k < length plan.nodes
-  pub ready : AreReady plan row
-  pub set : AreAlike (row_set plan.nodes row.kind (row.others.items ++ row.last ∷ [])) (node_set plan.nodes k)
+  pub ready : AreReady plan kind parts
+  pub set : AreAlike (row_set plan.nodes kind parts) (node_set plan.nodes k)
+
+abbrev pub parts : Row → List Part
+parts row = row.others.items ++ row.last ∷ []
+
+abbrev pub IsRowOf : Plan → Row → ℕ → Type 0
+IsRowOf plan row k = MakesSet plan row.kind (parts row) k
 
 -- what is told of node k
 abbrev pub Tells : Plan → ℕ → Bound → Type 0
@@ -85,14 +91,15 @@ pub record ArePlanned (plan : Plan) (bounds : List Bound) : Type 0 where
   pub steps : AreSteps plan.nodes plan.steps.items
   pub told : (k : ℕ) (b : Bound) → slice_get bounds k ≡ Some b → Tells plan k b
 
-abbrev pub IsSome : Bound → Type 0
-IsSome No = ⊥
-IsSome Made = Unit {0}
-IsSome (Deferred row) = Unit {0}
+-- a name is bound to the node of which this is known
+abbrev pub IsThere : Bound → Type 0
+IsThere No = ⊥
+IsThere Made = Unit {0}
+IsThere (Deferred row) = Unit {0}
 
 -- node k is bound
 abbrev pub IsBound : List Bound → ℕ → Type 0
-IsBound bounds k = (b : Bound) × (slice_get bounds k ≡ Some b) × IsSome b
+IsBound bounds k = (b : Bound) × (slice_get bounds k ≡ Some b) × IsThere b
 
 -- the later plan has nodes and steps more, but no question
 pub record HasGrown (old new : Plan) : Type 0 where

@@ -2,7 +2,7 @@
 
 ghost use Rattle.std.specs.Prelude.{◌≡◌, ◌⊎◌, ◌<◌, ◌≤◌, ℕ, true, false, IfOk, OnOk, length, slice_get, Some, [], ◌∷◌, ◌++◌};
 ghost use Rattle.nef_expr.specs.Nodes.{node_set, set_of, sets_after, IsOperand};
-ghost use Rattle.nef_plan.specs.Rows.{AreReady, ArePlanned, HasGone, HasGrown, IsBound, IsReady, IsRowOf, AreOfOneKind, BeginsWith, combined, joined, spare};
+ghost use Rattle.nef_plan.specs.Rows.{AreReady, ArePlanned, HasGone, HasGrown, IsBound, IsReady, IsRowOf, AreOfOneKind, BeginsWith, combined, joined, parts, spare};
 ghost use Rattle.nef_plan.specs.Steps.{AreSteps, IsMadeAs, IsMade, IsRight, LooksAt, Makes, asked};
 ghost use Rattle.nef_plan.specs.declared.step.Plan.{Plan as State};
 
@@ -69,7 +69,7 @@ fn joined_part(
 // Joins the last two parts of the row, if there are two.
 fn join_last(plan: &mut Plan, row: &mut Row) -> Result<(), OutOfMemory>
     requires steps { AreSteps plan.old.nodes plan.old.steps.items }
-    requires ready { AreReady plan.old row.old }
+    requires ready { AreReady plan.old row.old.kind (parts row.old) }
     ensures steps { OnOk result (AreSteps plan.new.nodes plan.new.steps.items) }
     ensures grown { OnOk result (HasGrown plan.old plan.new) }
     ensures row { OnOk result ((k : ℕ) → IsRowOf plan.old row.old k → IsRowOf plan.new row.new k) }

@@ -3,7 +3,7 @@
 ghost use Rattle.std.specs.Prelude.{◌≡◌, ◌⊎◌, ◌<◌, ◌≤◌, ℕ, true, IfOk, OnOk, List, length, ◌∷◌, ◌++◌, []};
 ghost use Rattle.nef_space.specs.Sets.{Set};
 ghost use Rattle.nef_expr.specs.Nodes.{node_set, set_of, operand, IsOperand, NamesBelow};
-ghost use Rattle.nef_plan.specs.Rows.{AreOfOneKind, BeginsWith, AreReady, IsReady, IsRowOf, combined, joined, spare};
+ghost use Rattle.nef_plan.specs.Rows.{AreOfOneKind, BeginsWith, AreReady, IsReady, IsRowOf, combined, joined, parts, spare};
 ghost use Rattle.nef_plan.specs.Steps.{IsMadeAs, IsMade};
 ghost use Rattle.nef_plan.specs.declared.step.Plan.{Plan as State};
 
@@ -148,7 +148,7 @@ impl Row {
     pub(crate) fn ending(&self) -> Node
         requires few { length self.now.others.items ≤ spare self.now.kind }
         ensures made { (plan : State) (k : ℕ) → IsRowOf plan self.now k → IsMadeAs plan.nodes k result }
-        ensures operands { (plan : State) (k : ℕ) → AreReady plan self.now → IsOperand k result → IsMade plan.steps.items k }
+        ensures operands { (plan : State) (k : ℕ) → AreReady plan self.now.kind (parts self.now) → IsOperand k result → IsMade plan.steps.items k }
     {
         let last = self.last.node;
         match self.kind {
