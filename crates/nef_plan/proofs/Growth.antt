@@ -1,5 +1,5 @@
 -- What stays where nodes and steps are added.
-use Rattle.std.proofs.Common.{◌≡◌, ◌∙◌, ℕ, ◌<◌, ◌≤◌, refl, ap, sym, subst, arith, List, [], ◌∷◌, ◌++◌, length, Some, inl, inr, length-append, append_assoc}
+use Rattle.std.proofs.Common.{◌≡◌, ◌∙◌, ℕ, ◌<◌, ◌≤◌, refl, ap, sym, subst, arith, List, [], ◌∷◌, ◌++◌, length, Some, inl, inr, length-append, append-nil, append_assoc}
 use Rattle.std.specs.Prelude.{slice_get}
 use Rattle.std.proofs.lemmas.Option.{slice_get_within}
 use Rattle.nef_space.specs.Sets.{Set}
@@ -86,6 +86,14 @@ made-new ns m below =
       set = alike-along _ _ _ _ (set-more ns (ns ++ m ∷ []) m more below) (new-set ns m) (alike-refl (set_of (sets_after [] ns) m));
     }
 
+-- and so is one that was there
+pub made-grown : (old new : List Node) (n : ℕ) (m : Node) → HasMore old new → n < length old → NamesBelow (length old) m → node_set old n ≡ set_of (sets_after [] old) m → IsMadeAs new n m
+made-grown old new n m h within below is = record {
+  within = omega (arith, within, h.as_many);
+  operands = names-wider (length old) (length new) m h.as_many below;
+  set = alike-along _ _ _ _ (set-more old new m h below) (h.sets n within ∙ is) (alike-refl (set_of (sets_after [] old) m));
+}
+
 -- ---- steps
 pub made-push : (steps : List Step) (s : Step) (k : ℕ) → IsMade steps k → IsMade (steps ++ s ∷ []) k
 made-push steps s k (j, d, at, makes) = (j, d, slice_get-left steps (s ∷ []) j d at, makes)
@@ -115,11 +123,15 @@ asked-push (Turn n j t ∷ steps) s = asked-push steps s
 asked-push (Ask c ∷ steps) s = ap (λ (z : List Command). c.now ∷ z) (asked-push steps s)
 
 -- ---- both
-pub grown-refl : (plan : Plan) → HasGrown plan plan
-grown-refl plan = record { nodes = more-same plan.nodes plan.nodes refl; made = λ k made. made; asked = refl }
+pub grown-refl : (plan : Plan) → HasGrown plan plan []
+grown-refl plan = record { nodes = more-same plan.nodes plan.nodes refl; made = λ k made. made; asked = sym (append-nil (asked plan.steps.items)) }
 
-pub grown-trans : (a b c : Plan) → HasGrown a b → HasGrown b c → HasGrown a c
-grown-trans a b c f g = record { nodes = more-trans a.nodes b.nodes c.nodes f.nodes g.nodes; made = λ k made. g.made k (f.made k made); asked = g.asked ∙ f.asked }
+pub grown-trans : (a b c : Plan) (l m : List Command) → HasGrown a b l → HasGrown b c m → HasGrown a c (l ++ m)
+grown-trans a b c l m f g = record {
+  nodes = more-trans a.nodes b.nodes c.nodes f.nodes g.nodes;
+  made = λ k made. g.made k (f.made k made);
+  asked = g.asked ∙ ap (λ (z : List Command). z ++ m) f.asked ∙ append_assoc (asked a.steps.items) l m;
+}
 
-pub ready-grown : (old new : Plan) (k : ℕ) → HasGrown old new → IsReady old k → IsReady new k
-ready-grown old new k h is = record { within = let m = h.nodes.as_many in let w = is.within in omega arith; made = h.made k is.made }
+pub ready-grown : (old new : Plan) (l : List Command) (k : ℕ) → HasGrown old new l → IsReady old k → IsReady new k
+ready-grown old new l k h is = record { within = let m = h.nodes.as_many in let w = is.within in omega arith; made = h.made k is.made }

@@ -6,6 +6,7 @@ use Rattle.nef_space.specs.Sets.{Set}
 use Rattle.nef_expr.specs.declared.nodes.Node.{Node}
 use Rattle.nef_expr.specs.declared.nodes.Node.TheVariants as node
 use Rattle.nef_expr.specs.Nodes.{node_set, set_of, sets_after, NamesBelow}
+use Rattle.nef_script.specs.declared.script.Command.{Command}
 use Rattle.nef_plan.specs.declared.step.Plan.{Plan}
 use Rattle.nef_plan.specs.declared.row.Part.{Part}
 use Rattle.nef_plan.specs.declared.row.RowKind.{RowKind}
@@ -90,23 +91,23 @@ each-one plan q ready zero p at = let e : q ≡ p = cc in subst (λ (z : Part). 
 each-one plan q ready (suc i) p at = let f : None ≡ Some p = at in cc
 
 -- ---- nodes and steps are added
-joined-grown : (old new : Plan) (kind : RowKind) (s : Set) (ps : List Part) → HasGrown old new → Each old ps → joined_after new.nodes kind s ps ≡ joined_after old.nodes kind s ps
-joined-grown old new kind s [] h each = refl
-joined-grown old new kind s (p ∷ ps) h each =
-    joined-grown old new kind (joined kind s (node_set new.nodes p.node)) ps h (λ i q at. each (suc i) q at)
+joined-grown : (old new : Plan) (l : List Command) (kind : RowKind) (s : Set) (ps : List Part) → HasGrown old new l → Each old ps → joined_after new.nodes kind s ps ≡ joined_after old.nodes kind s ps
+joined-grown old new l kind s [] h each = refl
+joined-grown old new l kind s (p ∷ ps) h each =
+    joined-grown old new l kind (joined kind s (node_set new.nodes p.node)) ps h (λ i q at. each (suc i) q at)
     ∙ ap (λ (z : Set). joined_after old.nodes kind (joined kind s z) ps) (h.nodes.sets p.node (each 0 p refl).within)
 
-ended-grown : (old new : Plan) (kind : RowKind) (s : Set) → HasGrown old new → ((k : ℕ) → kind ≡ Difference k → IsReady old k) → ended new.nodes kind s ≡ ended old.nodes kind s
-ended-grown old new Union s h from = refl
-ended-grown old new Exclusive s h from = refl
-ended-grown old new (Difference k) s h from = ap (λ (z : Set). Set.less z s) (h.nodes.sets k (from k refl).within)
+ended-grown : (old new : Plan) (l : List Command) (kind : RowKind) (s : Set) → HasGrown old new l → ((k : ℕ) → kind ≡ Difference k → IsReady old k) → ended new.nodes kind s ≡ ended old.nodes kind s
+ended-grown old new l Union s h from = refl
+ended-grown old new l Exclusive s h from = refl
+ended-grown old new l (Difference k) s h from = ap (λ (z : Set). Set.less z s) (h.nodes.sets k (from k refl).within)
 
-pub row-grown : (old new : Plan) (kind : RowKind) (ps : List Part) (k : ℕ) → HasGrown old new → MakesSet old kind ps k → MakesSet new kind ps k
-row-grown old new kind ps k h is = record {
+pub row-grown : (old new : Plan) (l : List Command) (kind : RowKind) (ps : List Part) (k : ℕ) → HasGrown old new l → MakesSet old kind ps k → MakesSet new kind ps k
+row-grown old new l kind ps k h is = record {
   within = let m = h.nodes.as_many in let w = is.within in omega arith;
-  ready = record { from = λ j e. ready-grown old new j h (is.ready.from j e); each = λ i p at. ready-grown old new p.node h (is.ready.each i p at) };
+  ready = record { from = λ j e. ready-grown old new l j h (is.ready.from j e); each = λ i p at. ready-grown old new l p.node h (is.ready.each i p at) };
   set = alike-along _ _ _ _
-    (ended-grown old new kind (joined_after new.nodes kind Set.empty ps) h is.ready.from ∙ ap (ended old.nodes kind) (joined-grown old new kind Set.empty ps h is.ready.each))
+    (ended-grown old new l kind (joined_after new.nodes kind Set.empty ps) h is.ready.from ∙ ap (ended old.nodes kind) (joined-grown old new l kind Set.empty ps h is.ready.each))
     (h.nodes.sets k is.within)
     is.set;
 }
@@ -131,13 +132,13 @@ row-joined plan kind rest p q e k ready is row = record {
     before : joined_after plan.nodes kind Set.empty ((rest ++ p ∷ []) ++ q ∷ []) ≡ joined kind (joined kind front (node_set plan.nodes p.node)) (node_set plan.nodes q.node)
     before = joined-push plan.nodes kind Set.empty (rest ++ p ∷ []) q ∙ ap (λ (z : Set). joined kind z (node_set plan.nodes q.node)) (joined-push plan.nodes kind Set.empty rest p)
 
-pub row-joined-grown : (old new : Plan) (kind : RowKind) (rest : List Part) (p q e : Part) (k : ℕ) → HasGrown old new → IsReady new e.node → node_set new.nodes e.node ≡ joined kind (node_set old.nodes p.node) (node_set old.nodes q.node)
+pub row-joined-grown : (old new : Plan) (l : List Command) (kind : RowKind) (rest : List Part) (p q e : Part) (k : ℕ) → HasGrown old new l → IsReady new e.node → node_set new.nodes e.node ≡ joined kind (node_set old.nodes p.node) (node_set old.nodes q.node)
     → MakesSet old kind ((rest ++ p ∷ []) ++ q ∷ []) k → MakesSet new kind (rest ++ e ∷ []) k
-row-joined-grown old new kind rest p q e k h ready is row =
+row-joined-grown old new l kind rest p q e k h ready is row =
     let second : IsReady old q.node = each-last old (rest ++ p ∷ []) q row.ready.each in
     let first : IsReady old p.node = each-last old rest p (each-front old (rest ++ p ∷ []) q row.ready.each) in
     let same = ap (λ (z : Set). joined kind z (node_set old.nodes q.node)) (sym (h.nodes.sets p.node first.within)) ∙ ap (joined kind (node_set new.nodes p.node)) (sym (h.nodes.sets q.node second.within)) in
-    row-joined new kind rest p q e k ready (is ∙ same) (row-grown old new kind ((rest ++ p ∷ []) ++ q ∷ []) k h row)
+    row-joined new kind rest p q e k ready (is ∙ same) (row-grown old new l kind ((rest ++ p ∷ []) ++ q ∷ []) k h row)
 
 -- a part is added
 pub row-longer : (plan : Plan) (kind : RowKind) (ps : List Part) (q : Part) (i k : ℕ) → IsReady plan q.node → k < length plan.nodes → node_set plan.nodes k ≡ combined kind (node_set plan.nodes i) (node_set plan.nodes q.node)
@@ -224,3 +225,10 @@ pub row-copied : (plan : Plan) (row r : Row) (k : ℕ) → r.kind ≡ row.kind �
 row-copied plan row r k e f g is =
     subst (λ (z : RowKind). MakesSet plan z (parts r) k) (sym e)
       (subst (λ (z : List Part). MakesSet plan row.kind (z ++ r.last ∷ []) k) (sym f) (subst (λ (z : Part). MakesSet plan row.kind (row.others.items ++ z ∷ []) k) (sym g) is))
+
+-- ---- a row with a part more
+pub row-added : (plan : Plan) (row r : Row) (i k : ℕ) → r.kind ≡ row.kind → r.others.items ≡ parts row → IsReady plan r.last.node → k < length plan.nodes
+    → node_set plan.nodes k ≡ combined row.kind (node_set plan.nodes i) (node_set plan.nodes r.last.node) → IsRowOf plan row i → IsRowOf plan r k
+row-added plan row r i k e f ready within is old =
+    subst (λ (z : RowKind). MakesSet plan z (parts r) k) (sym e)
+      (subst (λ (z : List Part). MakesSet plan row.kind (z ++ r.last ∷ []) k) (sym f) (row-longer plan row.kind (parts row) r.last i k ready within is old))

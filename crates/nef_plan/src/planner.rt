@@ -2,7 +2,7 @@
 
 ghost use Rattle.std.specs.Prelude.{◌≡◌, ◌⊎◌, ◌<◌, ◌≤◌, ℕ, true, false, IfOk, OnOk, length, slice_get, Some, [], ◌∷◌, ◌++◌};
 ghost use Rattle.nef_expr.specs.Nodes.{node_set, set_of, sets_after, IsOperand};
-ghost use Rattle.nef_plan.specs.Rows.{AreReady, ArePlanned, HasGone, HasGrown, IsBound, IsReady, IsRowOf, AreOfOneKind, BeginsWith, combined, joined, parts, spare};
+ghost use Rattle.nef_plan.specs.Rows.{AreReady, ArePlanned, GoesOn, HasGrown, IsBound, IsReady, IsRowOf, AreOfOneKind, BeginsWith, combined, joined, parts, spare};
 ghost use Rattle.nef_plan.specs.Steps.{AreSteps, IsMadeAs, IsMade, IsRight, LooksAt, Makes, asked};
 ghost use Rattle.nef_plan.specs.declared.step.Plan.{Plan as State};
 
@@ -20,10 +20,9 @@ pub(crate) fn add_step<'a>(plan: &mut Plan<'a>, step: Step<'a>) -> Result<(), Ou
     requires right { IsRight plan.old.nodes step }
     requires made { (k : ℕ) → LooksAt step k → IsMade plan.old.steps.items k }
     ensures steps { OnOk result (AreSteps plan.new.nodes plan.new.steps.items) }
+    ensures grown { OnOk result (HasGrown plan.old plan.new (asked (step.entry ∷ []))) }
     ensures nodes { plan.new.nodes ≡ plan.old.nodes }
-    ensures still { OnOk result ((k : ℕ) → IsMade plan.old.steps.items k → IsMade plan.new.steps.items k) }
     ensures made { OnOk result ((k : ℕ) → Makes step.entry k → IsMade plan.new.steps.items k) }
-    ensures asked { OnOk result (asked plan.new.steps.items ≡ asked plan.old.steps.items ++ asked (step.entry ∷ [])) }
 {
     plan.steps.push(step)?;
     Ok(())
@@ -35,7 +34,7 @@ fn make(plan: &mut Plan, node: usize, made: Node) -> Result<(), OutOfMemory>
     requires right { IsMadeAs plan.old.nodes node made }
     requires operands { (k : ℕ) → IsOperand k made → IsMade plan.old.steps.items k }
     ensures steps { OnOk result (AreSteps plan.new.nodes plan.new.steps.items) }
-    ensures grown { OnOk result (HasGrown plan.old plan.new) }
+    ensures grown { OnOk result (HasGrown plan.old plan.new []) }
     ensures nodes { plan.new.nodes ≡ plan.old.nodes }
     ensures made { OnOk result (IsReady plan.new node) }
 {
@@ -53,7 +52,7 @@ fn joined_part(
     requires first { IsReady plan.old first.node }
     requires second { IsReady plan.old second.node }
     ensures steps { IfOk result (λ p. AreSteps plan.new.nodes plan.new.steps.items) }
-    ensures grown { IfOk result (λ p. HasGrown plan.old plan.new) }
+    ensures grown { IfOk result (λ p. HasGrown plan.old plan.new []) }
     ensures ready { IfOk result (λ p. IsReady plan.new p.node) }
     ensures set { IfOk result (λ p. node_set plan.new.nodes p.node ≡ joined kind (node_set plan.old.nodes first.node) (node_set plan.old.nodes second.node)) }
 {
@@ -71,7 +70,7 @@ fn join_last(plan: &mut Plan, row: &mut Row) -> Result<(), OutOfMemory>
     requires steps { AreSteps plan.old.nodes plan.old.steps.items }
     requires ready { AreReady plan.old row.old.kind (parts row.old) }
     ensures steps { OnOk result (AreSteps plan.new.nodes plan.new.steps.items) }
-    ensures grown { OnOk result (HasGrown plan.old plan.new) }
+    ensures grown { OnOk result (HasGrown plan.old plan.new []) }
     ensures row { OnOk result ((k : ℕ) → IsRowOf plan.old row.old k → IsRowOf plan.new row.new k) }
     ensures kind { row.new.kind ≡ row.old.kind }
     ensures fewer { OnOk result (0 < length row.old.others.items → length row.new.others.items < length row.old.others.items) }
@@ -87,7 +86,7 @@ fn settle(plan: &mut Plan, row: &mut Row, node: usize) -> Result<(), OutOfMemory
     requires steps { AreSteps plan.old.nodes plan.old.steps.items }
     requires row { IsRowOf plan.old row.old node }
     ensures steps { OnOk result (AreSteps plan.new.nodes plan.new.steps.items) }
-    ensures grown { OnOk result (HasGrown plan.old plan.new) }
+    ensures grown { OnOk result (HasGrown plan.old plan.new []) }
     ensures row { OnOk result (IsRowOf plan.new row.new node) }
 {
     let _node = node;
@@ -102,7 +101,7 @@ fn finish(plan: &mut Plan, row: &mut Row, node: usize) -> Result<(), OutOfMemory
     requires steps { AreSteps plan.old.nodes plan.old.steps.items }
     requires row { IsRowOf plan.old row.old node }
     ensures steps { OnOk result (AreSteps plan.new.nodes plan.new.steps.items) }
-    ensures grown { OnOk result (HasGrown plan.old plan.new) }
+    ensures grown { OnOk result (HasGrown plan.old plan.new []) }
     ensures ready { OnOk result (IsReady plan.new node) }
 {
     while row.others.len() > row.spare() {
@@ -120,7 +119,7 @@ pub(crate) fn demand(
     requires planned { ArePlanned plan.old bounds.old }
     requires bound { IsBound bounds.old node }
     ensures planned { OnOk result (ArePlanned plan.new bounds.new) }
-    ensures gone { OnOk result (HasGone plan.old bounds.old plan.new bounds.new) }
+    ensures goes_on { OnOk result (GoesOn plan.old bounds.old plan.new bounds.new []) }
     ensures ready { OnOk result (IsReady plan.new node) }
 {
     if let Bound::Deferred(mut row) = mem::replace(&mut bounds[node], Bound::Made) {
@@ -162,7 +161,7 @@ fn row_of(
     requires first { IsBound bounds.old first }
     requires second { IsBound bounds.old second }
     ensures planned { IfOk result (λ r. ArePlanned plan.new bounds.new) }
-    ensures gone { IfOk result (λ r. HasGone plan.old bounds.old plan.new bounds.new) }
+    ensures goes_on { IfOk result (λ r. GoesOn plan.old bounds.old plan.new bounds.new []) }
     ensures row { IfOk result (λ r. (k : ℕ) → k < length plan.new.nodes → node_set plan.new.nodes k ≡ combined kind (node_set plan.new.nodes first) (node_set plan.new.nodes second) → IsRowOf plan.new r k) }
 {
     demand(plan, bounds, second)?;
@@ -202,7 +201,7 @@ fn bind_row(
     requires within { node < length plan.old.nodes }
     requires set { node_set plan.old.nodes node ≡ combined kind (node_set plan.old.nodes first) (node_set plan.old.nodes second) }
     ensures planned { OnOk result (ArePlanned plan.new bounds.new) }
-    ensures gone { OnOk result (HasGone plan.old bounds.old plan.new bounds.new) }
+    ensures goes_on { OnOk result (GoesOn plan.old bounds.old plan.new bounds.new []) }
     ensures bound { OnOk result (IsBound bounds.new node) }
 {
     let mut row = row_of(alloc, plan, bounds, hints, kind, first, second)?;
@@ -225,7 +224,7 @@ fn demand_operands(
     requires planned { ArePlanned plan.old bounds.old }
     requires operands { (k : ℕ) → IsOperand k made → IsBound bounds.old k }
     ensures planned { OnOk result (ArePlanned plan.new bounds.new) }
-    ensures gone { OnOk result (HasGone plan.old bounds.old plan.new bounds.new) }
+    ensures goes_on { OnOk result (GoesOn plan.old bounds.old plan.new bounds.new []) }
     ensures ready { OnOk result ((k : ℕ) → IsOperand k made → IsReady plan.new k) }
 {
     match made {
@@ -253,7 +252,7 @@ fn bind_made(
     requires within { node < length plan.old.nodes }
     requires set { node_set plan.old.nodes node ≡ set_of (sets_after [] plan.old.nodes) made }
     ensures planned { OnOk result (ArePlanned plan.new bounds.new) }
-    ensures gone { OnOk result (HasGone plan.old bounds.old plan.new bounds.new) }
+    ensures goes_on { OnOk result (GoesOn plan.old bounds.old plan.new bounds.new []) }
     ensures bound { OnOk result (IsBound bounds.new node) }
 {
     demand_operands(plan, bounds, made)?;
@@ -278,7 +277,7 @@ pub(crate) fn bind(
     requires within { node < length plan.old.nodes }
     requires set { node_set plan.old.nodes node ≡ set_of (sets_after [] plan.old.nodes) made }
     ensures planned { OnOk result (ArePlanned plan.new bounds.new) }
-    ensures gone { OnOk result (HasGone plan.old bounds.old plan.new bounds.new) }
+    ensures goes_on { OnOk result (GoesOn plan.old bounds.old plan.new bounds.new []) }
     ensures bound { OnOk result (IsBound bounds.new node) }
 {
     match made {

@@ -3,7 +3,7 @@
 ghost use Rattle.std.specs.Prelude.{◌≡◌, ◌⊎◌, ◌<◌, ℕ, true, false, None, Some, IfOk, IfSome, OnOk, filter, length, vec_len, slice_get, [], ◌∷◌, ◌++◌};
 ghost use Rattle.nef_script.specs.Commands.{LooksAt, Binds, TurnsRight};
 ghost use Rattle.nef_script.specs.Meaning.{IsWithin};
-ghost use Rattle.nef_plan.specs.Rows.{ArePlanned, HasGone, IsBound};
+ghost use Rattle.nef_plan.specs.Rows.{ArePlanned, GoesOn, IsBound};
 ghost use Rattle.nef_plan.specs.Steps.{AreWorkable, AreSteps, AsksAbout, HasMore, IsTurnedFrom, asked, is_question};
 ghost use Rattle.nef_plan.specs.declared.row.Bound.TheVariants as bound;
 
@@ -63,7 +63,7 @@ fn bind_turned(
     requires node { node < length bounds.old }
     requires turned { IsTurnedFrom plan.old.nodes node from turn }
     ensures planned { OnOk result (ArePlanned plan.new bounds.new) }
-    ensures gone { OnOk result (HasGone plan.old bounds.old plan.new bounds.new) }
+    ensures goes_on { OnOk result (GoesOn plan.old bounds.old plan.new bounds.new []) }
     ensures bound { OnOk result (IsBound bounds.new node) }
 {
     demand(plan, bounds, from)?;
@@ -105,9 +105,7 @@ fn ask<'a>(
     requires within { IsWithin (length plan.old.nodes) question.now }
     requires nodes { (k : ℕ) → AsksAbout question.now k → (k ≡ first) ⊎ (k ≡ second) }
     ensures planned { OnOk result (ArePlanned plan.new bounds.new) }
-    ensures nodes { OnOk result (HasMore plan.old.nodes plan.new.nodes) }
-    ensures still { OnOk result ((k : ℕ) → IsBound bounds.old k → IsBound bounds.new k) }
-    ensures asked { OnOk result (asked plan.new.steps.items ≡ asked plan.old.steps.items ++ question.entry.now ∷ []) }
+    ensures goes_on { OnOk result (GoesOn plan.old bounds.old plan.new bounds.new (question.entry.now ∷ [])) }
 {
     demand(plan, bounds, first)?;
     demand(plan, bounds, second)?;
@@ -131,10 +129,8 @@ fn add_command<'a>(
     requires hints { length hints.now ≡ length bounds.old }
     requires more { HasMore nodes.now plan.old.nodes }
     ensures planned { OnOk result (ArePlanned plan.new bounds.new) }
-    ensures nodes { OnOk result (HasMore plan.old.nodes plan.new.nodes) }
-    ensures still { OnOk result ((k : ℕ) → IsBound bounds.old k → IsBound bounds.new k) }
+    ensures goes_on { OnOk result (GoesOn plan.old bounds.old plan.new bounds.new (filter is_question (command.entry.now ∷ []))) }
     ensures bound { OnOk result ((k : ℕ) → Binds command.entry.now k → IsBound bounds.new k) }
-    ensures asked { OnOk result (asked plan.new.steps.items ≡ asked plan.old.steps.items ++ filter is_question (command.entry.now ∷ [])) }
 {
     match command {
         Command::Bind { node, .. } => {
@@ -153,6 +149,8 @@ fn add_command<'a>(
             if is_bound(bounds, *node) {
                 Ok(())
             } else {
+                // Each node names earlier ones, so the image of a node has the turned set.
+                let _count = nodes.len();
                 bind_turned(plan, bounds, *node, *from, *turn)
             }
         }

@@ -1,4 +1,4 @@
-use Rattle.std.proofs.Common.{arith}
+use Rattle.std.proofs.Common.{[]}
 use Rattle.nef_plan.proofs.Growth.{grown-refl, grown-trans}
 use Rattle.nef_plan.proofs.planner.finish.Goals as goal
 
@@ -11,6 +11,9 @@ loop-plan-preserved c =
     let now = c.in_ok-join_last.ensures in
     record {
       steps = now.steps;
-      grown = grown-trans c.args.plan.now c.loop-plan.plan c.join_last.new.plan so_far.grown now.grown;
+      grown = grown-trans c.args.plan.now c.loop-plan.plan c.join_last.new.plan [] [] so_far.grown now.grown;
       row = now.row c.args.node so_far.row;
     }
+
+pub make-requires-clause-right : goal.make-requires-clause-right
+make-requires-clause-right c = c.ending.ensures.made c.loop-plan.plan c.args.node c.loop-plan.invariant.row

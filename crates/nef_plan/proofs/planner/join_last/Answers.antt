@@ -22,4 +22,4 @@ returns-in_ok-row-clause-row c k row =
     let items : old.others.items ≡ rest ++ c.in-Some.part ∷ [] = c.in-Some.ensures.items in
     let before = subst (λ (z : List Part). MakesSet c.args.plan.now old.kind (z ++ old.last ∷ []) k) items row in
     let now = c.in_ok-row.ensures in
-    row-joined-grown c.args.plan.now c.joined_part.new.plan old.kind rest c.in-Some.part old.last c.in_ok-row.field-0 k now.grown now.ready now.set before
+    row-joined-grown c.args.plan.now c.joined_part.new.plan [] old.kind rest c.in-Some.part old.last c.in_ok-row.field-0 k now.grown now.ready now.set before

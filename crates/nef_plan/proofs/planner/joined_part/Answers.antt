@@ -1,10 +1,10 @@
-use Rattle.std.proofs.Common.{◌≡◌, ◌∙◌, ℕ, ap, sym, subst, refl, List, [], ◌∷◌, ◌++◌, length, inl, inr}
+use Rattle.std.proofs.Common.{◌≡◌, ◌∙◌, ℕ, ap, sym, subst, append-nil, List, [], ◌∷◌, ◌++◌, length, inl, inr}
 use Rattle.nef_expr.specs.declared.nodes.Node.{Node}
 use Rattle.nef_expr.specs.Nodes.{node_set, sets_after}
 use Rattle.nef_expr.proofs.Sets.{new-set}
 use Rattle.nef_plan.specs.declared.step.Plan.{Plan}
 use Rattle.nef_plan.specs.Rows.{HasGrown}
-use Rattle.nef_plan.specs.Steps.{HasMore, IsMade, IsMadeAs}
+use Rattle.nef_plan.specs.Steps.{HasMore, IsMade, IsMadeAs, asked}
 use Rattle.nef_plan.proofs.Growth.{more-push, steps-more, made-new, grown-trans}
 use Rattle.nef_plan.proofs.planner.joined_part.Goals as goal
 
@@ -34,8 +34,8 @@ returns-clause-grown c =
     let old = c.args.plan.now in
     let middle : Plan = record old { nodes = c.push.new.self } in
     let added : c.push.new.self ≡ old.nodes ++ c.join-made.result ∷ [] = c.in_ok-node.ensures.added in
-    let first : HasGrown old middle = record { nodes = subst (HasMore old.nodes) (sym added) (more-push old.nodes c.join-made.result); made = λ k is. is; asked = refl } in
-    grown-trans old middle c.make.new.plan first c.in_ok-make.ensures.grown
+    let first : HasGrown old middle [] = record { nodes = subst (HasMore old.nodes) (sym added) (more-push old.nodes c.join-made.result); made = λ k is. is; asked = sym (append-nil (asked old.steps.items)) } in
+    grown-trans old middle c.make.new.plan [] [] first c.in_ok-make.ensures.grown
 
 pub returns-clause-set : goal.returns-clause-set
 returns-clause-set c =

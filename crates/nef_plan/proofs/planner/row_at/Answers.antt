@@ -20,7 +20,7 @@ returns-in_ok-copied-in-Deferred c = record {
     let (b, there, bound) = c.requires.bound in
     let at = slice_get_read bounds _ node c.index-bounds-node.result refl (slice_get_within bounds node b there) c.index-bounds-node.is ∙ ap Some c.in-Deferred.is in
     (
-      subst (λ (z : Row). AreOfOneKind z.kind c.args.kind) is (subst (λ (z : RowKind). AreOfOneKind z c.args.kind) (sym same.kind) (c.if-is_like.ensures.like c.if-is_like.true)),
+      subst (λ (z : Row). AreOfOneKind z.kind c.args.kind) is (subst (λ (z : RowKind). AreOfOneKind z c.args.kind) (sym same.kind) (c.if-is_like.ensures.like refl)),
       λ plan are. row-copied plan row r node
         (ap (λ (z : Row). z.kind) (sym is) ∙ same.kind)
         (ap (λ (z : Row). z.others.items) (sym is) ∙ same.others)
