@@ -4,12 +4,15 @@ use Rattle.std.specs.Prelude.{slice_get, slice_set}
 use Rattle.std.proofs.lemmas.Bool.{cases_eq}
 use Rattle.std.proofs.lemmas.Option.{slice_get_within}
 use Rattle.nef_core.proofs.Places.{get_set_here, get_set_other}
+use Rattle.nef_space.specs.Sets.{Set}
+use Rattle.nef_expr.specs.Nodes.{node_set}
 use Rattle.nef_script.specs.declared.script.Command.{Command}
 use Rattle.nef_plan.specs.declared.step.Plan.{Plan}
 use Rattle.nef_plan.specs.declared.row.Row.{Row}
+use Rattle.nef_plan.specs.declared.row.RowKind.{RowKind}
 use Rattle.nef_plan.specs.declared.row.Bound.{Bound}
 use Rattle.nef_plan.specs.declared.row.Bound.TheVariants.{No, Made, Deferred}
-use Rattle.nef_plan.specs.Rows.{ArePlanned, GoesOn, HasGrown, IsBound, IsReady, IsThere, Tells, parts}
+use Rattle.nef_plan.specs.Rows.{ArePlanned, GoesOn, HasGrown, IsBound, IsReady, IsThere, Tells, combined, parts}
 use Rattle.nef_plan.specs.Steps.{AreSteps}
 use Rattle.nef_plan.proofs.Growth.{grown-refl, grown-trans, ready-grown}
 use Rattle.nef_plan.proofs.Rows.{row-grown}
@@ -67,3 +70,11 @@ pub bound-made : (bounds : List Bound) (k : ℕ) (b : Bound) → IsBound bounds 
 bound-made bounds k b (No, at, there) here other = absurd there
 bound-made bounds k b (Made, at, there) here other = let e : Some b ≡ Some Made = sym here ∙ at in cc
 bound-made bounds k b (Deferred row, at, there) here other = absurd (other row (let e : Some b ≡ Some (Deferred row) = sym here ∙ at in cc))
+
+-- the set of a node is still made of those of two nodes that are bound
+pub set-grown : (old new : Plan) (l : List Command) (bounds : List Bound) (kind : RowKind) (i j k : ℕ) → HasGrown old new l → ArePlanned old bounds → IsBound bounds i → IsBound bounds j → k < length old.nodes
+    → node_set old.nodes k ≡ combined kind (node_set old.nodes i) (node_set old.nodes j) → node_set new.nodes k ≡ combined kind (node_set new.nodes i) (node_set new.nodes j)
+set-grown old new l bounds kind i j k h are first second within is =
+    let e = h.nodes.sets i (bound-node old bounds i are first) in
+    let f = h.nodes.sets j (bound-node old bounds j are second) in
+    h.nodes.sets k within ∙ is ∙ ap (λ (z : Set). combined kind z (node_set old.nodes j)) (sym e) ∙ ap (combined kind (node_set new.nodes i)) (sym f)
