@@ -107,9 +107,9 @@ row-grown old new l kind ps k h is = record {
   within = let m = h.nodes.as_many in let w = is.within in omega arith;
   ready = record { from = λ j e. ready-grown old new l j h (is.ready.from j e); each = λ i p at. ready-grown old new l p.node h (is.ready.each i p at) };
   set = alike-along _ _ _ _
-    (ended-grown old new l kind (joined_after new.nodes kind Set.empty ps) h is.ready.from ∙ ap (ended old.nodes kind) (joined-grown old new l kind Set.empty ps h is.ready.each))
-    (h.nodes.sets k is.within)
-    is.set;
+      (ended-grown old new l kind (joined_after new.nodes kind Set.empty ps) h is.ready.from ∙ ap (ended old.nodes kind) (joined-grown old new l kind Set.empty ps h is.ready.each))
+      (h.nodes.sets k is.within)
+      is.set;
 }
 
 -- ---- rows
@@ -127,8 +127,10 @@ row-joined plan kind rest p q e k ready is row = record {
   where
     front : Set
     front = joined_after plan.nodes kind Set.empty rest
+
     made : joined_after plan.nodes kind Set.empty (rest ++ e ∷ []) ≡ joined kind front (joined kind (node_set plan.nodes p.node) (node_set plan.nodes q.node))
     made = joined-push plan.nodes kind Set.empty rest e ∙ ap (joined kind front) is
+
     before : joined_after plan.nodes kind Set.empty ((rest ++ p ∷ []) ++ q ∷ []) ≡ joined kind (joined kind front (node_set plan.nodes p.node)) (node_set plan.nodes q.node)
     before = joined-push plan.nodes kind Set.empty (rest ++ p ∷ []) q ∙ ap (λ (z : Set). joined kind z (node_set plan.nodes q.node)) (joined-push plan.nodes kind Set.empty rest p)
 
@@ -147,8 +149,8 @@ row-longer plan kind ps q i k ready within is row = record {
   within = within;
   ready = record { from = row.ready.from; each = each-push plan ps q row.ready.each ready };
   set = alike-along _ _ _ _ (ap (ended plan.nodes kind) (joined-push plan.nodes kind Set.empty ps q)) is (alike-trans _ _ _
-    (ended-joined plan.nodes kind (joined_after plan.nodes kind Set.empty ps) (node_set plan.nodes q.node))
-    (combined-alike kind _ _ _ _ row.set (alike-refl (node_set plan.nodes q.node))));
+      (ended-joined plan.nodes kind (joined_after plan.nodes kind Set.empty ps) (node_set plan.nodes q.node))
+      (combined-alike kind _ _ _ _ row.set (alike-refl (node_set plan.nodes q.node))));
 }
 
 -- one operation
@@ -178,7 +180,7 @@ row-begun-less plan Union others p q k none begins e ready ready' within is = ab
 row-begun-less plan Exclusive others p q k none begins e ready ready' within is = absurd (omega (arith, none))
 row-begun-less plan (Difference from) others p q k none begins e ready ready' within is =
     subst (λ (z : List Part). MakesSet plan (Difference from) (z ++ q ∷ []) k) (sym e)
-      (row-less plan from q k (subst (IsReady plan) begins ready) ready' within (is ∙ ap (λ (n : ℕ). Set.less (node_set plan.nodes n) (node_set plan.nodes q.node)) begins))
+    (row-less plan from q k (subst (IsReady plan) begins ready) ready' within (is ∙ ap (λ (n : ℕ). Set.less (node_set plan.nodes n) (node_set plan.nodes q.node)) begins))
 
 -- ---- the operations that end rows
 pub made-less : (plan : Plan) (from : ℕ) (others : List Part) (q : Part) (k : ℕ) → length others ≤ 0 → MakesSet plan (Difference from) (others ++ q ∷ []) k → IsMadeAs plan.nodes k (node.Diff from q.node)
@@ -206,8 +208,8 @@ made-joined plan kind p q k m free names is row = record {
   within = row.within;
   operands = names;
   set = alike-along _ _ _ _ is refl (alike-trans _ _ _
-    (joined-alike kind _ _ _ _ (alike-sym _ _ (joined-empty kind (node_set plan.nodes p.node))) (alike-refl (node_set plan.nodes q.node)))
-    (alike-along _ _ _ _ (sym (ended-free plan.nodes kind _ free)) refl row.set));
+      (joined-alike kind _ _ _ _ (alike-sym _ _ (joined-empty kind (node_set plan.nodes p.node))) (alike-refl (node_set plan.nodes q.node)))
+      (alike-along _ _ _ _ (sym (ended-free plan.nodes kind _ free)) refl row.set));
 }
 
 -- and of one
@@ -216,19 +218,19 @@ made-one plan kind q k free row = record {
   within = row.within;
   operands = ((row.ready.each 0 q refl).within, (row.ready.each 0 q refl).within);
   set = alike-trans _ _ _ (either-same (node_set plan.nodes q.node)) (alike-trans _ _ _
-    (alike-sym _ _ (joined-empty kind (node_set plan.nodes q.node)))
-    (alike-along _ _ _ _ (sym (ended-free plan.nodes kind _ free)) refl row.set));
+      (alike-sym _ _ (joined-empty kind (node_set plan.nodes q.node)))
+      (alike-along _ _ _ _ (sym (ended-free plan.nodes kind _ free)) refl row.set));
 }
 
 -- ---- copies
 pub row-copied : (plan : Plan) (row r : Row) (k : ℕ) → r.kind ≡ row.kind → r.others.items ≡ row.others.items → r.last ≡ row.last → IsRowOf plan row k → IsRowOf plan r k
 row-copied plan row r k e f g is =
     subst (λ (z : RowKind). MakesSet plan z (parts r) k) (sym e)
-      (subst (λ (z : List Part). MakesSet plan row.kind (z ++ r.last ∷ []) k) (sym f) (subst (λ (z : Part). MakesSet plan row.kind (row.others.items ++ z ∷ []) k) (sym g) is))
+    (subst (λ (z : List Part). MakesSet plan row.kind (z ++ r.last ∷ []) k) (sym f) (subst (λ (z : Part). MakesSet plan row.kind (row.others.items ++ z ∷ []) k) (sym g) is))
 
 -- ---- a row with a part more
 pub row-added : (plan : Plan) (row r : Row) (i k : ℕ) → r.kind ≡ row.kind → r.others.items ≡ parts row → IsReady plan r.last.node → k < length plan.nodes
     → node_set plan.nodes k ≡ combined row.kind (node_set plan.nodes i) (node_set plan.nodes r.last.node) → IsRowOf plan row i → IsRowOf plan r k
 row-added plan row r i k e f ready within is old =
     subst (λ (z : RowKind). MakesSet plan z (parts r) k) (sym e)
-      (subst (λ (z : List Part). MakesSet plan row.kind (z ++ r.last ∷ []) k) (sym f) (row-longer plan row.kind (parts row) r.last i k ready within is old))
+    (subst (λ (z : List Part). MakesSet plan row.kind (z ++ r.last ∷ []) k) (sym f) (row-longer plan row.kind (parts row) r.last i k ready within is old))

@@ -111,11 +111,7 @@ fn finish(plan: &mut Plan, row: &mut Row, node: usize) -> Result<(), OutOfMemory
 }
 
 /// Makes the set of a node that is bound, if it isn't made yet.
-pub(crate) fn demand(
-    plan: &mut Plan,
-    bounds: &mut [Bound],
-    node: usize,
-) -> Result<(), OutOfMemory>
+pub(crate) fn demand(plan: &mut Plan, bounds: &mut [Bound], node: usize) -> Result<(), OutOfMemory>
     requires planned { ArePlanned plan.old bounds.old }
     requires bound { IsBound bounds.old node }
     ensures planned { OnOk result (ArePlanned plan.new bounds.new) }
@@ -216,11 +212,7 @@ fn bind_row(
 }
 
 // Makes the sets of the operands.
-fn demand_operands(
-    plan: &mut Plan,
-    bounds: &mut [Bound],
-    made: Node,
-) -> Result<(), OutOfMemory>
+fn demand_operands(plan: &mut Plan, bounds: &mut [Bound], made: Node) -> Result<(), OutOfMemory>
     requires planned { ArePlanned plan.old bounds.old }
     requires operands { (k : ℕ) → IsOperand k made → IsBound bounds.old k }
     ensures planned { OnOk result (ArePlanned plan.new bounds.new) }

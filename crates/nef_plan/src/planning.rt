@@ -201,6 +201,12 @@ pub fn plan<'a>(alloc: Global, script: &'a Script) -> Result<Plan<'a>, OutOfMemo
         nodes: copied(alloc, nodes)?,
         steps: Vec::new(alloc),
     };
-    add_commands(alloc, &mut plan, bounds.as_mut_slice(), hints.as_slice(), script)?;
+    add_commands(
+        alloc,
+        &mut plan,
+        bounds.as_mut_slice(),
+        hints.as_slice(),
+        script,
+    )?;
     Ok(plan)
 }

@@ -27,7 +27,7 @@ returns-clause-goes_on c =
     let bounds = c.demand_operands.new.bounds in
     let within : c.args.node < length bounds = omega (arith, c.requires.node, c.demand_operands.auto.bounds) in
     on-trans c.args.plan.now middle c.make.new.plan c.args.bounds.now bounds _ [] [] c.in_ok-demand_operands.ensures.goes_on
-      (on-set middle c.make.new.plan [] bounds c.args.node Made c.in_ok-make.ensures.grown within tt)
+    (on-set middle c.make.new.plan [] bounds c.args.node Made c.in_ok-make.ensures.grown within tt)
 
 pub returns-clause-bound : goal.returns-clause-bound
 returns-clause-bound c =

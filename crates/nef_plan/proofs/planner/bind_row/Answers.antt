@@ -30,7 +30,7 @@ returns-in_ok-settle-clause-goes_on c =
     let bounds = c.row_of.new.bounds in
     let within : c.args.node < length bounds = omega (arith, c.requires.node, c.row_of.auto.bounds) in
     on-trans c.args.plan.now c.row_of.new.plan c.settle.new.plan c.args.bounds.now bounds _ [] [] c.in_ok-row.ensures.goes_on
-      (on-set c.row_of.new.plan c.settle.new.plan [] bounds c.args.node (Deferred c.settle.new.row) c.in_ok-settle.ensures.grown within tt)
+    (on-set c.row_of.new.plan c.settle.new.plan [] bounds c.args.node (Deferred c.settle.new.row) c.in_ok-settle.ensures.grown within tt)
 
 pub returns-in_ok-settle-clause-bound : goal.returns-in_ok-settle-clause-bound
 returns-in_ok-settle-clause-bound c =
@@ -50,7 +50,7 @@ returns-in_ok-finish-clause-goes_on c =
     let bounds = c.row_of.new.bounds in
     let within : c.args.node < length bounds = omega (arith, c.requires.node, c.row_of.auto.bounds) in
     on-trans c.args.plan.now c.row_of.new.plan c.finish.new.plan c.args.bounds.now bounds _ [] [] c.in_ok-row.ensures.goes_on
-      (on-set c.row_of.new.plan c.finish.new.plan [] bounds c.args.node Made c.in_ok-finish.ensures.grown within tt)
+    (on-set c.row_of.new.plan c.finish.new.plan [] bounds c.args.node Made c.in_ok-finish.ensures.grown within tt)
 
 pub returns-in_ok-finish-clause-bound : goal.returns-in_ok-finish-clause-bound
 returns-in_ok-finish-clause-bound c =

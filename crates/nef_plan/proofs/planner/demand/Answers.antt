@@ -21,14 +21,14 @@ returns-in_ok-finish-clause-planned c =
     let node = c.args.node in
     let made = c.in_ok-finish.ensures in
     subst (λ (z : Bound). ArePlanned c.finish.new.plan (slice_set bounds node z)) (sym c.in-Deferred.ensures.after)
-      (planned-set c.args.plan.now c.finish.new.plan [] bounds node Made c.requires.planned made.steps made.grown (bound-place bounds node c.requires.bound) made.ready)
+    (planned-set c.args.plan.now c.finish.new.plan [] bounds node Made c.requires.planned made.steps made.grown (bound-place bounds node c.requires.bound) made.ready)
 
 pub returns-in_ok-finish-clause-goes_on : goal.returns-in_ok-finish-clause-goes_on
 returns-in_ok-finish-clause-goes_on c =
     let bounds = c.args.bounds.now in
     let node = c.args.node in
     subst (λ (z : Bound). GoesOn c.args.plan.now bounds c.finish.new.plan (slice_set bounds node z) []) (sym c.in-Deferred.ensures.after)
-      (on-set c.args.plan.now c.finish.new.plan [] bounds node Made c.in_ok-finish.ensures.grown (bound-place bounds node c.requires.bound) tt)
+    (on-set c.args.plan.now c.finish.new.plan [] bounds node Made c.in_ok-finish.ensures.grown (bound-place bounds node c.requires.bound) tt)
 
 pub returns-in_default : goal.returns-in_default
 returns-in_default c =

@@ -26,13 +26,13 @@ returns-in_ok-demand-in-And-clause-ready c =
     let first = c.demand-in-And.new in
     let second = c.demand-in-And-2 in
     both_ok
-      (λ _. GoesOn first.plan first.bounds second.new.plan second.new.bounds [])
-      (λ _. IsReady second.new.plan c.in-And.j)
-      (λ _. (k : ℕ) → IsOperand k c.args.made → IsReady second.new.plan k)
-      second.result
-      (λ _ on ready k is. elim (two-operands c.args.made c.in-And.i c.in-And.j k c.in-And.is is) [
-        | inl e ↦ subst (IsReady second.new.plan) (sym e) (ready-grown first.plan second.new.plan [] c.in-And.i on.grown c.in_ok-demand-in-And.ensures.ready)
-        | inr e ↦ subst (IsReady second.new.plan) (sym e) ready
-      ])
-      second.ensures.goes_on
-      second.ensures.ready
+    (λ _. GoesOn first.plan first.bounds second.new.plan second.new.bounds [])
+    (λ _. IsReady second.new.plan c.in-And.j)
+    (λ _. (k : ℕ) → IsOperand k c.args.made → IsReady second.new.plan k)
+    second.result
+    (λ _ on ready k is. elim (two-operands c.args.made c.in-And.i c.in-And.j k c.in-And.is is) [
+      | inl e ↦ subst (IsReady second.new.plan) (sym e) (ready-grown first.plan second.new.plan [] c.in-And.i on.grown c.in_ok-demand-in-And.ensures.ready)
+      | inr e ↦ subst (IsReady second.new.plan) (sym e) ready
+    ])
+    second.ensures.goes_on
+    second.ensures.ready

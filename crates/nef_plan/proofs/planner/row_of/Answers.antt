@@ -19,10 +19,10 @@ returns-in-Some-clause-row c k within is =
     let second : longer.last.node ≡ c.args.second = ap (λ (p : Part). p.node) added.last in
     let same = combined-same row.kind c.args.kind (node_set plan.nodes c.args.first) (node_set plan.nodes c.args.second) like in
     row-added plan row longer c.args.first k added.kind added.others
-      (subst (IsReady plan) (sym second) c.in_ok-demand.ensures.ready)
-      within
-      (is ∙ sym same ∙ ap (λ (n : ℕ). combined row.kind (node_set plan.nodes c.args.first) (node_set plan.nodes n)) (sym second))
-      (of plan c.in_ok-demand.ensures.planned)
+    (subst (IsReady plan) (sym second) c.in_ok-demand.ensures.ready)
+    within
+    (is ∙ sym same ∙ ap (λ (n : ℕ). combined row.kind (node_set plan.nodes c.args.first) (node_set plan.nodes n)) (sym second))
+    (of plan c.in_ok-demand.ensures.planned)
 
 pub offset_bounds-hints-first : goal.offset_bounds-hints-first
 offset_bounds-hints-first c =

@@ -23,13 +23,13 @@ returns-clause-planned c =
     let plan = c.add_step.new.plan in
     let question = c.args.question.now in
     both_ok
-      (λ _. AreSteps plan.nodes plan.steps.items)
-      (λ _. HasGrown before plan (question ∷ []))
-      (λ _. ArePlanned plan bounds)
-      c.add_step.result
-      (λ _ steps grown. planned-grown before plan (question ∷ []) bounds c.in_ok-demand-2.ensures.planned steps grown)
-      c.add_step.ensures.steps
-      c.add_step.ensures.grown
+    (λ _. AreSteps plan.nodes plan.steps.items)
+    (λ _. HasGrown before plan (question ∷ []))
+    (λ _. ArePlanned plan bounds)
+    c.add_step.result
+    (λ _ steps grown. planned-grown before plan (question ∷ []) bounds c.in_ok-demand-2.ensures.planned steps grown)
+    c.add_step.ensures.steps
+    c.add_step.ensures.grown
 
 pub returns-clause-goes_on : goal.returns-clause-goes_on
 returns-clause-goes_on c =

@@ -21,7 +21,7 @@ returns-clause-goes_on c =
     let bounds = c.demand.new.bounds in
     let within : c.args.node < length bounds = omega (arith, c.requires.node, c.demand.auto.bounds) in
     on-trans c.args.plan.now c.demand.new.plan c.add_step.new.plan c.args.bounds.now bounds _ [] [] c.in_ok-demand.ensures.goes_on
-      (on-set c.demand.new.plan c.add_step.new.plan [] bounds c.args.node Made c.in_ok-add_step.ensures.grown within tt)
+    (on-set c.demand.new.plan c.add_step.new.plan [] bounds c.args.node Made c.in_ok-add_step.ensures.grown within tt)
 
 pub returns-clause-bound : goal.returns-clause-bound
 returns-clause-bound c =

@@ -26,15 +26,15 @@ returns-in-Some c =
     let both : parts self ≡ p ∷ q ∷ [] = ap (λ (z : List Part). z ++ q ∷ []) (last-one others p few at) in
     record {
       made = λ plan k row.
-        let now = subst (λ (z : List Part). MakesSet plan self.kind z k) both row in
-        let names = c.join.ensures.within (length plan.nodes) (now.ready.each 0 p refl).within (now.ready.each 1 q refl).within in
-        made-joined plan self.kind p q k c.join.result free names (c.join.ensures.set (sets_after [] plan.nodes)) now;
+          let now = subst (λ (z : List Part). MakesSet plan self.kind z k) both row in
+          let names = c.join.ensures.within (length plan.nodes) (now.ready.each 0 p refl).within (now.ready.each 1 q refl).within in
+          made-joined plan self.kind p q k c.join.result free names (c.join.ensures.set (sets_after [] plan.nodes)) now;
       operands = λ plan k ready is.
-        let each = subst (Each plan) both ready.each in
-        elim (c.join.ensures.operands k is) [
-          | inl e ↦ subst (IsMade plan.steps.items) (sym e) (each 0 p refl).made
-          | inr e ↦ subst (IsMade plan.steps.items) (sym e) (each 1 q refl).made
-        ];
+          let each = subst (Each plan) both ready.each in
+          elim (c.join.ensures.operands k is) [
+            | inl e ↦ subst (IsMade plan.steps.items) (sym e) (each 0 p refl).made
+            | inr e ↦ subst (IsMade plan.steps.items) (sym e) (each 1 q refl).made
+          ];
     }
 
 pub returns-in-None : goal.returns-in-None
@@ -49,9 +49,9 @@ returns-in-None c =
     record {
       made = λ plan k row. made-one plan self.kind q k free (subst (λ (z : List Part). MakesSet plan self.kind z k) one row);
       operands = λ plan k ready is.
-        let each = subst (Each plan) one ready.each in
-        elim is [
-          | inl e ↦ subst (IsMade plan.steps.items) (sym e) (each 0 q refl).made
-          | inr e ↦ subst (IsMade plan.steps.items) (sym e) (each 0 q refl).made
-        ];
+          let each = subst (Each plan) one ready.each in
+          elim is [
+            | inl e ↦ subst (IsMade plan.steps.items) (sym e) (each 0 q refl).made
+            | inr e ↦ subst (IsMade plan.steps.items) (sym e) (each 0 q refl).made
+          ];
     }
