@@ -1,5 +1,5 @@
 -- What is known of the nodes, while it's told of one and the plan grows.
-use Rattle.std.proofs.Common.{◌≡◌, ◌∙◌, ℕ, ◌<◌, refl, ap, sym, subst, arith, List, [], ◌∷◌, ◌++◌, length, Some, inl, inr}
+use Rattle.std.proofs.Common.{◌≡◌, ◌∙◌, ℕ, ◌<◌, ap, sym, subst, List, ◌++◌, length, Some, inl, inr}
 use Rattle.std.specs.Prelude.{slice_get, slice_set}
 use Rattle.std.proofs.lemmas.Bool.{cases_eq}
 use Rattle.std.proofs.lemmas.Option.{slice_get_within}
@@ -12,9 +12,9 @@ use Rattle.nef_plan.specs.declared.row.Row.{Row}
 use Rattle.nef_plan.specs.declared.row.RowKind.{RowKind}
 use Rattle.nef_plan.specs.declared.row.Bound.{Bound}
 use Rattle.nef_plan.specs.declared.row.Bound.TheVariants.{No, Made, Deferred}
-use Rattle.nef_plan.specs.Rows.{ArePlanned, GoesOn, HasGrown, IsBound, IsReady, IsThere, Tells, combined, parts}
+use Rattle.nef_plan.specs.Rows.{ArePlanned, GoesOn, HasGrown, IsBound, IsThere, Tells, combined, parts}
 use Rattle.nef_plan.specs.Steps.{AreSteps}
-use Rattle.nef_plan.proofs.Growth.{grown-refl, grown-trans, ready-grown}
+use Rattle.nef_plan.proofs.Growth.{grown-trans, ready-grown}
 use Rattle.nef_plan.proofs.Rows.{row-grown}
 
 tells-grown : (old new : Plan) (l : List Command) (k : ℕ) (b : Bound) → HasGrown old new l → Tells old k b → Tells new k b

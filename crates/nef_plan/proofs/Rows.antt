@@ -13,7 +13,7 @@ use Rattle.nef_plan.specs.declared.row.RowKind.{RowKind}
 use Rattle.nef_plan.specs.declared.row.Row.{Row}
 use Rattle.nef_plan.specs.declared.row.RowKind.TheVariants.{Union, Exclusive, Difference}
 use Rattle.nef_plan.specs.Alike.{AreAlike}
-use Rattle.nef_plan.specs.Rows.{AreOfOneKind, AreReady, IsReady, IsRowOf, MakesSet, BeginsWith, HasGrown, parts, combined, joined, joined_after, ended, row_set, spare}
+use Rattle.nef_plan.specs.Rows.{AreOfOneKind, AreReady, IsReady, IsRowOf, MakesSet, BeginsWith, HasGrown, parts, combined, joined, joined_after, ended, spare}
 use Rattle.nef_plan.specs.Steps.{IsMadeAs}
 use Rattle.nef_plan.proofs.Alike.{alike-refl, alike-sym, alike-trans, either-alike, one_of-alike, less-alike, either-assoc, one_of-assoc, less-less, either-empty, one_of-empty, either-same, less-one}
 use Rattle.nef_plan.proofs.Growth.{alike-along, ready-grown}
@@ -102,10 +102,13 @@ ended-grown old new l Union s h from = refl
 ended-grown old new l Exclusive s h from = refl
 ended-grown old new l (Difference k) s h from = ap (λ (z : Set). Set.less z s) (h.nodes.sets k (from k refl).within)
 
+are-grown : (old new : Plan) (l : List Command) (kind : RowKind) (ps : List Part) → HasGrown old new l → AreReady old kind ps → AreReady new kind ps
+are-grown old new l kind ps h are = record { from = λ j e. ready-grown old new l j h (are.from j e); each = λ i p at. ready-grown old new l p.node h (are.each i p at) }
+
 pub row-grown : (old new : Plan) (l : List Command) (kind : RowKind) (ps : List Part) (k : ℕ) → HasGrown old new l → MakesSet old kind ps k → MakesSet new kind ps k
 row-grown old new l kind ps k h is = record {
   within = let m = h.nodes.as_many in let w = is.within in omega arith;
-  ready = record { from = λ j e. ready-grown old new l j h (is.ready.from j e); each = λ i p at. ready-grown old new l p.node h (is.ready.each i p at) };
+  ready = are-grown old new l kind ps h is.ready;
   set = alike-along _ _ _ _
       (ended-grown old new l kind (joined_after new.nodes kind Set.empty ps) h is.ready.from ∙ ap (ended old.nodes kind) (joined-grown old new l kind Set.empty ps h is.ready.each))
       (h.nodes.sets k is.within)
@@ -114,14 +117,17 @@ row-grown old new l kind ps k h is = record {
 
 -- ---- rows
 -- two parts are joined
+are-joined : (plan : Plan) (kind : RowKind) (rest : List Part) (p q e : Part) → IsReady plan e.node → AreReady plan kind ((rest ++ p ∷ []) ++ q ∷ []) → AreReady plan kind (rest ++ e ∷ [])
+are-joined plan kind rest p q e ready are = record { from = are.from; each = each-push plan rest e (each-front plan rest p (each-front plan (rest ++ p ∷ []) q are.each)) ready }
+
+pub are-joined-grown : (old new : Plan) (l : List Command) (kind : RowKind) (rest : List Part) (p q e : Part) → HasGrown old new l → IsReady new e.node → AreReady old kind ((rest ++ p ∷ []) ++ q ∷ []) → AreReady new kind (rest ++ e ∷ [])
+are-joined-grown old new l kind rest p q e h ready are = are-joined new kind rest p q e ready (are-grown old new l kind ((rest ++ p ∷ []) ++ q ∷ []) h are)
+
 row-joined : (plan : Plan) (kind : RowKind) (rest : List Part) (p q e : Part) (k : ℕ) → IsReady plan e.node → node_set plan.nodes e.node ≡ joined kind (node_set plan.nodes p.node) (node_set plan.nodes q.node)
     → MakesSet plan kind ((rest ++ p ∷ []) ++ q ∷ []) k → MakesSet plan kind (rest ++ e ∷ []) k
 row-joined plan kind rest p q e k ready is row = record {
   within = row.within;
-  ready = record {
-    from = row.ready.from;
-    each = each-push plan rest e (each-front plan rest p (each-front plan (rest ++ p ∷ []) q row.ready.each)) ready;
-  };
+  ready = are-joined plan kind rest p q e ready row.ready;
   set = alike-trans _ _ _ (ended-alike plan.nodes kind _ _ (alike-along _ _ _ _ made before (alike-sym _ _ (joined-assoc kind front (node_set plan.nodes p.node) (node_set plan.nodes q.node))))) row.set;
 }
   where

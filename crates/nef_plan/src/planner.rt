@@ -8,7 +8,7 @@ ghost use Rattle.nef_plan.specs.declared.step.Plan.{Plan as State};
 
 use crate::OutOfMemory;
 use crate::hints::Hint;
-use crate::row::{Bound, Part, Row, RowKind};
+use crate::row::{Bound, Operation, Part, Row, RowKind};
 use crate::step::{Plan, Step};
 use nef_expr::Node;
 use std::alloc::Global;
@@ -71,8 +71,8 @@ fn join_last(plan: &mut Plan, row: &mut Row) -> Result<(), OutOfMemory>
     requires ready { AreReady plan.old row.old.kind (parts row.old) }
     ensures steps { OnOk result (AreSteps plan.new.nodes plan.new.steps.items) }
     ensures grown { OnOk result (HasGrown plan.old plan.new []) }
+    ensures ready { OnOk result (AreReady plan.new row.new.kind (parts row.new)) }
     ensures row { OnOk result ((k : ℕ) → IsRowOf plan.old row.old k → IsRowOf plan.new row.new k) }
-    ensures kind { row.new.kind ≡ row.old.kind }
     ensures fewer { OnOk result (0 < length row.old.others.items → length row.new.others.items < length row.old.others.items) }
 {
     if let Some(part) = row.others.pop() {
@@ -82,14 +82,13 @@ fn join_last(plan: &mut Plan, row: &mut Row) -> Result<(), OutOfMemory>
 }
 
 // Joins last parts of a row, so that few are left: what comes later is joined with sets of about its size.
-fn settle(plan: &mut Plan, row: &mut Row, node: usize) -> Result<(), OutOfMemory>
+fn settle(plan: &mut Plan, row: &mut Row) -> Result<(), OutOfMemory>
     requires steps { AreSteps plan.old.nodes plan.old.steps.items }
-    requires row { IsRowOf plan.old row.old node }
+    requires ready { AreReady plan.old row.old.kind (parts row.old) }
     ensures steps { OnOk result (AreSteps plan.new.nodes plan.new.steps.items) }
     ensures grown { OnOk result (HasGrown plan.old plan.new []) }
-    ensures row { OnOk result (IsRowOf plan.new row.new node) }
+    ensures row { OnOk result ((k : ℕ) → IsRowOf plan.old row.old k → IsRowOf plan.new row.new k) }
 {
-    let _node = node;
     while row.is_uneven() {
         join_last(plan, row)?;
     }
@@ -147,19 +146,22 @@ fn row_of(
     plan: &mut Plan,
     bounds: &mut [Bound],
     hints: &[Hint],
-    kind: RowKind,
-    first: usize,
-    second: usize,
+    operation: Operation,
 ) -> Result<Row, OutOfMemory>
     requires planned { ArePlanned plan.old bounds.old }
     requires hints { length hints.now ≡ length bounds.old }
-    requires begins { BeginsWith kind first }
-    requires first { IsBound bounds.old first }
-    requires second { IsBound bounds.old second }
+    requires begins { BeginsWith operation.kind operation.first }
+    requires first { IsBound bounds.old operation.first }
+    requires second { IsBound bounds.old operation.second }
     ensures planned { IfOk result (λ r. ArePlanned plan.new bounds.new) }
     ensures goes_on { IfOk result (λ r. GoesOn plan.old bounds.old plan.new bounds.new []) }
-    ensures row { IfOk result (λ r. (k : ℕ) → k < length plan.new.nodes → node_set plan.new.nodes k ≡ combined kind (node_set plan.new.nodes first) (node_set plan.new.nodes second) → IsRowOf plan.new r k) }
+    ensures row { IfOk result (λ r. (k : ℕ) → k < length plan.new.nodes → node_set plan.new.nodes k ≡ combined operation.kind (node_set plan.new.nodes operation.first) (node_set plan.new.nodes operation.second) → IsRowOf plan.new r k) }
 {
+    let Operation {
+        kind,
+        first,
+        second,
+    } = operation;
     demand(plan, bounds, second)?;
     let last = Part {
         node: second,
@@ -184,25 +186,23 @@ fn bind_row(
     bounds: &mut [Bound],
     hints: &[Hint],
     node: usize,
-    kind: RowKind,
-    first: usize,
-    second: usize,
+    operation: Operation,
 ) -> Result<(), OutOfMemory>
     requires planned { ArePlanned plan.old bounds.old }
     requires hints { length hints.now ≡ length bounds.old }
-    requires begins { BeginsWith kind first }
-    requires first { IsBound bounds.old first }
-    requires second { IsBound bounds.old second }
+    requires begins { BeginsWith operation.kind operation.first }
+    requires first { IsBound bounds.old operation.first }
+    requires second { IsBound bounds.old operation.second }
     requires node { node < length bounds.old }
     requires within { node < length plan.old.nodes }
-    requires set { node_set plan.old.nodes node ≡ combined kind (node_set plan.old.nodes first) (node_set plan.old.nodes second) }
+    requires set { node_set plan.old.nodes node ≡ combined operation.kind (node_set plan.old.nodes operation.first) (node_set plan.old.nodes operation.second) }
     ensures planned { OnOk result (ArePlanned plan.new bounds.new) }
     ensures goes_on { OnOk result (GoesOn plan.old bounds.old plan.new bounds.new []) }
     ensures bound { OnOk result (IsBound bounds.new node) }
 {
-    let mut row = row_of(alloc, plan, bounds, hints, kind, first, second)?;
+    let mut row = row_of(alloc, plan, bounds, hints, operation)?;
     if hints[node].is_deferred() {
-        settle(plan, &mut row, node)?;
+        settle(plan, &mut row)?;
         bounds[node] = Bound::Deferred(row);
     } else {
         finish(plan, &mut row, node)?;
@@ -272,13 +272,16 @@ pub(crate) fn bind(
     ensures goes_on { OnOk result (GoesOn plan.old bounds.old plan.new bounds.new []) }
     ensures bound { OnOk result (IsBound bounds.new node) }
 {
-    match made {
-        Node::Or(i, j) => bind_row(alloc, plan, bounds, hints, node, RowKind::Union, i, j),
-        Node::Xor(i, j) => bind_row(alloc, plan, bounds, hints, node, RowKind::Exclusive, i, j),
-        Node::Diff(i, j) => {
-            let kind = RowKind::Difference { from: i };
-            bind_row(alloc, plan, bounds, hints, node, kind, i, j)
-        }
-        _ => bind_made(plan, bounds, node, made),
-    }
+    let (kind, first, second) = match made {
+        Node::Or(i, j) => (RowKind::Union, i, j),
+        Node::Xor(i, j) => (RowKind::Exclusive, i, j),
+        Node::Diff(i, j) => (RowKind::Difference { from: i }, i, j),
+        _ => return bind_made(plan, bounds, node, made),
+    };
+    let operation = Operation {
+        kind,
+        first,
+        second,
+    };
+    bind_row(alloc, plan, bounds, hints, node, operation)
 }

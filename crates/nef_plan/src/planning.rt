@@ -44,10 +44,7 @@ fn is_bound(bounds: &[Bound], node: usize) -> bool
     requires within { node < length bounds.now }
     ensures bound { result ≡ true → IsBound bounds.now node }
 {
-    match &bounds[node] {
-        Bound::No => false,
-        _ => true,
-    }
+    !matches!(bounds[node], Bound::No)
 }
 
 // Binds the node to the turned set, which is made.

@@ -31,6 +31,14 @@ pub(crate) enum RowKind {
     Difference { from: usize },
 }
 
+/// An operation of a row, on two nodes. Where it's a difference, it's one from the first.
+#[derive(Clone, Copy)]
+pub(crate) struct Operation {
+    pub(crate) kind: RowKind,
+    pub(crate) first: usize,
+    pub(crate) second: usize,
+}
+
 /// A row that isn't worked yet. Its parts are the others, in order, and the last.
 #[derive(Drop)]
 pub(crate) struct Row {
@@ -55,12 +63,12 @@ impl RowKind {
     pub(crate) fn is_like(self, other: RowKind) -> bool
         ensures like { result ≡ true → AreOfOneKind self other }
     {
-        match (self, other) {
-            (RowKind::Union, RowKind::Union) => true,
-            (RowKind::Exclusive, RowKind::Exclusive) => true,
-            (RowKind::Difference { .. }, RowKind::Difference { .. }) => true,
-            _ => false,
-        }
+        matches!(
+            (self, other),
+            (RowKind::Union, RowKind::Union)
+                | (RowKind::Exclusive, RowKind::Exclusive)
+                | (RowKind::Difference { .. }, RowKind::Difference { .. })
+        )
     }
 
     /// The node that makes the set of two parts.

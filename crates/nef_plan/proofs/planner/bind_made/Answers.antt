@@ -1,4 +1,4 @@
-use Rattle.std.proofs.Common.{◌≡◌, ◌<◌, [], length, arith}
+use Rattle.std.proofs.Common.{◌<◌, [], length, arith}
 use Rattle.nef_plan.specs.declared.row.Bound.TheVariants.{Made}
 use Rattle.nef_expr.proofs.Operands.{names-from}
 use Rattle.nef_plan.proofs.Growth.{made-grown}

@@ -3,7 +3,7 @@ use Rattle.nef_plan.proofs.Growth.{grown-refl, grown-trans}
 use Rattle.nef_plan.proofs.planner.settle.Goals as goal
 
 pub loop-plan-init : goal.loop-plan-init
-loop-plan-init c = record { steps = c.requires.steps; grown = grown-refl c.args.plan.now; row = c.requires.row }
+loop-plan-init c = record { steps = c.requires.steps; grown = grown-refl c.args.plan.now; ready = c.requires.ready; row = λ k row. row }
 
 pub loop-plan-preserved : goal.loop-plan-preserved
 loop-plan-preserved c =
@@ -12,5 +12,6 @@ loop-plan-preserved c =
     record {
       steps = now.steps;
       grown = grown-trans c.args.plan.now c.loop-plan.plan c.join_last.new.plan [] [] so_far.grown now.grown;
-      row = now.row c.args.node so_far.row;
+      ready = now.ready;
+      row = λ k row. now.row k (so_far.row k row);
     }

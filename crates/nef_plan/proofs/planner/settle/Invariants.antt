@@ -1,5 +1,5 @@
-use Rattle.std.proofs.Common.{[], length}
-use Rattle.nef_plan.specs.Rows.{HasGrown, IsRowOf}
+use Rattle.std.proofs.Common.{ℕ, [], length}
+use Rattle.nef_plan.specs.Rows.{AreReady, HasGrown, IsRowOf, parts}
 use Rattle.nef_plan.specs.Steps.{AreSteps}
 use Rattle.nef_plan.proofs.planner.settle.Given as goal
 
@@ -7,7 +7,8 @@ abbrev pub invariant-loop-plan : goal.invariant-loop-plan
 invariant-loop-plan l = record {
   steps : AreSteps l.plan.nodes l.plan.steps.items;
   grown : HasGrown l.initial.plan l.plan [];
-  row : IsRowOf l.plan l.row l.fn.node;
+  ready : AreReady l.plan l.row.kind (parts l.row);
+  row : (k : ℕ) → IsRowOf l.initial.plan l.initial.row k → IsRowOf l.plan l.row k;
 }
 
 abbrev pub decreases-loop-plan : goal.decreases-loop-plan

@@ -1,4 +1,4 @@
-use Rattle.std.proofs.Common.{◌≡◌, ◌∷◌, [], inl, inr, sym, subst}
+use Rattle.std.proofs.Common.{◌∷◌, [], inl, inr, sym, subst}
 use Rattle.std.proofs.lemmas.Result.{on_ok_weaker}
 use Rattle.nef_expr.proofs.Places.{both_ok}
 use Rattle.nef_plan.specs.Rows.{ArePlanned, HasGrown}

@@ -1,4 +1,4 @@
-use Rattle.std.proofs.Common.{◌≡◌, ◌<◌, [], refl, length, arith}
+use Rattle.std.proofs.Common.{◌<◌, [], refl, length, arith}
 use Rattle.nef_plan.specs.declared.row.Bound.TheVariants.{Made}
 use Rattle.nef_plan.specs.Rows.{IsReady}
 use Rattle.nef_plan.proofs.Bounds.{planned-set, on-set, on-trans, bound-here}

@@ -1,4 +1,4 @@
-use Rattle.std.proofs.Common.{◌≡◌, ◌∙◌, ◌-◌, ◌≤◌, ap, sym, subst, refl, List, [], ◌∷◌, ◌++◌, Some, None, length, inl, inr}
+use Rattle.std.proofs.Common.{◌≡◌, ◌-◌, ◌≤◌, ap, sym, subst, refl, List, [], ◌∷◌, ◌++◌, Some, None, length, inl, inr}
 use Rattle.std.specs.Prelude.{slice_get}
 use Rattle.nef_expr.specs.Nodes.{sets_after}
 use Rattle.nef_plan.specs.declared.row.Part.{Part}
