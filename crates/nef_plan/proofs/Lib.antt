@@ -1,1 +1,4 @@
 pub mod Alike
+pub mod Growth
+pub mod Rows
+pub mod Bounds

@@ -6,7 +6,10 @@
 //! first. Source: the CGAL manual, "3D Boolean Operations on Nef Polyhedra", on `Nef_nary_union_3`.
 #![tactic(auto)]
 
+mod hints;
+mod planner;
 mod planning;
+mod row;
 mod step;
 
 pub use planning::plan;

@@ -1,0 +1,80 @@
+-- What is known of the nodes, while it's told of one and the plan grows.
+use Rattle.std.proofs.Common.{◌≡◌, ◌∙◌, ℕ, ◌<◌, ap, sym, subst, List, ◌++◌, length, Some, inl, inr}
+use Rattle.std.specs.Prelude.{slice_get, slice_set}
+use Rattle.std.proofs.lemmas.Bool.{cases_eq}
+use Rattle.std.proofs.lemmas.Option.{slice_get_within}
+use Rattle.nef_core.proofs.Places.{get_set_here, get_set_other}
+use Rattle.nef_space.specs.Sets.{Set}
+use Rattle.nef_expr.specs.Nodes.{node_set}
+use Rattle.nef_script.specs.declared.script.Command.{Command}
+use Rattle.nef_plan.specs.declared.step.Plan.{Plan}
+use Rattle.nef_plan.specs.declared.row.Row.{Row}
+use Rattle.nef_plan.specs.declared.row.RowKind.{RowKind}
+use Rattle.nef_plan.specs.declared.row.Bound.{Bound}
+use Rattle.nef_plan.specs.declared.row.Bound.TheVariants.{No, Made, Deferred}
+use Rattle.nef_plan.specs.Rows.{ArePlanned, GoesOn, HasGrown, IsBound, IsThere, Tells, combined, parts}
+use Rattle.nef_plan.specs.Steps.{AreSteps}
+use Rattle.nef_plan.proofs.Growth.{grown-trans, ready-grown}
+use Rattle.nef_plan.proofs.Rows.{row-grown}
+
+tells-grown : (old new : Plan) (l : List Command) (k : ℕ) (b : Bound) → HasGrown old new l → Tells old k b → Tells new k b
+tells-grown old new l k No h tells = tt
+tells-grown old new l k Made h tells = ready-grown old new l k h tells
+tells-grown old new l k (Deferred row) h tells = row-grown old new l row.kind (parts row) k h tells
+
+-- a plan that has grown, with something told of one node
+pub planned-set : (old new : Plan) (l : List Command) (bounds : List Bound) (n : ℕ) (b : Bound) → ArePlanned old bounds → AreSteps new.nodes new.steps.items → HasGrown old new l → n < length bounds → Tells new n b → ArePlanned new (slice_set bounds n b)
+planned-set old new l bounds n b are steps h within tells = record {
+  steps = steps;
+  told = λ k d at. elim (cases_eq k n) [
+    | inl e ↦ (
+        let there : slice_get (slice_set bounds n b) k ≡ Some b = subst (λ z. slice_get (slice_set bounds n b) z ≡ Some b) (sym e) (get_set_here bounds n b within) in
+        let same : b ≡ d = let f : Some b ≡ Some d = sym there ∙ at in cc in
+        subst (Tells new k) same (subst (λ z. Tells new z b) (sym e) tells))
+    | inr other ↦ tells-grown old new l k d h (are.told k d (sym (get_set_other bounds n k b other) ∙ at))
+  ];
+}
+
+pub planned-grown : (old new : Plan) (l : List Command) (bounds : List Bound) → ArePlanned old bounds → AreSteps new.nodes new.steps.items → HasGrown old new l → ArePlanned new bounds
+planned-grown old new l bounds are steps h = record { steps = steps; told = λ k d at. tells-grown old new l k d h (are.told k d at) }
+
+pub bound-here : (bounds : List Bound) (n : ℕ) (b : Bound) → n < length bounds → IsThere b → IsBound (slice_set bounds n b) n
+bound-here bounds n b within there = (b, get_set_here bounds n b within, there)
+
+pub bound-still : (bounds : List Bound) (n : ℕ) (b : Bound) → n < length bounds → IsThere b → (k : ℕ) → IsBound bounds k → IsBound (slice_set bounds n b) k
+bound-still bounds n b within there k (d, at, is) = elim (cases_eq k n) [
+  | inl e ↦ subst (IsBound (slice_set bounds n b)) (sym e) (bound-here bounds n b within there)
+  | inr other ↦ (d, get_set_other bounds n k b other ∙ at, is)
+]
+
+pub on-set : (old new : Plan) (l : List Command) (bounds : List Bound) (n : ℕ) (b : Bound) → HasGrown old new l → n < length bounds → IsThere b → GoesOn old bounds new (slice_set bounds n b) l
+on-set old new l bounds n b h within there = record { grown = h; still = bound-still bounds n b within there }
+
+pub on-grown : (old new : Plan) (l : List Command) (bounds : List Bound) → HasGrown old new l → GoesOn old bounds new bounds l
+on-grown old new l bounds h = record { grown = h; still = λ k is. is }
+
+pub on-trans : (a b c : Plan) (k l m : List Bound) (qs rs : List Command) → GoesOn a k b l qs → GoesOn b l c m rs → GoesOn a k c m (qs ++ rs)
+on-trans a b c k l m qs rs f g = record { grown = grown-trans a b c qs rs f.grown g.grown; still = λ n is. g.still n (f.still n is) }
+
+-- a node that is bound is there
+pub bound-node : (plan : Plan) (bounds : List Bound) (k : ℕ) → ArePlanned plan bounds → IsBound bounds k → k < length plan.nodes
+bound-node plan bounds k are (No, at, there) = absurd there
+bound-node plan bounds k are (Made, at, there) = (are.told k Made at).within
+bound-node plan bounds k are (Deferred row, at, there) = (are.told k (Deferred row) at).within
+
+pub bound-place : (bounds : List Bound) (k : ℕ) → IsBound bounds k → k < length bounds
+bound-place bounds k (b, at, there) = slice_get_within bounds k b at
+
+-- a node that is bound, and not to a row, is made
+pub bound-made : (bounds : List Bound) (k : ℕ) (b : Bound) → IsBound bounds k → slice_get bounds k ≡ Some b → ((row : Row) → b ≡ Deferred row → ⊥) → b ≡ Made
+bound-made bounds k b (No, at, there) here other = absurd there
+bound-made bounds k b (Made, at, there) here other = let e : Some b ≡ Some Made = sym here ∙ at in cc
+bound-made bounds k b (Deferred row, at, there) here other = absurd (other row (let e : Some b ≡ Some (Deferred row) = sym here ∙ at in cc))
+
+-- the set of a node is still made of those of two nodes that are bound
+pub set-grown : (old new : Plan) (l : List Command) (bounds : List Bound) (kind : RowKind) (i j k : ℕ) → HasGrown old new l → ArePlanned old bounds → IsBound bounds i → IsBound bounds j → k < length old.nodes
+    → node_set old.nodes k ≡ combined kind (node_set old.nodes i) (node_set old.nodes j) → node_set new.nodes k ≡ combined kind (node_set new.nodes i) (node_set new.nodes j)
+set-grown old new l bounds kind i j k h are first second within is =
+    let e = h.nodes.sets i (bound-node old bounds i are first) in
+    let f = h.nodes.sets j (bound-node old bounds j are second) in
+    h.nodes.sets k within ∙ is ∙ ap (λ (z : Set). combined kind z (node_set old.nodes j)) (sym e) ∙ ap (combined kind (node_set new.nodes i)) (sym f)

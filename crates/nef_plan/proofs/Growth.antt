@@ -1,0 +1,136 @@
+-- What stays where nodes and steps are added.
+use Rattle.std.proofs.Common.{◌≡◌, ◌∙◌, ℕ, ◌<◌, ◌≤◌, refl, ap, sym, subst, arith, List, [], ◌∷◌, ◌++◌, length, inl, inr, length-append, append-nil, append_assoc}
+use Rattle.std.proofs.lemmas.Option.{slice_get_within}
+use Rattle.nef_space.specs.Sets.{Set}
+use Rattle.law_turns.specs.Turned.{turned_set}
+use Rattle.nef_expr.specs.declared.nodes.Node.{Node}
+use Rattle.nef_expr.specs.declared.nodes.Node.TheVariants as node
+use Rattle.nef_expr.specs.Nodes.{node_set, set_of, sets_after, NamesBelow}
+use Rattle.nef_expr.proofs.Operands.{names-wider}
+use Rattle.nef_expr.proofs.Places.{slice_get-left, slice_get-seam, place-push}
+use Rattle.nef_expr.proofs.Sets.{earlier-sets_stay, new-set}
+use Rattle.nef_script.specs.declared.script.Command.{Command}
+use Rattle.nef_script.specs.declared.script.Command.TheVariants as command
+use Rattle.nef_script.specs.Meaning.{IsWithin}
+use Rattle.nef_plan.specs.declared.step.Step.{Step}
+use Rattle.nef_plan.specs.declared.step.Step.TheVariants.{Make, Turn, Ask}
+use Rattle.nef_plan.specs.declared.step.Plan.{Plan}
+use Rattle.nef_plan.specs.Alike.{AreAlike}
+use Rattle.nef_plan.proofs.Alike.{alike-refl}
+use Rattle.nef_plan.specs.Rows.{IsReady, HasGrown}
+use Rattle.nef_plan.specs.Steps.{AreSteps, HasMore, IsMade, IsMadeAs, IsRight, LooksAt, Makes, asked}
+
+-- ---- nodes
+pub more-same : (old new : List Node) → new ≡ old → HasMore old new
+more-same old new e = record { as_many = let n = ap length e in omega arith; sets = λ k below. ap (λ (ns : List Node). node_set ns k) e }
+
+pub more-trans : (a b c : List Node) → HasMore a b → HasMore b c → HasMore a c
+more-trans a b c f g = record { as_many = omega (arith, f.as_many, g.as_many); sets = λ k below. g.sets k (omega (arith, below, f.as_many)) ∙ f.sets k below }
+
+pub more-push : (ns : List Node) (n : Node) → HasMore ns (ns ++ n ∷ [])
+more-push ns n = record { as_many = omega (arith, length-append {A = Node}); sets = λ k below. earlier-sets_stay ns n k below }
+
+-- a node makes the same set of the operands
+pub set-more : (old new : List Node) (m : Node) → HasMore old new → NamesBelow (length old) m → set_of (sets_after [] new) m ≡ set_of (sets_after [] old) m
+set-more old new (node.Half o c) h below = refl
+set-more old new node.Empty h below = refl
+set-more old new node.Full h below = refl
+set-more old new (node.And i j) h below = let e = h.sets i below.0 in let f = h.sets j below.1 in cc
+set-more old new (node.Or i j) h below = let e = h.sets i below.0 in let f = h.sets j below.1 in cc
+set-more old new (node.Diff i j) h below = let e = h.sets i below.0 in let f = h.sets j below.1 in cc
+set-more old new (node.Xor i j) h below = let e = h.sets i below.0 in let f = h.sets j below.1 in cc
+set-more old new (node.Not i) h below = ap Set.other (h.sets i below)
+set-more old new (node.Int i) h below = ap Set.inside (h.sets i below)
+set-more old new (node.Cl i) h below = ap Set.closed (h.sets i below)
+set-more old new (node.Bd i) h below = ap Set.border (h.sets i below)
+set-more old new (node.Reg i) h below = ap Set.regular (h.sets i below)
+
+pub alike-along : (s s' t t' : Set) → s' ≡ s → t' ≡ t → AreAlike s t → AreAlike s' t'
+alike-along s s' t t' e f h = subst (λ (z : Set). AreAlike z t') (sym e) (subst (AreAlike s) (sym f) h)
+
+within-wider : (m n : ℕ) (c : Command) → m ≤ n → IsWithin m c → IsWithin n c
+within-wider m n (command.Bind line k) l h = omega (arith, l, h)
+within-wider m n (command.Turn line k j t) l h = (omega (arith, l, h.0), omega (arith, l, h.1), h.2)
+within-wider m n (command.Has line k p) l h = omega (arith, l, h)
+within-wider m n (command.Joined line k p q) l h = omega (arith, l, h)
+within-wider m n (command.Ray line k p d) l h = (omega (arith, l, h.0), h.1)
+within-wider m n (command.Same line i j) l h = (omega (arith, l, h.0), omega (arith, l, h.1))
+within-wider m n (command.Count line k) l h = omega (arith, l, h)
+within-wider m n (command.Print line k name) l h = omega (arith, l, h)
+
+right-more : (old new : List Node) (s : Step) → HasMore old new → IsRight old s → IsRight new s
+right-more old new (Make n m) h r = record {
+  within = omega (arith, r.within, h.as_many);
+  operands = names-wider (length old) (length new) m h.as_many r.operands;
+  set = alike-along _ _ _ _ (set-more old new m h r.operands) (h.sets n r.within) r.set;
+}
+right-more old new (Turn n j t) h r = record {
+  within = omega (arith, r.within, h.as_many);
+  operand = omega (arith, r.operand, h.as_many);
+  turn = r.turn;
+  set = h.sets n r.within ∙ r.set ∙ ap (turned_set t) (sym (h.sets j r.operand));
+}
+right-more old new (Ask c) h r = (r.0, within-wider (length old) (length new) c.now h.as_many r.1)
+
+pub steps-more : (old new : List Node) (steps : List Step) → HasMore old new → AreSteps old steps → AreSteps new steps
+steps-more old new steps h are = record { right = λ i s at. right-more old new s h (are.right i s at); made_before = are.made_before }
+
+-- a node that is added is made as it says
+pub made-new : (ns : List Node) (m : Node) → NamesBelow (length ns) m → IsMadeAs (ns ++ m ∷ []) (length ns) m
+made-new ns m below =
+    let more = more-push ns m in
+    record {
+      within = omega (arith, length-append {A = Node});
+      operands = names-wider (length ns) (length (ns ++ m ∷ [])) m more.as_many below;
+      set = alike-along _ _ _ _ (set-more ns (ns ++ m ∷ []) m more below) (new-set ns m) (alike-refl (set_of (sets_after [] ns) m));
+    }
+
+-- and so is one that was there
+pub made-grown : (old new : List Node) (n : ℕ) (m : Node) → HasMore old new → n < length old → NamesBelow (length old) m → node_set old n ≡ set_of (sets_after [] old) m → IsMadeAs new n m
+made-grown old new n m h within below is = record {
+  within = omega (arith, within, h.as_many);
+  operands = names-wider (length old) (length new) m h.as_many below;
+  set = alike-along _ _ _ _ (set-more old new m h below) (h.sets n within ∙ is) (alike-refl (set_of (sets_after [] old) m));
+}
+
+-- ---- steps
+pub made-push : (steps : List Step) (s : Step) (k : ℕ) → IsMade steps k → IsMade (steps ++ s ∷ []) k
+made-push steps s k (j, d, at, makes) = (j, d, slice_get-left steps (s ∷ []) j d at, makes)
+
+pub made-last : (steps : List Step) (s : Step) (k : ℕ) → Makes s k → IsMade (steps ++ s ∷ []) k
+made-last steps s k makes = (length steps, s, slice_get-seam steps s [], makes)
+
+pub steps-push : (nodes : List Node) (steps : List Step) (s : Step) → AreSteps nodes steps → IsRight nodes s → ((k : ℕ) → LooksAt s k → IsMade steps k) → AreSteps nodes (steps ++ s ∷ [])
+steps-push nodes steps s are is made = record {
+  right = λ i d at. elim (place-push steps s i d at) [
+    | inl o ↦ are.right i d o.1
+    | inr l ↦ subst (IsRight nodes) (sym l.1) is
+  ];
+  made_before = λ i d at k looks. elim (place-push steps s i d at) [
+    | inl o ↦ (let (j, e, low, there, makes) = are.made_before i d o.1 k looks in (j, e, low, slice_get-left steps (s ∷ []) j e there, makes))
+    | inr l ↦ (
+        let (j, e, there, makes) = made k (subst (λ (z : Step). LooksAt z k) l.1 looks) in
+        let below = slice_get_within steps j e there in
+        (j, e, omega (arith, below, l.0), slice_get-left steps (s ∷ []) j e there, makes))
+  ];
+}
+
+pub asked-push : (steps : List Step) (s : Step) → asked (steps ++ s ∷ []) ≡ asked steps ++ asked (s ∷ [])
+asked-push [] s = refl
+asked-push (Make n m ∷ steps) s = asked-push steps s
+asked-push (Turn n j t ∷ steps) s = asked-push steps s
+asked-push (Ask c ∷ steps) s = ap (λ (z : List Command). c.now ∷ z) (asked-push steps s)
+
+-- ---- both
+pub grown-refl : (plan : Plan) → HasGrown plan plan []
+grown-refl plan = record { nodes = more-same plan.nodes plan.nodes refl; made = λ k made. made; asked = sym (append-nil (asked plan.steps.items)) }
+
+pub grown-trans : (a b c : Plan) (l m : List Command) → HasGrown a b l → HasGrown b c m → HasGrown a c (l ++ m)
+grown-trans a b c l m f g = record {
+  nodes = more-trans a.nodes b.nodes c.nodes f.nodes g.nodes;
+  made = λ k made. g.made k (f.made k made);
+  asked = g.asked ∙ ap (λ (z : List Command). z ++ m) f.asked ∙ append_assoc (asked a.steps.items) l m;
+}
+
+pub ready-grown : (old new : Plan) (l : List Command) (k : ℕ) → HasGrown old new l → IsReady old k → IsReady new k
+ready-grown old new l k h is = record { within = let m = h.nodes.as_many in let w = is.within in omega arith; made = h.made k is.made }

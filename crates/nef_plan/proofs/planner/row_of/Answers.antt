@@ -1,0 +1,46 @@
+use Rattle.std.proofs.Common.{◌≡◌, ◌∙◌, ◌<◌, ℕ, [], ap, sym, subst, length, arith, rules}
+use Rattle.std.proofs.lemmas.Result.{IfOk-weaker}
+use Rattle.nef_expr.specs.Nodes.{node_set}
+use Rattle.nef_plan.specs.declared.row.Part.{Part}
+use Rattle.nef_plan.specs.Rows.{IsReady, combined}
+use Rattle.nef_plan.proofs.Growth.{ready-grown}
+use Rattle.nef_plan.proofs.Rows.{combined-same, row-added}
+use Rattle.nef_plan.proofs.Bounds.{on-trans, bound-place}
+use Rattle.nef_plan.proofs.planner.row_of.Goals as goal
+
+pub returns-in-Some-clause-row : goal.returns-in-Some-clause-row
+returns-in-Some-clause-row c k within is =
+    let plan = c.demand.new.plan in
+    let row = c.in-Some.row in
+    let longer = c.add.new.self in
+    let added = c.in_ok-add.ensures in
+    let (like, of) = c.in_ok-row.ensures.row row c.in-Some.is in
+    let second : longer.last.node ≡ c.args.operation.second = ap (λ (p : Part). p.node) added.last in
+    let same = combined-same row.kind c.args.operation.kind (node_set plan.nodes c.args.operation.first) (node_set plan.nodes c.args.operation.second) like in
+    row-added plan row longer c.args.operation.first k added.kind added.others
+    (subst (IsReady plan) (sym second) c.in_ok-demand.ensures.ready)
+    within
+    (is ∙ sym same ∙ ap (λ (n : ℕ). combined row.kind (node_set plan.nodes c.args.operation.first) (node_set plan.nodes n)) (sym second))
+    (of plan c.in_ok-demand.ensures.planned)
+
+pub offset_bounds-hints-first : goal.offset_bounds-hints-first
+offset_bounds-hints-first c =
+    let place = bound-place c.args.bounds.now c.args.operation.first c.requires.first in
+    let within : c.args.operation.first < length c.args.hints.now = omega (arith, place, c.requires.hints) in
+    search rules
+
+pub bounds-hints-first : goal.bounds-hints-first
+bounds-hints-first c =
+    let place = bound-place c.args.bounds.now c.args.operation.first c.requires.first in
+    omega (arith, place, c.requires.hints)
+
+pub returns-clause-goes_on : goal.returns-clause-goes_on
+returns-clause-goes_on c =
+    let on = on-trans c.args.plan.now c.demand.new.plan c.demand-2.new.plan c.args.bounds.now c.demand.new.bounds c.demand-2.new.bounds [] [] c.in_ok-demand.ensures.goes_on c.in_ok-demand-2.ensures.goes_on in
+    IfOk-weaker c.begun.result _ _ (λ r _. on) c.begun.ensures.row
+
+pub returns-clause-row : goal.returns-clause-row
+returns-clause-row c =
+    let plan = c.demand-2.new.plan in
+    let second = ready-grown c.demand.new.plan plan [] c.args.operation.second c.in_ok-demand-2.ensures.goes_on.grown c.in_ok-demand.ensures.ready in
+    IfOk-weaker c.begun.result _ _ (λ r row k within is. row plan k within c.in_ok-demand-2.ensures.ready second is) c.begun.ensures.row

@@ -1,0 +1,114 @@
+-- Rows of operations that are worked as trees, and what is known of a plan while it's made.
+use Rattle.std.specs.Prelude.{◌≡◌, ℕ, ◌<◌, List, [], ◌∷◌, ◌++◌, Some, length, slice_get}
+use Rattle.nef_space.specs.Sets.{Set}
+use Rattle.nef_expr.specs.declared.nodes.Node.{Node}
+use Rattle.nef_expr.specs.Nodes.{node_set}
+use Rattle.nef_script.specs.declared.script.Command.{Command}
+use Rattle.nef_plan.specs.declared.step.Plan.{Plan}
+use Rattle.nef_plan.specs.declared.row.Part.{Part}
+use Rattle.nef_plan.specs.declared.row.RowKind.{RowKind}
+use Rattle.nef_plan.specs.declared.row.RowKind.TheVariants.{Union, Exclusive, Difference}
+use Rattle.nef_plan.specs.declared.row.Row.{Row}
+use Rattle.nef_plan.specs.declared.row.Bound.{Bound}
+use Rattle.nef_plan.specs.declared.row.Bound.TheVariants.{No, Made, Deferred}
+use Rattle.nef_plan.specs.Alike.{AreAlike}
+use Rattle.nef_plan.specs.Steps.{AreSteps, HasMore, IsMade, asked}
+
+-- both are of one kind, whatever they are differences from
+abbrev pub AreOfOneKind : RowKind → RowKind → Type 0
+AreOfOneKind Union Union = Unit {0}
+AreOfOneKind Exclusive Exclusive = Unit {0}
+AreOfOneKind (Difference i) (Difference j) = Unit {0}
+AreOfOneKind _ _ = ⊥
+
+-- the set that an operation of the kind makes of two
+abbrev pub combined : RowKind → Set → Set → Set
+combined Union s t = Set.either s t
+combined Exclusive s t = Set.one_of s t
+combined (Difference from) s t = Set.less s t
+
+-- the set that stands for two parts of a row of the kind
+abbrev pub joined : RowKind → Set → Set → Set
+joined Union s t = Set.either s t
+joined Exclusive s t = Set.one_of s t
+joined (Difference from) s t = Set.either s t
+
+-- how many parts beside the last the operation that ends a row of the kind takes
+abbrev pub spare : RowKind → ℕ
+spare Union = 1
+spare Exclusive = 1
+spare (Difference from) = 0
+
+-- the set of the row whose parts are joined to this one
+abbrev pub ended : List Node → RowKind → Set → Set
+ended nodes Union s = s
+ended nodes Exclusive s = s
+ended nodes (Difference from) s = Set.less (node_set nodes from) s
+
+-- the parts joined one after the other, behind the set s
+abbrev pub joined_after : List Node → RowKind → Set → List Part → Set
+joined_after nodes kind s [] = s
+joined_after nodes kind s (p ∷ ps) = joined_after nodes kind (joined kind s (node_set nodes p.node)) ps
+
+abbrev pub row_set : List Node → RowKind → List Part → Set
+row_set nodes kind parts = ended nodes kind (joined_after nodes kind Set.empty parts)
+
+-- the node is there, and a step makes its set
+pub record IsReady (plan : Plan) (k : ℕ) : Type 0 where
+  pub within : k < length plan.nodes
+  pub made : IsMade plan.steps.items k
+
+-- a row of the kind that begins with node k has it as the node that it's a difference from, if it's one
+abbrev pub BeginsWith : RowKind → ℕ → Type 0
+BeginsWith Union k = Unit {0}
+BeginsWith Exclusive k = Unit {0}
+BeginsWith (Difference from) k = k ≡ from
+
+-- the nodes of a row with these parts are ready
+pub record AreReady (plan : Plan) (kind : RowKind) (parts : List Part) : Type 0 where
+  pub from : (k : ℕ) → kind ≡ Difference k → IsReady plan k
+  pub each : (i : ℕ) (p : Part) → slice_get parts i ≡ Some p → IsReady plan p.node
+
+-- the row with these parts makes the set of node k, of sets that are ready
+pub record MakesSet (plan : Plan) (kind : RowKind) (parts : List Part) (k : ℕ) : Type 0 where
+  pub within : k < length plan.nodes
+  pub ready : AreReady plan kind parts
+  pub set : AreAlike (row_set plan.nodes kind parts) (node_set plan.nodes k)
+
+abbrev pub parts : Row → List Part
+parts row = row.others.items ++ row.last ∷ []
+
+abbrev pub IsRowOf : Plan → Row → ℕ → Type 0
+IsRowOf plan row k = MakesSet plan row.kind (parts row) k
+
+-- what is told of node k
+abbrev pub Tells : Plan → ℕ → Bound → Type 0
+Tells plan k No = Unit {0}
+Tells plan k Made = IsReady plan k
+Tells plan k (Deferred row) = IsRowOf plan row k
+
+-- the steps are right, and so is what is told of each node
+pub record ArePlanned (plan : Plan) (bounds : List Bound) : Type 0 where
+  pub steps : AreSteps plan.nodes plan.steps.items
+  pub told : (k : ℕ) (b : Bound) → slice_get bounds k ≡ Some b → Tells plan k b
+
+-- a name is bound to the node of which this is known
+abbrev pub IsThere : Bound → Type 0
+IsThere No = ⊥
+IsThere Made = Unit {0}
+IsThere (Deferred row) = Unit {0}
+
+-- node k is bound
+abbrev pub IsBound : List Bound → ℕ → Type 0
+IsBound bounds k = (b : Bound) × (slice_get bounds k ≡ Some b) × IsThere b
+
+-- the later plan has nodes and steps more, of which these are questions
+pub record HasGrown (old new : Plan) (questions : List Command) : Type 0 where
+  pub nodes : HasMore old.nodes new.nodes
+  pub made : (k : ℕ) → IsMade old.steps.items k → IsMade new.steps.items k
+  pub asked : asked new.steps.items ≡ asked old.steps.items ++ questions
+
+-- and what was bound is bound
+pub record GoesOn (old : Plan) (bounds : List Bound) (new : Plan) (later : List Bound) (questions : List Command) : Type 0 where
+  pub grown : HasGrown old new questions
+  pub still : (k : ℕ) → IsBound bounds k → IsBound later k

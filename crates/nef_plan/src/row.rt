@@ -1,0 +1,170 @@
+//! Rows of operations of one kind, of which each has the set of the one before as its first operand.
+
+ghost use Rattle.std.specs.Prelude.{◌≡◌, ◌⊎◌, ◌<◌, ◌≤◌, ℕ, true, IfOk, OnOk, List, length, ◌∷◌, ◌++◌, []};
+ghost use Rattle.nef_space.specs.Sets.{Set};
+ghost use Rattle.nef_expr.specs.Nodes.{node_set, set_of, operand, IsOperand, NamesBelow};
+ghost use Rattle.nef_plan.specs.Rows.{AreOfOneKind, BeginsWith, AreReady, IsReady, IsRowOf, combined, joined, parts, spare};
+ghost use Rattle.nef_plan.specs.Steps.{IsMadeAs, IsMade};
+ghost use Rattle.nef_plan.specs.declared.step.Plan.{Plan as State};
+
+use crate::OutOfMemory;
+use nef_expr::Node;
+use std::alloc::Global;
+
+/// A set of a row.
+#[derive(Clone, Copy)]
+pub(crate) struct Part {
+    /// The number of its node.
+    pub(crate) node: usize,
+    /// Of how many half-spaces it's made.
+    pub(crate) weight: u64,
+}
+
+/// What the operations of a row make.
+#[derive(Clone, Copy)]
+pub(crate) enum RowKind {
+    /// The union of the parts.
+    Union,
+    /// The symmetric difference of the parts.
+    Exclusive,
+    /// The node `from` without the union of the parts.
+    Difference { from: usize },
+}
+
+/// An operation of a row, on two nodes. Where it's a difference, it's one from the first.
+#[derive(Clone, Copy)]
+pub(crate) struct Operation {
+    pub(crate) kind: RowKind,
+    pub(crate) first: usize,
+    pub(crate) second: usize,
+}
+
+/// A row that isn't worked yet. Its parts are the others, in order, and the last.
+#[derive(Drop)]
+pub(crate) struct Row {
+    pub(crate) kind: RowKind,
+    pub(crate) others: Vec<Part>,
+    pub(crate) last: Part,
+}
+
+/// What is known of a node of the script.
+#[derive(Drop)]
+pub(crate) enum Bound {
+    /// No name is bound to it so far.
+    No,
+    /// Its set is made.
+    Made,
+    /// Its set is that of the row, which is worked when the set is wanted.
+    Deferred(Row),
+}
+
+impl RowKind {
+    /// Whether both are of one kind, whatever they are differences from.
+    pub(crate) fn is_like(self, other: RowKind) -> bool
+        ensures like { result ≡ true → AreOfOneKind self other }
+    {
+        matches!(
+            (self, other),
+            (RowKind::Union, RowKind::Union)
+                | (RowKind::Exclusive, RowKind::Exclusive)
+                | (RowKind::Difference { .. }, RowKind::Difference { .. })
+        )
+    }
+
+    /// The node that makes the set of two parts.
+    pub(crate) fn join(self, first: usize, second: usize) -> Node
+        ensures set { (ss : List Set) → set_of ss result ≡ joined self (operand ss first) (operand ss second) }
+        ensures within { (n : ℕ) → first < n → second < n → NamesBelow n result }
+        ensures operands { (k : ℕ) → IsOperand k result → (k ≡ first) ⊎ (k ≡ second) }
+    {
+        match self {
+            RowKind::Exclusive => Node::Xor(first, second),
+            RowKind::Union | RowKind::Difference { .. } => Node::Or(first, second),
+        }
+    }
+}
+
+impl Row {
+    /// The row of one operation of the kind.
+    pub(crate) fn begun(
+        alloc: Global,
+        kind: RowKind,
+        first: Part,
+        second: Part,
+    ) -> Result<Row, OutOfMemory>
+        requires begins { BeginsWith kind first.node }
+        ensures row { IfOk result (λ r. (plan : State) (k : ℕ) → k < length plan.nodes → IsReady plan first.node → IsReady plan second.node → node_set plan.nodes k ≡ combined kind (node_set plan.nodes first.node) (node_set plan.nodes second.node) → IsRowOf plan r k) }
+    {
+        let mut others = Vec::new(alloc);
+        match kind {
+            RowKind::Union | RowKind::Exclusive => others.push(first)?,
+            RowKind::Difference { .. } => (),
+        }
+        Ok(Row {
+            kind,
+            others,
+            last: second,
+        })
+    }
+
+    /// A copy of the row.
+    pub(crate) fn copied(&self, alloc: Global) -> Result<Row, OutOfMemory>
+        ensures kind { IfOk result (λ r. r.kind ≡ self.now.kind) }
+        ensures others { IfOk result (λ r. r.others.items ≡ self.now.others.items) }
+        ensures last { IfOk result (λ r. r.last ≡ self.now.last) }
+    {
+        Ok(Row {
+            kind: self.kind,
+            others: Vec::from_slice(alloc, self.others.as_slice())?,
+            last: self.last,
+        })
+    }
+
+    /// Adds a part behind the others.
+    pub(crate) fn add(&mut self, part: Part) -> Result<(), OutOfMemory>
+        ensures kind { self.new.kind ≡ self.old.kind }
+        ensures others { OnOk result (self.new.others.items ≡ self.old.others.items ++ self.old.last ∷ []) }
+        ensures last { OnOk result (self.new.last ≡ part) }
+    {
+        self.others.push(self.last)?;
+        self.last = part;
+        Ok(())
+    }
+
+    /// Whether the part before the last is to be joined with it: where it's less than twice as heavy, so that of each two
+    /// parts the first is twice as heavy as the second, and there are few of them.
+    pub(crate) fn is_uneven(&self) -> bool
+        ensures others { result ≡ true → 0 < length self.now.others.items }
+    {
+        match self.others.last() {
+            Some(part) => part.weight / 2 < self.last.weight,
+            None => false,
+        }
+    }
+
+    /// How many parts beside the last the operation that ends the row takes.
+    pub(crate) fn spare(&self) -> usize
+        ensures spare { result ≡ spare self.now.kind }
+    {
+        match self.kind {
+            RowKind::Union | RowKind::Exclusive => 1,
+            RowKind::Difference { .. } => 0,
+        }
+    }
+
+    /// The operation that ends the row, when its other parts are joined.
+    pub(crate) fn ending(&self) -> Node
+        requires few { length self.now.others.items ≤ spare self.now.kind }
+        ensures made { (plan : State) (k : ℕ) → IsRowOf plan self.now k → IsMadeAs plan.nodes k result }
+        ensures operands { (plan : State) (k : ℕ) → AreReady plan self.now.kind (parts self.now) → IsOperand k result → IsMade plan.steps.items k }
+    {
+        let last = self.last.node;
+        match self.kind {
+            RowKind::Difference { from } => Node::Diff(from, last),
+            RowKind::Union | RowKind::Exclusive => match self.others.last() {
+                Some(part) => self.kind.join(part.node, last),
+                None => Node::Or(last, last),
+            },
+        }
+    }
+}
