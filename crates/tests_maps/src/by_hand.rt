@@ -1,15 +1,15 @@
 //! The sides and items of a map made by hand, and a copy of it.
 
-use crate::texts::{is_text, items_text, labels_text, numbers_text};
+use crate::texts::{add_items, add_label, add_numbers};
 use crate::words::{check, normal};
 use nef_geo::{Dir, Label, List};
 use nef_smap::{SArc, SLoop, SVertex, SphereMap, copy, side_label, sides};
 use std::alloc::{AllocError, Global};
-use std::process::Abort;
 
-// The svertices, an arc and the sloop of the map.
-const ITEMS: &str =
-    "/ s 0 0 -1 i o / s 0 1 1 i - / s 1 0 1 i - / a 1 2 1 1 -1 n i n / l 0 0 1 i n o";
+// The labels of the sides; the svertices, an arc and the sloop of a copy; and of the items the marks and the sides. The arc
+// has the number 0 and the sloop the number 1; the side round the svertex stands before theirs.
+const TEXT: &str = " o i n n o; \
+/ s 0 0 -1 i o / s 0 1 1 i - / s 1 0 1 i - / a 1 2 1 1 -1 n i n / l 0 0 1 i n o; n 1 2 i 3 4";
 
 fn svertex(dir: Dir, around: Option<Label>) -> SVertex {
     SVertex {
@@ -74,34 +74,45 @@ fn by_hand(alloc: Global) -> Option<SphereMap> {
     of_ways(alloc, above, first, second, about)
 }
 
-fn side_labels(alloc: Global, map: &SphereMap) -> Result<String, AllocError> {
-    let mut labels = Vec::new(alloc);
+fn add_side_labels(text: &mut String, map: &SphereMap) -> Result<(), AllocError> {
     for side in 0..sides(map) {
-        labels.push(side_label(map, side))?;
+        add_label(text, side_label(map, side))?;
     }
-    labels_text(alloc, labels.as_slice())
+    Ok(())
 }
 
-fn item_marks(alloc: Global, map: &SphereMap) -> Result<String, AllocError> {
-    let mut marks = Vec::new(alloc);
-    for number in 0..map.item_count() {
-        marks.push(map.item_at(number).mark())?;
-    }
-    labels_text(alloc, marks.as_slice())
-}
-
-fn item_sides(alloc: Global, map: &SphereMap) -> Result<String, AllocError> {
-    let mut numbers = Vec::new(alloc);
-    for number in 0..map.item_count() {
-        numbers.push(map.item_side(number, true))?;
-        numbers.push(map.item_side(number, false))?;
-    }
-    numbers_text(alloc, numbers.as_slice())
-}
-
-fn copied_items(alloc: Global, map: &SphereMap) -> Result<String, AllocError> {
+fn add_copy(alloc: Global, text: &mut String, map: &SphereMap) -> Result<(), AllocError> {
     let second = copy(alloc, map)?;
-    items_text(alloc, &second)
+    add_items(text, &second)
+}
+
+// Of each item its mark, and the sides to which its normal points and doesn't point.
+fn add_item_sides(text: &mut String, map: &SphereMap) -> Result<(), AllocError> {
+    for number in 0..map.item_count() {
+        add_label(text, map.item_at(number).mark())?;
+        add_numbers(
+            text,
+            &[map.item_side(number, true), map.item_side(number, false)],
+        )?;
+    }
+    Ok(())
+}
+
+fn text_of(alloc: Global, map: &SphereMap) -> Result<String, AllocError> {
+    let mut text = String::new(alloc);
+    add_side_labels(&mut text, map)?;
+    text.push_str(";")?;
+    add_copy(alloc, &mut text, map)?;
+    text.push_str(";")?;
+    add_item_sides(&mut text, map)?;
+    Ok(text)
+}
+
+fn is_text(text: Result<String, AllocError>, wanted: &str) -> bool {
+    match text {
+        Ok(text) => text.as_str() == wanted,
+        Err(_) => false,
+    }
 }
 
 fn has_item(map: &SphereMap, d: &str, wanted: Option<usize>) -> bool {
@@ -117,23 +128,14 @@ fn has_items(map: &SphereMap) -> bool {
         && has_item(map, "0 0 -1", None)
 }
 
-// The arc has the number 0 and the sloop the number 1; the side round the svertex stands before theirs.
-fn check_map(rt: &impl Abort, alloc: Global, map: &SphereMap) {
-    check(rt, is_text(side_labels(alloc, map), "o i n n o"), "sides");
-    check(rt, is_text(copied_items(alloc, map), ITEMS), "a copy");
-    check(rt, is_text(item_marks(alloc, map), "n i"), "marks");
-    check(
-        rt,
-        is_text(item_sides(alloc, map), "1 2 3 4"),
-        "sides of items",
-    );
-    check(rt, has_items(map), "items by their normals");
+fn holds(alloc: Global) -> bool {
+    match by_hand(alloc) {
+        Some(map) => is_text(text_of(alloc, &map), TEXT) && has_items(&map),
+        None => false,
+    }
 }
 
 #[test]
 fn sides_and_items_by_number(rt: HostRuntime) {
-    match by_hand(rt.alloc()) {
-        Some(map) => check_map(&rt, rt.alloc(), &map),
-        None => check(&rt, false, "a map"),
-    }
+    check(&rt, holds(rt.alloc()), TEXT);
 }

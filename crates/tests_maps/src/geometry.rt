@@ -10,7 +10,6 @@ use nef_geo::{
 use std::alloc::{AllocError, Global};
 use std::cmp::Ordering;
 use std::process::Abort;
-use std::test::Fail;
 
 // Questions about planes, points and directions, and their answers. A plane that is read is told with its numbers, and
 // whether they are turned round.
@@ -146,18 +145,6 @@ fn is_placed(text: &str, wanted: &str) -> Option<bool> {
     Some(is_point(&p, numbers) && p.in_frame() == (place == "inside"))
 }
 
-fn axis(text: &str) -> Option<Dir> {
-    Some(plane_axis(&plane(text)?))
-}
-
-fn across(text: &str) -> Option<Dir> {
-    Some(plane_dir(&plane(text)?))
-}
-
-fn back(text: &str) -> Option<Dir> {
-    Some(way(text)?.back())
-}
-
 // Whether this is the answer to a question about one thing.
 fn fits_one(verb: &str, a: &str, wanted: &str) -> Option<bool> {
     match verb {
@@ -165,140 +152,90 @@ fn fits_one(verb: &str, a: &str, wanted: &str) -> Option<bool> {
         "frame" => is_side_of_frame(a, wanted),
         "point" => is_placed(a, wanted),
         "direction" => Some(is_maybe_way(way(a), wanted)),
-        "back" => Some(is_maybe_way(back(a), wanted)),
-        "axis" => Some(is_maybe_way(axis(a), wanted)),
-        "across" => Some(is_maybe_way(across(a), wanted)),
+        "back" => Some(is_way(&way(a)?.back(), wanted)),
+        "axis" => Some(is_way(&plane_axis(&plane(a)?), wanted)),
+        "across" => Some(is_way(&plane_dir(&plane(a)?), wanted)),
         _ => None,
-    }
-}
-
-fn is_given_side(h: &str, p: &str, wanted: &str) -> Option<bool> {
-    let (given, point) = (given(h)?, point(p)?);
-    Some(given.side(&point).number() == wanted.parse().ok()?)
-}
-
-fn is_crossed(a: &str, b: &str, wanted: &str) -> Option<bool> {
-    let (a, b) = (way(a)?, way(b)?);
-    if is_at_most(&a, 1 << 11) && is_at_most(&b, 1 << 11) {
-        Some(is_maybe_way(cross(&a, &b), wanted))
-    } else {
-        None
-    }
-}
-
-fn side_of(a: &str, b: &str) -> Option<Sign> {
-    Some(side(&plane(a)?, &point(b)?))
-}
-
-fn hit_side_of(a: &str, b: &str) -> Option<Sign> {
-    Some(hit_side(&plane(a)?, &hit_at(&point(b)?)))
-}
-
-fn dot_of(a: &str, b: &str) -> Option<Sign> {
-    Some(dot(&way(a)?, &way(b)?))
-}
-
-fn way_side_of(a: &str, b: &str) -> Option<Sign> {
-    Some(dir_side(&plane(a)?, &way(b)?))
-}
-
-// The sign that two things have together.
-fn sign_of_two(verb: &str, a: &str, b: &str) -> Option<Sign> {
-    match verb {
-        "side" => side_of(a, b),
-        "hit_side" => hit_side_of(a, b),
-        "dot" => dot_of(a, b),
-        "way_side" => way_side_of(a, b),
-        _ => None,
-    }
-}
-
-fn order_of(a: &str, b: &str) -> Option<Ordering> {
-    Some(way(a)?.cmp(&way(b)?))
-}
-
-fn way_order_of(a: &str, b: &str) -> Option<Ordering> {
-    Some(dir_cmp(&way(a)?, &way(b)?))
-}
-
-fn plane_order_of(a: &str, b: &str) -> Option<Ordering> {
-    Some(plane(a)?.cmp(&plane(b)?))
-}
-
-fn point_order_of(a: &str, b: &str) -> Option<Ordering> {
-    Some(lex_cmp(&point(a)?, &point(b)?))
-}
-
-// The order of two things.
-fn order_of_two(verb: &str, a: &str, b: &str) -> Option<Ordering> {
-    match verb {
-        "order" => order_of(a, b),
-        "way_order" => way_order_of(a, b),
-        "plane_order" => plane_order_of(a, b),
-        _ => point_order_of(a, b),
     }
 }
 
 /// Whether it is the order with this name.
-pub(crate) fn is_order(order: Option<Ordering>, wanted: &str) -> bool {
+pub(crate) fn is_order(order: Ordering, wanted: &str) -> bool {
     match order {
-        Some(Ordering::Less) => wanted == "Less",
-        Some(Ordering::Equal) => wanted == "Equal",
-        Some(Ordering::Greater) => wanted == "Greater",
-        None => false,
+        Ordering::Less => wanted == "Less",
+        Ordering::Equal => wanted == "Equal",
+        Ordering::Greater => wanted == "Greater",
     }
 }
 
-fn is_sign(sign: Option<Sign>, wanted: &str) -> bool {
+fn is_sign(sign: Sign, wanted: &str) -> bool {
     match sign {
-        Some(Sign::Minus) => wanted == "Minus",
-        Some(Sign::Zero) => wanted == "Zero",
-        Some(Sign::Plus) => wanted == "Plus",
-        None => false,
+        Sign::Minus => wanted == "Minus",
+        Sign::Zero => wanted == "Zero",
+        Sign::Plus => wanted == "Plus",
+    }
+}
+
+fn is_crossed(a: &Dir, b: &Dir, wanted: &str) -> bool {
+    is_at_most(a, 1 << 11) && is_at_most(b, 1 << 11) && is_maybe_way(cross(a, b), wanted)
+}
+
+// Whether this is the answer to a question about two directions.
+fn fits_ways(verb: &str, a: &Dir, b: &Dir, wanted: &str) -> bool {
+    match verb {
+        "cross" => is_crossed(a, b, wanted),
+        "dot" => is_sign(dot(a, b), wanted),
+        "order" => is_order(a.cmp(b), wanted),
+        _ => is_order(dir_cmp(a, b), wanted),
+    }
+}
+
+// Whether this is the answer to a question about a plane and a point.
+fn fits_plane(verb: &str, given: &Oriented, p: &Point, wanted: &str) -> bool {
+    match verb {
+        "side" => is_sign(side(&given.plane(), p), wanted),
+        "hit_side" => is_sign(hit_side(&given.plane(), &hit_at(p)), wanted),
+        _ => wanted.parse() == Ok(given.side(p).number()),
     }
 }
 
 // Whether this is the answer to a question about two things.
 fn fits_two(verb: &str, a: &str, b: &str, wanted: &str) -> Option<bool> {
     match verb {
-        "cross" => is_crossed(a, b, wanted),
-        "given_side" => is_given_side(a, b, wanted),
-        "order" | "way_order" | "plane_order" | "point_order" => {
-            Some(is_order(order_of_two(verb, a, b), wanted))
-        }
-        _ => Some(is_sign(sign_of_two(verb, a, b), wanted)),
+        "side" | "hit_side" | "given_side" => Some(fits_plane(
+            verb,
+            &given(a)?,
+            &point(b)?,
+            wanted,
+        )),
+        "way_side" => Some(is_sign(dir_side(&plane(a)?, &way(b)?), wanted)),
+        "plane_order" => Some(is_order(plane(a)?.cmp(&plane(b)?), wanted)),
+        "point_order" => Some(is_order(lex_cmp(&point(a)?, &point(b)?), wanted)),
+        _ => Some(fits_ways(verb, &way(a)?, &way(b)?, wanted)),
     }
 }
 
-fn met(a: &str, b: &str, c: &str) -> Option<Option<Point>> {
-    Some(meet(&plane(a)?, &plane(b)?, &plane(c)?))
-}
-
-fn is_met(a: &str, b: &str, c: &str, wanted: &str) -> bool {
-    match met(a, b, c) {
-        Some(Some(p)) => is_point(&p, wanted),
-        Some(None) => wanted == "none",
-        None => false,
+fn is_met(a: &str, b: &str, c: &str, wanted: &str) -> Option<bool> {
+    match meet(&plane(a)?, &plane(b)?, &plane(c)?) {
+        Some(p) => Some(is_point(&p, wanted)),
+        None => Some(wanted == "none"),
     }
-}
-
-fn triple_of(a: &str, b: &str, c: &str) -> Option<Sign> {
-    Some(triple(&way(a)?, &way(b)?, &way(c)?))
 }
 
 // The last three must be as small as directions of svertices.
-fn small_quad(a: &Dir, b: &Dir, c: &Dir, d: &Dir) -> Option<Sign> {
+fn is_quad(a: &Dir, b: &Dir, c: &Dir, d: &Dir, wanted: &str) -> bool {
     let small = 1 << 23;
-    if is_at_most(b, small) && is_at_most(c, small) && is_at_most(d, small) {
-        Some(quad(a, b, c, d))
-    } else {
-        None
-    }
+    let are_small = is_at_most(b, small) && is_at_most(c, small) && is_at_most(d, small);
+    are_small && is_sign(quad(a, b, c, d), wanted)
 }
 
-fn quad_of(a: &str, b: &str, rest: &str) -> Option<Sign> {
+fn fits_quad(a: &str, b: &str, rest: &str, wanted: &str) -> Option<bool> {
     let (c, d) = parted(rest, ", ");
-    small_quad(&way(a)?, &way(b)?, &way(c)?, &way(d)?)
+    Some(is_quad(&way(a)?, &way(b)?, &way(c)?, &way(d)?, wanted))
+}
+
+fn is_triple(a: &str, b: &str, c: &str, wanted: &str) -> Option<bool> {
+    Some(is_sign(triple(&way(a)?, &way(b)?, &way(c)?), wanted))
 }
 
 // Whether this is the answer to a question about some things.
@@ -306,24 +243,24 @@ fn fits(verb: &str, things: &str, wanted: &str) -> Option<bool> {
     let (a, rest) = parted(things, ", ");
     let (b, others) = parted(rest, ", ");
     match verb {
-        "meet" => Some(is_met(a, b, others, wanted)),
-        "triple" => Some(is_sign(triple_of(a, b, others), wanted)),
-        "quad" => Some(is_sign(quad_of(a, b, others), wanted)),
+        "meet" => is_met(a, b, others, wanted),
+        "triple" => is_triple(a, b, others, wanted),
+        "quad" => fits_quad(a, b, others, wanted),
         _ if rest.is_empty() => fits_one(verb, a, wanted),
         _ => fits_two(verb, a, rest, wanted),
     }
 }
 
-fn holds(row: &str) -> bool {
+fn holds(row: &str) -> Option<bool> {
     let (question, wanted) = parted(row, " => ");
     let (verb, things) = parted(question, " ");
-    fits(verb, things, wanted) == Some(true)
+    fits(verb, things, wanted)
 }
 
 #[test]
 fn rows(rt: HostRuntime) {
     for row in ROWS.split('\n') {
-        check(&rt, holds(row), row);
+        check(&rt, holds(row) == Some(true), row);
     }
 }
 
@@ -334,14 +271,19 @@ fn two_signs(alloc: Global) -> Result<List<Sign>, AllocError> {
     Ok(signs)
 }
 
-fn are_two_signs(signs: &List<Sign>) -> bool {
-    !signs.is_empty() && signs.len() == 2 && signs.as_slice() == [Sign::Plus, Sign::Zero].as_slice()
+fn are_two_signs(signs: &Result<List<Sign>, AllocError>) -> bool {
+    match signs {
+        Ok(signs) => {
+            !signs.is_empty()
+                && signs.len() == 2
+                && signs.as_slice() == [Sign::Plus, Sign::Zero].as_slice()
+        }
+        Err(_) => false,
+    }
 }
 
 #[test]
-fn lists_grow(rt: HostRuntime) -> Result<(), Fail> {
-    let signs = two_signs(rt.alloc())?;
-    check(&rt, are_two_signs(&signs), "two signs");
+fn lists_grow(rt: HostRuntime) {
+    check(&rt, are_two_signs(&two_signs(rt.alloc())), "two signs");
     check(&rt, List::<Sign>::new(rt.alloc()).is_empty(), "no sign");
-    Ok(())
 }

@@ -81,40 +81,39 @@ fn has_numbers(p: &Hit, wanted: &str) -> Option<bool> {
     )
 }
 
-fn is_hit(d: &str, h: &str, wanted: &str) -> bool {
-    match asked("0 0 0 1", d, h) {
-        Some(Some(p)) => has_numbers(&p, wanted) == Some(true),
-        Some(None) => wanted == "none",
-        None => false,
+fn is_hit(d: &str, h: &str, wanted: &str) -> Option<bool> {
+    match asked("0 0 0 1", d, h)? {
+        Some(p) => has_numbers(&p, wanted),
+        None => Some(wanted == "none"),
     }
 }
 
-// The order of the hits with two planes.
-fn order_of(d: &str, planes: &str) -> Option<Ordering> {
+// Whether the hits with two planes have this order.
+fn is_order_of(d: &str, planes: &str, wanted: &str) -> Option<bool> {
     let (g, h) = parted(planes, ", ");
-    Some(hit_order(&hit(d, g)?, &hit(d, h)?))
+    Some(is_order(hit_order(&hit(d, g)?, &hit(d, h)?), wanted))
 }
 
-// The order of a hit and the origin.
-fn order_from_start(d: &str, h: &str) -> Option<Ordering> {
-    Some(hit_order(&hit(d, h)?, &hit_at(&point("0 0 0 1")?)))
+// Whether a hit and the origin have this order.
+fn is_order_from_start(d: &str, h: &str, wanted: &str) -> Option<bool> {
+    Some(is_order(hit_order(&hit(d, h)?, &hit_at(&point("0 0 0 1")?)), wanted))
 }
 
-fn holds(row: &str) -> bool {
+fn holds(row: &str) -> Option<bool> {
     let (question, wanted) = parted(row, " => ");
     let (verb, things) = parted(question, " ");
     let (d, planes) = parted(things, ", ");
     match verb {
         "hit" => is_hit(d, planes, wanted),
-        "order" => is_order(order_of(d, planes), wanted),
-        _ => is_order(order_from_start(d, planes), wanted),
+        "order" => is_order_of(d, planes, wanted),
+        _ => is_order_from_start(d, planes, wanted),
     }
 }
 
 #[test]
 fn rays_cross_planes(rt: HostRuntime) {
     for row in RAYS.split('\n') {
-        check(&rt, holds(row), row);
+        check(&rt, holds(row) == Some(true), row);
     }
 }
 
@@ -123,83 +122,67 @@ fn first_hit() -> Option<Hit> {
     asked(START, "up", FIRST)?
 }
 
-// The hit from there, in this direction, with this plane.
-fn next_hit(d: &Dir, h: &str) -> Option<FarHit> {
-    far(&first_hit()?, d, &plane(h)?)
+// The hit from there with this plane.
+fn next_hit(h: &str) -> Option<FarHit> {
+    far(&first_hit()?, &way("2048 2048 2047")?, &plane(h)?)
 }
 
-fn next_hit_ahead(h: &str) -> Option<FarHit> {
-    next_hit(&way("2048 2048 2047")?, h)
-}
-
-// Whether the plane is hit in exactly one of the direction and its opposite.
-fn is_hit_once(d: &Dir, h: &str) -> bool {
-    next_hit(d, h).is_some() != next_hit(&d.back(), h).is_some()
-}
-
-fn is_hit_once_along(d: &str) -> Option<bool> {
-    Some(is_hit_once(&way(d)?, SECOND))
-}
-
-// Whether the first hit is at exactly this part of its ray.
-fn is_first_hit_at(num: i128, den: i128) -> Option<bool> {
+// Whether the first hit is on its plane, at exactly this part of its ray.
+fn is_first_exact(num: i128, den: i128) -> Option<bool> {
     let q = first_hit()?;
-    Some(q.num().checked_mul(den) == q.den().checked_mul(num))
+    let is_there = q.num().checked_mul(den) == q.den().checked_mul(num);
+    Some(is_there && hit_side(&plane(FIRST)?, &q) == Sign::Zero)
 }
 
-fn is_next_hit_at(num: i128, den: i128) -> Option<bool> {
-    let r = next_hit_ahead(SECOND)?;
+fn is_next_at(num: i128, den: i128) -> Option<bool> {
+    let r = next_hit(SECOND)?;
     Some(r.num().checked_mul(den) == r.den().checked_mul(num))
 }
 
-fn is_next_hit_positive() -> Option<bool> {
-    let r = next_hit_ahead(SECOND)?;
+fn is_next_positive() -> Option<bool> {
+    let r = next_hit(SECOND)?;
     Some(r.x() > 0 && r.y() > 0 && r.z() > 0 && r.w() > 0)
 }
 
-fn first_side(h: &str) -> Option<Sign> {
-    Some(hit_side(&plane(h)?, &first_hit()?))
-}
-
 fn next_side(h: &str) -> Option<Sign> {
-    Some(far_side(&plane(h)?, &next_hit_ahead(SECOND)?))
-}
-
-// How the hit with this plane stands to that with the second one.
-fn next_order(h: &str) -> Option<Ordering> {
-    Some(far_order(&next_hit_ahead(h)?, &next_hit_ahead(SECOND)?))
+    Some(far_side(&plane(h)?, &next_hit(SECOND)?))
 }
 
 fn are_sides_exact() -> bool {
-    first_side(FIRST) == Some(Sign::Zero)
-        && next_side(SECOND) == Some(Sign::Zero)
+    next_side(SECOND) == Some(Sign::Zero)
         && next_side("2048 2048 2048 4194303") == Some(Sign::Plus)
         && next_side(FIRST) == Some(Sign::Plus)
 }
 
-fn are_orders_exact() -> bool {
-    next_order(THIRD) == Some(Ordering::Less) && next_order(SECOND) == Some(Ordering::Equal)
+fn are_orders_exact() -> Option<bool> {
+    let (third, second) = (next_hit(THIRD)?, next_hit(SECOND)?);
+    let is_equal = far_order(&second, &second) == Ordering::Equal;
+    Some(is_equal && far_order(&third, &second) == Ordering::Less)
 }
 
-fn are_steps_exact() -> bool {
-    is_first_hit_at(432345512683765761, 137455732736) == Some(true)
-        && is_next_hit_at(178270605929203793059916021760, 4192256) == Some(true)
+// Whether the second plane is hit in exactly one of the direction and its opposite.
+fn is_hit_once(d: &str) -> Option<bool> {
+    let (q, d, h) = (first_hit()?, way(d)?, plane(SECOND)?);
+    Some(far(&q, &d, &h).is_some() != far(&q, &d.back(), &h).is_some())
 }
 
 // The numbers give, among all signs of the largest ones, the largest form at a far hit.
 #[test]
 fn far_hits_are_exact(rt: HostRuntime) {
-    check(&rt, are_steps_exact(), "how far the hits are");
-    check(&rt, are_sides_exact(), "the sides of the hits");
-    check(&rt, are_orders_exact(), "the order of the hits");
+    let is_first = is_first_exact(432345512683765761, 137455732736) == Some(true);
+    let is_next = is_next_at(178270605929203793059916021760, 4192256) == Some(true);
+    check(&rt, is_first, "the first hit");
+    check(&rt, is_next, "the next hit");
+    check(&rt, are_sides_exact(), "the sides of the next hit");
     check(
         &rt,
-        is_hit_once_along("-2048 -2048 2047") == Some(true),
+        are_orders_exact() == Some(true),
+        "the order of the hits",
+    );
+    check(
+        &rt,
+        is_hit_once("-2048 -2048 2047") == Some(true),
         "one hit",
     );
-    check(
-        &rt,
-        is_next_hit_positive() == Some(true),
-        "positive numbers",
-    );
+    check(&rt, is_next_positive() == Some(true), "positive numbers");
 }

@@ -7,8 +7,8 @@ ghost use Rattle.nef_geo.specs.Shapes.{vector_of};
 ghost use Rattle.nef_smap.specs.Maps.{IsLeastMap};
 
 use crate::made::{combined, made};
-use crate::texts::{is_text, map_text, numbers_text, raw_text, star_text};
-use crate::words::{check, letter, normal, op, parted};
+use crate::texts::{add_label, add_map, add_numbers, add_raw, add_star};
+use crate::words::{check, normal, op, parted};
 use nef_geo::Dir;
 use nef_smap::{RawStars, SPlace, SphereMap, at, label_at, sfaces, sides, star_at};
 use nef_sover::overlay;
@@ -95,198 +95,162 @@ at -1 -1 -1 = face 1 n ; at -1 1 1 = face 1 n ; star 1 -1 0 = i 2 rays o n ; fac
 through 1 1 -1, 1 0 1 = item 0 ; through 1 1 -1, 1 0 0 = none ; through 0 0 1, 1 0 0 = none
 face: i n => sides = 1 ; at -1 2 3 = face 0 n ; faces = 0";
 
-fn is_first_star(alloc: Global, raw: &RawStars, wanted: &str) -> bool {
-    match raw.stars.as_slice().first() {
-        Some(star) => is_text(star_text(alloc, star), wanted),
-        None => false,
-    }
+fn add_first_star(text: &mut String, raw: &RawStars) -> Option<()> {
+    add_star(text, raw.stars.as_slice().first()?).ok()
 }
 
-fn fits_raw(alloc: Global, raw: &RawStars, verb: &str, wanted: &str) -> bool {
+// The answer about the stars of two maps overlaid.
+fn add_overlaid(
+    alloc: Global,
+    text: &mut String,
+    a: &SphereMap,
+    b: &SphereMap,
+    op: Op,
+    verb: &str,
+) -> Option<()>
+    requires first { IsLeastMap a.now }
+    requires second { IsLeastMap b.now }
+{
+    let raw = overlay(alloc, a, b, op).ok()?;
     match verb {
-        "raw" => is_text(raw_text(alloc, raw), wanted),
-        "first" => is_first_star(alloc, raw, wanted),
-        _ => false,
+        "raw" => add_raw(text, &raw).ok(),
+        _ => add_first_star(text, &raw),
     }
 }
 
-fn place_text(alloc: Global, map: &SphereMap, d: &Dir) -> Result<String, AllocError>
+fn add_place(text: &mut String, map: &SphereMap, d: &Dir) -> Result<(), AllocError>
     requires map { IsLeastMap map.now }
 {
-    let label = letter(label_at(map, d));
     match at(map, d) {
-        SPlace::SVertex(k) => format!(in alloc; "svertex {k} {label}"),
-        SPlace::Arc(k) => format!(in alloc; "arc {k} {label}"),
-        SPlace::Loop => format!(in alloc; "loop {label}"),
-        SPlace::Face(k) => format!(in alloc; "face {k} {label}"),
+        SPlace::SVertex(k) => write!(text, "svertex {k}")?,
+        SPlace::Arc(k) => write!(text, "arc {k}")?,
+        SPlace::Loop => text.push_str("loop")?,
+        SPlace::Face(k) => write!(text, "face {k}")?,
     }
+    add_label(text, label_at(map, d))
 }
 
-fn is_place(alloc: Global, map: &SphereMap, d: &str, wanted: &str) -> bool
-    requires map { IsLeastMap map.now }
-{
-    match normal(d) {
-        Some(d) => is_text(place_text(alloc, map, &d), wanted),
-        None => false,
-    }
-}
-
-fn item_through(map: &SphereMap, things: &str) -> Option<Option<usize>>
+fn add_item_through(text: &mut String, map: &SphereMap, things: &str) -> Option<()>
     requires map { IsLeastMap map.now }
 {
     let (first, second) = parted(things, ", ");
-    Some(map.item_through(&normal(first)?, &normal(second)?))
-}
-
-fn is_item_through(map: &SphereMap, things: &str, wanted: &str) -> bool
-    requires map { IsLeastMap map.now }
-{
-    match item_through(map, things) {
-        Some(Some(number)) => parted(wanted, " ").1.parse() == Ok(number),
-        Some(None) => wanted == "none",
-        None => false,
+    match map.item_through(&normal(first)?, &normal(second)?) {
+        Some(number) => write!(text, "item {number}").ok(),
+        None => text.push_str("none").ok(),
     }
 }
 
-fn faces_text(alloc: Global, map: &SphereMap) -> Result<String, AllocError>
+fn add_faces(alloc: Global, text: &mut String, map: &SphereMap) -> Result<(), AllocError>
     requires map { IsLeastMap map.now }
 {
     let faces = sfaces(alloc, map)?;
-    numbers_text(alloc, faces.as_slice())
+    add_numbers(text, faces.as_slice())
 }
 
-fn star_around(alloc: Global, map: &SphereMap, d: &Dir) -> Result<String, AllocError>
+fn add_star_at(alloc: Global, text: &mut String, map: &SphereMap, d: &Dir) -> Result<(), AllocError>
     requires map { IsLeastMap map.now }
     requires small { IsAtMost normal_limit (vector_of d.now) }
 {
     let star = star_at(alloc, map, d)?;
-    star_text(alloc, &star)
+    add_star(text, &star)
 }
 
-fn is_star(alloc: Global, map: &SphereMap, d: &str, wanted: &str) -> bool
+// The answer to a question about a map.
+fn add_of_one(
+    alloc: Global,
+    text: &mut String,
+    map: &SphereMap,
+    verb: &str,
+    words: &str,
+) -> Option<()>
     requires map { IsLeastMap map.now }
 {
-    match normal(d) {
-        Some(d) => is_text(star_around(alloc, map, &d), wanted),
-        None => false,
+    match verb {
+        "map" => add_map(text, map).ok(),
+        "faces" => add_faces(alloc, text, map).ok(),
+        "sides" => write!(text, "{}", sides(map)).ok(),
+        "at" => add_place(text, map, &normal(words)?).ok(),
+        "star" => add_star_at(alloc, text, map, &normal(words)?).ok(),
+        "through" => add_item_through(text, map, words),
+        _ => None,
     }
 }
 
-// Whether this is the answer to a question about a map.
-fn fits_one(alloc: Global, map: &SphereMap, question: &str, wanted: &str) -> bool
-    requires map { IsLeastMap map.now }
+// The answer about two maps combined.
+fn add_combined(
+    alloc: Global,
+    text: &mut String,
+    a: &SphereMap,
+    b: &SphereMap,
+    op: Op,
+    verb: &str,
+) -> Option<()>
+    requires first { IsLeastMap a.now }
+    requires second { IsLeastMap b.now }
+{
+    let map = combined(alloc, a, b, op)?;
+    add_of_one(alloc, text, &map, verb, "")
+}
+
+// The answer to a question about an operation on two maps, or about the first one.
+fn add_answer(
+    alloc: Global,
+    text: &mut String,
+    a: &SphereMap,
+    b: &SphereMap,
+    question: &str,
+) -> Option<()>
+    requires first { IsLeastMap a.now }
+    requires second { IsLeastMap b.now }
 {
     let (verb, words) = parted(question, " ");
-    match verb {
-        "map" => is_text(map_text(alloc, map), wanted),
-        "faces" => is_text(faces_text(alloc, map), wanted),
-        "sides" => wanted.parse() == Ok(sides(map)),
-        "at" => is_place(alloc, map, words, wanted),
-        "star" => is_star(alloc, map, words, wanted),
-        "through" => is_item_through(map, words, wanted),
-        _ => false,
-    }
-}
-
-fn fits_combined(
-    alloc: Global,
-    a: &SphereMap,
-    b: &SphereMap,
-    op: Op,
-    verb: &str,
-    wanted: &str,
-) -> bool
-    requires first { IsLeastMap a.now }
-    requires second { IsLeastMap b.now }
-{
-    match combined(alloc, a, b, op) {
-        Some(map) => fits_one(alloc, &map, verb, wanted),
-        None => false,
-    }
-}
-
-fn fits_overlaid(
-    alloc: Global,
-    a: &SphereMap,
-    b: &SphereMap,
-    op: Op,
-    verb: &str,
-    wanted: &str,
-) -> bool
-    requires first { IsLeastMap a.now }
-    requires second { IsLeastMap b.now }
-{
-    match overlay(alloc, a, b, op) {
-        Ok(raw) => fits_raw(alloc, &raw, verb, wanted),
-        Err(_) => false,
-    }
-}
-
-// Whether this is the answer to a question about an operation on two maps.
-fn fits_two(alloc: Global, a: &SphereMap, b: &SphereMap, question: &str, wanted: &str) -> bool
-    requires first { IsLeastMap a.now }
-    requires second { IsLeastMap b.now }
-{
-    let (verb, how) = parted(question, " ");
-    match op(how) {
+    match op(words) {
         Some(op) if verb == "raw" || verb == "first" => {
-            fits_overlaid(alloc, a, b, op, verb, wanted)
+            add_overlaid(alloc, text, a, b, op, verb)
         }
-        Some(op) => fits_combined(alloc, a, b, op, verb, wanted),
-        None => false,
+        Some(op) => add_combined(alloc, text, a, b, op, verb),
+        None => add_of_one(alloc, text, a, verb, words),
     }
 }
 
-fn all_fit_one(alloc: Global, map: &SphereMap, answers: &str) -> bool
-    requires map { IsLeastMap map.now }
+// Whether a question has the answer that stands behind it.
+fn fits(alloc: Global, a: &SphereMap, b: &SphereMap, part: &str) -> Option<bool>
+    requires first { IsLeastMap a.now }
+    requires second { IsLeastMap b.now }
 {
-    for part in answers.split(" ; ") {
-        let (question, wanted) = parted(part, " = ");
-        if !fits_one(alloc, map, question, wanted) {
-            return false;
-        }
-    }
-    true
+    let (question, wanted) = part.split_once(" = ")?;
+    let mut text = String::new(alloc);
+    add_answer(alloc, &mut text, a, b, question)?;
+    Some(text.as_str().trim_start() == wanted)
 }
 
-fn all_fit_two(alloc: Global, a: &SphereMap, b: &SphereMap, answers: &str) -> bool
+fn all_fit(alloc: Global, a: &SphereMap, b: &SphereMap, answers: &str) -> bool
     requires first { IsLeastMap a.now }
     requires second { IsLeastMap b.now }
 {
     for part in answers.split(" ; ") {
-        let (question, wanted) = parted(part, " = ");
-        if !fits_two(alloc, a, b, question, wanted) {
+        if fits(alloc, a, b, part) != Some(true) {
             return false;
         }
     }
     true
 }
 
-fn fits_with(alloc: Global, a: &SphereMap, steps: &str, answers: &str) -> bool
+fn all_fit_with(alloc: Global, a: &SphereMap, steps: &str, answers: &str) -> bool
     requires first { IsLeastMap a.now }
 {
     match made(alloc, steps) {
-        Some(b) => all_fit_two(alloc, a, &b, answers),
+        Some(b) => all_fit(alloc, a, &b, answers),
         None => false,
     }
 }
 
-// About the map of the steps, or about those of two lists of steps.
-fn fits(alloc: Global, map: &SphereMap, steps: &str, answers: &str) -> bool
-    requires map { IsLeastMap map.now }
-{
-    if steps.is_empty() {
-        all_fit_one(alloc, map, answers)
-    } else {
-        fits_with(alloc, map, steps, answers)
-    }
-}
-
+// About the maps of two lists of steps. With one list both are its map.
 fn holds(alloc: Global, row: &str) -> bool {
     let (steps, answers) = parted(row, " => ");
-    let (first, second) = parted(steps, " || ");
+    let (first, second) = steps.split_once(" || ").unwrap_or((steps, steps));
     match made(alloc, first) {
-        Some(map) => fits(alloc, &map, second, answers),
+        Some(map) => all_fit_with(alloc, &map, second, answers),
         None => false,
     }
 }

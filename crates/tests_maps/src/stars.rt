@@ -6,8 +6,8 @@ ghost use Rattle.nef_space.specs.Vectors.{IsAtMost, IsNormal, dot};
 ghost use Rattle.nef_geo.specs.Shapes.{vector_of};
 ghost use Rattle.nef_star.specs.Stars.{IsStar};
 
-use crate::texts::{is_text, labels_text};
-use crate::words::{check, label, letter, normal, op, parted};
+use crate::texts::{add_label, add_labels};
+use crate::words::{check, label, normal, op, parted};
 use nef_geo::{Dir, Label};
 use nef_star::{OutOfMemory, Ray, Star, is_plain, is_straight, merge, simplify};
 use std::alloc::Global;
@@ -112,33 +112,39 @@ fn made(alloc: Global, words: &str) -> Option<Star>
     Some(star)
 }
 
-fn is_first_ray(star: &Star, wanted: &str) -> bool {
-    match star.rays().first() {
-        Some(ray) => letter(ray.mark()) == wanted,
-        None => false,
-    }
+fn add_first_ray(text: &mut String, star: &Star) -> Option<()> {
+    add_label(text, star.rays().first()?.mark()).ok()
 }
 
-// Whether this is the answer to a question about the star.
-fn fits(alloc: Global, star: &Star, question: &str, wanted: &str) -> bool
+// The answer to a question about the star.
+fn add_answer(text: &mut String, star: &Star, question: &str) -> Option<()>
     requires star { IsStar star.now }
 {
     match question {
-        "sectors" => is_text(labels_text(alloc, star.sectors()), wanted),
-        "rays" => wanted.parse() == Ok(star.rays().len()),
-        "first ray" => is_first_ray(star, wanted),
-        "straight" => is_straight(star) == (wanted == "true"),
-        "plain" => is_plain(star) == (wanted == "true"),
-        _ => false,
+        "sectors" => add_labels(text, star.sectors()).ok(),
+        "rays" => write!(text, "{}", star.rays().len()).ok(),
+        "first ray" => add_first_ray(text, star),
+        "straight" => write!(text, "{}", is_straight(star)).ok(),
+        "plain" => write!(text, "{}", is_plain(star)).ok(),
+        _ => None,
     }
+}
+
+// Whether a question has the answer that stands behind it.
+fn fits(alloc: Global, star: &Star, part: &str) -> Option<bool>
+    requires star { IsStar star.now }
+{
+    let (question, wanted) = part.split_once(" = ")?;
+    let mut text = String::new(alloc);
+    add_answer(&mut text, star, question)?;
+    Some(text.as_str().trim_start() == wanted)
 }
 
 fn all_fit(alloc: Global, star: &Star, answers: &str) -> bool
     requires star { IsStar star.now }
 {
     for part in answers.split(" ; ") {
-        let (question, wanted) = parted(part, " = ");
-        if !fits(alloc, star, question, wanted) {
+        if fits(alloc, star, part) != Some(true) {
             return false;
         }
     }

@@ -8,26 +8,20 @@ use nef_geo::{Dir, Label};
 use nef_smap::{RawStars, SArc, SLoop, SVertex, SphereMap};
 use nef_spair::{Kind, kind};
 use nef_star::Star;
-use std::alloc::{AllocError, Global};
-
-/// Whether the text could be made, and is this one, but for blanks before it.
-pub(crate) fn is_text(text: Result<String, AllocError>, wanted: &str) -> bool {
-    match text {
-        Ok(text) => text.as_str().trim_start() == wanted,
-        Err(_) => false,
-    }
-}
+use std::alloc::AllocError;
 
 fn add_way(text: &mut String, d: &Dir) -> Result<(), AllocError> {
     write!(text, " {} {} {}", d.x(), d.y(), d.z())
 }
 
-fn add_label(text: &mut String, label: Label) -> Result<(), AllocError> {
+/// Adds the letter of the label after a blank.
+pub(crate) fn add_label(text: &mut String, label: Label) -> Result<(), AllocError> {
     text.push_str(" ")?;
     text.push_str(letter(label))
 }
 
-fn add_labels(text: &mut String, labels: &[Label]) -> Result<(), AllocError> {
+/// Adds the letters of the labels, each after a blank.
+pub(crate) fn add_labels(text: &mut String, labels: &[Label]) -> Result<(), AllocError> {
     for label in labels {
         add_label(text, *label)?;
     }
@@ -107,21 +101,15 @@ fn add_arcs(text: &mut String, arcs: &[SArc]) -> Result<(), AllocError> {
     Ok(())
 }
 
-// Svertices, arcs and the sloop.
-fn add_items(text: &mut String, map: &SphereMap) -> Result<(), AllocError> {
+/// Adds svertices, arcs and the sloop.
+pub(crate) fn add_items(text: &mut String, map: &SphereMap) -> Result<(), AllocError> {
     add_svertices(text, map.svertices.as_slice())?;
     add_arcs(text, map.arcs.as_slice())?;
     add_maybe_loop(text, &map.sloop)
 }
 
-/// Svertices, arcs and the sloop of the map.
-pub(crate) fn items_text(alloc: Global, map: &SphereMap) -> Result<String, AllocError> {
-    let mut text = String::new(alloc);
-    add_items(&mut text, map)?;
-    Ok(text)
-}
-
-fn add_map(text: &mut String, map: &SphereMap) -> Result<(), AllocError>
+/// Adds what stands in a map, and what the point is there.
+pub(crate) fn add_map(text: &mut String, map: &SphereMap) -> Result<(), AllocError>
     requires map { IsLeastMap map.now }
 {
     text.push_str(letter(map.mark))?;
@@ -130,41 +118,18 @@ fn add_map(text: &mut String, map: &SphereMap) -> Result<(), AllocError>
     add_kind(text, &kind(map))
 }
 
-/// What stands in a map, and what the point is there.
-pub(crate) fn map_text(alloc: Global, map: &SphereMap) -> Result<String, AllocError>
-    requires map { IsLeastMap map.now }
-{
-    let mut text = String::new(alloc);
-    add_map(&mut text, map)?;
-    Ok(text)
-}
-
-fn add_numbers(text: &mut String, numbers: &[usize]) -> Result<(), AllocError> {
+/// Adds the numbers, each after a blank.
+pub(crate) fn add_numbers(text: &mut String, numbers: &[usize]) -> Result<(), AllocError> {
     for number in numbers {
         write!(text, " {number}")?;
     }
     Ok(())
 }
 
-/// The numbers, each after a blank.
-pub(crate) fn numbers_text(alloc: Global, numbers: &[usize]) -> Result<String, AllocError> {
-    let mut text = String::new(alloc);
-    add_numbers(&mut text, numbers)?;
-    Ok(text)
-}
-
-/// The letters of the labels, each after a blank.
-pub(crate) fn labels_text(alloc: Global, labels: &[Label]) -> Result<String, AllocError> {
-    let mut text = String::new(alloc);
-    add_labels(&mut text, labels)?;
-    Ok(text)
-}
-
-/// The mark of a star, the number of its rays, and its sectors.
-pub(crate) fn star_text(alloc: Global, star: &Star) -> Result<String, AllocError> {
-    let mut text = format!(in alloc; "{} {} rays", letter(star.mark()), star.rays().len())?;
-    add_labels(&mut text, star.sectors())?;
-    Ok(text)
+/// Adds the mark of a star, the number of its rays, and its sectors.
+pub(crate) fn add_star(text: &mut String, star: &Star) -> Result<(), AllocError> {
+    write!(text, "{} {} rays", letter(star.mark()), star.rays().len())?;
+    add_labels(text, star.sectors())
 }
 
 fn add_axes(text: &mut String, stars: &[Star]) -> Result<(), AllocError> {
@@ -175,16 +140,10 @@ fn add_axes(text: &mut String, stars: &[Star]) -> Result<(), AllocError> {
     Ok(())
 }
 
-fn add_raw(text: &mut String, raw: &RawStars) -> Result<(), AllocError> {
+/// Adds what stands among raw stars, of each star its axis alone.
+pub(crate) fn add_raw(text: &mut String, raw: &RawStars) -> Result<(), AllocError> {
     text.push_str(letter(raw.mark))?;
     add_axes(text, raw.stars.as_slice())?;
     add_maybe_loop(text, &raw.sloop)?;
     add_ground(text, raw.ground)
-}
-
-/// What stands among raw stars, of each star its axis alone.
-pub(crate) fn raw_text(alloc: Global, raw: &RawStars) -> Result<String, AllocError> {
-    let mut text = String::new(alloc);
-    add_raw(&mut text, raw)?;
-    Ok(text)
 }

@@ -1,7 +1,7 @@
 //! Where rays end: `end POINT DIRECTION`. The answer is whether the label changes at the point or just after it, the point,
 //! and the label there or just after it; or `frame`, where the ray begins on the border of the frame.
 
-ghost use Rattle.std.specs.Prelude.{◌≤◌, IsTrue, IfOk};
+ghost use Rattle.std.specs.Prelude.{◌≤◌, IsTrue, IfSome};
 ghost use Rattle.nef_space.specs.Limits.{ray_direction_limit, ray_point_limit, ray_weight_limit};
 ghost use Rattle.nef_space.specs.Sets.{Set};
 ghost use Rattle.nef_space.specs.Vectors.{IsAtMost};
@@ -10,12 +10,11 @@ ghost use Rattle.nef_geo.specs.Shapes.{vector_of, place_of};
 ghost use Rattle.nef_complex.specs.Complexes.{ShowsSet};
 
 use crate::tables::check_table;
-use crate::words::{is_within, label_word};
-use nef_complex::Complex;
+use crate::words::{is_within, label_word, numbers, point};
+use nef_complex::{Complex, OutOfMemory};
 use nef_geo::{Dir, Point};
-use nef_ray::ray_end;
+use nef_ray::{RayEnd, ray_end};
 use std::alloc::Global;
-use std::test::Fail;
 
 // The greatest size of a number of a ray's start, the greatest weight, and the greatest size of a number of its direction.
 const GREATEST_NUMBER: u64 = 1 << 21;
@@ -41,38 +40,53 @@ fn is_way(d: &Dir) -> bool
         && is_within(d.z(), GREATEST_WAY)
 }
 
-/// The direction, if its numbers are small enough.
-pub(crate) fn way(along: &[i64; 3]) -> Result<Dir, &'static str>
-    ensures small { IfOk result (λ d. IsAtMost ray_direction_limit (vector_of d)) }
+// The direction, if its numbers are small enough.
+fn way(x: i64, y: i64, z: i64) -> Option<Dir>
+    ensures small { IfSome result (λ d. IsAtMost ray_direction_limit (vector_of d)) }
 {
-    let [x, y, z] = *along;
     if !is_within(x, GREATEST_WAY) || !is_within(y, GREATEST_WAY) || !is_within(z, GREATEST_WAY) {
-        return Err("a direction too large");
+        return None;
     }
-    let d = Dir::of(x, y, z).ok_or("no direction")?;
-    if is_way(&d) {
-        Ok(d)
-    } else {
-        Err("a direction too large")
-    }
+    let d = Dir::of(x, y, z)?;
+    if is_way(&d) { Some(d) } else { None }
 }
 
-/// Where the ray from the point along the direction ends.
-pub(crate) fn end_text(alloc: Global, c: &Complex, p: &Point, d: &Dir) -> Result<String, Fail>
+// Where the ray ends.
+fn add_ray_end(text: &mut String, end: &RayEnd) -> Result<(), OutOfMemory> {
+    let p = &end.point;
+    text.push_str(if end.after { "after" } else { "at" })?;
+    write!(
+        text,
+        " {} {} {} {} {}",
+        p.x(),
+        p.y(),
+        p.z(),
+        p.w(),
+        label_word(end.label)
+    )
+}
+
+// Where the ray from the point along the direction ends, if it begins within the frame.
+fn add_end_from(alloc: Global, text: &mut String, c: &Complex, p: &Point, d: &Dir) -> Option<()>
     requires shows { (s : Set) × ShowsSet s c.now }
     requires small { IsAtMost ray_direction_limit (vector_of d.now) }
 {
     if !p.in_frame() {
-        return Ok(String::from_str(alloc, "frame")?);
+        return text.push_str("frame").ok();
     }
     if !is_start(p) {
-        return Err("a start too far away".into());
+        return None;
     }
-    let end = ray_end(alloc, c, p, d)?;
-    let word = if end.after { "after" } else { "at" };
-    let (x, y, z, w) = (end.point.x(), end.point.y(), end.point.z(), end.point.w());
-    let label = label_word(end.label);
-    Ok(format!(in alloc; "{word} {x} {y} {z} {w} {label}")?)
+    add_ray_end(text, &ray_end(alloc, c, p, d).ok()?).ok()
+}
+
+/// Adds where the ray from the point along the direction ends.
+pub(crate) fn add_end(alloc: Global, text: &mut String, c: &Complex, words: &str) -> Option<()>
+    requires shows { (s : Set) × ShowsSet s c.now }
+{
+    let p = point(words, 0)?;
+    let [x, y, z, _] = numbers(words, 4)?;
+    add_end_from(alloc, text, c, &p, &way(x, y, z)?)
 }
 
 // The half x <= 0: the plane still belongs to it, so the label changes just after it.
@@ -96,8 +110,8 @@ end 0 0 0 1 -1 0 0 => at -2048 0 0 1 out # from a corner away to the border of t
 end 2048 0 0 1 1 0 0 => frame # from the border of the frame";
 
 #[test]
-fn ends_of_rays(rt: HostRuntime) -> Result<(), Fail> {
-    check_table(&rt, rt.alloc(), CLOSED_HALF)?;
-    check_table(&rt, rt.alloc(), OPEN_HALF)?;
-    check_table(&rt, rt.alloc(), BOX)
+fn ends_of_rays(rt: HostRuntime) {
+    check_table(&rt, rt.alloc(), CLOSED_HALF);
+    check_table(&rt, rt.alloc(), OPEN_HALF);
+    check_table(&rt, rt.alloc(), BOX);
 }

@@ -4,11 +4,12 @@
 //! 7 (+, +, +), where + stands for 2048 and - for -2048.
 
 use crate::tables::check_table;
-use std::test::Fail;
 
 const PLACES: &str = "\
 frame not
 counts => 8 12 # the corners and edges of the frame
+same_as_empty => true # the empty set twice
+same_as_full => false # the empty set and the whole frame
 place 0 0 0 1 => volume not # inside the frame
 place 2048 0 0 1 => facet 1 0 0 at 5 out # along z the edge from 5 to 7 is met
 kind 0 0 0 1 => volume # inside the frame
@@ -75,14 +76,14 @@ turned -3 -2 -1 4 47 => true # -z, -y and -x
 turned 1 2 3 4 47 => false # where the corner was";
 
 #[test]
-fn the_frame(rt: HostRuntime) -> Result<(), Fail> {
-    check_table(&rt, rt.alloc(), PLACES)?;
-    check_table(&rt, rt.alloc(), ITEMS)?;
-    check_table(&rt, rt.alloc(), PARTS)?;
-    check_table(&rt, rt.alloc(), WHOLE)
+fn the_frame(rt: HostRuntime) {
+    check_table(&rt, rt.alloc(), PLACES);
+    check_table(&rt, rt.alloc(), ITEMS);
+    check_table(&rt, rt.alloc(), PARTS);
+    check_table(&rt, rt.alloc(), WHOLE);
 }
 
 #[test]
-fn turned_corners(rt: HostRuntime) -> Result<(), Fail> {
-    check_table(&rt, rt.alloc(), OCTANT)
+fn turned_corners(rt: HostRuntime) {
+    check_table(&rt, rt.alloc(), OCTANT);
 }

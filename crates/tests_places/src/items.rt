@@ -15,13 +15,12 @@
 ghost use Rattle.nef_space.specs.Sets.{Set};
 ghost use Rattle.nef_complex.specs.Complexes.{ShowsSet};
 
-use crate::words::add_number;
+use crate::words::add_numbers;
 use nef_cand::{candidates, cut_candidates};
 use nef_complex::{Complex, Edge, OutOfMemory, Vertex, plane_items};
-use nef_geo::{Dir, Label, Plane};
+use nef_geo::{Dir, Label, Plane, Point};
 use nef_smap::{SArc, SVertex};
 use std::alloc::Global;
-use std::test::Fail;
 
 /// The first letter of the label's name.
 pub(crate) fn letter(label: Label) -> &'static str {
@@ -42,133 +41,135 @@ fn digit(number: i64) -> &'static str {
     }
 }
 
-fn dir_digits(alloc: Global, d: &Dir) -> Result<String, OutOfMemory> {
+fn add_digits(text: &mut String, d: &Dir) -> Result<(), OutOfMemory> {
     let (x, y, z) = (digit(d.x()), digit(d.y()), digit(d.z()));
-    format!(in alloc; "{x}{y}{z}")
+    write!(text, "{x}{y}{z}")
 }
 
-fn point_digits(alloc: Global, v: &Vertex) -> Result<String, OutOfMemory> {
-    let (x, y, z) = (digit(v.point.x()), digit(v.point.y()), digit(v.point.z()));
-    let (w, mark) = (digit(v.point.w()), letter(v.map.mark));
-    format!(in alloc; "{x}{y}{z}{w}{mark}")
+fn add_point(text: &mut String, p: &Point) -> Result<(), OutOfMemory> {
+    let (x, y, z) = (digit(p.x()), digit(p.y()), digit(p.z()));
+    write!(text, "{x}{y}{z}{}", digit(p.w()))
 }
 
 // An svertex that ends no arc has a label around it.
-fn svertex_digits(alloc: Global, v: &SVertex) -> Result<String, OutOfMemory> {
-    let (d, mark) = (dir_digits(alloc, &v.dir)?, letter(v.mark));
-    let around = if v.around == None { "-" } else { "?" };
-    format!(in alloc; " {d}{mark}{around}")
+fn add_svertex(text: &mut String, v: &SVertex) -> Result<(), OutOfMemory> {
+    text.push_str(" ")?;
+    add_digits(text, &v.dir)?;
+    let around = if v.around.is_none() { "-" } else { "?" };
+    write!(text, "{}{around}", letter(v.mark))
 }
 
-fn arc_digits(alloc: Global, a: &SArc) -> Result<String, OutOfMemory> {
-    let (normal, mark) = (dir_digits(alloc, &a.normal)?, letter(a.mark));
-    let (pos, neg) = (letter(a.pos), letter(a.neg));
-    format!(in alloc; " {}{}{normal}{mark}{pos}{neg}", a.source, a.target)
+fn add_arc(text: &mut String, a: &SArc) -> Result<(), OutOfMemory> {
+    write!(text, " {}{}", a.source, a.target)?;
+    add_digits(text, &a.normal)?;
+    write!(text, "{}{}{}", letter(a.mark), letter(a.pos), letter(a.neg))
 }
 
-fn add_svertices(alloc: Global, text: &mut String, svertices: &[SVertex]) -> Result<(), Fail> {
+fn add_svertices(text: &mut String, svertices: &[SVertex]) -> Result<(), OutOfMemory> {
     for svertex in svertices {
-        text.push_str(svertex_digits(alloc, svertex)?.as_str())?;
+        add_svertex(text, svertex)?;
     }
     Ok(())
 }
 
-fn add_arcs(alloc: Global, text: &mut String, arcs: &[SArc]) -> Result<(), Fail> {
+fn add_arcs(text: &mut String, arcs: &[SArc]) -> Result<(), OutOfMemory> {
     for arc in arcs {
-        text.push_str(arc_digits(alloc, arc)?.as_str())?;
+        add_arc(text, arc)?;
     }
     Ok(())
 }
 
-/// The vertex with this number.
-pub(crate) fn corner_digits(alloc: Global, c: &Complex, number: i64) -> Result<String, Fail> {
-    let number = usize::try_from(number)?;
-    let vertex = c.vertices.as_slice().get(number).ok_or("a vertex")?;
-    let mut text = point_digits(alloc, vertex)?;
-    add_svertices(alloc, &mut text, vertex.map.svertices.as_slice())?;
-    add_arcs(alloc, &mut text, vertex.map.arcs.as_slice())?;
-    Ok(text)
+fn add_corner(text: &mut String, v: &Vertex) -> Result<(), OutOfMemory> {
+    add_point(text, &v.point)?;
+    text.push_str(letter(v.map.mark))?;
+    add_svertices(text, v.map.svertices.as_slice())?;
+    add_arcs(text, v.map.arcs.as_slice())
 }
 
-fn edge_digits(alloc: Global, edge: &Edge) -> Result<String, OutOfMemory> {
-    let (low, high, mark) = (edge.low, edge.high, letter(edge.mark));
-    let (low_svertex, high_svertex) = (edge.low_svertex, edge.high_svertex);
-    format!(in alloc; " {low}{low_svertex}{high}{high_svertex}{mark}")
+/// Adds the vertex with this number.
+pub(crate) fn add_corner_at(text: &mut String, c: &Complex, number: &str) -> Option<()> {
+    let number: usize = number.parse().ok()?;
+    add_corner(text, c.vertices.as_slice().get(number)?).ok()
 }
 
-fn edges_digits(alloc: Global, edges: &[Edge]) -> Result<String, Fail> {
-    let mut text = String::new(alloc);
+fn add_edge(text: &mut String, edge: &Edge) -> Result<(), OutOfMemory> {
+    write!(text, " {}{}", edge.low, edge.low_svertex)?;
+    write!(
+        text,
+        "{}{}{}",
+        edge.high,
+        edge.high_svertex,
+        letter(edge.mark)
+    )
+}
+
+fn add_edges(text: &mut String, edges: &[Edge]) -> Result<(), OutOfMemory> {
     for edge in edges {
-        text.push_str(edge_digits(alloc, edge)?.as_str())?;
+        add_edge(text, edge)?;
     }
-    Ok(text)
+    Ok(())
 }
 
-fn plane_digits(alloc: Global, h: &Plane) -> Result<String, OutOfMemory> {
-    let (a, b, c, d) = (digit(h.a()), digit(h.b()), digit(h.c()), digit(h.d()));
-    format!(in alloc; " {a}{b}{c}{d}")
+fn add_plane(text: &mut String, h: &Plane) -> Result<(), OutOfMemory> {
+    let (a, b, c) = (digit(h.a()), digit(h.b()), digit(h.c()));
+    write!(text, " {a}{b}{c}{}", digit(h.d()))
 }
 
-/// The planes, each after a blank.
-pub(crate) fn planes_digits(alloc: Global, planes: &[Plane]) -> Result<String, Fail> {
-    let mut text = String::new(alloc);
+/// Adds the planes, each after a blank.
+pub(crate) fn add_planes(text: &mut String, planes: &[Plane]) -> Result<(), OutOfMemory> {
     for h in planes {
-        text.push_str(plane_digits(alloc, h)?.as_str())?;
+        add_plane(text, h)?;
     }
-    Ok(text)
+    Ok(())
 }
 
-/// The numbers of vertices and edges.
-pub(crate) fn counts_text(alloc: Global, c: &Complex) -> Result<String, Fail> {
-    Ok(format!(in alloc; "{} {}", c.vertices.len(), c.edges.len())?)
-}
-
-fn numbers_text(alloc: Global, numbers: &[usize]) -> Result<String, Fail> {
-    let mut text = String::new(alloc);
-    for number in numbers {
-        add_number(alloc, &mut text, *number)?;
-    }
-    Ok(text)
-}
-
-/// The edges in the plane and the vertices on it, as the index has them.
-pub(crate) fn items_text(alloc: Global, c: &Complex, h: &Plane) -> Result<String, Fail>
+/// Adds the edges in the plane and the vertices on it, as the index has them.
+pub(crate) fn add_items(text: &mut String, c: &Complex, h: &Plane) -> Result<(), OutOfMemory>
     requires shows { (s : Set) × ShowsSet s c.now }
 {
     let Some(items) = plane_items(c, h) else {
-        return Ok(String::from_str(alloc, "none")?);
+        return text.push_str("none");
     };
-    let (edges, vertices) = (
-        numbers_text(alloc, items.edges)?,
-        numbers_text(alloc, items.vertices)?,
-    );
-    Ok(format!(in alloc; "edges {edges} vertices {vertices}")?)
+    text.push_str("edges")?;
+    add_numbers(text, items.edges)?;
+    text.push_str(" vertices")?;
+    add_numbers(text, items.vertices)
 }
 
-fn candidates_text(alloc: Global, c: &Complex) -> Result<String, Fail>
+fn add_candidates(alloc: Global, text: &mut String, c: &Complex) -> Result<(), OutOfMemory>
     requires shows { (s : Set) × ShowsSet s c.now }
 {
     let points = candidates(alloc, c, c)?;
-    Ok(points.len().to_string(alloc)?)
+    write!(text, "{}", points.len())
 }
 
-/// How many points are candidates of the set and a half with this border.
-pub(crate) fn cut_text(alloc: Global, c: &Complex, h: &Plane) -> Result<String, Fail>
+/// Adds how many points are candidates of the set and a half with this border.
+pub(crate) fn add_cut(
+    alloc: Global,
+    text: &mut String,
+    c: &Complex,
+    h: &Plane,
+) -> Result<(), OutOfMemory>
     requires shows { (s : Set) × ShowsSet s c.now }
 {
     let points = cut_candidates(alloc, c, h)?;
-    Ok(points.len().to_string(alloc)?)
+    write!(text, "{}", points.len())
 }
 
-/// The answer to a question about all of a complex.
-pub(crate) fn answer_all(alloc: Global, c: &Complex, verb: &str) -> Result<String, Fail>
+/// Adds the answer to a question about all of a complex. To others there is none.
+pub(crate) fn add_all(
+    alloc: Global,
+    text: &mut String,
+    c: &Complex,
+    verb: &str,
+) -> Result<(), OutOfMemory>
     requires shows { (s : Set) × ShowsSet s c.now }
 {
     match verb {
-        "counts" => counts_text(alloc, c),
-        "edges" => edges_digits(alloc, c.edges.as_slice()),
-        "planes" => planes_digits(alloc, c.index.planes.as_slice()),
-        "candidates" => candidates_text(alloc, c),
-        _ => Err("a question".into()),
+        "counts" => write!(text, "{} {}", c.vertices.len(), c.edges.len()),
+        "edges" => add_edges(text, c.edges.as_slice()),
+        "planes" => add_planes(text, c.index.planes.as_slice()),
+        "candidates" => add_candidates(alloc, text, c),
+        _ => Ok(()),
     }
 }

@@ -1,7 +1,6 @@
 //! Which points are joined.
 
 use crate::tables::check_table;
-use std::test::Fail;
 
 // The octant of the points whose coordinates aren't negative.
 const OCTANT: &str = "\
@@ -54,10 +53,10 @@ joined 1 1 0 2 3 3 0 2 => apart # the lower sides of the two boxes
 joined 3 1 1 2 1 3 1 2 => joined # outside, on both sides of that edge";
 
 #[test]
-fn joined_points(rt: HostRuntime) -> Result<(), Fail> {
-    check_table(&rt, rt.alloc(), OCTANT)?;
-    check_table(&rt, rt.alloc(), WALL)?;
-    check_table(&rt, rt.alloc(), PRICKED)?;
-    check_table(&rt, rt.alloc(), HOLED)?;
-    check_table(&rt, rt.alloc(), BOXES)
+fn joined_points(rt: HostRuntime) {
+    check_table(&rt, rt.alloc(), OCTANT);
+    check_table(&rt, rt.alloc(), WALL);
+    check_table(&rt, rt.alloc(), PRICKED);
+    check_table(&rt, rt.alloc(), HOLED);
+    check_table(&rt, rt.alloc(), BOXES);
 }

@@ -3,10 +3,6 @@
 #![tactic(auto)]
 
 #[cfg(test)]
-mod classes;
-#[cfg(test)]
-mod comparing;
-#[cfg(test)]
 mod ends;
 #[cfg(test)]
 mod frame;
@@ -21,17 +17,13 @@ mod joins;
 #[cfg(test)]
 mod lines;
 #[cfg(test)]
-mod lone;
-#[cfg(test)]
 mod made;
 #[cfg(test)]
-mod near;
+mod pairs;
 #[cfg(test)]
 mod parts;
 #[cfg(test)]
 mod places;
-#[cfg(test)]
-mod prisms;
 #[cfg(test)]
 mod rays;
 #[cfg(test)]
@@ -39,13 +31,9 @@ mod regions;
 #[cfg(test)]
 mod results;
 #[cfg(test)]
-mod rows;
-#[cfg(test)]
 mod sets;
 #[cfg(test)]
 mod tables;
-#[cfg(test)]
-mod taken;
 #[cfg(test)]
 mod turns;
 #[cfg(test)]

@@ -1,9 +1,9 @@
-//! Places of a point, an axis, two axes that cross, and a half-space that lacks a half of an axis.
+//! Places of a point, an axis, two axes that cross, a half-space that lacks a half of an axis, and edges on lines that are
+//! hard to tell apart.
 //!
 //! Vertices are numbered in the order of their x, then y, then z. Below + stands for 2048 and - for -2048.
 
 use crate::tables::check_table;
-use std::test::Fail;
 
 // The vertices 0 to 3 are corners with x = -2048; 4 is the origin; 5 is (+, -, -), 6 (+, -, +), 7 (+, +, -), 8 (+, +, +).
 const POINT: &str = "\
@@ -41,6 +41,12 @@ ray 0 0 1 0 0 5 0 1 => none # along y, the point lies behind
 ray 1 0 0 0 0 0 -5 1 => vertex 4 # along z, exactly
 ray 1 1 1 0 0 -5 5 1 => vertex 4 # along (0, 1, -1), exactly
 ray 1 0 0 -2048 2048 0 0 1 => edge 6 8 # along z on the border";
+
+// The frame without the origin, and its vertices the same.
+const LACKING: &str = "\
+full; diff -1 0 0 0, 1 0 0 0, 0 -1 0 0, 0 1 0 0, 0 0 -1 0, 0 0 1 0
+place 0 0 0 1 => vertex 4 not # the point that is missing
+place 5 5 5 1 => volume in # all around it";
 
 // The vertices 0 to 3 are corners with x = -2048, 3 is (-, +, +); 4 is (0, 0, -), 5 (0, 0, +); 6 is (+, -, -), 7 (+, -, +),
 // 8 (+, +, -), 9 (+, +, +).
@@ -157,10 +163,31 @@ back 0 0 1 0 5 7 0 1 => edge 6 10 # along -y
 ray 0 0 1 0 0 -7 0 1 => vertex 6 # along y, exactly
 ray 0 0 1 0 -5 -7 0 1 => edge 4 12 # along y, past the slit";
 
+// Two slanted prisms, one above the other. Their edges run along (1, 1, 2) on four lines, each line through both prisms.
+//
+// -1 <= x - y <= 0 and -1/2 <= x + y - z <= 0, where z is 0 to 1, and where z is 2 to 3.
+//
+// On the line through the origin stand the vertices 8 (0, 0, 0), 12 (1/2, 1/2, 1), 16 (1, 1, 2) and 19 (3/2, 3/2, 3).
+const PRISMS: &str = "\
+1 -1 0 0, -1 1 0 -1, 1 1 -1 0, -2 -2 2 -1, 0 0 -1 0, 0 0 1 -1; \
+    or 1 -1 0 0, -1 1 0 -1, 1 1 -1 0, -2 -2 2 -1, 0 0 -1 2, 0 0 1 -3
+counts => 24 36 # the frame's and those of two prisms
+place 1 1 2 4 => edge 8 12 in # on the line through the origin
+place 5 5 10 4 => edge 16 19 in # on the same line, above
+place 3 3 6 4 => volume not # on the same line, between the prisms
+place 0 0 1 2 => edge 6 10 in # where x = y, on the other line
+place 2 2 5 2 => edge 14 18 in # on the same line, above
+place -1 3 2 4 => edge 5 9 in # where x = y - 1, on the one line
+place 3 7 10 4 => edge 13 17 in # on the same line, above
+place -1 1 1 2 => edge 4 7 in # where x = y - 1, on the other line
+place 1 3 5 2 => edge 11 15 in # on the same line, above";
+
 #[test]
-fn lines(rt: HostRuntime) -> Result<(), Fail> {
-    check_table(&rt, rt.alloc(), POINT)?;
-    check_table(&rt, rt.alloc(), Z_AXIS)?;
-    check_table(&rt, rt.alloc(), CROSSING)?;
-    check_table(&rt, rt.alloc(), SLIT)
+fn lines(rt: HostRuntime) {
+    check_table(&rt, rt.alloc(), POINT);
+    check_table(&rt, rt.alloc(), LACKING);
+    check_table(&rt, rt.alloc(), Z_AXIS);
+    check_table(&rt, rt.alloc(), CROSSING);
+    check_table(&rt, rt.alloc(), SLIT);
+    check_table(&rt, rt.alloc(), PRISMS);
 }

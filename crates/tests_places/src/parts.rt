@@ -14,154 +14,139 @@ ghost use Rattle.nef_space.specs.Sets.{Set};
 ghost use Rattle.nef_geo.specs.Shapes.{place_of};
 ghost use Rattle.nef_complex.specs.Complexes.{ShowsSet};
 
-use crate::items::{letter, planes_digits};
+use crate::items::{add_planes, letter};
+use crate::words::{add_truth, inner_point, numbers};
 use nef_classes::{Cell, Tie};
 use nef_complex::{Complex, Corner, OutOfMemory};
-use nef_facets::{across_ties, along_ties, facets};
+use nef_facets::{FacetParts, across_ties, along_ties, facets};
 use nef_geo::{Label, List, Point};
-use nef_parts::{Cycle, Facet};
+use nef_parts::{Cycle, Facet, Parts};
 use nef_volumes::{joined, parts};
 use std::alloc::Global;
-use std::test::Fail;
 
-fn letters_text(alloc: Global, labels: &[Label]) -> Result<String, Fail> {
-    let mut text = String::new(alloc);
+fn add_letters(text: &mut String, labels: &[Label]) -> Result<(), OutOfMemory> {
     for label in labels {
         text.push_str(letter(*label))?;
     }
-    Ok(text)
+    Ok(())
 }
 
-fn volumes_text(alloc: Global, c: &Complex) -> Result<String, Fail>
-    requires shows { (s : Set) × ShowsSet s c.now }
-{
-    let all = parts(alloc, c)?;
-    letters_text(alloc, all.volumes.as_slice())
-}
-
-fn sides_text(alloc: Global, facets: &[Facet]) -> Result<String, Fail> {
-    let mut text = String::new(alloc);
+fn add_sides(text: &mut String, facets: &[Facet]) -> Result<(), OutOfMemory> {
     for facet in facets {
-        let (pos, neg) = (facet.pos, facet.neg);
-        text.push_str(format!(in alloc; " {pos}{neg}")?.as_str())?;
-    }
-    Ok(text)
-}
-
-fn beside_text(alloc: Global, c: &Complex) -> Result<String, Fail>
-    requires shows { (s : Set) × ShowsSet s c.now }
-{
-    let all = parts(alloc, c)?;
-    sides_text(alloc, all.facets.as_slice())
-}
-
-fn facet_planes(alloc: Global, c: &Complex) -> Result<String, Fail>
-    requires shows { (s : Set) × ShowsSet s c.now }
-{
-    let found = facets(alloc, c)?;
-    planes_digits(alloc, found.planes.as_slice())
-}
-
-fn facet_marks(alloc: Global, c: &Complex) -> Result<String, Fail>
-    requires shows { (s : Set) × ShowsSet s c.now }
-{
-    let found = facets(alloc, c)?;
-    letters_text(alloc, found.marks.as_slice())
-}
-
-fn add_corners(alloc: Global, text: &mut String, corners: &[Corner]) -> Result<(), Fail> {
-    for corner in corners {
-        let (vertex, item) = (corner.vertex, corner.item);
-        text.push_str(format!(in alloc; "{vertex}{item}")?.as_str())?;
+        write!(text, " {}{}", facet.pos, facet.neg)?;
     }
     Ok(())
 }
 
-fn add_cycles(alloc: Global, text: &mut String, cycles: &[Cycle]) -> Result<(), Fail> {
+fn add_corners(text: &mut String, corners: &[Corner]) -> Result<(), OutOfMemory> {
+    for corner in corners {
+        write!(text, "{}{}", corner.vertex, corner.item)?;
+    }
+    Ok(())
+}
+
+fn add_cycles(text: &mut String, cycles: &[Cycle]) -> Result<(), OutOfMemory> {
     for cycle in cycles {
         text.push_str(" ")?;
-        add_corners(alloc, text, cycle.corners.as_slice())?;
+        add_corners(text, cycle.corners.as_slice())?;
     }
     Ok(())
 }
 
-fn cycles_text(alloc: Global, facets: &[List<Cycle>]) -> Result<String, Fail> {
-    let mut text = String::new(alloc);
+fn add_all_cycles(text: &mut String, facets: &[List<Cycle>]) -> Result<(), OutOfMemory> {
     for cycles in facets {
-        add_cycles(alloc, &mut text, cycles.as_slice())?;
+        add_cycles(text, cycles.as_slice())?;
     }
-    Ok(text)
+    Ok(())
 }
 
-fn facet_cycles(alloc: Global, c: &Complex) -> Result<String, Fail>
+fn add_of_facets(text: &mut String, found: &FacetParts, verb: &str) -> Result<(), OutOfMemory> {
+    match verb {
+        "facets" => add_planes(text, found.planes.as_slice()),
+        "marks" => add_letters(text, found.marks.as_slice()),
+        _ => add_all_cycles(text, found.cycles.as_slice()),
+    }
+}
+
+// About facets and their cycles.
+fn add_facets(alloc: Global, text: &mut String, c: &Complex, verb: &str) -> Result<(), OutOfMemory>
     requires shows { (s : Set) × ShowsSet s c.now }
 {
     let found = facets(alloc, c)?;
-    cycles_text(alloc, found.cycles.as_slice())
+    add_of_facets(text, &found, verb)
 }
 
-fn ties(alloc: Global, c: &Complex, along: bool) -> Result<Vec<Tie>, Fail>
+fn add_of_parts(text: &mut String, all: &Parts, verb: &str) -> Result<(), OutOfMemory> {
+    match verb {
+        "volumes" => add_letters(text, all.volumes.as_slice()),
+        _ => add_sides(text, all.facets.as_slice()),
+    }
+}
+
+// About volumes and what lies beside facets.
+fn add_volumes(alloc: Global, text: &mut String, c: &Complex, verb: &str) -> Result<(), OutOfMemory>
+    requires shows { (s : Set) × ShowsSet s c.now }
+{
+    let all = parts(alloc, c)?;
+    add_of_parts(text, &all, verb)
+}
+
+fn ties(alloc: Global, c: &Complex, along: bool) -> Result<Vec<Tie>, OutOfMemory>
     requires shows { (s : Set) × ShowsSet s c.now }
 {
     if along {
-        Ok(along_ties(alloc, c)?)
+        along_ties(alloc, c)
     } else {
-        Ok(across_ties(alloc, c)?)
+        across_ties(alloc, c)
     }
 }
 
-fn count_ties(alloc: Global, c: &Complex, along: bool) -> Result<String, Fail>
+fn add_count(alloc: Global, text: &mut String, c: &Complex, along: bool) -> Result<(), OutOfMemory>
     requires shows { (s : Set) × ShowsSet s c.now }
 {
-    let count = ties(alloc, c, along)?.len();
-    Ok(count.to_string(alloc)?)
+    let ties = ties(alloc, c, along)?;
+    write!(text, "{}", ties.len())
 }
 
-fn cell(row: i64, column: i64) -> Result<Cell, Fail> {
-    Ok(Cell {
-        row: usize::try_from(row)?,
-        column: usize::try_from(column)?,
-    })
-}
-
-fn has_tie(alloc: Global, c: &Complex, along: bool, tie: &Tie) -> Result<String, Fail>
-    requires shows { (s : Set) × ShowsSet s c.now }
-{
-    let is_tie = ties(alloc, c, along)?.contains(tie);
-    Ok(is_tie.to_string(alloc)?)
-}
-
-/// The answer to a question about all parts of a complex.
-pub(crate) fn answer_parts(alloc: Global, c: &Complex, verb: &str) -> Result<String, Fail>
+/// Adds the answer to a question about all parts of a complex. To others there is none.
+pub(crate) fn add_parts(
+    alloc: Global,
+    text: &mut String,
+    c: &Complex,
+    verb: &str,
+) -> Result<(), OutOfMemory>
     requires shows { (s : Set) × ShowsSet s c.now }
 {
     match verb {
-        "volumes" => volumes_text(alloc, c),
-        "beside" => beside_text(alloc, c),
-        "facets" => facet_planes(alloc, c),
-        "marks" => facet_marks(alloc, c),
-        "cycles" => facet_cycles(alloc, c),
-        "ties_along" => count_ties(alloc, c, true),
-        "ties_across" => count_ties(alloc, c, false),
-        _ => Err("a question about parts".into()),
+        "volumes" | "beside" => add_volumes(alloc, text, c, verb),
+        "facets" | "marks" | "cycles" => add_facets(alloc, text, c, verb),
+        "ties_along" => add_count(alloc, text, c, true),
+        "ties_across" => add_count(alloc, text, c, false),
+        _ => Ok(()),
     }
 }
 
-/// The answer to a question about two corners.
-pub(crate) fn answer_ties(
+fn cell(row: i64, column: i64) -> Option<Cell> {
+    Some(Cell {
+        row: usize::try_from(row).ok()?,
+        column: usize::try_from(column).ok()?,
+    })
+}
+
+/// Adds whether a tie leads from the first corner to the second.
+pub(crate) fn add_tie(
     alloc: Global,
+    text: &mut String,
     c: &Complex,
-    verb: &str,
-    corners: &[i64; 4],
-) -> Result<String, Fail>
+    along: bool,
+    words: &str,
+) -> Option<()>
     requires shows { (s : Set) × ShowsSet s c.now }
 {
-    let [row, column, next_row, next_column] = *corners;
-    let tie = Tie {
-        first: cell(row, column)?,
-        second: cell(next_row, next_column)?,
-    };
-    has_tie(alloc, c, verb == "tie_along", &tie)
+    let [row, column, next_row, next_column] = numbers(words, 0)?;
+    let (first, second) = (cell(row, column)?, cell(next_row, next_column)?);
+    let ties = ties(alloc, c, along).ok()?;
+    add_truth(text, ties.contains(&Tie { first, second })).ok()
 }
 
 fn are_joined(alloc: Global, c: &Complex, p: &Point, q: &Point) -> Result<bool, OutOfMemory>
@@ -173,16 +158,11 @@ fn are_joined(alloc: Global, c: &Complex, p: &Point, q: &Point) -> Result<bool, 
     Ok(joined(c, &all, p, q))
 }
 
-/// Whether the two points are joined, in one word.
-pub(crate) fn joined_text(alloc: Global, c: &Complex, p: &Point, q: &Point) -> Result<String, Fail>
+/// Adds whether the two points are joined, in one word.
+pub(crate) fn add_joined(alloc: Global, text: &mut String, c: &Complex, words: &str) -> Option<()>
     requires shows { (s : Set) × ShowsSet s c.now }
-    requires first { InFrame (place_of p.now) }
-    requires second { InFrame (place_of q.now) }
 {
-    let word = if are_joined(alloc, c, p, q)? {
-        "joined"
-    } else {
-        "apart"
-    };
-    Ok(String::from_str(alloc, word)?)
+    let (p, q) = (inner_point(words, 0)?, inner_point(words, 4)?);
+    let holds = are_joined(alloc, c, &p, &q).ok()?;
+    text.push_str(if holds { "joined" } else { "apart" }).ok()
 }

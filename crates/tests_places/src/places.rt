@@ -7,7 +7,7 @@
 //! - `up POINT`, `down POINT`: the place that the ray from the point meets first.
 //! - `rising POINT`, `falling POINT`: the same of a ray that comes to the point exactly.
 
-ghost use Rattle.std.specs.Prelude.{◌≡◌, ◌⊎◌, IfOk};
+ghost use Rattle.std.specs.Prelude.{◌≡◌, ◌⊎◌, IfSome};
 ghost use Rattle.nef_space.specs.Place.{InClosedFrame};
 ghost use Rattle.nef_space.specs.Sets.{Set};
 ghost use Rattle.nef_space.specs.Vectors.{opposite, up};
@@ -15,13 +15,12 @@ ghost use Rattle.nef_geo.specs.Shapes.{vector_of, place_of};
 ghost use Rattle.nef_complex.specs.Complexes.{complex_of, ShowsSet};
 ghost use Rattle.nef_locate.specs.Places.{IsPlaceIn};
 
-use crate::words::{dir_text, framed_point, label_word};
+use crate::words::{add_dir, framed_point, label_word, point};
 use nef_complex::{Complex, Corner, OutOfMemory, vertex_at};
 use nef_geo::{Dir, Point, up};
 use nef_locate::{Place, first_hit, local_map, locate, place_label};
 use nef_spair::{Kind, kind};
 use std::alloc::Global;
-use std::test::Fail;
 
 // A rising ray begins u/PART below a point and a falling one u/PART above it, where u is the upward direction.
 const PART: i64 = 1 << 26;
@@ -32,25 +31,22 @@ fn moved(x: i64, w: i64, number: i64) -> Option<i64> {
 }
 
 // The point less d/PART, from which the ray along d comes to it exactly. Its weight divides PART.
-fn start(d: &Dir, p: &Point) -> Result<Point, &'static str>
-    ensures framed { IfOk result (λ q. InClosedFrame (place_of q)) }
+fn start(d: &Dir, p: &Point) -> Option<Point>
+    ensures framed { IfSome result (λ q. InClosedFrame (place_of q)) }
 {
     let w = p.w();
     if w < 1 || PART % w != 0 {
-        return Err("no weight");
+        return None;
     }
     let back = d.back();
-    let x = moved(p.x(), w, back.x()).ok_or("too large")?;
-    let y = moved(p.y(), w, back.y()).ok_or("too large")?;
-    let z = moved(p.z(), w, back.z()).ok_or("too large")?;
-    framed_point(&[x, y, z, PART])
+    let (x, y) = (moved(p.x(), w, back.x())?, moved(p.y(), w, back.y())?);
+    framed_point(x, y, moved(p.z(), w, back.z())?, PART)
 }
 
-/// The vertices at the ends of the edge.
-pub(crate) fn edge_text(alloc: Global, c: &Complex, number: usize) -> Result<String, Fail> {
-    let edge = c.edges.as_slice().get(number).ok_or("no such edge")?;
-    let text = format!(in alloc; "edge {} {}", edge.low, edge.high)?;
-    Ok(text)
+/// Adds the vertices at the ends of the edge.
+pub(crate) fn add_edge(text: &mut String, c: &Complex, number: usize) -> Option<()> {
+    let edge = c.edges.as_slice().get(number)?;
+    write!(text, "edge {} {}", edge.low, edge.high).ok()
 }
 
 // The normal of the corner's item.
@@ -62,51 +58,64 @@ fn normal(c: &Complex, corner: &Corner) -> Option<Dir> {
     }
 }
 
-/// The normal of the facet, and the corner's vertex.
-pub(crate) fn facet_text(alloc: Global, c: &Complex, corner: &Corner) -> Result<String, Fail> {
-    let normal = normal(c, corner).ok_or("no such corner")?;
-    let normal = dir_text(alloc, &normal)?;
-    let text = format!(in alloc; "facet {normal} at {}", corner.vertex)?;
-    Ok(text)
+/// Adds the normal of the facet, and the corner's vertex.
+pub(crate) fn add_facet(text: &mut String, c: &Complex, corner: &Corner) -> Option<()> {
+    let (normal, vertex) = (normal(c, corner)?, corner.vertex);
+    write!(
+        text,
+        "facet {} {} {} at {vertex}",
+        normal.x(),
+        normal.y(),
+        normal.z()
+    )
+    .ok()
 }
 
-fn place_text(alloc: Global, c: &Complex, at: &Place) -> Result<String, Fail> {
+fn add_place(text: &mut String, c: &Complex, at: &Place) -> Option<()> {
     match *at {
-        Place::Vertex(number) => Ok(format!(in alloc; "vertex {number}")?),
-        Place::OnEdge(number) => edge_text(alloc, c, number),
-        Place::InFacet(corner) => facet_text(alloc, c, &corner),
-        Place::InVolume { .. } => Ok(String::from_str(alloc, "volume")?),
+        Place::Vertex(number) => write!(text, "vertex {number}").ok(),
+        Place::OnEdge(number) => add_edge(text, c, number),
+        Place::InFacet(corner) => add_facet(text, c, &corner),
+        Place::InVolume { .. } => text.push_str("volume").ok(),
     }
 }
 
 // The place, and its label.
-fn labelled_text(alloc: Global, c: &Complex, at: &Place) -> Result<String, Fail>
+fn add_labelled(text: &mut String, c: &Complex, at: &Place) -> Option<()>
     requires place { IsPlaceIn (complex_of c.now) at.now }
 {
-    let place = place_text(alloc, c, at)?;
-    let text = format!(in alloc; "{place} {}", label_word(place_label(c, at)))?;
-    Ok(text)
+    add_place(text, c, at)?;
+    write!(text, " {}", label_word(place_label(c, at))).ok()
 }
 
-fn vertex_text(alloc: Global, c: &Complex, p: &Point) -> Result<String, Fail>
+fn add_vertex(text: &mut String, c: &Complex, p: &Point) -> Result<(), OutOfMemory>
     requires shows { (s : Set) × ShowsSet s c.now }
 {
     match vertex_at(c, p) {
-        Some(number) => Ok(format!(in alloc; "{number}")?),
-        None => Ok(String::from_str(alloc, "none")?),
+        Some(number) => write!(text, "{number}"),
+        None => text.push_str("none"),
     }
 }
 
 // What the ray up or down meets first.
-fn hit_text(alloc: Global, c: &Complex, p: &Point, d: &Dir) -> Result<String, Fail>
+fn add_hit(text: &mut String, c: &Complex, p: &Point, d: &Dir) -> Option<()>
     requires shows { (s : Set) × ShowsSet s c.now }
     requires framed { InClosedFrame (place_of p.now) }
     requires upright { (vector_of d.now ≡ up) ⊎ (vector_of d.now ≡ opposite up) }
 {
     match first_hit(c, p, d) {
-        Some(place) => labelled_text(alloc, c, &place),
-        None => Ok(String::from_str(alloc, "none")?),
+        Some(place) => add_labelled(text, c, &place),
+        None => text.push_str("none").ok(),
     }
+}
+
+// What the ray that comes to the point exactly meets first.
+fn add_exact(text: &mut String, c: &Complex, p: &Point, d: &Dir) -> Option<()>
+    requires shows { (s : Set) × ShowsSet s c.now }
+    requires upright { (vector_of d.now ≡ up) ⊎ (vector_of d.now ≡ opposite up) }
+{
+    let q = start(d, p)?;
+    add_hit(text, c, &q, d)
 }
 
 // What the least map at the point is.
@@ -118,37 +127,40 @@ fn kind_at(alloc: Global, c: &Complex, p: &Point) -> Result<Kind, OutOfMemory>
     Ok(kind(&map))
 }
 
-fn kind_text(alloc: Global, found: &Kind) -> Result<String, Fail> {
+fn add_kind(text: &mut String, found: &Kind) -> Result<(), OutOfMemory> {
     match found {
-        Kind::Vertex => Ok(String::from_str(alloc, "vertex")?),
-        Kind::OnEdge(d) => Ok(format!(in alloc; "edge {}", dir_text(alloc, d)?)?),
-        Kind::InFacet(n) => Ok(format!(in alloc; "facet {}", dir_text(alloc, n)?)?),
-        Kind::InVolume => Ok(String::from_str(alloc, "volume")?),
+        Kind::Vertex => text.push_str("vertex"),
+        Kind::InVolume => text.push_str("volume"),
+        Kind::OnEdge(d) => {
+            text.push_str("edge")?;
+            add_dir(text, d)
+        }
+        Kind::InFacet(n) => {
+            text.push_str("facet")?;
+            add_dir(text, n)
+        }
     }
 }
 
-// What the ray that comes to the point exactly meets first.
-fn exact_text(alloc: Global, c: &Complex, p: &Point, d: &Dir) -> Result<String, Fail>
+/// Adds the answer to a question about a point.
+pub(crate) fn add_at(
+    alloc: Global,
+    text: &mut String,
+    c: &Complex,
+    verb: &str,
+    words: &str,
+) -> Option<()>
     requires shows { (s : Set) × ShowsSet s c.now }
-    requires upright { (vector_of d.now ≡ up) ⊎ (vector_of d.now ≡ opposite up) }
 {
-    let q = start(d, p)?;
-    hit_text(alloc, c, &q, d)
-}
-
-/// The answer to a question about a point.
-pub(crate) fn answer_at(alloc: Global, c: &Complex, verb: &str, p: &Point) -> Result<String, Fail>
-    requires shows { (s : Set) × ShowsSet s c.now }
-    requires framed { InClosedFrame (place_of p.now) }
-{
+    let p = point(words, 0)?;
     match verb {
-        "vertex" => vertex_text(alloc, c, p),
-        "place" => labelled_text(alloc, c, &locate(c, p)),
-        "kind" => kind_text(alloc, &kind_at(alloc, c, p)?),
-        "up" => hit_text(alloc, c, p, &up()),
-        "down" => hit_text(alloc, c, p, &up().back()),
-        "rising" => exact_text(alloc, c, p, &up()),
-        "falling" => exact_text(alloc, c, p, &up().back()),
-        _ => Err("a question about a point".into()),
+        "vertex" => add_vertex(text, c, &p).ok(),
+        "place" => add_labelled(text, c, &locate(c, &p)),
+        "kind" => add_kind(text, &kind_at(alloc, c, &p).ok()?).ok(),
+        "up" => add_hit(text, c, &p, &up()),
+        "down" => add_hit(text, c, &p, &up().back()),
+        "rising" => add_exact(text, c, &p, &up()),
+        "falling" => add_exact(text, c, &p, &up().back()),
+        _ => None,
     }
 }

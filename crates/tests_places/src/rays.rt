@@ -23,14 +23,13 @@ ghost use Rattle.nef_complex.specs.Complexes.{complex_of, ShowsSet};
 ghost use Rattle.nef_plane.specs.Meets.{HasNoSvertex, IsAlongAxis};
 ghost use Rattle.tests_places.specs.Clear.{IsClearVertex};
 
-use crate::places::{edge_text, facet_text};
+use crate::places::{add_edge, add_facet};
+use crate::words::{numbers, plane, point};
 use nef_complex::{Complex, PlaneMeet};
 use nef_geo::{Dir, Hit, Plane, Point, Sign, hit_at, hit_side, plane_axis, plane_dir};
 use nef_locate::{Place, in_facet, locate};
 use nef_plane::{first_along_dir, first_in_plane, is_at_vertex, is_on_edge};
 use nef_smap::SphereMap;
-use std::alloc::Global;
-use std::test::Fail;
 
 // Whether the point lies strictly inside no edge.
 fn is_off_edges(c: &Complex, p: &Hit) -> bool
@@ -180,64 +179,54 @@ fn inside(c: &Complex, h: &Plane, p: &Point) -> Option<Hit>
 }
 
 // The facet of the plane in which the point lies.
-fn corner_text(alloc: Global, c: &Complex, h: &Plane, p: &Point) -> Result<String, Fail>
+fn add_corner(text: &mut String, c: &Complex, h: &Plane, p: &Point) -> Option<()>
     requires shows { (s : Set) × ShowsSet s c.now }
     requires framed { InClosedFrame (place_of p.now) }
 {
     let Some(q) = inside(c, h, p) else {
-        return Err("a point inside a facet".into());
+        return None;
     };
     match in_facet(c, h, &q) {
-        Some(corner) => facet_text(alloc, c, &corner),
-        None => Ok(String::from_str(alloc, "none")?),
+        Some(corner) => add_facet(text, c, &corner),
+        None => text.push_str("none").ok(),
     }
 }
 
 // What is met first, where a ray may begin.
-fn meet_text(alloc: Global, c: &Complex, met: Option<Option<PlaneMeet>>) -> Result<String, Fail> {
-    match met.ok_or("where a ray may begin")? {
-        Some(PlaneMeet::AtVertex(number)) => Ok(format!(in alloc; "vertex {number}")?),
-        Some(PlaneMeet::AtEdge(number)) => edge_text(alloc, c, number),
-        None => Ok(String::from_str(alloc, "none")?),
+fn add_meet(text: &mut String, c: &Complex, met: Option<Option<PlaneMeet>>) -> Option<()> {
+    match met? {
+        Some(PlaneMeet::AtVertex(number)) => write!(text, "vertex {number}").ok(),
+        Some(PlaneMeet::AtEdge(number)) => add_edge(text, c, number),
+        None => text.push_str("none").ok(),
     }
 }
 
-/// The answer to a question about a plane and a point.
-pub(crate) fn answer_in(
-    alloc: Global,
-    c: &Complex,
-    verb: &str,
-    h: &Plane,
-    p: &Point,
-) -> Result<String, Fail>
+/// Adds the answer to a question about a plane and a point.
+pub(crate) fn add_in_plane(text: &mut String, c: &Complex, verb: &str, words: &str) -> Option<()>
     requires shows { (s : Set) × ShowsSet s c.now }
-    requires framed { InClosedFrame (place_of p.now) }
 {
+    let (h, p) = (plane(words)?, point(words, 4)?);
     match verb {
-        "facet" => corner_text(alloc, c, h, p),
-        "ray" => meet_text(alloc, c, met_along_axis(c, h, &hit_at(p), false)),
-        "back" => meet_text(alloc, c, met_along_axis(c, h, &hit_at(p), true)),
-        _ => Err("a question about a plane and a point".into()),
+        "facet" => add_corner(text, c, &h, &p),
+        "ray" => add_meet(text, c, met_along_axis(c, &h, &hit_at(&p), false)),
+        "back" => add_meet(text, c, met_along_axis(c, &h, &hit_at(&p), true)),
+        _ => None,
     }
 }
 
-/// The answer to a question about a plane and a vertex.
-pub(crate) fn answer_from(
-    alloc: Global,
-    c: &Complex,
-    verb: &str,
-    h: &Plane,
-    number: usize,
-) -> Result<String, Fail>
+/// Adds the answer to a question about a plane and a vertex.
+pub(crate) fn add_from_vertex(text: &mut String, c: &Complex, verb: &str, words: &str) -> Option<()>
     requires shows { (s : Set) × ShowsSet s c.now }
 {
+    let h = plane(words)?;
+    let number = usize::try_from(numbers(words, 4)?[0]).ok()?;
     if number >= c.vertices.len() {
-        return Err("the number of a vertex".into());
+        return None;
     }
     match verb {
-        "along" => meet_text(alloc, c, met_from_vertex(c, h, number, true)),
-        "from" => meet_text(alloc, c, met_from_vertex(c, h, number, false)),
-        "against" => meet_text(alloc, c, met_against(c, h, number)),
-        _ => Err("a question about a plane and a vertex".into()),
+        "along" => add_meet(text, c, met_from_vertex(c, &h, number, true)),
+        "from" => add_meet(text, c, met_from_vertex(c, &h, number, false)),
+        "against" => add_meet(text, c, met_against(c, &h, number)),
+        _ => None,
     }
 }

@@ -5,10 +5,10 @@
 //! coordinate. A box that comes to it has eight vertices and twelve edges, and so has the frame; the grid has 96 edges.
 
 use crate::tables::check_table;
+use crate::words::check;
 use std::alloc::Global;
 use std::process::Abort;
 use std::sync::Wait;
-use std::test::Fail;
 use std::thread::Threads;
 
 const GRID: &str = "\
@@ -73,19 +73,16 @@ diff full
 counts => 8 12 # nothing is left of the grid
 place 25 25 25 1 => volume not # in a cube of the grid";
 
-fn check_after<R: Threads + Wait + Sync + Abort>(
-    rt: &R,
-    alloc: Global,
-    table: &str,
-) -> Result<(), Fail> {
-    let steps = format!(in alloc; "{GRID}; {table}")?;
-    check_table(rt, alloc, steps.as_str())
+fn check_after<R: Threads + Wait + Sync + Abort>(rt: &R, alloc: Global, table: &str) {
+    match format!(in alloc; "{GRID}; {table}") {
+        Ok(table) => check_table(rt, alloc, table.as_str()),
+        Err(_) => check(rt, false, "memory", table),
+    }
 }
 
 #[test]
-fn combinations_far_from_the_skeleton(rt: HostRuntime) -> Result<(), Fail> {
+fn combinations_far_from_the_skeleton(rt: HostRuntime) {
     for table in TABLES.split("\n\n") {
-        check_after(&rt, rt.alloc(), table)?;
+        check_after(&rt, rt.alloc(), table);
     }
-    Ok(())
 }

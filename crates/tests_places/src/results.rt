@@ -1,4 +1,4 @@
-//! The maps of halves at the origin, and carriers put together.
+//! The maps of halves at the origin, carriers put together, and classes that links join.
 
 ghost use Rattle.std.specs.Prelude.{◌<◌, IfSome};
 ghost use Rattle.nef_space.specs.Sets.{Set};
@@ -6,25 +6,23 @@ ghost use Rattle.nef_geo.specs.Shapes.{place_of};
 ghost use Rattle.law_sphere.specs.Least.{Cone};
 ghost use Rattle.nef_smap.specs.Maps.{map_of, IsLeastMap};
 
-use crate::items::{letter, planes_digits};
-use crate::lone::bare;
-use crate::rows::{case_of, check_row};
-use nef_complex::Complex;
+use crate::items::{add_planes, letter};
+use crate::words::{add_numbers, case_of, check, oriented, parted};
+use nef_classes::{Link, class_numbers, class_of_each};
+use nef_complex::{Complex, OutOfMemory, PlaneIndex};
 use nef_geo::{Label, List, Plane, Point};
-use nef_result::{OutOfMemory, add_carrier, copy_carriers, half_map, merge_carriers};
+use nef_result::{add_carrier, copy_carriers, half_map, merge_carriers};
 use nef_smap::{SphereMap, face_map};
 use std::alloc::Global;
-use std::process::Abort;
-use std::test::Fail;
 
-// The half where a x + d is negative, and which is closed or not; and its map at the origin: the mark and the one label, or
-// the mark and the three labels of the sloop.
+// The half where the form with these four numbers is negative, and which is closed or not; and its map at the origin: the
+// mark and the one label, or the mark and the three labels of the sloop.
 const HALVES: &str = "\
-1 0 closed => iini # the border belongs to it, and holds below
-1 0 open => nnni # the border doesn't
--1 0 open => nnin # and holds above
-1 -5 open => ii # the origin lies inside
-1 5 closed => nn # the origin lies outside";
+closed 1 0 0 0 => iini # the border belongs to it, and holds below
+open 1 0 0 0 => nnni # the border doesn't
+open -1 0 0 0 => nnin # and holds above
+open 1 0 0 -5 => ii # the origin lies inside
+closed 1 0 0 5 => nn # the origin lies outside";
 
 // The whole frame's map at a point of the frame.
 fn whole_map(alloc: Global, p: &Point) -> Option<SphereMap>
@@ -40,47 +38,39 @@ fn whole_map(alloc: Global, p: &Point) -> Option<SphereMap>
     }
 }
 
-fn map_letters(alloc: Global, map: &SphereMap) -> Result<String, Fail> {
-    let mut text = String::from_str(alloc, letter(map.mark))?;
+fn add_map(text: &mut String, map: &SphereMap) -> Result<(), OutOfMemory> {
+    text.push_str(letter(map.mark))?;
     if let Some(label) = map.ground {
         text.push_str(letter(label))?;
     }
-    if let Some(circle) = map.sloop {
-        text.push_str(letter(circle.mark))?;
-        text.push_str(letter(circle.pos))?;
-        text.push_str(letter(circle.neg))?;
+    match map.sloop {
+        Some(l) => write!(text, "{}{}{}", letter(l.mark), letter(l.pos), letter(l.neg)),
+        None => Ok(()),
     }
-    Ok(text)
 }
 
-fn half_letters(alloc: Global, a: i64, d: i64, closed: bool) -> Result<String, Fail> {
+// The map of the half at the origin.
+fn half_at_origin(alloc: Global, half: &str) -> Option<SphereMap> {
+    let (border, words) = parted(half, " ");
+    let oriented = oriented(words)?;
     let origin = Point::of(0, 0, 0, 1);
-    let oriented = Plane::read(a, 0, 0, d)?;
-    let Some(whole) = whole_map(alloc, &origin) else {
-        return Err("the origin lies in the frame".into());
-    };
-    let map = half_map(alloc, whole, &oriented, closed, &origin)?;
-    map_letters(alloc, &map)
+    let whole = whole_map(alloc, &origin)?;
+    half_map(alloc, whole, &oriented, border == "closed", &origin).ok()
 }
 
-fn answer(alloc: Global, half: &str) -> Result<String, Fail> {
-    let (a, rest) = half.split_once(' ').ok_or("a number")?;
-    let (d, border) = rest.split_once(' ').ok_or("a number and a word")?;
-    half_letters(alloc, a.parse()?, d.parse()?, border == "closed")
-}
-
-fn check_halves(rt: &impl Abort, alloc: Global) -> Result<(), Fail> {
-    for row in HALVES.split('\n') {
-        let (question, wanted) = case_of(row)?;
-        let given = answer(alloc, question);
-        check_row(rt, "halves", row, wanted, given)?;
-    }
-    Ok(())
+fn is_half(alloc: Global, row: &str) -> Option<bool> {
+    let (half, wanted) = case_of(row)?;
+    let map = half_at_origin(alloc, half)?;
+    let mut text = String::new(alloc);
+    add_map(&mut text, &map).ok()?;
+    Some(text.as_str() == wanted)
 }
 
 #[test]
-fn halves_at_the_origin(rt: HostRuntime) -> Result<(), Fail> {
-    check_halves(&rt, rt.alloc())
+fn halves_at_the_origin(rt: HostRuntime) {
+    for row in HALVES.split('\n') {
+        check(&rt, is_half(rt.alloc(), row) == Some(true), "halves", row);
+    }
 }
 
 // A complex that has carriers alone, two sides of the frame.
@@ -91,47 +81,87 @@ fn of_carriers(alloc: Global, first: usize, second: usize) -> Result<Complex, Ou
     let mut carriers = List::new(alloc);
     carriers.push(Plane::frame(first))?;
     carriers.push(Plane::frame(second))?;
-    Ok(bare(alloc, carriers, List::new(alloc)))
+    Ok(Complex {
+        carriers,
+        vertices: List::new(alloc),
+        edges: List::new(alloc),
+        index: PlaneIndex::empty(alloc),
+    })
 }
 
-fn merged_digits(alloc: Global, a: &Complex, b: &Complex) -> Result<String, Fail> {
-    let planes = merge_carriers(alloc, a, b)?;
-    planes_digits(alloc, planes.as_slice())
-}
-
-fn added_digits(alloc: Global, c: &Complex, h: &Plane) -> Result<String, Fail> {
-    let planes = add_carrier(alloc, c, h)?;
-    planes_digits(alloc, planes.as_slice())
-}
-
-fn copied_digits(alloc: Global, c: &Complex) -> Result<String, Fail> {
-    let planes = copy_carriers(alloc, c)?;
-    planes_digits(alloc, planes.as_slice())
-}
-
-fn check_planes(rt: &impl Abort, given: Result<String, Fail>, wanted: &str) -> Result<(), Fail> {
-    assert_eq!(rt; given?.as_str(), wanted);
-    Ok(())
-}
-
-fn check_carriers(rt: &impl Abort, alloc: Global, a: &Complex, b: &Complex) -> Result<(), Fail> {
-    check_planes(rt, merged_digits(alloc, b, a), " 001- 001+ 100+")?;
-    check_planes(
-        rt,
-        added_digits(alloc, a, &Plane::frame(0)),
-        " 001- 001+ 100+",
+// The carriers of both, those of the first with the side x = -2048, and a copy of those of the second.
+fn carriers_text(alloc: Global, a: &Complex, b: &Complex) -> Result<String, OutOfMemory> {
+    let mut text = String::new(alloc);
+    add_planes(&mut text, merge_carriers(alloc, b, a)?.as_slice())?;
+    text.push_str(",")?;
+    add_planes(
+        &mut text,
+        add_carrier(alloc, a, &Plane::frame(0))?.as_slice(),
     )?;
-    check_planes(rt, copied_digits(alloc, b), " 001+ 100+")
+    text.push_str(",")?;
+    add_planes(&mut text, copy_carriers(alloc, b)?.as_slice())?;
+    Ok(text)
 }
 
-fn check_with_second(rt: &impl Abort, alloc: Global, a: &Complex) -> Result<(), Fail> {
+fn with_second(alloc: Global, a: &Complex) -> Result<String, OutOfMemory> {
     let b = of_carriers(alloc, 4, 0)?;
-    check_carriers(rt, alloc, a, &b)
+    carriers_text(alloc, a, &b)
+}
+
+fn carriers_of_two(alloc: Global) -> Result<String, OutOfMemory> {
+    let a = of_carriers(alloc, 5, 4)?;
+    with_second(alloc, &a)
+}
+
+fn is_text(text: Result<String, OutOfMemory>, wanted: &str) -> bool {
+    match text {
+        Ok(text) => text.as_str() == wanted,
+        Err(_) => false,
+    }
 }
 
 // The sides z = 2048 and z = -2048, and z = -2048 and x = -2048.
 #[test]
-fn carriers_of_two(rt: HostRuntime) -> Result<(), Fail> {
-    let a = of_carriers(rt.alloc(), 5, 4)?;
-    check_with_second(&rt, rt.alloc(), &a)
+fn carriers(rt: HostRuntime) {
+    let wanted = " 001- 001+ 100+, 001- 001+ 100+, 001+ 100+";
+    check(
+        &rt,
+        is_text(carriers_of_two(rt.alloc()), wanted),
+        "carriers",
+        wanted,
+    );
+}
+
+// Of six items, with links from 5 to 3, from 4 to 1 and from 0 to 3.
+fn numbers_of_classes(alloc: Global) -> Result<String, OutOfMemory> {
+    let links = [
+        Link {
+            first: 5,
+            second: 3,
+        },
+        Link {
+            first: 4,
+            second: 1,
+        },
+        Link {
+            first: 0,
+            second: 3,
+        },
+    ];
+    let classes = class_of_each(alloc, 6, links.as_slice())?;
+    let numbers = class_numbers(alloc, classes.as_slice())?;
+    let mut text = String::new(alloc);
+    add_numbers(&mut text, numbers.as_slice())?;
+    Ok(text)
+}
+
+#[test]
+fn classes(rt: HostRuntime) {
+    let wanted = " 0 1 2 0 1 0";
+    check(
+        &rt,
+        is_text(numbers_of_classes(rt.alloc()), wanted),
+        "classes",
+        wanted,
+    );
 }

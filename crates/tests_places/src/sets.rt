@@ -6,58 +6,38 @@
 //! halves, with `, ` between them: where the form with these four numbers is at most zero, or negative where `open` stands
 //! before the first.
 
-ghost use Rattle.std.specs.Prelude.{IfOk};
+ghost use Rattle.std.specs.Prelude.{IfSome};
 ghost use Rattle.nef_space.specs.Sets.{Set};
 ghost use Rattle.nef_complex.specs.Complexes.{ShowsSet};
 
-use crate::words::numbers;
+use crate::words::{oriented, parted};
 use nef_complex::Complex;
 use nef_core::{BoardKind, How};
-use nef_geo::{Label, Oriented, Plane};
+use nef_geo::Label;
 use nef_io::OpenGate;
 use nef_ops::{UnaryOp, binary, constant, half, unary};
 use nef_result::frame;
 use nef_star::Op;
 use std::alloc::Global;
 use std::sync::Wait;
-use std::test::Fail;
 use std::thread::Threads;
 
-// By one worker over the board with a lock, or by two over the free one.
-fn way_of(board: BoardKind) -> How {
-    match board {
-        BoardKind::Lock => How { workers: 1, board },
-        BoardKind::Free => How { workers: 2, board },
-    }
-}
-
-fn oriented(alloc: Global, words: &str) -> Result<Oriented, Fail> {
-    let list = numbers(alloc, words)?;
-    match list.as_slice() {
-        [a, b, c, d] => Ok(Plane::read(*a, *b, *c, *d)?),
-        _ => Err("four numbers of a half".into()),
-    }
-}
-
-fn constant_of(alloc: Global, full: bool) -> Result<Complex, Fail>
-    ensures shows { IfOk result (λ c. (s : Set) × ShowsSet s c) }
+fn constant_of(alloc: Global, full: bool) -> Option<Complex>
+    ensures shows { IfSome result (λ c. (s : Set) × ShowsSet s c) }
 {
-    let complex = constant(alloc, full)?;
-    Ok(complex)
+    constant(alloc, full).ok()
 }
 
-fn empty_frame(alloc: Global) -> Result<Complex, Fail>
-    ensures shows { IfOk result (λ c. (s : Set) × ShowsSet s c) }
+fn empty_frame(alloc: Global) -> Option<Complex>
+    ensures shows { IfSome result (λ c. (s : Set) × ShowsSet s c) }
 {
-    let complex = frame(alloc, Label::Not)?;
-    Ok(complex)
+    frame(alloc, Label::Not).ok()
 }
 
-fn whole_frame(alloc: Global) -> Result<Complex, Fail>
-    ensures shows { IfOk result (λ c. (s : Set) × ShowsSet s c) }
+fn whole_frame(alloc: Global) -> Option<Complex>
+    ensures shows { IfSome result (λ c. (s : Set) × ShowsSet s c) }
 {
-    let complex = frame(alloc, Label::In)?;
-    Ok(complex)
+    frame(alloc, Label::In).ok()
 }
 
 fn op(word: &str) -> Option<Op> {
@@ -80,87 +60,89 @@ fn unary_op(word: &str) -> Option<UnaryOp> {
     }
 }
 
-/// What makes sets: threads, memory, and the board that hands out the jobs.
+/// What makes sets: threads, memory, the number of workers, and the board that hands out the jobs.
 #[derive(Drop)]
 pub(crate) struct Maker<'a, R> {
     pub(crate) rt: &'a R,
     pub(crate) alloc: Global,
-    board: BoardKind,
+    how: How,
 }
 
 impl<'a, R: Threads + Wait + Sync> Maker<'a, R> {
     /// A maker that works by one worker over the board with a lock, or by two over the free one.
     pub(crate) fn new(rt: &'a R, alloc: Global, board: BoardKind) -> Maker<'a, R> {
-        Maker { rt, alloc, board }
+        let workers = if board == BoardKind::Lock { 1 } else { 2 };
+        let how = How { workers, board };
+        Maker { rt, alloc, how }
     }
 
-    fn half_of(&self, words: &str, closed: bool) -> Result<Complex, Fail>
-        ensures shows { IfOk result (λ c. (s : Set) × ShowsSet s c) }
+    fn half_of(&self, words: &str, closed: bool) -> Option<Complex>
+        ensures shows { IfSome result (λ c. (s : Set) × ShowsSet s c) }
     {
-        let oriented = oriented(self.alloc, words)?;
-        let how = way_of(self.board);
-        let complex = half(self.rt, self.alloc, &oriented, closed, &how, &OpenGate)?;
-        Ok(complex)
+        let oriented = oriented(words)?;
+        half(self.rt, self.alloc, &oriented, closed, &self.how, &OpenGate).ok()
     }
 
-    fn combined(&self, op: Op, a: &Complex, b: &Complex) -> Result<Complex, Fail>
+    /// The two sets combined.
+    pub(crate) fn combined(&self, op: Op, a: &Complex, b: &Complex) -> Option<Complex>
         requires first { (s : Set) × ShowsSet s a.now }
         requires second { (s : Set) × ShowsSet s b.now }
-        ensures shows { IfOk result (λ c. (s : Set) × ShowsSet s c) }
+        ensures shows { IfSome result (λ c. (s : Set) × ShowsSet s c) }
     {
-        let how = way_of(self.board);
-        let complex = binary(self.rt, self.alloc, op, a, b, &how, &OpenGate)?;
-        Ok(complex)
+        binary(self.rt, self.alloc, op, a, b, &self.how, &OpenGate).ok()
     }
 
     // The set combined with another, if that could be made.
-    fn with(&self, op: Op, c: &Complex, made: Result<Complex, Fail>) -> Result<Complex, Fail>
+    fn with(&self, op: Op, c: &Complex, made: Option<Complex>) -> Option<Complex>
         requires shows { (s : Set) × ShowsSet s c.now }
-        requires made { IfOk made (λ d. (s : Set) × ShowsSet s d) }
-        ensures shows { IfOk result (λ d. (s : Set) × ShowsSet s d) }
+        requires made { IfSome made (λ d. (s : Set) × ShowsSet s d) }
+        ensures shows { IfSome result (λ d. (s : Set) × ShowsSet s d) }
     {
         let other = made?;
         self.combined(op, c, &other)
     }
 
-    fn changed(&self, op: UnaryOp, a: &Complex) -> Result<Complex, Fail>
+    fn changed(&self, op: UnaryOp, a: &Complex) -> Option<Complex>
         requires shows { (s : Set) × ShowsSet s a.now }
-        ensures shows { IfOk result (λ c. (s : Set) × ShowsSet s c) }
+        ensures shows { IfSome result (λ c. (s : Set) × ShowsSet s c) }
     {
-        let how = way_of(self.board);
-        let complex = unary(self.rt, self.alloc, op, a, &how, &OpenGate)?;
-        Ok(complex)
+        unary(self.rt, self.alloc, op, a, &self.how, &OpenGate).ok()
     }
 
     // What the set has in common with the half. The set is let go here, so that a loop over halves owns none where it
     // returns early.
-    fn cut(&self, c: Complex, half: &str, closed: bool) -> Result<Complex, Fail>
+    fn cut(&self, c: Complex, half: &str, closed: bool) -> Option<Complex>
         requires shows { (s : Set) × ShowsSet s c }
-        ensures shows { IfOk result (λ d. (s : Set) × ShowsSet s d) }
+        ensures shows { IfSome result (λ d. (s : Set) × ShowsSet s d) }
     {
         self.with(Op::And, &c, self.half_of(half, closed))
     }
 
-    fn intersection(&self, halves: &str, closed: bool) -> Result<Complex, Fail>
-        ensures shows { IfOk result (λ c. (s : Set) × ShowsSet s c) }
+    fn intersection(&self, halves: &str, closed: bool) -> Option<Complex>
+        ensures shows { IfSome result (λ c. (s : Set) × ShowsSet s c) }
     {
         let mut complex = constant_of(self.alloc, true)?;
         for half in halves.split(", ") {
             complex = self.cut(complex, half, closed)?;
         }
-        Ok(complex)
+        Some(complex)
     }
 
-    fn part(&self, words: &str) -> Result<Complex, Fail>
-        ensures shows { IfOk result (λ c. (s : Set) × ShowsSet s c) }
+    fn part(&self, words: &str) -> Option<Complex>
+        ensures shows { IfSome result (λ c. (s : Set) × ShowsSet s c) }
     {
         match words {
-            "empty" => return constant_of(self.alloc, false),
-            "full" => return constant_of(self.alloc, true),
-            "frame not" => return empty_frame(self.alloc),
-            "frame in" => return whole_frame(self.alloc),
-            _ => {}
+            "empty" => constant_of(self.alloc, false),
+            "full" => constant_of(self.alloc, true),
+            "frame not" => empty_frame(self.alloc),
+            "frame in" => whole_frame(self.alloc),
+            _ => self.of_halves(words),
         }
+    }
+
+    fn of_halves(&self, words: &str) -> Option<Complex>
+        ensures shows { IfSome result (λ c. (s : Set) × ShowsSet s c) }
+    {
         match words.strip_prefix("open ") {
             Some(halves) => self.intersection(halves, false),
             None => self.intersection(words, true),
@@ -168,14 +150,14 @@ impl<'a, R: Threads + Wait + Sync> Maker<'a, R> {
     }
 
     // The set after a step.
-    fn after(&self, c: &Complex, step: &str) -> Result<Complex, Fail>
+    fn after(&self, c: &Complex, step: &str) -> Option<Complex>
         requires shows { (s : Set) × ShowsSet s c.now }
-        ensures shows { IfOk result (λ d. (s : Set) × ShowsSet s d) }
+        ensures shows { IfSome result (λ d. (s : Set) × ShowsSet s d) }
     {
         if let Some(op) = unary_op(step) {
             return self.changed(op, c);
         }
-        let (word, words) = step.split_once(' ').unwrap_or((step, ""));
+        let (word, words) = parted(step, " ");
         match op(word) {
             Some(op) => self.with(op, c, self.part(words)),
             None => self.part(step),
@@ -183,21 +165,21 @@ impl<'a, R: Threads + Wait + Sync> Maker<'a, R> {
     }
 
     // The same of a set that is let go, so that a loop over steps owns none where it returns early.
-    fn stepped(&self, c: Complex, step: &str) -> Result<Complex, Fail>
+    fn stepped(&self, c: Complex, step: &str) -> Option<Complex>
         requires shows { (s : Set) × ShowsSet s c }
-        ensures shows { IfOk result (λ d. (s : Set) × ShowsSet s d) }
+        ensures shows { IfSome result (λ d. (s : Set) × ShowsSet s d) }
     {
         self.after(&c, step)
     }
 
     /// The set that the steps make.
-    pub(crate) fn made(&self, steps: &str) -> Result<Complex, Fail>
-        ensures shows { IfOk result (λ c. (s : Set) × ShowsSet s c) }
+    pub(crate) fn made(&self, steps: &str) -> Option<Complex>
+        ensures shows { IfSome result (λ c. (s : Set) × ShowsSet s c) }
     {
         let mut complex = constant_of(self.alloc, false)?;
         for step in steps.split("; ") {
             complex = self.stepped(complex, step)?;
         }
-        Ok(complex)
+        Some(complex)
     }
 }

@@ -1,140 +1,111 @@
 //! Tables of questions about a set. The first line of a table makes the set; each other line is a question, its answer and a
-//! reason for it.
+//! reason for it. Where `free ` stands before the steps of the set, they are worked by two workers over the free board, and
+//! else by one over the board with a lock.
 
+ghost use Rattle.std.specs.Prelude.{IfSome};
 ghost use Rattle.nef_space.specs.Sets.{Set};
 ghost use Rattle.nef_complex.specs.Complexes.{ShowsSet};
 
-use crate::ends::{end_text, way};
-use crate::items::{answer_all, corner_digits, cut_text, items_text};
-use crate::parts::{answer_parts, answer_ties, joined_text};
-use crate::places::answer_at;
-use crate::rays::{answer_from, answer_in};
-use crate::rows::{case_of, check_row};
+use crate::ends::add_end;
+use crate::items::{add_all, add_corner_at, add_cut, add_items};
+use crate::parts::{add_joined, add_parts, add_tie};
+use crate::places::add_at;
+use crate::rays::{add_from_vertex, add_in_plane};
 use crate::sets::Maker;
-use crate::turns::{changed_text, turned_text};
-use crate::words::{framed_point, inner_point, numbers, plane};
-use nef_complex::Complex;
+use crate::turns::{add_compared, add_turned};
+use crate::words::{case_of, check, parted, plane};
+use nef_complex::{Complex, OutOfMemory};
 use nef_core::BoardKind;
 use std::alloc::Global;
 use std::process::Abort;
 use std::sync::Wait;
-use std::test::Fail;
 use std::thread::Threads;
 
-// The answer to a question without numbers.
-fn answer_word(alloc: Global, c: &Complex, verb: &str) -> Result<String, Fail>
+// The answer to a question without numbers: each of the three answers its own.
+fn add_of_none(alloc: Global, text: &mut String, c: &Complex, verb: &str) -> Result<(), OutOfMemory>
     requires shows { (s : Set) × ShowsSet s c.now }
 {
-    match verb {
-        "changed" => changed_text(alloc, c),
-        "counts" | "edges" | "planes" | "candidates" => answer_all(alloc, c, verb),
-        _ => answer_parts(alloc, c, verb),
-    }
+    add_all(alloc, text, c, verb)?;
+    add_parts(alloc, text, c, verb)?;
+    add_compared(alloc, text, c, verb)
 }
 
 // The answer to a question about a plane, a point or two corners.
-fn answer_four(alloc: Global, c: &Complex, verb: &str, list: &[i64; 4]) -> Result<String, Fail>
+fn add_of_four(alloc: Global, text: &mut String, c: &Complex, verb: &str, words: &str) -> Option<()>
     requires shows { (s : Set) × ShowsSet s c.now }
 {
     match verb {
-        "items" => items_text(alloc, c, &plane(list)?),
-        "cut" => cut_text(alloc, c, &plane(list)?),
-        "tie_along" | "tie_across" => answer_ties(alloc, c, verb, list),
-        _ => answer_at(alloc, c, verb, &framed_point(list)?),
+        "items" => add_items(text, c, &plane(words)?).ok(),
+        "cut" => add_cut(alloc, text, c, &plane(words)?).ok(),
+        "tie_along" => add_tie(alloc, text, c, true, words),
+        "tie_across" => add_tie(alloc, text, c, false, words),
+        _ => add_at(alloc, text, c, verb, words),
     }
 }
 
-// The answer to a question about a turn and a point, or a plane and a vertex.
-fn answer_five(
-    alloc: Global,
-    c: &Complex,
-    verb: &str,
-    list: &[i64; 4],
-    number: i64,
-) -> Result<String, Fail>
+// The answer to a question, by how many numbers it has.
+fn add_answer(alloc: Global, text: &mut String, c: &Complex, verb: &str, words: &str) -> Option<()>
     requires shows { (s : Set) × ShowsSet s c.now }
 {
-    let number = usize::try_from(number)?;
-    match verb {
-        "turned" => turned_text(alloc, c, number, &framed_point(list)?),
-        _ => answer_from(alloc, c, verb, &plane(list)?, number),
+    match words.split_whitespace().count() {
+        0 => add_of_none(alloc, text, c, verb).ok(),
+        1 => add_corner_at(text, c, words),
+        4 => add_of_four(alloc, text, c, verb, words),
+        5 if verb == "turned" => add_turned(alloc, text, c, words),
+        5 => add_from_vertex(text, c, verb, words),
+        7 => add_end(alloc, text, c, words),
+        8 if verb == "joined" => add_joined(alloc, text, c, words),
+        8 => add_in_plane(text, c, verb, words),
+        _ => None,
     }
 }
 
-// The answer to a question about two points, or a plane and a point.
-fn answer_eight(
-    alloc: Global,
-    c: &Complex,
-    verb: &str,
-    first: &[i64; 4],
-    second: &[i64; 4],
-) -> Result<String, Fail>
+// Whether the question of the row has the answer that stands beside it.
+fn is_answered(alloc: Global, c: &Complex, row: &str) -> Option<bool>
     requires shows { (s : Set) × ShowsSet s c.now }
 {
-    match verb {
-        "joined" => joined_text(alloc, c, &inner_point(first)?, &inner_point(second)?),
-        _ => answer_in(alloc, c, verb, &plane(first)?, &framed_point(second)?),
+    let (question, wanted) = case_of(row)?;
+    let (verb, words) = parted(question, " ");
+    let mut text = String::new(alloc);
+    add_answer(alloc, &mut text, c, verb, words)?;
+    Some(text.as_str().trim() == wanted)
+}
+
+fn holds(alloc: Global, made: &Option<Complex>, row: &str) -> bool
+    requires shows { IfSome made.now (λ c. (s : Set) × ShowsSet s c) }
+{
+    match made {
+        Some(c) => is_answered(alloc, c, row) == Some(true),
+        None => false,
     }
 }
 
-// The answer to a question about a ray.
-fn answer_seven(alloc: Global, c: &Complex, at: &[i64; 4], along: &[i64; 3]) -> Result<String, Fail>
-    requires shows { (s : Set) × ShowsSet s c.now }
-{
-    end_text(alloc, c, &framed_point(at)?, &way(along)?)
-}
-
-// The answer to a question with these numbers.
-fn answer_numbers(alloc: Global, c: &Complex, verb: &str, list: &[i64]) -> Result<String, Fail>
-    requires shows { (s : Set) × ShowsSet s c.now }
-{
-    match list {
-        [] => answer_word(alloc, c, verb),
-        [k] => corner_digits(alloc, c, *k),
-        [a, b, e, d] => answer_four(alloc, c, verb, &[*a, *b, *e, *d]),
-        [a, b, e, d, k] => answer_five(alloc, c, verb, &[*a, *b, *e, *d], *k),
-        [x, y, z, w, u, v, t] => answer_seven(alloc, c, &[*x, *y, *z, *w], &[*u, *v, *t]),
-        [a, b, e, d, x, y, z, w] => {
-            answer_eight(alloc, c, verb, &[*a, *b, *e, *d], &[*x, *y, *z, *w])
-        }
-        _ => Err("a question".into()),
-    }
-}
-
-fn answer(alloc: Global, c: &Complex, question: &str) -> Result<String, Fail>
-    requires shows { (s : Set) × ShowsSet s c.now }
-{
-    let (verb, words) = question.split_once(' ').unwrap_or((question, ""));
-    let list = numbers(alloc, words)?;
-    answer_numbers(alloc, c, verb, list.as_slice())
-}
-
-fn check_set(rt: &impl Abort, alloc: Global, c: &Complex, set: &str, rows: &str) -> Result<(), Fail>
-    requires shows { (s : Set) × ShowsSet s c.now }
+fn check_rows(rt: &impl Abort, alloc: Global, made: &Option<Complex>, set: &str, rows: &str)
+    requires shows { IfSome made.now (λ c. (s : Set) × ShowsSet s c) }
 {
     for row in rows.split('\n') {
-        let (question, wanted) = case_of(row)?;
-        let given = answer(alloc, c, question);
-        check_row(rt, set, row, wanted, given)?;
+        check(rt, holds(alloc, made, row), set, row);
     }
-    Ok(())
 }
 
-fn check_made<R: Threads + Wait + Sync + Abort>(
-    maker: &Maker<R>,
-    steps: &str,
-    rows: &str,
-) -> Result<(), Fail> {
-    let c = maker.made(steps)?;
-    check_set(maker.rt, maker.alloc, &c, steps, rows)
+fn board_of(set: &str) -> (BoardKind, &str) {
+    match set.strip_prefix("free ") {
+        Some(steps) => (BoardKind::Free, steps),
+        None => (BoardKind::Lock, set),
+    }
 }
 
-/// Asserts that each question of the table has the answer that stands beside it.
-pub(crate) fn check_table<R: Threads + Wait + Sync + Abort>(
-    rt: &R,
-    alloc: Global,
-    table: &str,
-) -> Result<(), Fail> {
-    let (steps, rows) = table.split_once('\n').ok_or("the steps of a set")?;
-    check_made(&Maker::new(rt, alloc, BoardKind::Lock), steps, rows)
+/// Stops the test where a question of the table has another answer than stands beside it.
+pub(crate) fn check_table<R: Threads + Wait + Sync + Abort>(rt: &R, alloc: Global, table: &str) {
+    let (set, rows) = parted(table, "\n");
+    let (board, steps) = board_of(set);
+    let made = Maker::new(rt, alloc, board).made(steps);
+    check_rows(rt, alloc, &made, set, rows);
+}
+
+/// The same of several tables, with an empty line between them.
+pub(crate) fn check_tables<R: Threads + Wait + Sync + Abort>(rt: &R, alloc: Global, tables: &str) {
+    for table in tables.split("\n\n") {
+        check_table(rt, alloc, table);
+    }
 }

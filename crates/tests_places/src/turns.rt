@@ -1,19 +1,20 @@
-//! Turned complexes.
+//! Turned complexes, and complexes compared with the frame's.
 //!
 //! - `turned POINT NUMBER`: whether the complex has a vertex at the point after the turn with this number.
 //! - `changed`: the numbers of the turns that don't keep the carriers, vertices and edges, if there are any.
+//! - `same_as_empty`, `same_as_full`: whether it shows the empty set, or the whole frame.
 
 ghost use Rattle.std.specs.Prelude.{◌<◌};
 ghost use Rattle.nef_space.specs.Sets.{Set};
 ghost use Rattle.nef_complex.specs.Complexes.{ShowsSet};
 
-use crate::words::add_number;
+use crate::words::{add_truth, numbers, point};
 use nef_complex::{Complex, OutOfMemory};
 use nef_geo::Point;
+use nef_ops::constant;
 use nef_turn::turn_complex;
-use nef_unique::same_vertices;
+use nef_unique::{compare, same_vertices};
 use std::alloc::Global;
-use std::test::Fail;
 
 const TURNS: usize = 48;
 
@@ -35,19 +36,16 @@ fn turns_to(alloc: Global, c: &Complex, k: usize, p: &Point) -> Result<bool, Out
     Ok(has_vertex_at(&turned, p))
 }
 
-/// The answer about a turn and a point.
-pub(crate) fn turned_text(
-    alloc: Global,
-    c: &Complex,
-    number: usize,
-    p: &Point,
-) -> Result<String, Fail>
+/// Adds the answer about a turn and a point.
+pub(crate) fn add_turned(alloc: Global, text: &mut String, c: &Complex, words: &str) -> Option<()>
     requires shows { (s : Set) × ShowsSet s c.now }
 {
+    let p = point(words, 0)?;
+    let number = usize::try_from(numbers(words, 4)?[0]).ok()?;
     if number >= TURNS {
-        return Err("the number of a turn".into());
+        return None;
     }
-    Ok(turns_to(alloc, c, number, p)?.to_string(alloc)?)
+    add_truth(text, turns_to(alloc, c, number, &p).ok()?).ok()
 }
 
 // Whether the complexes have the same carriers, vertices and edges.
@@ -66,18 +64,37 @@ fn is_kept(alloc: Global, c: &Complex, k: usize) -> Result<bool, OutOfMemory>
     Ok(are_alike(c, &turned))
 }
 
-/// The numbers of the turns that change the complex, or that there are none.
-pub(crate) fn changed_text(alloc: Global, c: &Complex) -> Result<String, Fail>
+// The numbers of the turns that change the complex, each after a blank, or that there are none.
+fn add_changed(alloc: Global, text: &mut String, c: &Complex) -> Result<(), OutOfMemory>
     requires shows { (s : Set) × ShowsSet s c.now }
 {
-    let mut text = String::new(alloc);
     for k in 0..TURNS {
         if !is_kept(alloc, c, k)? {
-            add_number(alloc, &mut text, k)?;
+            write!(text, " {k}")?;
         }
     }
-    if text.is_empty() {
-        text.push_str("none")?;
+    text.push_str(if text.is_empty() { "none" } else { "" })
+}
+
+// Whether it is the same set as the whole frame, or as the empty set.
+fn is_same(alloc: Global, c: &Complex, full: bool) -> Result<bool, OutOfMemory> {
+    let other = constant(alloc, full)?;
+    Ok(compare(c, &other))
+}
+
+/// Adds the answer to a question about turned complexes, or those of the frame. To others there is none.
+pub(crate) fn add_compared(
+    alloc: Global,
+    text: &mut String,
+    c: &Complex,
+    verb: &str,
+) -> Result<(), OutOfMemory>
+    requires shows { (s : Set) × ShowsSet s c.now }
+{
+    match verb {
+        "changed" => add_changed(alloc, text, c),
+        "same_as_empty" => add_truth(text, is_same(alloc, c, false)?),
+        "same_as_full" => add_truth(text, is_same(alloc, c, true)?),
+        _ => Ok(()),
     }
-    Ok(text)
 }

@@ -1,32 +1,52 @@
-//! Numbers, points and planes by their words, and words for what is given.
+//! Numbers, points and planes by their words, words for what is given, and rows that must hold.
+//!
+//! That a question can't be read, that nothing answers it, or that memory is wanting is told by `Option` or by the error of
+//! memory alone, and an answer is added to one text. Failures with texts of their own would make the tests dear to prove.
 
-ghost use Rattle.std.specs.Prelude.{◌≤◌, nat_abs, IsTrue, IfOk};
+ghost use Rattle.std.specs.Prelude.{◌≤◌, nat_abs, IsTrue, IfSome};
 ghost use Rattle.nef_space.specs.Place.{InClosedFrame, InFrame};
 ghost use Rattle.nef_geo.specs.Shapes.{place_of};
 
-use nef_geo::{Dir, HALF_SIDE, Label, Plane, Point};
-use std::alloc::{AllocError, Global};
-use std::test::Fail;
+use nef_geo::{Dir, HALF_SIDE, Label, Oriented, Plane, Point};
+use std::alloc::AllocError;
+use std::process::Abort;
 
 // The greatest weight of a point, and the greatest of its other numbers.
 const GREATEST_WEIGHT: i64 = 1 << 32;
 
 const GREATEST_NUMBER: u64 = 1 << 43;
 
+/// Stops the test where the row doesn't hold, in the table with this name.
+pub(crate) fn check(rt: &impl Abort, holds: bool, name: &str, row: &str) {
+    assert!(rt; holds, "{name}: {row}");
+}
+
+/// The text before the separator, and the text behind it. Where it isn't there, nothing is behind.
+pub(crate) fn parted<'a>(text: &'a str, separator: &str) -> (&'a str, &'a str) {
+    text.split_once(separator).unwrap_or((text, ""))
+}
+
+/// The question and the answer of a row, which has a reason behind them.
+pub(crate) fn case_of(row: &str) -> Option<(&str, &str)> {
+    row.split_once(" # ")?.0.split_once(" => ")
+}
+
+/// Four of the numbers between the blanks, from this place on. Zero stands for one that isn't there.
+pub(crate) fn numbers(words: &str, first: usize) -> Option<[i64; 4]> {
+    let mut numbers = [0; 4];
+    for (place, word) in words.split(' ').skip(first).enumerate() {
+        if place < 4 {
+            numbers[place] = word.parse().ok()?;
+        }
+    }
+    Some(numbers)
+}
+
 /// Whether the number is no larger than the limit.
 pub(crate) fn is_within(number: i64, limit: u64) -> bool
     ensures within { IsTrue result → nat_abs number ≤ limit }
 {
     number.unsigned_abs() <= limit
-}
-
-/// The numbers between the blanks, of which there may be none.
-pub(crate) fn numbers(alloc: Global, words: &str) -> Result<Vec<i64>, Fail> {
-    let mut list = Vec::new(alloc);
-    for word in words.split_whitespace() {
-        list.push(word.parse::<i64>()?)?;
-    }
-    Ok(list)
 }
 
 fn is_framed(p: &Point) -> bool
@@ -36,40 +56,43 @@ fn is_framed(p: &Point) -> bool
     is_within(p.x(), limit) && is_within(p.y(), limit) && is_within(p.z(), limit)
 }
 
-/// The point (x/w, y/w, z/w) of the numbers x, y, z and w, if it lies in the closed frame.
-pub(crate) fn framed_point(at: &[i64; 4]) -> Result<Point, &'static str>
-    ensures framed { IfOk result (λ p. InClosedFrame (place_of p)) }
+/// The point (x/w, y/w, z/w), if it lies in the closed frame.
+pub(crate) fn framed_point(x: i64, y: i64, z: i64, w: i64) -> Option<Point>
+    ensures framed { IfSome result (λ p. InClosedFrame (place_of p)) }
 {
-    let [x, y, z, w] = *at;
     let (is_x, is_y) = (is_within(x, GREATEST_NUMBER), is_within(y, GREATEST_NUMBER));
     if !is_x || !is_y || !is_within(z, GREATEST_NUMBER) || w < 1 || w > GREATEST_WEIGHT {
-        return Err("a number out of range");
+        return None;
     }
     let p = Point::of(x, y, z, w);
-    if is_framed(&p) {
-        Ok(p)
-    } else {
-        Err("out of the frame")
-    }
+    if is_framed(&p) { Some(p) } else { None }
+}
+
+/// The point of the four numbers from this place on, if it lies in the closed frame.
+pub(crate) fn point(words: &str, first: usize) -> Option<Point>
+    ensures framed { IfSome result (λ p. InClosedFrame (place_of p)) }
+{
+    let [x, y, z, w] = numbers(words, first)?;
+    framed_point(x, y, z, w)
 }
 
 /// The same, if it doesn't lie on the border of the frame.
-pub(crate) fn inner_point(at: &[i64; 4]) -> Result<Point, &'static str>
-    ensures framed { IfOk result (λ p. InFrame (place_of p)) }
+pub(crate) fn inner_point(words: &str, first: usize) -> Option<Point>
+    ensures framed { IfSome result (λ p. InFrame (place_of p)) }
 {
-    let p = framed_point(at)?;
-    if p.in_frame() {
-        Ok(p)
-    } else {
-        Err("on the border of the frame")
-    }
+    let p = point(words, first)?;
+    if p.in_frame() { Some(p) } else { None }
 }
 
-/// The plane of these four numbers.
-pub(crate) fn plane(numbers: &[i64; 4]) -> Result<Plane, Fail> {
-    let [a, b, c, d] = *numbers;
-    let oriented = Plane::read(a, b, c, d)?;
-    Ok(oriented.plane())
+/// The plane of the first four numbers, as it is given.
+pub(crate) fn oriented(words: &str) -> Option<Oriented> {
+    let [a, b, c, d] = numbers(words, 0)?;
+    Plane::read(a, b, c, d).ok()
+}
+
+/// The plane of the first four numbers.
+pub(crate) fn plane(words: &str) -> Option<Plane> {
+    Some(oriented(words)?.plane())
 }
 
 pub(crate) fn label_word(label: Label) -> &'static str {
@@ -80,13 +103,20 @@ pub(crate) fn label_word(label: Label) -> &'static str {
     }
 }
 
-pub(crate) fn dir_text(alloc: Global, d: &Dir) -> Result<String, AllocError> {
-    format!(in alloc; "{} {} {}", d.x(), d.y(), d.z())
+/// Adds the numbers of the direction, each after a blank.
+pub(crate) fn add_dir(text: &mut String, d: &Dir) -> Result<(), AllocError> {
+    write!(text, " {} {} {}", d.x(), d.y(), d.z())
 }
 
-/// Adds the number, and a blank before it where some text stands already.
-pub(crate) fn add_number(alloc: Global, text: &mut String, number: usize) -> Result<(), Fail> {
-    text.push_str(if text.is_empty() { "" } else { " " })?;
-    text.push_str(number.to_string(alloc)?.as_str())?;
+/// Adds the numbers, each after a blank.
+pub(crate) fn add_numbers(text: &mut String, numbers: &[usize]) -> Result<(), AllocError> {
+    for number in numbers {
+        write!(text, " {number}")?;
+    }
     Ok(())
+}
+
+/// Adds the word.
+pub(crate) fn add_truth(text: &mut String, holds: bool) -> Result<(), AllocError> {
+    text.push_str(if holds { "true" } else { "false" })
 }

@@ -1,7 +1,7 @@
 use Rattle.nef_geo.specs.Shapes.{form_of, hit_place}
 use Rattle.nef_complex.specs.Complexes.{complex_of}
 use Rattle.law_complex.proofs.FacetWays.{meets-on}
-use Rattle.tests_places.proofs.rays.corner_text.Goals as goal
+use Rattle.tests_places.proofs.rays.add_corner.Goals as goal
 
 pub in_facet-requires-clause-off : goal.in_facet-requires-clause-off
 in_facet-requires-clause-off c = λ m e. c.in-Some.ensures.off (meets-on c.requires.shows.0 (complex_of c.args.c.now) c.requires.shows.1.shows (form_of c.args.h.now) m (hit_place c.in-Some.q) e)

@@ -1,5 +1,5 @@
 use Rattle.nef_locate.proofs.Located.{vertices-sorted}
-use Rattle.tests_places.proofs.places.vertex_text.Goals as goal
+use Rattle.tests_places.proofs.places.add_vertex.Goals as goal
 
 pub vertex_at-requires : goal.vertex_at-requires
 vertex_at-requires c = let S = c.requires.shows in record { sorted = vertices-sorted S.0 c.args.c.now S.1 }

@@ -2,7 +2,7 @@ use Rattle.std.proofs.Common.{List, sym, subst}
 use Rattle.nef_geo.specs.declared.plane.Plane.{Plane}
 use Rattle.nef_complex.specs.Index.{AreInOrder}
 use Rattle.nef_cand.proofs.Held.{carriers-ordered}
-use Rattle.tests_places.proofs.taken.row_at.Goals as goal
+use Rattle.tests_places.proofs.pairs.carriers_of.Goals as goal
 
 pub of-requires : goal.of-requires
 of-requires c = record {

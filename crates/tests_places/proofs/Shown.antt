@@ -1,0 +1,13 @@
+-- What shows a set, where an error is left out.
+use Rattle.std.proofs.Common.{◌≡◌, Option, Result, Ok, Err, IfOk, IfSome, sym, subst}
+use Rattle.std.specs.Result.{result_ok}
+use Rattle.nef_space.specs.Sets.{Set}
+use Rattle.nef_complex.specs.declared.complex.Complex.{Complex}
+use Rattle.nef_complex.specs.Complexes.{ShowsSet}
+
+abbrev pub ShowsSome : Complex → Type 0
+ShowsSome c = (s : Set) × ShowsSet s c
+
+pub shown : {E : Type 0} {P : Complex → Type 0} (r : Result Complex E) (o : Option Complex) → o ≡ result_ok r → ((c : Complex) → P c → ShowsSome c) → IfOk r P → IfSome o ShowsSome
+shown (Ok x) o e f p = subst (λ (t : Option Complex). IfSome t ShowsSome) (sym e) (f x p)
+shown (Err x) o e f p = subst (λ (t : Option Complex). IfSome t ShowsSome) (sym e) tt

@@ -1,0 +1,6 @@
+use Rattle.nef_ops.specs.Nodes.{constant_set}
+use Rattle.tests_places.proofs.Shown.{shown}
+use Rattle.tests_places.proofs.sets.constant_of.Goals as goal
+
+pub returns : goal.returns
+returns c = record { shows = shown c.constant.result c.ok.result c.ok.ensures.value (λ x p. (constant_set c.args.full, p)) c.constant.ensures.shows }
