@@ -88,7 +88,7 @@ fn counts(alloc: Global, trial: &Trial, free: bool) -> Result<String, OutOfMemor
     format!(in alloc; "{told} {calls} {unheard} {}", of(&trial.deposits))
 }
 
-// Whether all jobs come out, this is counted, and no job was held for all the turns.
+// Whether all jobs come out, this is counted, no job is told by the other board, and none was held for all the turns.
 fn is_worked<R: Threads + Wait + Sync>(
     rt: &R,
     alloc: Global,
@@ -106,8 +106,9 @@ fn is_worked<R: Threads + Wait + Sync>(
         locked(rt, alloc, trial, workers, seats)?
     };
     let counts = counts(alloc, trial, free)?;
+    let others = of(if free { &trial.locked } else { &trial.free });
     let are_right = are_squares(squares.as_slice(), trial.count) && counts.as_str() == wanted;
-    Ok(are_right && of(&trial.limits_reached) == 0)
+    Ok(are_right && (others, of(&trial.limits_reached)) == (0, 0))
 }
 
 fn trial_of(numbers: &mut Split<'_, char>) -> Option<Trial> {

@@ -51,14 +51,18 @@ fn is_crowded<R: Threads + Wait + Sync>(
     Ok(code(&status) == 0 && gate.gathered() == wanted)
 }
 
+// The gate of a statement and a number of workers.
+fn gate_of(numbers: &str, turns: u64) -> Option<Crowd> {
+    let (statement, workers) = numbers.split_once(' ')?;
+    Some(Crowd::new(statement.parse().ok()?, workers.parse().ok()?, turns))
+}
+
 // Whether the row holds.
 fn holds<R: Threads + Wait + Sync>(rt: &R, alloc: Global, row: &str) -> Option<bool> {
     let (words, rest) = row.split_once("; ")?;
     let (numbers, wanted) = rest.split_once(" => ")?;
-    let (statement, workers) = numbers.split_once(' ')?;
     let are_wanted = wanted == "true";
-    let turns = if are_wanted { TURNS } else { FEW_TURNS };
-    let gate = Crowd::new(statement.parse().ok()?, workers.parse().ok()?, turns);
+    let gate = gate_of(numbers, if are_wanted { TURNS } else { FEW_TURNS })?;
     is_crowded(rt, alloc, words, &gate, are_wanted).ok()
 }
 
