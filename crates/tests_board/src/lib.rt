@@ -1,19 +1,15 @@
-//! Tests of the machine, both boards and the pool together, and of rounds of numbers; and the gates of these and of other
-//! tests.
+//! Tests of the machine, both boards and the pool together, and of rounds of numbers.
 #![tactic(auto)]
 
 #[cfg(test)]
+mod boards;
+#[cfg(test)]
 mod counted;
-#[cfg(test)]
-mod free;
-pub mod gates;
-#[cfg(test)]
-mod jobs;
 #[cfg(test)]
 mod pools;
 #[cfg(test)]
 mod rounds;
 #[cfg(test)]
-mod tests;
+mod rows;
 #[cfg(test)]
-mod told;
+mod trial;

@@ -1,139 +1,146 @@
-//! What no clause says of the pool, over both boards: how many workers there are, how often a job is
-//! worked, when the gate is told, and that a worker ends where it found no memory.
-ghost use Rattle.std.specs.Prelude.{◌≤◌};
+//! What no clause says of the pool, over both boards: how many workers there are, how often a job is worked and by whom,
+//! when the gate is told, and that a worker ends where it found no memory.
+ghost use Rattle.std.specs.Prelude.{◌<◌};
 
-use crate::gates::Counting;
-use crate::jobs::{Refusing, Squares};
-use crate::told::{Gathering, Told};
+use crate::counted::Counted;
+use crate::rows::{check, number};
+use crate::trial::Trial;
 use nef_board::LockBoard;
-use nef_core::{Job, OutOfMemory};
+use nef_core::OutOfMemory;
 use nef_free::FreeBoard;
-use nef_io::Gate;
 use nef_pool::finish;
 use std::alloc::Global;
+use std::process::Abort;
+use std::str::Split;
 use std::sync::Wait;
-use std::sync::atomic::Ordering;
-use std::test::Fail;
+use std::sync::atomic::{AtomicU64, Ordering};
 use std::thread::Threads;
 
-const SQUARES: [u64; 10] = [0, 1, 4, 9, 16, 25, 36, 49, 64, 81];
+// How many workers, how many seats at the board, how many jobs, the bits of those that want memory in vain at first, and
+// how many have to begin before one but the first goes on; then how many jobs the gate is told of, how many calls there
+// are, how many of them for jobs that the gate wasn't told of, and how many results are deposited.
+//
+// As many jobs as no 16 bits count are worked by one worker, by two, and by the most. Where jobs wait until one more began
+// than there are workers, each worker has one at the same time. Each job is told, worked and deposited once. Where jobs 2
+// and 5 want memory in vain, a worker ends at each, and the caller works what is left.
+const ROWS: &str = "1 2 70000 0 0 => 70000 70000 0 70000
+2 3 70000 0 0 => 70000 70000 0 70000
+64 65 70000 0 0 => 70000 70000 0 70000
+2 3 3 0 3 => 3 3 0 3
+4 5 10 0 5 => 10 10 0 10
+64 65 600 0 65 => 600 600 0 600
+2 3 2 0 0 => 2 2 0 2
+1 2 10 0 0 => 10 10 0 10
+3 4 10 0 0 => 10 10 0 10
+1 2 10 4 0 => 3 11 7 2
+1 5 10 4 0 => 3 11 7 2
+2 5 10 36 0 => 6 12 4 4
+4 5 10 36 0 => 10 12 0 8";
 
-const BOARDS: [bool; 2] = [false, true];
-
-// The results of all jobs, by the free board or by the other one.
-fn finished<R: Threads + Wait + Sync, J: Job, G: Gate + Sync>(
+// The results of all jobs by the board whose passes take turns.
+fn locked<R: Threads + Wait + Sync>(
     rt: &R,
     alloc: Global,
-    job: &J,
-    free: bool,
+    trial: &Trial,
     workers: u32,
-    gate: &G,
-) -> Result<Vec<J::Out>, OutOfMemory>
-    requires workable { J.workable job.now }
-    requires workers { workers ≤ 64 }
+    seats: u32,
+) -> Result<Vec<u64>, OutOfMemory>
+    requires workers { workers < seats }
 {
-    let seats = workers + 1;
-    if free {
-        let (board, pass) = FreeBoard::new(alloc, job, seats)?;
-        finish(rt, alloc, board, pass, job, workers, gate)
-    } else {
-        let (board, pass) = LockBoard::new(rt, alloc, job, seats)?;
-        finish(rt, alloc, board, pass, job, workers, gate)
-    }
+    let (board, pass) = LockBoard::new(rt, alloc, trial, seats)?;
+    let board = Counted::new(board, &trial.deposits);
+    finish(rt, alloc, board, pass, trial, workers, trial)
+}
+
+// The same by the board whose passes wait for nobody.
+fn unlocked<R: Threads + Sync>(
+    rt: &R,
+    alloc: Global,
+    trial: &Trial,
+    workers: u32,
+    seats: u32,
+) -> Result<Vec<u64>, OutOfMemory>
+    requires workers { workers < seats }
+{
+    let (board, pass) = FreeBoard::new(alloc, trial, seats)?;
+    let board = Counted::new(board, &trial.deposits);
+    finish(rt, alloc, board, pass, trial, workers, trial)
 }
 
 // Whether there are so many numbers, each the square of its place.
 fn are_squares(numbers: &[u64], count: u32) -> bool {
-    let mut wanted = (0..u64::from(count)).map(|place| place.wrapping_mul(place));
-    numbers.iter().all(|number| wanted.next() == Some(*number)) && wanted.next().is_none()
+    for (place, number) in numbers.iter().enumerate() {
+        if *number != (place as u64).wrapping_mul(place as u64) {
+            return false;
+        }
+    }
+    numbers.len() as u64 == u64::from(count)
 }
 
-// Whether all jobs come out, and the gate is told of as many by this board.
-fn all_are_worked<R: Threads + Wait + Sync>(
+fn of(counter: &AtomicU64) -> u64 {
+    counter.load(Ordering::SeqCst)
+}
+
+// What was counted, but for the jobs that the gate was told of by the other board.
+fn counts(alloc: Global, trial: &Trial, free: bool) -> Result<String, OutOfMemory> {
+    let told = of(if free { &trial.free } else { &trial.locked });
+    let (calls, unheard) = (of(&trial.calls), of(&trial.unheard));
+    format!(in alloc; "{told} {calls} {unheard} {}", of(&trial.deposits))
+}
+
+// Whether all jobs come out, this is counted, no job is told by the other board, and none was held for all the turns.
+fn is_worked<R: Threads + Wait + Sync>(
     rt: &R,
     alloc: Global,
+    trial: &Trial,
     free: bool,
     workers: u32,
-    count: u32,
+    seats: u32,
+    wanted: &str,
 ) -> Result<bool, OutOfMemory>
-    requires workers { workers ≤ 64 }
+    requires workers { workers < seats }
 {
-    let gate = Counting::new();
-    let squares = finished(rt, alloc, &Squares { count }, free, workers, &gate)?;
-    let (locked, unlocked) = (
-        gate.locked.load(Ordering::SeqCst),
-        gate.free.load(Ordering::SeqCst),
-    );
-    let told = if free { unlocked } else { locked };
-    Ok(are_squares(squares.as_slice(), count) && told == u64::from(count))
+    let squares = if free {
+        unlocked(rt, alloc, trial, workers, seats)?
+    } else {
+        locked(rt, alloc, trial, workers, seats)?
+    };
+    let counts = counts(alloc, trial, free)?;
+    let others = of(if free { &trial.locked } else { &trial.free });
+    let are_right = are_squares(squares.as_slice(), trial.count) && counts.as_str() == wanted;
+    Ok(are_right && (others, of(&trial.limits_reached)) == (0, 0))
 }
 
-// Whether all jobs come out, and as many workers as were asked for begin before the first of them goes on.
-fn all_workers_begin<R: Threads + Wait + Sync>(
-    rt: &R,
-    alloc: Global,
-    free: bool,
-    workers: u32,
-    count: u32,
-) -> Result<bool, OutOfMemory>
-    requires workers { workers ≤ 64 }
-{
-    let gate = Gathering::new(u64::from(workers));
-    let squares = finished(rt, alloc, &Squares { count }, free, workers, &gate)?;
-    let waited = gate.limit_reached.load(Ordering::SeqCst);
-    Ok(are_squares(squares.as_slice(), count) && waited == 0)
+fn trial_of(numbers: &mut Split<'_, char>) -> Option<Trial> {
+    let count = number(numbers)?;
+    let (refused, crowd) = (number(numbers)?, number(numbers)?);
+    Some(Trial::new(count, u64::from(refused), u64::from(crowd)))
 }
 
-// As many jobs as no 16 bits count, by one worker, by two, and by the most.
-#[test]
-fn seventy_thousand_jobs(rt: HostRuntime) -> Result<(), Fail> {
-    for free in BOARDS {
-        for workers in [1, 2, 64] {
-            assert!(rt; all_are_worked(&rt, rt.alloc(), free, workers, 70_000)?);
-        }
+// Whether the row holds for this board.
+fn holds<R: Threads + Wait + Sync>(rt: &R, alloc: Global, free: bool, row: &str) -> Option<bool> {
+    let (numbers, wanted) = row.split_once(" => ")?;
+    let mut numbers = numbers.split(' ');
+    let (workers, seats) = (number(&mut numbers)?, number(&mut numbers)?);
+    let trial = trial_of(&mut numbers)?;
+    if workers >= seats {
+        return None;
     }
-    Ok(())
+    is_worked(rt, alloc, &trial, free, workers, seats, wanted).ok()
+}
+
+fn check_rows<R: Threads + Wait + Abort + Sync>(rt: &R, alloc: Global, free: bool) {
+    for row in ROWS.split('\n') {
+        check(rt, holds(rt, alloc, free, row), row);
+    }
 }
 
 #[test]
-fn as_many_workers_as_asked_for(rt: HostRuntime) -> Result<(), Fail> {
-    for free in BOARDS {
-        for (workers, count) in [(4, 10), (64, 600)] {
-            assert!(rt; all_workers_begin(&rt, rt.alloc(), free, workers, count)?);
-        }
-    }
-    Ok(())
+fn jobs_by_turns(rt: HostRuntime) {
+    check_rows(&rt, rt.alloc(), false);
 }
 
 #[test]
-fn each_job_is_told_and_worked_once(rt: HostRuntime) -> Result<(), Fail> {
-    for free in BOARDS {
-        for workers in [1, 3] {
-            let job = Told::new();
-            let squares = finished(&rt, rt.alloc(), &job, free, workers, &job)?;
-            assert_eq!(rt; squares.as_slice(), SQUARES.as_slice());
-            assert_eq!(rt; job.calls.load(Ordering::SeqCst), 10);
-            assert_eq!(rt; job.told.load(Ordering::SeqCst), 1023);
-            assert_eq!(rt; job.untold.load(Ordering::SeqCst), 0);
-        }
-    }
-    Ok(())
-}
-
-#[test]
-fn a_worker_without_memory_ends(rt: HostRuntime) -> Result<(), Fail> {
-    // The one worker begins the jobs 0, 1 and 2, and finds no memory for 2.
-    for free in BOARDS {
-        let job = Refusing::new(true, false);
-        let gate = Counting::new();
-        let squares = finished(&rt, rt.alloc(), &job, free, 1, &gate)?;
-        assert_eq!(rt; squares.as_slice(), SQUARES.as_slice());
-        let told = if free {
-            gate.free.load(Ordering::SeqCst)
-        } else {
-            gate.locked.load(Ordering::SeqCst)
-        };
-        assert_eq!(rt; told, 3);
-    }
-    Ok(())
+fn jobs_without_turns(rt: HostRuntime) {
+    check_rows(&rt, rt.alloc(), true);
 }

@@ -1,65 +1,70 @@
 //! A round of the numbers 4 and 7, a stage of five numbers, and stages that tell how many are worked side by side.
 ghost use Rattle.std.specs.Prelude.{◌≡◌, ◌≤◌, ◌==◌, if◌then◌else◌, nat_lt, Some, None};
+ghost use Rattle.nef_sched.specs.Rounds.{Belongs};
 
-use nef_sched::{Needs, OutOfMemory, Results, Round, Stage, Taken, run_ahead, run_lean};
+use crate::rows::{TURNS, check, number};
+use nef_sched::{Needs, OutOfMemory, Results, Round, RoundPass, Stage, Taken, run_ahead, run_lean};
 use std::alloc::Global;
 use std::sync::Wait;
 use std::sync::atomic::{AtomicBool, AtomicU64, Ordering};
-use std::test::Fail;
 use std::thread;
 use std::thread::Threads;
 
-#[test]
-fn one_pass_takes_all(rt: HostRuntime) -> Result<(), Fail> {
-    let numbers = [4, 7];
-    let (round, mut passes) = Round::new(&rt, rt.alloc(), &numbers, 1)?;
-    let Some(mut pass) = passes.pop() else {
-        panic!(rt; "there is a pass")
+const NUMBERS: [usize; 2] = [4, 7];
+
+// Whether the pass takes both numbers, in any order, and then finds none.
+fn takes_both<R: Wait>(rt: &R, round: &Round, pass: &mut RoundPass) -> bool
+    requires { Belongs round.now pass.old }
+{
+    let (first, second) = (round.take(rt, pass), round.take(rt, pass));
+    let are_both = matches!((first, second), (Some(4), Some(7)) | (Some(7), Some(4)));
+    are_both && round.take(rt, pass).is_none()
+}
+
+// Whether the last of so many passes takes both numbers, and another one, if there is one, none.
+fn last_takes_both<R: Wait>(rt: &R, alloc: Global, count: u32) -> Result<bool, OutOfMemory>
+    requires { 1 ≤ count }
+{
+    let (round, mut passes) = Round::new(rt, alloc, &NUMBERS, count)?;
+    let are_taken = match passes.as_mut_slice() {
+        [pass] => takes_both(rt, &round, pass),
+        [other, pass] => takes_both(rt, &round, pass) && round.take(rt, other).is_none(),
+        _ => false,
     };
-    let first = round.take(&rt, &mut pass);
-    let second = round.take(&rt, &mut pass);
-    assert!(rt; first == Some(4) && second == Some(7) || first == Some(7) && second == Some(4));
-    assert_eq!(rt; round.take(&rt, &mut pass), None);
-    Ok(())
+    Ok(are_taken)
 }
 
 #[test]
-fn two_passes_share(rt: HostRuntime) -> Result<(), Fail> {
-    let numbers = [4, 7];
-    let (round, mut passes) = Round::new(&rt, rt.alloc(), &numbers, 2)?;
-    let Some(mut one) = passes.pop() else {
-        panic!(rt; "there are two passes")
-    };
-    let Some(mut other) = passes.pop() else {
-        panic!(rt; "there are two passes")
-    };
-    assert!(rt; passes.is_empty());
-    let first = round.take(&rt, &mut one);
-    let second = round.take(&rt, &mut one);
-    assert!(rt; first == Some(4) && second == Some(7) || first == Some(7) && second == Some(4));
-    assert_eq!(rt; round.take(&rt, &mut other), None);
-    assert_eq!(rt; round.take(&rt, &mut other), None);
-    assert_eq!(rt; round.take(&rt, &mut one), None);
-    Ok(())
+fn numbers_are_taken(rt: HostRuntime) {
+    check(&rt, last_takes_both(&rt, rt.alloc(), 1).ok(), "one pass");
+    check(&rt, last_takes_both(&rt, rt.alloc(), 2).ok(), "two passes");
 }
 
-#[test]
-fn what_is_left_is_told(rt: HostRuntime) -> Result<(), Fail> {
-    let numbers = [4, 7];
-    let (round, mut passes) = Round::new(&rt, rt.alloc(), &numbers, 1)?;
+// Whether this number was taken, and the other one is left.
+fn are_told(number: Option<usize>, told: &Taken) -> bool {
+    match number {
+        Some(4) => told.taken.as_slice() == [4].as_slice()
+            && told.left.as_slice() == [7].as_slice(),
+        Some(7) => told.taken.as_slice() == [7].as_slice()
+            && told.left.as_slice() == [4].as_slice(),
+        _ => false,
+    }
+}
+
+// Whether the one number is told that the pass took, and the one that is left.
+fn closes<R: Wait>(rt: &R, alloc: Global) -> Result<bool, OutOfMemory> {
+    let (round, mut passes) = Round::new(rt, alloc, &NUMBERS, 1)?;
     let number = match passes.as_mut_slice() {
-        [pass] => round.take(&rt, pass),
-        _ => panic!(rt; "there is one pass"),
+        [pass] => round.take(rt, pass),
+        _ => None,
     };
-    let Taken { taken, left } = round.close(&rt, passes);
-    assert_eq!(rt; taken.len(), 1);
-    assert_eq!(rt; left.len(), 1);
-    assert_eq!(rt; number, taken.first().copied());
-    assert!(rt;
-        taken.first() == Some(&4) && left.first() == Some(&7)
-            || taken.first() == Some(&7) && left.first() == Some(&4)
-    );
-    Ok(())
+    let told = round.close(rt, passes);
+    Ok(are_told(number, &told))
+}
+
+#[test]
+fn what_is_left_is_told(rt: HostRuntime) {
+    check(&rt, closes(&rt, rt.alloc()).ok(), "one number is left");
 }
 
 // A load that pays for any number of workers.
@@ -156,35 +161,49 @@ impl Stage for Sums {
     }
 }
 
+// Whether the results come in order, number 4 alone is told that it is alone, and so many see no result of 0.
+fn come_in_order<R: Threads + Wait + Sync>(
+    rt: &R,
+    alloc: Global,
+    load: u64,
+    without_first: u64,
+) -> Result<bool, OutOfMemory> {
+    let stage = Sums::new(load);
+    let results = run_ahead(rt, alloc, &stage, 2)?;
+    let alone = stage.alone.load(Ordering::SeqCst);
+    let seen = stage.without_first.load(Ordering::SeqCst);
+    Ok(matches!(results.as_slice(), [1, 1, 3, 4, 5]) && (alone, seen) == (1, without_first))
+}
+
+// Whether the one result that is wanted stays, and so many see no result of 0.
+fn wanted_stays<R: Threads + Wait + Sync>(rt: &R, alloc: Global) -> Result<bool, OutOfMemory> {
+    let stage = Sums::new(HEAVY);
+    let wanted = [false, false, false, true, false];
+    let results = run_lean(rt, alloc, &stage, 2, &wanted)?;
+    let seen = stage.without_first.load(Ordering::SeqCst);
+    Ok(matches!(results.as_slice(), [None, None, None, Some(4), None]) && seen == 4)
+}
+
 // By threads, where 1 doesn't see the result of 0, and by the caller alone, where it does.
 #[test]
-fn results_come_in_order(rt: HostRuntime) -> Result<(), Fail> {
-    for (load, without_first) in [(HEAVY, 2), (0, 1)] {
-        let stage = Sums::new(load);
-        let results = run_ahead(&rt, rt.alloc(), &stage, 2)?;
-        assert_eq!(rt; results.as_slice(), [1, 1, 3, 4, 5].as_slice());
-        assert_eq!(rt; stage.alone.load(Ordering::SeqCst), 1);
-        assert_eq!(rt; stage.without_first.load(Ordering::SeqCst), without_first);
-    }
-    Ok(())
+fn results_come_in_order(rt: HostRuntime) {
+    check(
+        &rt,
+        come_in_order(&rt, rt.alloc(), HEAVY, 2).ok(),
+        "by threads",
+    );
+    check(
+        &rt,
+        come_in_order(&rt, rt.alloc(), 0, 1).ok(),
+        "by the caller",
+    );
 }
 
 // The result of 0 is let go once 2 is worked, so it isn't there for 0, 1, 3 and 4.
 #[test]
-fn wanted_results_stay(rt: HostRuntime) -> Result<(), Fail> {
-    let stage = Sums::new(HEAVY);
-    let wanted = [false, false, false, true, false];
-    let results = run_lean(&rt, rt.alloc(), &stage, 2, &wanted)?;
-    assert_eq!(rt;
-        results.as_slice(),
-        [None, None, None, Some(4), None].as_slice()
-    );
-    assert_eq!(rt; stage.without_first.load(Ordering::SeqCst), 4);
-    Ok(())
+fn wanted_results_stay(rt: HostRuntime) {
+    check(&rt, wanted_stays(&rt, rt.alloc()).ok(), "one is wanted");
 }
-
-// More turns than another thread needs to begin a number.
-const TURNS: u64 = 20_000_000;
 
 // So many numbers of this load that need nothing, of which each is worked until so many began, for so many turns at most.
 // It keeps how many began, and how many were being worked at one time at most.
@@ -267,6 +286,16 @@ impl Stage for Waiting {
     }
 }
 
+// Whether each result is its number.
+fn are_in_order(results: &[usize]) -> bool {
+    for (number, result) in results.iter().enumerate() {
+        if *result != number {
+            return false;
+        }
+    }
+    true
+}
+
 // Whether each number is worked once, and so many of them side by side and no more.
 fn run_side_by_side<R: Threads + Wait + Sync>(
     rt: &R,
@@ -280,28 +309,43 @@ fn run_side_by_side<R: Threads + Wait + Sync>(
 {
     let stage = Waiting::new(count, load, crowd);
     let results = run_ahead(rt, alloc, &stage, workers)?;
-    let mut wanted = 0..count;
-    let are_all = results.iter().all(|number| wanted.next() == Some(*number))
-        && wanted.next().is_none();
     let began = stage.began.load(Ordering::SeqCst);
     let most = stage.most.load(Ordering::SeqCst);
     let waited = stage.limit_reached.load(Ordering::SeqCst);
-    Ok(are_all && began == count as u64 && most == crowd && !waited)
+    Ok(
+        are_in_order(results.as_slice())
+            && results.len() == count
+            && began == count as u64
+            && most == crowd
+            && !waited,
+    )
 }
 
-// By as many workers as were asked for, as there are numbers, or as the load pays for: one for each 500.
-#[test]
-fn numbers_of_a_round_run_side_by_side(rt: HostRuntime) -> Result<(), Fail> {
-    for (workers, count, load, crowd) in [
-        (4, 4, HEAVY, 4),
-        (3, 10, HEAVY, 3),
-        (64, 2, HEAVY, 2),
-        (64, 100, HEAVY, 64),
-        (4, 4, 250, 2),
-        (4, 4, 249, 1),
-        (1, 4, HEAVY, 1),
-    ] {
-        assert!(rt; run_side_by_side(&rt, rt.alloc(), workers, count, load, crowd)?);
+// How many workers there are, how many numbers, the load of each, and how many are worked side by side: by as many workers
+// as were asked for, as there are numbers, or as the load pays for, one for each 500.
+const CROWDS: &str = "4 4 1000000 4
+3 10 1000000 3
+64 2 1000000 2
+64 100 1000000 64
+4 4 250 2
+4 4 249 1
+1 4 1000000 1";
+
+// Whether the row holds.
+fn holds<R: Threads + Wait + Sync>(rt: &R, alloc: Global, row: &str) -> Option<bool> {
+    let mut numbers = row.split(' ');
+    let (workers, count) = (number(&mut numbers)?, number(&mut numbers)? as usize);
+    let load = u64::from(number(&mut numbers)?);
+    let crowd = u64::from(number(&mut numbers)?);
+    if workers == 0 {
+        return None;
     }
-    Ok(())
+    run_side_by_side(rt, alloc, workers, count, load, crowd).ok()
+}
+
+#[test]
+fn numbers_of_a_round_run_side_by_side(rt: HostRuntime) {
+    for row in CROWDS.split('\n') {
+        check(&rt, holds(&rt, rt.alloc(), row), row);
+    }
 }

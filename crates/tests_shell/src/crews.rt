@@ -1,16 +1,12 @@
 //! How many workers start, where the gate holds no job for the sake of others.
 
-use crate::gates::Crowd;
+use crate::gates::{Crowd, TURNS};
 use crate::grids::grid;
-use crate::runs::ended;
-use nef_io::{MemSink, SureSource};
+use crate::runs::{check, told};
 use nef_shell::code;
-use std::alloc::Global;
-use std::process::Abort;
+use std::alloc::{AllocError, Global};
 use std::sync::Wait;
-use std::test::Fail;
 use std::thread::Threads;
-use tests_board::gates::TURNS;
 
 // So many turns are enough for a worker that started to be seen.
 const FEW_TURNS: u64 = 200;
@@ -36,36 +32,43 @@ const CROWDS: &str = "\
 --ahead --workers 64; 48 4 => true
 --ahead --workers 64; 48 5 => false";
 
-// The exit status, and whether the workers were there at once.
-fn crowded<R: Threads + Wait + Sync>(
+// The script of the boxes, their complement, and both together.
+fn script_of_boxes(alloc: Global) -> Result<String, AllocError> {
+    let boxes = grid(alloc, 8)?;
+    format!(in alloc; "{boxes}not N G\nor W G N\nhas W 0 0 0 1\n")
+}
+
+// Whether the run ends well, and the workers were there at once or not, as it is wanted.
+fn is_crowded<R: Threads + Wait + Sync>(
     rt: &R,
     alloc: Global,
     words: &str,
     gate: &Crowd,
-) -> Result<(u8, bool), Fail> {
-    let boxes = grid(alloc, 8)?;
-    let script = format!(in alloc; "{boxes}not N G\nor W G N\nhas W 0 0 0 1\n")?;
-    let mut source = SureSource::new(alloc, script.as_bytes())?;
-    let mut sink = MemSink::new(alloc, 64, 64, &[])?;
-    let status = ended(rt, alloc, words, &mut source, &mut sink, gate)?;
-    Ok((code(&status), gate.gathered()))
+    wanted: bool,
+) -> Result<bool, AllocError> {
+    let script = script_of_boxes(alloc)?;
+    let status = told(rt, alloc, words, script.as_str(), gate)?;
+    Ok(code(&status) == 0 && gate.gathered() == wanted)
 }
 
-fn check_crowds<R: Threads + Wait + Abort + Sync>(rt: &R, alloc: Global) -> Result<(), Fail> {
-    for row in CROWDS.split('\n') {
-        let (words, rest) = row.split_once("; ").ok_or("words")?;
-        let (numbers, wanted) = rest.split_once(" => ").ok_or("a row")?;
-        let (statement, workers) = numbers.split_once(' ').ok_or("two numbers")?;
-        let are_wanted = wanted == "true";
-        let turns = if are_wanted { TURNS } else { FEW_TURNS };
-        let gate = Crowd::new(statement.parse()?, workers.parse()?, turns);
-        let given = crowded(rt, alloc, words, &gate)?;
-        assert_eq!(rt; given, (0, are_wanted), "{row}");
-    }
-    Ok(())
+// The gate of a statement and a number of workers.
+fn gate_of(numbers: &str, turns: u64) -> Option<Crowd> {
+    let (statement, workers) = numbers.split_once(' ')?;
+    Some(Crowd::new(statement.parse().ok()?, workers.parse().ok()?, turns))
+}
+
+// Whether the row holds.
+fn holds<R: Threads + Wait + Sync>(rt: &R, alloc: Global, row: &str) -> Option<bool> {
+    let (words, rest) = row.split_once("; ")?;
+    let (numbers, wanted) = rest.split_once(" => ")?;
+    let are_wanted = wanted == "true";
+    let gate = gate_of(numbers, if are_wanted { TURNS } else { FEW_TURNS })?;
+    is_crowded(rt, alloc, words, &gate, are_wanted).ok()
 }
 
 #[test]
-fn as_many_workers_as_the_jobs_pay_for(rt: HostRuntime) -> Result<(), Fail> {
-    check_crowds(&rt, rt.alloc())
+fn as_many_workers_as_the_jobs_pay_for(rt: HostRuntime) {
+    for row in CROWDS.split('\n') {
+        check(&rt, holds(&rt, rt.alloc(), row), "", row);
+    }
 }

@@ -1,8 +1,9 @@
 //! Sets whose planes touch the frame, come close to each other, or all pass through one point; and long chains.
 
-use crate::runs::{fits, gives};
-use std::alloc::Global;
-use std::test::Fail;
+use crate::runs::{check, check_rows, gives};
+use std::alloc::{AllocError, Global};
+use std::sync::Wait;
+use std::thread::Threads;
 
 // Planes that meet the frame in a corner alone, pass through its corners and edges, or have the greatest numbers; a thin
 // wedge; a solid without a point.
@@ -20,7 +21,7 @@ half Pa -1 0 0 0 closed / half Pb 1 0 0 0 closed / half Pc 0 -1 0 0 closed / \
     cl C K / same C U => 9 12 6 2 / same";
 
 // The points that lie on or above all of 49 planes through one point, which the four steepest ones bound.
-fn planes_through_a_point(alloc: Global) -> Result<String, Fail> {
+fn planes_through_a_point(alloc: Global) -> Result<String, AllocError> {
     let mut script = String::from_str(alloc, "full a0\n")?;
     for plane in 0..49i32 {
         let (x, y, next) = (plane / 7 - 3, plane % 7 - 3, plane + 1);
@@ -32,7 +33,7 @@ fn planes_through_a_point(alloc: Global) -> Result<String, Fail> {
 }
 
 // The complement and the closure in turn, fifty times: a closed half-space comes back after every fourth step.
-fn closures_of_complements(alloc: Global) -> Result<String, Fail> {
+fn closures_of_complements(alloc: Global) -> Result<String, AllocError> {
     let mut script = String::from_str(alloc, "half A 1 0 0 0 closed\nnot n1 A\n")?;
     for step in 2..=100u32 {
         let before = step - 1;
@@ -43,13 +44,29 @@ fn closures_of_complements(alloc: Global) -> Result<String, Fail> {
     Ok(script)
 }
 
-#[test]
-fn planes_and_chains(rt: HostRuntime) -> Result<(), Fail> {
-    let alloc = rt.alloc();
-    assert!(rt; fits(&rt, alloc, "", PLANES, 0)?);
+fn planes_are_worked<R: Threads + Wait + Sync>(rt: &R, alloc: Global) -> Result<bool, AllocError> {
     let script = planes_through_a_point(alloc)?;
-    assert!(rt; gives(&rt, alloc, "", script.as_str(), 0, "same\n13 20 11 3\n")?);
+    gives(rt, alloc, "", script.as_str(), 0, "same\n13 20 11 3\n")
+}
+
+fn chain_is_worked<R: Threads + Wait + Sync>(rt: &R, alloc: Global) -> Result<bool, AllocError> {
     let script = closures_of_complements(alloc)?;
-    assert!(rt; gives(&rt, alloc, "", script.as_str(), 0, "same\ndiffers\n")?);
-    Ok(())
+    gives(rt, alloc, "", script.as_str(), 0, "same\ndiffers\n")
+}
+
+#[test]
+fn planes_and_chains(rt: HostRuntime) {
+    check_rows(&rt, rt.alloc(), "", PLANES, 0);
+    check(
+        &rt,
+        planes_are_worked(&rt, rt.alloc()).ok(),
+        "",
+        "planes through a point",
+    );
+    check(
+        &rt,
+        chain_is_worked(&rt, rt.alloc()).ok(),
+        "",
+        "closures of complements",
+    );
 }

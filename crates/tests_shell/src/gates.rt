@@ -1,11 +1,13 @@
-//! A gate that counts its calls, one that holds a command back, and one for which no worker starts that the jobs don't pay
+//! A gate that counts its calls, one that holds jobs back, and one for which no worker starts that the jobs don't pay
 //! for.
 
 use nef_io::Gate;
 use std::alloc::{AllocError, Global};
 use std::sync::atomic::{AtomicBool, AtomicU64, Ordering};
 use std::thread;
-use tests_board::gates::TURNS;
+
+/// More turns than any other thread needs to begin a job.
+pub const TURNS: u64 = 20_000_000;
 
 /// Counts the calls for each job up to some number, those for later jobs, and those from the board
 /// without a lock.
@@ -29,15 +31,13 @@ impl Counting {
         })
     }
 
-    /// The calls for each job, for all later ones, and from the board without a lock.
-    pub fn calls(&self, alloc: Global) -> Result<Vec<u64>, AllocError> {
-        let mut calls = Vec::new(alloc);
+    /// Adds the calls for each job, for all later ones, and from the board without a lock.
+    pub fn push_calls(&self, text: &mut String) -> Result<(), AllocError> {
         for job in &self.jobs {
-            calls.push(job.load(Ordering::SeqCst))?;
+            write!(text, " {}", job.load(Ordering::SeqCst))?;
         }
-        calls.push(self.later.load(Ordering::SeqCst))?;
-        calls.push(self.free.load(Ordering::SeqCst))?;
-        Ok(calls)
+        let later = self.later.load(Ordering::SeqCst);
+        write!(text, " {later} {}", self.free.load(Ordering::SeqCst))
     }
 }
 
@@ -53,34 +53,43 @@ impl Gate for Counting {
     }
 }
 
-/// Holds the first job 0 that it hears of until a second one began, for so many turns at most.
+/// Holds each job of one number until so many of another number began, for so many turns at most.
 #[derive(Drop)]
-pub struct Pairing {
+pub struct Holding {
+    held: u64,
+    awaited: u64,
+    wanted: u64,
     began: AtomicU64,
     limit_reached: AtomicBool,
 }
 
-impl Pairing {
-    pub fn new() -> Pairing {
-        Pairing {
+impl Holding {
+    pub fn new(held: u64, awaited: u64, wanted: u64) -> Holding {
+        Holding {
+            held,
+            awaited,
+            wanted,
             began: AtomicU64::new(0),
             limit_reached: AtomicBool::new(false),
         }
     }
 
-    /// Whether the job was held for all the turns.
+    /// Whether some job was held for all the turns.
     pub fn limit_reached(&self) -> bool {
         self.limit_reached.load(Ordering::SeqCst)
     }
 }
 
-impl Gate for Pairing {
+impl Gate for Holding {
     fn before(&self, job: u64, _free: bool) {
-        if job != 0 || self.began.fetch_add(1, Ordering::SeqCst) != 0 {
+        if job == self.awaited {
+            self.began.fetch_add(1, Ordering::SeqCst);
+        }
+        if job != self.held {
             return;
         }
         for _ in 0..TURNS {
-            if self.began.load(Ordering::SeqCst) > 1 {
+            if self.began.load(Ordering::SeqCst) >= self.wanted {
                 return;
             }
             thread::yield_now();

@@ -1,73 +1,64 @@
 //! Runs of the generated script, and of others that leave the source as it was.
 
-use crate::runs::{ended, worked};
+use crate::runs::{check, ended, folded, gives, text_of, worked};
 use crate::texts::has_part;
-use nef_io::{MemSink, MemSource, OpenGate, Source, SureSource};
+use nef_io::{MemSink, MemSource, OpenGate};
 use nef_script::stairs;
-use std::alloc::Global;
-use std::process::Abort;
-use std::str;
+use std::alloc::{AllocError, Global};
 use std::sync::Wait;
-use std::test::Fail;
 use std::thread::Threads;
 
 // A vertex with an arc of three quarters of a circle, behind its number among the vertices.
 const VERTEX: &str = "16 v 12 8 8 1 i - / s 0 0 1 i - / s 0 1 0 i - / s 1 0 0 i - / \
     a 2 1 0 0 1 i i n / a 0 2 0 1 0 i i n / a 0 1 1 0 0 i n i";
 
-// Words, and how two runs of one source end and what they write, with `/` for line ends: one with these words, and one
-// with none, which finds the refused script still there.
+// Which read of the source fails, if one does, and words; and how two runs of one source end and what they write, with `/`
+// for line ends: one with these words, and one with none, which finds the refused script still there, or the read fail.
 const UNREAD: &str =
-    "x => Words: words refused/ => Refused { line: 1, kind: UnknownCommand }: line 1: unknown command/
---stairs 1 => Done: 16 24 12 3/ => Refused { line: 1, kind: UnknownCommand }: line 1: unknown command/
---stairs 2 => Done: 28 42 18 3/ => Refused { line: 1, kind: UnknownCommand }: line 1: unknown command/";
+    "0; x => Words: words refused/ => Refused { line: 1, kind: UnknownCommand }: line 1: unknown command/
+0; --stairs 1 => Done: 16 24 12 3/ => Refused { line: 1, kind: UnknownCommand }: line 1: unknown command/
+0; --stairs 2 => Done: 28 42 18 3/ => Refused { line: 1, kind: UnknownCommand }: line 1: unknown command/
+1; --stairs=1 --workers 2 --board free => Done: 16 24 12 3/ => ReadFault: ";
 
-const MOST_BOXES: &str = "--stairs 32 => Done: 388 582 198 3/ => \
+const MOST_BOXES: &str = "0; --stairs 32 => Done: 388 582 198 3/ => \
     Refused { line: 1, kind: UnknownCommand }: line 1: unknown command/";
 
 // How the run ends, and what it writes.
-fn told<R: Threads + Wait + Sync, S: Source>(
+fn told<R: Threads + Wait + Sync>(
     rt: &R,
     alloc: Global,
     words: &str,
-    source: &mut S,
-) -> Result<String, Fail> {
+    source: &mut MemSource,
+) -> Result<String, AllocError> {
     let mut sink = MemSink::new(alloc, 64, 64, &[])?;
     let status = ended(rt, alloc, words, source, &mut sink, &OpenGate)?;
-    let taken = str::from_utf8(sink.taken())?.replace(alloc, "\n", "/")?;
-    Ok(format!(in alloc; "{status:?}: {taken}")?)
+    let taken = folded(alloc, sink.taken())?;
+    format!(in alloc; "{status:?}: {taken}")
 }
 
-// The same of the run with these words, and of one with none.
-fn told_twice<R: Threads + Wait + Sync, S: Source>(
+// Whether the run with these words, and then one with none, end and write so.
+fn are_told<R: Threads + Wait + Sync>(
     rt: &R,
     alloc: Global,
     words: &str,
-    source: &mut S,
-) -> Result<String, Fail> {
-    let (first, second) = (
-        told(rt, alloc, words, source)?,
-        told(rt, alloc, "", source)?,
-    );
-    Ok(format!(in alloc; "{first} => {second}")?)
+    fails: u64,
+    wanted: &str,
+) -> Result<bool, AllocError> {
+    let mut source = MemSource::new(alloc, b"ball A\n", 10, &[fails])?;
+    let first = told(rt, alloc, words, &mut source)?;
+    let second = told(rt, alloc, "", &mut source)?;
+    let both = format!(in alloc; "{first} => {second}")?;
+    Ok(both.as_str() == wanted)
 }
 
-fn check_unread<R: Threads + Wait + Abort + Sync>(
-    rt: &R,
-    alloc: Global,
-    table: &str,
-) -> Result<(), Fail> {
-    for row in table.split('\n') {
-        let (words, wanted) = row.split_once(" => ").ok_or("a row")?;
-        let mut source = SureSource::new(alloc, b"ball A\n")?;
-        let given = told_twice(rt, alloc, words, &mut source)?;
-        assert_eq!(rt; given.as_str(), wanted, "{words}");
-    }
-    Ok(())
+fn holds<R: Threads + Wait + Sync>(rt: &R, alloc: Global, row: &str) -> Option<bool> {
+    let (fails, rest) = row.split_once("; ")?;
+    let (words, wanted) = rest.split_once(" => ")?;
+    are_told(rt, alloc, words, fails.parse().ok()?, wanted).ok()
 }
 
 // A half by the name `{name}122`, as what 123 halves with this normal have in common, of which it is the least.
-fn nested(alloc: Global, name: &str, normal: &str) -> Result<String, Fail> {
+fn nested(alloc: Global, name: &str, normal: &str) -> Result<String, AllocError> {
     let mut script = format!(in alloc; "half {name}0 {normal} 0 closed\n")?;
     for number in 1..=122u32 {
         let before = number - 1;
@@ -79,52 +70,49 @@ fn nested(alloc: Global, name: &str, normal: &str) -> Result<String, Fail> {
     Ok(script)
 }
 
-// The source's first read fails, and comes only when a script is read.
-fn read_that_fails<R: Threads + Wait + Sync>(rt: &R, alloc: Global) -> Result<String, Fail> {
-    let mut source = MemSource::new(alloc, b"full U\n", 10, &[1])?;
-    told_twice(
-        rt,
-        alloc,
-        "--stairs=1 --workers 2 --board free",
-        &mut source,
-    )
+#[test]
+fn unread(rt: HostRuntime) {
+    for row in UNREAD.split('\n') {
+        check(&rt, holds(&rt, rt.alloc(), row), "", row);
+    }
 }
 
 #[test]
-fn unread(rt: HostRuntime) -> Result<(), Fail> {
-    check_unread(&rt, rt.alloc(), UNREAD)?;
-    let given = read_that_fails(&rt, rt.alloc())?;
-    assert_eq!(rt; given.as_str(), "Done: 16 24 12 3/ => ReadFault: ");
-    Ok(())
+fn most_boxes(rt: HostRuntime) {
+    check(&rt, holds(&rt, rt.alloc(), MOST_BOXES), "", MOST_BOXES);
 }
 
-#[test]
-fn most_boxes(rt: HostRuntime) -> Result<(), Fail> {
-    check_unread(&rt, rt.alloc(), MOST_BOXES)
-}
-
-// The generated script, read from the source with one line more.
-#[test]
-fn arc_of_three_quarters(rt: HostRuntime) -> Result<(), Fail> {
-    let alloc = rt.alloc();
+// Whether the generated script, read from the source with one line more, prints the vertex.
+fn has_arc<R: Threads + Wait + Sync>(rt: &R, alloc: Global) -> Result<bool, AllocError> {
     let boxes = stairs(alloc, 2)?;
-    let script = format!(in alloc; "{}print u1\n", str::from_utf8(boxes.as_slice())?)?;
-    let (status, text) = worked(&rt, alloc, "", script.as_str())?;
-    assert_eq!(rt; status, 0);
-    assert!(rt; text.starts_with("28 42 18 3\npolyhedron u1\n"));
-    assert!(rt; has_part(alloc, text.as_str(), VERTEX)?);
-    Ok(())
+    let script = format!(in alloc; "{}print u1\n", text_of(boxes.as_slice()))?;
+    let (status, text) = worked(rt, alloc, "", script.as_str())?;
+    let is_printed = text.starts_with("28 42 18 3\npolyhedron u1\n");
+    let is_there = has_part(alloc, text.as_str(), VERTEX) == Some(true);
+    Ok(status == 0 && is_printed && is_there)
 }
 
-// Each of the two sets has the 6 carriers of the frame and 123 of its own.
 #[test]
-fn sets_with_many_carriers(rt: HostRuntime) -> Result<(), Fail> {
-    let alloc = rt.alloc();
+fn arc_of_three_quarters(rt: HostRuntime) {
+    check(&rt, has_arc(&rt, rt.alloc()).ok(), "", VERTEX);
+}
+
+// Whether sets with many carriers are the same as with few. Each of two sets has the 6 carriers of the frame and 123 of its
+// own.
+fn are_same<R: Threads + Wait + Sync>(rt: &R, alloc: Global) -> Result<bool, AllocError> {
     let (first, second) = (nested(alloc, "p", "1 0 0")?, nested(alloc, "q", "0 1 0")?);
     let script = format!(in alloc;
         "{first}{second}and many p122 q122\nhalf p 1 0 0 0 closed\nhalf q 0 1 0 0 closed\nand few p q\nsame many few\n"
     )?;
-    let (status, text) = worked(&rt, alloc, "--workers 4", script.as_str())?;
-    assert_eq!(rt; (status, text.as_str()), (0, "same\n"));
-    Ok(())
+    gives(rt, alloc, "--workers 4", script.as_str(), 0, "same\n")
+}
+
+#[test]
+fn sets_with_many_carriers(rt: HostRuntime) {
+    check(
+        &rt,
+        are_same(&rt, rt.alloc()).ok(),
+        "--workers 4",
+        "many carriers",
+    );
 }

@@ -1,15 +1,21 @@
 //! Sets that are asked more than once: what was worked of a set is kept while the set is, and tells of no other.
 
 use crate::empty_text::EMPTY_TEXT;
-use crate::runs::{fits, gives, worked};
-use std::alloc::Global;
+use crate::runs::{check, check_rows, gives, worked};
+use std::alloc::{AllocError, Global};
+use std::process::Abort;
 use std::sync::Wait;
-use std::test::Fail;
 use std::thread::Threads;
 
-// Words of the command line, `/` between them.
-const WORDS: &str = "--workers 1 / --workers 4 --board free / --ahead --workers 4 / \
-    --ahead --workers 4 --board free / --text 2";
+// Words of the command line.
+const WORDS: &str = "--workers 1
+--workers 4 --board free
+--ahead --workers 4
+--ahead --workers 4 --board free
+--text 2";
+
+const TWO_NAMES_WORDS: &str = "--text 2
+--text 2 --ahead --workers 4 --board free";
 
 // Scripts with `/` between their lines, and what each writes: a set that is asked, bound over by a turn and asked again;
 // one that a turn gives back when it was let go; two sets in turns; a set that is used later, and asked again; and points
@@ -42,89 +48,78 @@ half A 1 0 0 0 closed / joined A 2048 0 0 1 -1 0 0 1 / joined A -1 0 0 1 2048 0 
     frame / frame / joined / frame / apart";
 
 #[test]
-fn asked_again(rt: HostRuntime) -> Result<(), Fail> {
-    for words in WORDS.split(" / ") {
-        assert!(rt; fits(&rt, rt.alloc(), words, ROWS, 0)?);
+fn asked_again(rt: HostRuntime) {
+    for words in WORDS.split('\n') {
+        check_rows(&rt, rt.alloc(), words, ROWS, 0);
     }
-    Ok(())
 }
 
 // The empty set, counted and printed in turns.
-#[test]
-fn printed_again(rt: HostRuntime) -> Result<(), Fail> {
-    let alloc = rt.alloc();
-    let script = "empty E\nprint E\ncount E\nfull U\ncount U\nprint E\nand F U E\nprint E\n";
+const PRINTED: &str = "empty E\nprint E\ncount E\nfull U\ncount U\nprint E\nand F U E\nprint E\n";
+
+// Whether it is printed each time.
+fn is_printed<R: Threads + Wait + Sync>(
+    rt: &R,
+    alloc: Global,
+    words: &str,
+) -> Result<bool, AllocError> {
     let printed = format!(in alloc; "polyhedron E\n{EMPTY_TEXT}end\n")?;
     let output = format!(in alloc; "{printed}8 12 6 2\n8 12 6 2\n{printed}{printed}")?;
-    assert!(rt; gives(&rt, alloc, "", script, 0, output.as_str())?);
-    assert!(rt;
-        gives(
-            &rt,
-            alloc,
-            "--ahead --workers 4",
-            script,
-            0,
-            output.as_str()
-        )?
-    );
-    Ok(())
+    gives(rt, alloc, words, PRINTED, 0, output.as_str())
 }
 
 // A turned set with two names, printed by both and once more: the texts between are equal, and of the second version.
 const TWO_NAMES: &str = "half A 1 0 0 0 open\nturn B A 1\nprint B\nturn C A 1\ncount C\nprint C\n\
     half D 0 0 1 0 open\njoined B -1 0 0 1 1 0 0 1\nprint B\n";
 
-// Whether the script of two names writes so.
-fn prints_alike<R: Threads + Wait + Sync>(
+// Whether what the script of two names writes is so.
+fn is_alike(written: &str) -> Option<bool> {
+    let texts = written.strip_prefix("polyhedron B\n")?;
+    let (first, rest) = texts.split_once("12 20 11 3\npolyhedron C\n")?;
+    let (second, third) = rest.split_once("apart\npolyhedron B\n")?;
+    Some(first.starts_with("nef3 2 12 20 11 3\n") && first == second && second == third)
+}
+
+// Whether it is printed alike.
+fn prints_alike<R: Threads + Wait + Sync>(rt: &R, alloc: Global, words: &str) -> Option<bool> {
+    let (status, text) = worked(rt, alloc, words, TWO_NAMES).ok()?;
+    Some(status == 0 && is_alike(text.as_str()) == Some(true))
+}
+
+// Two thousand questions about one set, and their answers.
+fn is_answered<R: Threads + Wait + Sync>(
     rt: &R,
     alloc: Global,
     words: &str,
-) -> Result<bool, Fail> {
-    let (status, text) = worked(rt, alloc, words, TWO_NAMES)?;
-    let Some(texts) = text.strip_prefix("polyhedron B\n") else {
-        return Ok(false);
-    };
-    let Some((first, rest)) = texts.split_once("12 20 11 3\npolyhedron C\n") else {
-        return Ok(false);
-    };
-    let Some((second, third)) = rest.split_once("apart\npolyhedron B\n") else {
-        return Ok(false);
-    };
-    Ok(
-        status == 0
-            && first.starts_with("nef3 2 12 20 11 3\n")
-            && first == second
-            && second == third,
-    )
-}
-
-#[test]
-fn printed_by_two_names(rt: HostRuntime) -> Result<(), Fail> {
-    assert!(rt; prints_alike(&rt, rt.alloc(), "--text 2")?);
-    assert!(rt; prints_alike(&rt, rt.alloc(), "--text 2 --ahead --workers 4 --board free")?);
-    Ok(())
-}
-
-// Two thousand questions about one set.
-#[test]
-fn asked_often(rt: HostRuntime) -> Result<(), Fail> {
-    let alloc = rt.alloc();
+) -> Result<bool, AllocError> {
     let mut script = String::from_str(alloc, "half A 1 0 0 0 closed\n")?;
     let mut output = String::new(alloc);
     for _ in 0..1000u32 {
         script.push_str("joined A -1 0 0 1 -2 0 0 1\ncount A\n")?;
         output.push_str("joined\n12 20 11 3\n")?;
     }
-    assert!(rt; gives(&rt, alloc, "", script.as_str(), 0, output.as_str())?);
-    assert!(rt;
-        gives(
-            &rt,
-            alloc,
-            "--ahead --workers 4",
-            script.as_str(),
-            0,
-            output.as_str()
-        )?
+    gives(rt, alloc, words, script.as_str(), 0, output.as_str())
+}
+
+fn check_repeated<R: Threads + Wait + Abort + Sync>(rt: &R, alloc: Global, words: &str) {
+    check(rt, is_printed(rt, alloc, words).ok(), words, PRINTED);
+    check(
+        rt,
+        is_answered(rt, alloc, words).ok(),
+        words,
+        "many questions",
     );
-    Ok(())
+}
+
+#[test]
+fn printed_again_and_asked_often(rt: HostRuntime) {
+    check_repeated(&rt, rt.alloc(), "");
+    check_repeated(&rt, rt.alloc(), "--ahead --workers 4");
+}
+
+#[test]
+fn printed_by_two_names(rt: HostRuntime) {
+    for words in TWO_NAMES_WORDS.split('\n') {
+        check(&rt, prints_alike(&rt, rt.alloc(), words), words, TWO_NAMES);
+    }
 }

@@ -2,12 +2,12 @@
 //! way.
 
 use crate::grids::grid;
-use crate::runs::ended;
+use crate::runs::{check, ended, text_of};
 use nef_io::{MemSink, OpenGate, SureSource};
 use nef_shell::code;
-use std::alloc::Global;
+use std::alloc::{AllocError, Global};
+use std::process::Abort;
 use std::sync::Wait;
-use std::test::Fail;
 use std::thread::Threads;
 
 // More bytes than the large set's text.
@@ -37,35 +37,44 @@ fn is_of_boxes(text: &str) -> bool {
         && lines_with(text, "w ") == 2 + 512
 }
 
+// Whether the answers and the text of the boxes are written.
+fn is_answered(written: &str) -> bool {
+    match written.strip_prefix(ANSWERS) {
+        Some(text) => is_of_boxes(text),
+        None => false,
+    }
+}
+
 // Whether a run with these words gives the answers and prints the boxes.
-fn is_worked<R: Threads + Wait + Sync>(rt: &R, alloc: Global, words: &str) -> Result<bool, Fail> {
+fn is_worked<R: Threads + Wait + Sync>(
+    rt: &R,
+    alloc: Global,
+    words: &str,
+) -> Result<bool, AllocError> {
     let boxes = grid(alloc, 16)?;
     let script = format!(in alloc; "{boxes}{QUESTIONS}")?;
     let mut source = SureSource::new(alloc, script.as_bytes())?;
     let mut sink = MemSink::new(alloc, ROOM, ROOM, &[])?;
     let status = ended(rt, alloc, words, &mut source, &mut sink, &OpenGate)?;
-    let written = str::from_utf8(sink.taken())?;
-    let Some(text) = written.strip_prefix(ANSWERS) else {
-        return Ok(false);
-    };
-    Ok(code(&status) == 0 && is_of_boxes(text))
+    Ok(code(&status) == 0 && is_answered(text_of(sink.taken())))
+}
+
+fn check_boxes<R: Threads + Wait + Abort + Sync>(rt: &R, alloc: Global, words: &str) {
+    check(rt, is_worked(rt, alloc, words).ok(), words, "boxes");
 }
 
 #[test]
-fn by_one_worker(rt: HostRuntime) -> Result<(), Fail> {
-    assert!(rt; is_worked(&rt, rt.alloc(), "--text 1")?);
-    Ok(())
+fn by_one_worker(rt: HostRuntime) {
+    check_boxes(&rt, rt.alloc(), "--text 1");
 }
 
 #[test]
-fn by_most_workers(rt: HostRuntime) -> Result<(), Fail> {
-    assert!(rt; is_worked(&rt, rt.alloc(), "--workers 64 --text 2")?);
-    assert!(rt; is_worked(&rt, rt.alloc(), "--workers 64 --board free --text 1")?);
-    Ok(())
+fn by_most_workers(rt: HostRuntime) {
+    check_boxes(&rt, rt.alloc(), "--workers 64 --text 2");
+    check_boxes(&rt, rt.alloc(), "--workers 64 --board free --text 1");
 }
 
 #[test]
-fn by_rounds(rt: HostRuntime) -> Result<(), Fail> {
-    assert!(rt; is_worked(&rt, rt.alloc(), "--ahead --workers 3 --text 2")?);
-    Ok(())
+fn by_rounds(rt: HostRuntime) {
+    check_boxes(&rt, rt.alloc(), "--ahead --workers 3 --text 2");
 }

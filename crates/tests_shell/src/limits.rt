@@ -1,10 +1,10 @@
 //! The shortest and the longest scripts, lines and lists of names, and the words of the command line.
 
 use crate::empty_text::EMPTY_TEXT;
-use crate::runs::gives;
+use crate::runs::{check, check_rows, gives};
 use std::alloc::{AllocError, Global};
+use std::process::Abort;
 use std::sync::Wait;
-use std::test::Fail;
 use std::thread::Threads;
 
 // Words that are accepted: two, or one.
@@ -44,7 +44,7 @@ fn is_longest<R: Threads + Wait + Sync>(
     text: &str,
     more: char,
     refusal: &str,
-) -> Result<bool, Fail> {
+) -> Result<bool, AllocError> {
     let mut longer = String::from_str(alloc, text)?;
     longer.push(more)?;
     Ok(gives(rt, alloc, "", text, 0, "")? && gives(rt, alloc, "", longer.as_str(), 1, refusal)?)
@@ -57,7 +57,7 @@ fn names_give<R: Threads + Wait + Sync>(
     line: &str,
     status: u8,
     output: &str,
-) -> Result<bool, Fail> {
+) -> Result<bool, AllocError> {
     let names = most_names(alloc)?;
     let script = format!(in alloc; "{names}{line}\n")?;
     gives(rt, alloc, "", script.as_str(), status, output)
@@ -70,75 +70,81 @@ fn constant_gives<R: Threads + Wait + Sync>(
     line: &str,
     name: &str,
     text: &str,
-) -> Result<bool, Fail> {
+) -> Result<bool, AllocError> {
     let script = format!(in alloc; "{line}\ncount {name}\nprint {name}\n")?;
     let output = format!(in alloc; "8 12 6 2\npolyhedron {name}\n{text}end\n")?;
     gives(rt, alloc, "", script.as_str(), 0, output.as_str())
 }
 
-// Whether runs with each of these words end with this status and write this.
-fn words_give<R: Threads + Wait + Sync>(
+// Stops the test where a run with each of these words doesn't end with this status, or doesn't write this.
+fn check_words<R: Threads + Wait + Abort + Sync>(
     rt: &R,
     alloc: Global,
     table: &str,
+    row: &str,
     status: u8,
-    output: &str,
-) -> Result<bool, Fail> {
+) {
     for words in table.split('\n') {
-        if !gives(rt, alloc, words, "full U\nhas U 0 0 0 1\n", status, output)? {
-            return Ok(false);
-        }
+        check_rows(rt, alloc, words, row, status);
     }
-    Ok(true)
 }
 
 #[test]
-fn line_ends(rt: HostRuntime) -> Result<(), Fail> {
-    let alloc = rt.alloc();
-    assert!(rt; gives(&rt, alloc, "", "", 0, "")?);
-    assert!(rt; gives(&rt, alloc, "", "full U\r\nhas U 0 0 0 1", 0, "in\n")?);
+fn words(rt: HostRuntime) {
+    let script = "full U / has U 0 0 0 1 => in";
+    check_words(&rt, rt.alloc(), ACCEPTED, script, 0);
+    let script = "full U / has U 0 0 0 1 => words refused";
+    check_words(&rt, rt.alloc(), REFUSED, script, 2);
+}
+
+// Whether an empty script, and one without a last line end, are worked, and the longest line and script are.
+fn are_within<R: Threads + Wait + Sync>(rt: &R, alloc: Global) -> Result<bool, AllocError> {
     let line = repeated(alloc, '#', 256)?;
-    assert!(rt; is_longest(&rt, alloc, line.as_str(), ' ', "line 1: line too long\n")?);
-    Ok(())
+    let script = repeated(alloc, '\n', 1_048_576)?;
+    Ok(
+        gives(rt, alloc, "", "", 0, "")?
+            && gives(rt, alloc, "", "full U\r\nhas U 0 0 0 1", 0, "in\n")?
+            && is_longest(rt, alloc, line.as_str(), ' ', "line 1: line too long\n")?
+            && is_longest(
+                rt,
+                alloc,
+                script.as_str(),
+                '\n',
+                "line 0: script too long\n",
+            )?,
+    )
 }
 
 #[test]
-fn longest_script(rt: HostRuntime) -> Result<(), Fail> {
-    let script = repeated(rt.alloc(), '\n', 1_048_576)?;
-    assert!(rt;
-        is_longest(
-            &rt,
-            rt.alloc(),
-            script.as_str(),
-            '\n',
-            "line 0: script too long\n"
-        )?
-    );
-    Ok(())
+fn longest(rt: HostRuntime) {
+    check(&rt, are_within(&rt, rt.alloc()).ok(), "", "lengths");
+}
+
+// Scripts of the most names are worked or refused, as the line behind them is.
+fn are_most<R: Threads + Wait + Sync>(rt: &R, alloc: Global) -> Result<bool, AllocError> {
+    Ok(
+        names_give(rt, alloc, "has n4096 0 0 0 1", 0, "in\n")?
+            && names_give(rt, alloc, "ball n4097", 1, "line 4097: unknown command\n")?
+            && names_give(rt, alloc, "full n4097", 1, "line 4097: too many names\n")?,
+    )
 }
 
 #[test]
-fn names(rt: HostRuntime) -> Result<(), Fail> {
-    let alloc = rt.alloc();
-    assert!(rt; names_give(&rt, alloc, "has n4096 0 0 0 1", 0, "in\n")?);
-    assert!(rt; names_give(&rt, alloc, "ball n4097", 1, "line 4097: unknown command\n")?);
-    assert!(rt; names_give(&rt, alloc, "full n4097", 1, "line 4097: too many names\n")?);
-    Ok(())
+fn names(rt: HostRuntime) {
+    check(&rt, are_most(&rt, rt.alloc()).ok(), "", "names");
 }
 
-// The text of the whole frame is the same as that of the empty set, with the other label inside.
-#[test]
-fn constants(rt: HostRuntime) -> Result<(), Fail> {
-    let alloc = rt.alloc();
-    assert!(rt; constant_gives(&rt, alloc, "empty E", "E", EMPTY_TEXT)?);
+// Whether both constant sets are printed. The text of the whole frame is the same as that of the empty set, with the other
+// label inside.
+fn are_printed<R: Threads + Wait + Sync>(rt: &R, alloc: Global) -> Result<bool, AllocError> {
     let text = EMPTY_TEXT.replace(alloc, " n", " i")?;
-    assert!(rt; constant_gives(&rt, alloc, "full U", "U", text.as_str())?);
-    Ok(())
+    Ok(
+        constant_gives(rt, alloc, "empty E", "E", EMPTY_TEXT)?
+            && constant_gives(rt, alloc, "full U", "U", text.as_str())?,
+    )
 }
 
 #[test]
-fn words(rt: HostRuntime) -> Result<(), Fail> {
-    assert!(rt; words_give(&rt, rt.alloc(), ACCEPTED, 0, "in\n")?);
-    assert!(rt; words_give(&rt, rt.alloc(), REFUSED, 2, "words refused\n")?);
-    Ok(())
+fn constants(rt: HostRuntime) {
+    check(&rt, are_printed(&rt, rt.alloc()).ok(), "", "constants");
 }

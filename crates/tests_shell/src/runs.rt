@@ -3,8 +3,9 @@
 use nef_io::{Gate, MemSink, OpenGate, Sink, Source, SureSource};
 use nef_shell::{Status, code, run};
 use std::alloc::{AllocError, Global};
+use std::process::Abort;
+use std::str;
 use std::sync::Wait;
-use std::test::Fail;
 use std::thread::Threads;
 
 /// The texts between the `/`, each with its line end.
@@ -42,18 +43,41 @@ pub(crate) fn ended<R: Threads + Wait + Sync, S: Source, K: Sink, G: Gate + Sync
     Ok(run(rt, alloc, &words, source, sink, gate))
 }
 
+/// How a run of the script ends that tells the gate of its jobs.
+pub(crate) fn told<R: Threads + Wait + Sync, G: Gate + Sync>(
+    rt: &R,
+    alloc: Global,
+    words: &str,
+    script: &str,
+    gate: &G,
+) -> Result<Status, AllocError> {
+    let mut source = SureSource::new(alloc, script.as_bytes())?;
+    let mut sink = MemSink::new(alloc, 64, 64, &[])?;
+    ended(rt, alloc, words, &mut source, &mut sink, gate)
+}
+
 /// The exit status, and what was written.
 pub(crate) fn worked<R: Threads + Wait + Sync>(
     rt: &R,
     alloc: Global,
     words: &str,
     script: &str,
-) -> Result<(u8, String), Fail> {
+) -> Result<(u8, String), AllocError> {
     let mut source = SureSource::new(alloc, script.as_bytes())?;
     let mut sink = MemSink::new(alloc, 32_768, 32_768, &[])?;
     let status = ended(rt, alloc, words, &mut source, &mut sink, &OpenGate)?;
-    let written = String::from_str(alloc, str::from_utf8(sink.taken())?)?;
+    let written = String::from_str(alloc, text_of(sink.taken()))?;
     Ok((code(&status), written))
+}
+
+/// The bytes as a text.
+pub(crate) fn text_of(bytes: &[u8]) -> &str {
+    str::from_utf8(bytes).unwrap_or("no text")
+}
+
+/// What was written, with `/` for line ends.
+pub(crate) fn folded(alloc: Global, bytes: &[u8]) -> Result<String, AllocError> {
+    text_of(bytes).replace(alloc, "\n", "/")
 }
 
 /// Whether a run with these words ends with this status and writes this.
@@ -64,25 +88,49 @@ pub(crate) fn gives<R: Threads + Wait + Sync>(
     script: &str,
     status: u8,
     output: &str,
-) -> Result<bool, Fail> {
+) -> Result<bool, AllocError> {
     let (ended, written) = worked(rt, alloc, words, script)?;
     Ok(ended == status && written.as_str() == output)
 }
 
-/// Whether each row of the table comes out with these words.
-pub(crate) fn fits<R: Threads + Wait + Sync>(
+// The same of lines with `/` between them.
+fn lines_give<R: Threads + Wait + Sync>(
+    rt: &R,
+    alloc: Global,
+    words: &str,
+    script: &str,
+    status: u8,
+    output: &str,
+) -> Result<bool, AllocError> {
+    let (script, output) = (unfolded(alloc, script)?, unfolded(alloc, output)?);
+    gives(rt, alloc, words, script.as_str(), status, output.as_str())
+}
+
+fn row_gives<R: Threads + Wait + Sync>(
+    rt: &R,
+    alloc: Global,
+    words: &str,
+    row: &str,
+    status: u8,
+) -> Option<bool> {
+    let (script, output) = row.split_once(" => ")?;
+    lines_give(rt, alloc, words, script, status, output).ok()
+}
+
+/// Stops the test where the row doesn't hold with these words, or couldn't be worked.
+pub(crate) fn check(rt: &impl Abort, holds: Option<bool>, words: &str, row: &str) {
+    assert!(rt; matches!(holds, Some(true)), "{words}: {row}");
+}
+
+/// Stops the test where a row of the table doesn't end with this status, or doesn't come out, with these words.
+pub(crate) fn check_rows<R: Threads + Wait + Abort + Sync>(
     rt: &R,
     alloc: Global,
     words: &str,
     table: &str,
     status: u8,
-) -> Result<bool, Fail> {
+) {
     for row in table.split('\n') {
-        let (script, output) = row.split_once(" => ").ok_or("a row")?;
-        let (script, output) = (unfolded(alloc, script)?, unfolded(alloc, output)?);
-        if !gives(rt, alloc, words, script.as_str(), status, output.as_str())? {
-            return Ok(false);
-        }
+        check(rt, row_gives(rt, alloc, words, row, status), words, row);
     }
-    Ok(true)
 }

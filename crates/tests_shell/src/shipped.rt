@@ -2,17 +2,14 @@
 
 ghost use Rattle.std.specs.Prelude.{Some};
 
-use crate::runs::{owned, unfolded};
-use crate::tables::UNIT_BOX;
+use crate::runs::{check, folded, owned, unfolded};
 use nef_io::{FromReader, IntoWriter, OpenGate};
 use nef_shell::program;
 use std::alloc::{AllocError, Global};
 use std::env::Args;
 use std::io::{self, Error, ErrorKind, Read, Write};
 use std::process::{Abort, ExitCode};
-use std::str;
 use std::sync::Wait;
-use std::test::Fail;
 use std::thread::Threads;
 
 // A script of 70 bytes, which writes 7 in two pieces.
@@ -46,7 +43,7 @@ const FAULTS: &str = "1 9 0 0 => 3:
 0 1 8 0 => 0:in/not/";
 
 // The same with a command line and a script: one that is refused, refused words, of which there are more than sixteen
-// twice, and a script that isn't read.
+// twice; a script that isn't read; and a text of writes of at most 16 bytes.
 const LINES: &str =
     "0 99 0 0;nef; half A 2048 0 0 0 closed / has A 0 0 0 1 / half B 2049 0 0 0 closed => \
 1:line 3: coefficient out of range/
@@ -58,7 +55,11 @@ const LINES: &str =
 1 99 0 0;nef a b c d e f g h i j k l m n o p q; full U => 2:words refused/
 1 99 0 0;nef --workers 2 --board free --stairs 1 --text 1 --ahead a b c d e f g h; full U => 2:words refused/
 1 99 0 0;nef --stairs 1; full U => 0:16 24 12 3/
-1 9 2 0;nef --stairs 1 --workers 2; full U => 4:16 24 12 ";
+1 9 2 0;nef --stairs 1 --workers 2; full U => 4:16 24 12 
+0 16 3 0;nef; half Aa -1 0 0 0 closed / half Ab 1 0 0 -1 closed / half Ac 0 -1 0 0 closed / \
+    half Ad 0 1 0 -1 closed / half Ae 0 0 -1 0 closed / half Af 0 0 1 -1 closed / and Ag Aa Ab / \
+    and Ah Ag Ac / and Ai Ah Ad / and Aj Ai Ae / and A Aj Af / print A => \
+    4:polyhedron A/nef3 1 16 24 12 3/v";
 
 // Gives at most ten bytes a read, and the read of one number fails.
 #[derive(Drop)]
@@ -109,19 +110,17 @@ impl Write for Taking {
     }
 }
 
-// The read that fails, and the writer, of four numbers.
-fn ends_of(alloc: Global, numbers: &str) -> Result<(u64, Taking), Fail> {
-    let (read, rest) = numbers.split_once(' ').ok_or("four numbers")?;
-    let (most, rest) = rest.split_once(' ').ok_or("four numbers")?;
-    let (fails, idles) = rest.split_once(' ').ok_or("four numbers")?;
-    let writer = Taking {
+// The writer of three numbers.
+fn writer_of(alloc: Global, numbers: &str) -> Option<Taking> {
+    let (most, rest) = numbers.split_once(' ')?;
+    let (fails, idles) = rest.split_once(' ')?;
+    Some(Taking {
         bytes: Vec::new(alloc),
-        most: most.parse()?,
+        most: most.parse().ok()?,
         writes: 0,
-        fails: fails.parse()?,
-        idles: idles.parse()?,
-    };
-    Ok((read.parse()?, writer))
+        fails: fails.parse().ok()?,
+        idles: idles.parse().ok()?,
+    })
 }
 
 // The words of a command line.
@@ -130,96 +129,96 @@ fn line_of(alloc: Global, words: &str) -> Result<Args, AllocError> {
     Ok(words.into_iter())
 }
 
-// The exit status, and what the writer took, with `/` for line ends.
+// The exit status, and what the writer took.
 fn shipped<R: Threads + Wait + Sync>(
+    rt: &R,
+    alloc: Global,
+    line: io::Result<Args>,
+    reader: Giving<'_>,
+    writer: Taking,
+) -> (ExitCode, Vec<u8>) {
+    let mut source = FromReader::new(reader);
+    let mut sink = IntoWriter::new(writer);
+    let code = program(rt, alloc, line, &mut source, &mut sink, &OpenGate);
+    (code, sink.into_inner().bytes)
+}
+
+// Whether the exit status and the bytes are those that are wanted, with `/` for line ends.
+fn is_wanted(alloc: Global, given: &(ExitCode, Vec<u8>), wanted: &str) -> Option<bool> {
+    let (status, text) = wanted.split_once(':')?;
+    let status: u8 = status.parse().ok()?;
+    let taken = folded(alloc, given.1.as_slice()).ok()?;
+    Some(given.0 == ExitCode::from(status) && taken.as_str() == text)
+}
+
+// Whether a run with a reader and a writer of these numbers ends and writes so.
+fn ends<R: Threads + Wait + Sync>(
     rt: &R,
     alloc: Global,
     line: io::Result<Args>,
     numbers: &str,
     script: &str,
-) -> Result<(ExitCode, String), Fail> {
-    let (fails, writer) = ends_of(alloc, numbers)?;
-    let script = unfolded(alloc, script)?;
+    wanted: &str,
+) -> Option<bool> {
+    let (fails, numbers) = numbers.split_once(' ')?;
+    let script = unfolded(alloc, script).ok()?;
     let reader = Giving {
         rest: script.as_bytes(),
         reads: 0,
-        fails,
+        fails: fails.parse().ok()?,
     };
-    let mut source = FromReader::new(reader);
-    let mut sink = IntoWriter::new(writer);
-    let code = program(rt, alloc, line, &mut source, &mut sink, &OpenGate);
-    let taken = sink.into_inner().bytes;
-    let text = str::from_utf8(&taken)?.replace(alloc, "\n", "/")?;
-    Ok((code, text))
+    let given = shipped(rt, alloc, line, reader, writer_of(alloc, numbers)?);
+    is_wanted(alloc, &given, wanted)
 }
 
-// Stops the test where the exit status and the bytes are not those that are wanted.
-fn check(rt: &impl Abort, given: &(ExitCode, String), wanted: &str, of: &str) -> Result<(), Fail> {
-    let (status, bytes) = wanted.split_once(':').ok_or("a status")?;
-    let status: u8 = status.parse()?;
-    assert_eq!(rt; given.0, ExitCode::from(status), "{of}");
-    assert_eq!(rt; given.1.as_str(), bytes, "{of}");
-    Ok(())
+fn script_ends<R: Threads + Wait + Sync>(rt: &R, alloc: Global, row: &str) -> Option<bool> {
+    let (numbers, wanted) = row.split_once(" => ")?;
+    let line = line_of(alloc, "nef").ok()?;
+    ends(rt, alloc, Ok(line), numbers, SCRIPT, wanted)
 }
 
-fn check_faults<R: Threads + Wait + Abort + Sync>(rt: &R, alloc: Global) -> Result<(), Fail> {
+fn line_ends<R: Threads + Wait + Sync>(rt: &R, alloc: Global, row: &str) -> Option<bool> {
+    let (numbers, rest) = row.split_once(';')?;
+    let (words, rest) = rest.split_once("; ")?;
+    let (script, wanted) = rest.split_once(" => ")?;
+    let line = line_of(alloc, words).ok()?;
+    ends(rt, alloc, Ok(line), numbers, script, wanted)
+}
+
+#[test]
+fn failing_calls(rt: HostRuntime) {
     for row in FAULTS.split('\n') {
-        let (numbers, wanted) = row.split_once(" => ").ok_or("a row")?;
-        let line = line_of(alloc, "nef")?;
-        let given = shipped(rt, alloc, Ok(line), numbers, SCRIPT)?;
-        check(rt, &given, wanted, row)?;
+        check(&rt, script_ends(&rt, rt.alloc(), row), "", row);
     }
-    Ok(())
 }
 
-fn check_lines<R: Threads + Wait + Abort + Sync>(
-    rt: &R,
-    alloc: Global,
-    table: &str,
-) -> Result<(), Fail> {
-    for row in table.split('\n') {
-        let (numbers, rest) = row.split_once(';').ok_or("numbers")?;
-        let (words, rest) = rest.split_once("; ").ok_or("words")?;
-        let (script, wanted) = rest.split_once(" => ").ok_or("a row")?;
-        let line = line_of(alloc, words)?;
-        let given = shipped(rt, alloc, Ok(line), numbers, script)?;
-        check(rt, &given, wanted, row)?;
+#[test]
+fn command_lines(rt: HostRuntime) {
+    for row in LINES.split('\n') {
+        check(&rt, line_ends(&rt, rt.alloc(), row), "", row);
     }
-    Ok(())
 }
 
-// Stops the test where a line without words, for a fault of this kind, doesn't end so.
+// The same where the line has no words for a fault of this kind.
 fn check_no_words<R: Threads + Wait + Abort + Sync>(
     rt: &R,
     alloc: Global,
     kind: ErrorKind,
     numbers: &str,
     wanted: &str,
-) -> Result<(), Fail> {
+) {
     let line = Err(Error::from(kind));
-    let given = shipped(rt, alloc, line, numbers, SCRIPT)?;
-    check(rt, &given, wanted, numbers)
-}
-
-#[test]
-fn failing_calls(rt: HostRuntime) -> Result<(), Fail> {
-    check_faults(&rt, rt.alloc())
-}
-
-#[test]
-fn command_lines(rt: HostRuntime) -> Result<(), Fail> {
-    let alloc = rt.alloc();
-    check_lines(&rt, alloc, LINES)?;
-    // The third write fails in a text, each of at most 16 bytes.
-    let text = format!(in alloc;
-        "0 16 3 0;nef; {UNIT_BOX} / print A => 4:polyhedron A/nef3 1 16 24 12 3/v"
-    )?;
-    check_lines(&rt, alloc, text.as_str())
+    check(
+        rt,
+        ends(rt, alloc, line, numbers, SCRIPT, wanted),
+        "",
+        numbers,
+    );
 }
 
 // A word that isn't text is a refused word, and not want of memory.
 #[test]
-fn lines_without_words(rt: HostRuntime) -> Result<(), Fail> {
+fn lines_without_words(rt: HostRuntime) {
     let alloc = rt.alloc();
     check_no_words(
         &rt,
@@ -227,14 +226,14 @@ fn lines_without_words(rt: HostRuntime) -> Result<(), Fail> {
         ErrorKind::InvalidData,
         "1 99 0 0",
         "2:words refused/",
-    )?;
+    );
     check_no_words(
         &rt,
         alloc,
         ErrorKind::InvalidData,
         "1 5 3 0",
         "4:words refu",
-    )?;
-    check_no_words(&rt, alloc, ErrorKind::OutOfMemory, "1 99 1 0", "5:")?;
-    check_no_words(&rt, alloc, ErrorKind::Other, "1 99 1 0", "5:")
+    );
+    check_no_words(&rt, alloc, ErrorKind::OutOfMemory, "1 99 1 0", "5:");
+    check_no_words(&rt, alloc, ErrorKind::Other, "1 99 1 0", "5:");
 }

@@ -5,7 +5,7 @@ ghost use Rattle.nef_space.specs.Sets.{Set};
 ghost use Rattle.nef_complex.specs.Complexes.{ShowsSet, complex_of};
 ghost use Rattle.nef_parts.specs.Numbers.{IsParts};
 
-use crate::runs::fits;
+use crate::runs::{check, check_rows};
 use nef_complex::Complex;
 use nef_core::TextVersion;
 use nef_ops::constant;
@@ -15,11 +15,10 @@ use nef_volumes::parts;
 use std::alloc::{AllocError, Global};
 use std::process::Abort;
 use std::sync::Wait;
-use std::test::Fail;
 use std::thread::Threads;
 
-/// A script with `/` between its lines, and what it writes, in the same form.
-pub(crate) const ANSWERS: &str = "half A 1 0 0 0 closed / has A 0 0 0 1 => in
+// A script with `/` between its lines, and what it writes, in the same form.
+const ANSWERS: &str = "half A 1 0 0 0 closed / has A 0 0 0 1 => in
 half A 1 0 0 0 open / has A 0 0 0 1 => not
 half A 1 0 0 0 closed / has A 2048 0 0 1 => frame
 half A 1 0 0 0 closed / has A 0 0 0 1 / half B 1 0 0 0 open / has B 0 0 0 1 => in / not
@@ -49,9 +48,9 @@ half A 0 0 1 0 closed / half B 0 0 -1 0 closed / half C 0 1 0 0 closed / \
     half D 0 -1 0 0 closed / half E -1 0 0 0 closed / and F A B / and G F C / and H G D / \
     and R H E / diff K A R / count K / has K 0 0 0 1 / has K -1 0 0 1 => 14 22 11 3 / not / in";
 
-/// Rows of unions, of symmetric differences and of differences, which are worked as trees, beside the same rows worked one
-/// by one, since each set of theirs is asked about. In the third what one set changes another one changes back.
-pub(crate) const ROWS: &str =
+// Rows of unions, of symmetric differences and of differences, which are worked as trees, beside the same rows worked one
+// by one, since each set of theirs is asked about. In the third what one set changes another one changes back.
+const ROWS: &str =
     "half A 1 0 0 0 closed / half B 0 1 0 0 open / half C 0 0 1 0 closed / half D 1 1 1 2 open / \
     or U A B / or V U C / or W V D / or P A B / has P 0 0 0 1 / or Q P C / has Q 0 0 0 1 / \
     or R Q D / same W R => in / in / same
@@ -66,8 +65,8 @@ half a 1 0 0 0 closed / half b -1 0 0 0 closed / half c 0 1 0 0 closed / half d 
     has Q 1 -1 -1 1 / diff R Q k / has R -1 1 -1 1 / same N R / has N 1 1 -1 1 => \
     not / not / not / same / in";
 
-/// The numbers of a half-space, boxes, a point, an axis, two axes that cross, and a box with corners at halves.
-pub(crate) const COUNTS: &str = "half A 1 0 0 0 closed / count A => 12 20 11 3
+// The numbers of a half-space, boxes, a point, an axis, two axes that cross, and a box with corners at halves.
+const COUNTS: &str = "half A 1 0 0 0 closed / count A => 12 20 11 3
 half Aa -1 0 0 0 closed / half Ab 1 0 0 -1 closed / half Ac 0 -1 0 0 closed / \
     half Ad 0 1 0 -1 closed / half Ae 0 0 -1 0 closed / half Af 0 0 1 -1 closed / and Ag Aa Ab / \
     and Ah Ag Ac / and Ai Ah Ad / and Aj Ai Ae / and A Aj Af / count A => 16 24 12 3
@@ -182,50 +181,66 @@ empty A \x07 => line 1: bad byte
 half A 2048 0 0 0 closed / has A 0 0 0 1 / half B 2049 0 0 0 closed => line 3: coefficient out of range
 half A 2049 0 0 0 closed / has A 0 0 0 1 => line 1: coefficient out of range";
 
-/// The numbers of workers: one, a few, and the most.
-pub(crate) const WORKERS: &str = "1 2 64";
-
 /// The closed unit box.
 pub(crate) const UNIT_BOX: &str =
     "half Aa -1 0 0 0 closed / half Ab 1 0 0 -1 closed / half Ac 0 -1 0 0 closed / \
     half Ad 0 1 0 -1 closed / half Ae 0 0 -1 0 closed / half Af 0 0 1 -1 closed / \
     and Ag Aa Ab / and Ah Ag Ac / and Ai Ah Ad / and Aj Ai Ae / and A Aj Af";
 
-// Whether each row of each table comes out with these words.
-fn all_fit<R: Threads + Wait + Sync>(rt: &R, alloc: Global, words: &str) -> Result<bool, Fail> {
-    Ok(
-        fits(rt, alloc, words, ANSWERS, 0)?
-            && fits(rt, alloc, words, SOLIDS, 0)?
-            && fits(rt, alloc, words, ROWS, 0)?
-            && fits(rt, alloc, words, COUNTS, 0)?
-            && fits(rt, alloc, words, COMPARISONS, 0)?
-            && fits(rt, alloc, words, RAYS, 0)?
-            && fits(rt, alloc, words, JOINS, 0)?
-            && fits(rt, alloc, words, REFUSALS, 1)?,
-    )
+/// One worker, a few, and the most, by the board whose passes take turns.
+pub(crate) const BY_TURNS: &str = "--workers 1 --board lock
+--workers 2 --board lock
+--workers 64 --board lock";
+
+/// The same by the board whose passes wait for nobody.
+pub(crate) const WITHOUT_TURNS: &str = "--workers 1 --board free
+--workers 2 --board free
+--workers 64 --board free";
+
+// The same by both boards, with statements that run ahead.
+const AHEAD: &str = "--ahead --workers 1 --board lock
+--ahead --workers 2 --board lock
+--ahead --workers 8 --board lock
+--ahead --workers 64 --board lock
+--ahead --workers 1 --board free
+--ahead --workers 2 --board free
+--ahead --workers 8 --board free
+--ahead --workers 64 --board free";
+
+// Stops the test where a row of those tables doesn't come out with these words that are worked ahead too.
+fn check_some<R: Threads + Wait + Abort + Sync>(rt: &R, alloc: Global, words: &str) {
+    check_rows(rt, alloc, words, ANSWERS, 0);
+    check_rows(rt, alloc, words, ROWS, 0);
+    check_rows(rt, alloc, words, COUNTS, 0);
 }
 
-// The same by this board, whatever the number of workers.
-fn fits_by<R: Threads + Wait + Sync>(rt: &R, alloc: Global, board: &str) -> Result<bool, Fail> {
-    for workers in WORKERS.split(' ') {
-        let words = format!(in alloc; "--workers {workers} --board {board}")?;
-        if !all_fit(rt, alloc, words.as_str())? {
-            return Ok(false);
-        }
+// The same of all tables, whatever the words of the list.
+fn check_all<R: Threads + Wait + Abort + Sync>(rt: &R, alloc: Global, list: &str) {
+    for words in list.split('\n') {
+        check_some(rt, alloc, words);
+        check_rows(rt, alloc, words, SOLIDS, 0);
+        check_rows(rt, alloc, words, COMPARISONS, 0);
+        check_rows(rt, alloc, words, RAYS, 0);
+        check_rows(rt, alloc, words, JOINS, 0);
+        check_rows(rt, alloc, words, REFUSALS, 1);
     }
-    Ok(true)
 }
 
 #[test]
-fn by_lock_board(rt: HostRuntime) -> Result<(), Fail> {
-    assert!(rt; fits_by(&rt, rt.alloc(), "lock")?);
-    Ok(())
+fn by_lock_board(rt: HostRuntime) {
+    check_all(&rt, rt.alloc(), BY_TURNS);
 }
 
 #[test]
-fn by_free_board(rt: HostRuntime) -> Result<(), Fail> {
-    assert!(rt; fits_by(&rt, rt.alloc(), "free")?);
-    Ok(())
+fn by_free_board(rt: HostRuntime) {
+    check_all(&rt, rt.alloc(), WITHOUT_TURNS);
+}
+
+#[test]
+fn rows_ahead(rt: HostRuntime) {
+    for words in AHEAD.split('\n') {
+        check_some(&rt, rt.alloc(), words);
+    }
 }
 
 // Whether the texts of two complexes are equal, of which the first has these parts.
@@ -284,25 +299,25 @@ fn has_full_text(alloc: Global, first: &Complex) -> Result<bool, AllocError>
     has_text_of(alloc, first, &full)
 }
 
-fn check_texts(
-    rt: &impl Abort,
-    alloc: Global,
-    empty: &Result<Complex, AllocError>,
-) -> Result<(), Fail>
+// Whether the text is its own, and not that of the whole frame.
+fn is_not_full(alloc: Global, empty: &Result<Complex, AllocError>) -> Result<bool, AllocError>
     requires empty { IfOk empty.now (ShowsSet Set.empty) }
 {
-    let Ok(empty) = empty else {
-        return Err("no memory".into());
-    };
-    assert!(rt; have_one_text(alloc, empty, empty)?);
-    assert!(rt; !has_full_text(alloc, empty)?);
-    Ok(())
+    match empty {
+        Ok(empty) => Ok(have_one_text(alloc, empty, empty)? && !has_full_text(alloc, empty)?),
+        Err(_) => Err(AllocError),
+    }
 }
 
 // The empty set against itself and the whole frame. Nothing branches while a function holds a complex: what it lets go
 // would cost minutes of proving.
 #[test]
-fn texts_compared(rt: HostRuntime) -> Result<(), Fail> {
+fn texts_compared(rt: HostRuntime) {
     let empty = constant(rt.alloc(), false);
-    check_texts(&rt, rt.alloc(), &empty)
+    check(
+        &rt,
+        is_not_full(rt.alloc(), &empty).ok(),
+        "",
+        "the empty set",
+    );
 }

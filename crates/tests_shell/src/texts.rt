@@ -1,10 +1,10 @@
 //! What is printed of worked sets.
 
-use crate::runs::{gives, unfolded, worked};
-use crate::tables::{UNIT_BOX, WORKERS};
-use std::alloc::Global;
+use crate::runs::{check, gives, unfolded, worked};
+use crate::tables::{BY_TURNS, WITHOUT_TURNS};
+use std::alloc::{AllocError, Global};
+use std::process::Abort;
 use std::sync::Wait;
-use std::test::Fail;
 use std::thread::Threads;
 
 // Scripts with `/` between their lines, the first lines that each writes, and parts of the text
@@ -153,135 +153,138 @@ const BOXES: &str = "half La -1 0 0 0 closed / half Lb 1 0 0 -2 closed / half Lc
     and Ai Ah Ad / and Aj Ai Ae / and A Aj Af / half Ba -1 0 0 1 closed / \
     half Bb 1 0 0 -2 closed / half Bc 0 -1 0 0 closed / half Bd 0 1 0 -1 closed / \
     half Be 0 0 -1 0 closed / half Bf 0 0 1 -1 closed / and Bg Ba Bb / and Bh Bg Bc / \
-    and Bi Bh Bd / and Bj Bi Be / and B Bj Bf / and L Lj Lf / or U A B";
+    and Bi Bh Bd / and Bj Bi Be / and B Bj Bf / and L Lj Lf / or U A B / print U / print L";
+
+const BOUNDARY: &str = "half Aa -1 0 0 0 closed / half Ab 1 0 0 -1 closed / \
+    half Ac 0 -1 0 0 closed / half Ad 0 1 0 -1 closed / half Ae 0 0 -1 0 closed / \
+    half Af 0 0 1 -1 closed / and Ag Aa Ab / and Ah Ag Ac / and Ai Ah Ad / and Aj Ai Ae / \
+    and A Aj Af / bd D A / print D / print A";
+
+// The lines of the text from the one of this number, of those that begin with this word, up to the next one that does.
+fn part_of<'a>(text: &'a str, begin: &str, number: usize) -> Option<&'a str> {
+    text.trim_end().split(begin).nth(number)
+}
+
+// Whether the part of this number, of those that begin with the first word of the lines, is these lines.
+fn is_part(alloc: Global, text: &str, number: u8, lines: &str) -> Result<bool, AllocError> {
+    let (word, rest) = lines.split_once(' ').unwrap_or((lines, ""));
+    let begin = format!(in alloc; "\n{word} ")?;
+    let wanted = unfolded(alloc, rest)?;
+    let part = part_of(text, begin.as_str(), usize::from(number) + 1);
+    Ok(part == wanted.strip_suffix('\n'))
+}
 
 // Whether the part with the number that stands before it is this one.
-pub(crate) fn has_part(alloc: Global, text: &str, part: &str) -> Result<bool, Fail> {
-    let Some((number, lines)) = part.split_once(' ') else {
-        return Ok(false);
-    };
-    let Some((word, _)) = lines.split_once(' ') else {
-        return Ok(false);
-    };
-    let number: u8 = number.parse()?;
-    let begin = format!(in alloc; "\n{word} ")?;
-    let Some(rest) = text
-        .trim_end()
-        .split(begin.as_str())
-        .nth(usize::from(number) + 1)
-    else {
-        return Ok(false);
-    };
-    let found = format!(in alloc; "{word} {rest}\n")?;
-    let wanted = unfolded(alloc, lines)?;
-    Ok(found.as_str() == wanted.as_str())
+pub(crate) fn has_part(alloc: Global, text: &str, part: &str) -> Option<bool> {
+    let (number, lines) = part.split_once(' ')?;
+    is_part(alloc, text, number.parse().ok()?, lines).ok()
 }
 
-fn has_parts(alloc: Global, text: &str, parts: &str) -> Result<bool, Fail> {
+fn has_parts(alloc: Global, text: &str, parts: &str) -> bool {
     for part in parts.split(" => ") {
-        if !has_part(alloc, text, part)? {
-            return Ok(false);
+        if has_part(alloc, text, part) != Some(true) {
+            return false;
         }
     }
-    Ok(true)
+    true
 }
 
-// Whether the row's script writes the row's first lines and prints its parts.
-fn row_fits<R: Threads + Wait + Sync>(
+// Whether the script writes these first lines and prints these parts.
+fn prints<R: Threads + Wait + Sync>(
+    rt: &R,
+    alloc: Global,
+    words: &str,
+    script: &str,
+    opening: &str,
+    parts: &str,
+) -> Result<bool, AllocError> {
+    let (script, opening) = (unfolded(alloc, script)?, unfolded(alloc, opening)?);
+    let (status, text) = worked(rt, alloc, words, script.as_str())?;
+    let begins = status == 0 && text.starts_with(opening.as_str());
+    Ok(begins && has_parts(alloc, text.as_str(), parts))
+}
+
+fn row_prints<R: Threads + Wait + Sync>(
     rt: &R,
     alloc: Global,
     words: &str,
     row: &str,
-) -> Result<bool, Fail> {
-    let (script, rest) = row.split_once(" => ").ok_or("a script")?;
-    let (opening, parts) = rest.split_once(" => ").ok_or("the first lines")?;
-    let (script, opening) = (unfolded(alloc, script)?, unfolded(alloc, opening)?);
-    let (status, text) = worked(rt, alloc, words, script.as_str())?;
-    let text = text.as_str();
-    Ok(status == 0 && text.starts_with(opening.as_str()) && has_parts(alloc, text, parts)?)
+) -> Option<bool> {
+    let (script, rest) = row.split_once(" => ")?;
+    let (opening, parts) = rest.split_once(" => ")?;
+    prints(rt, alloc, words, script, opening, parts).ok()
 }
 
-fn rows_fit<R: Threads + Wait + Sync>(
+fn check_texts<R: Threads + Wait + Abort + Sync>(rt: &R, alloc: Global, words: &str, table: &str) {
+    for row in table.split('\n') {
+        check(rt, row_prints(rt, alloc, words, row), words, row);
+    }
+}
+
+#[test]
+fn parts_of_texts(rt: HostRuntime) {
+    let alloc = rt.alloc();
+    check_texts(&rt, alloc, "", SOLIDS);
+    check_texts(&rt, alloc, "--text 1", SOLIDS);
+    check_texts(&rt, alloc, "--workers 2 --board free", SOLIDS);
+    check_texts(&rt, alloc, "--text 2", FACES_AND_SHELLS);
+    check_texts(&rt, alloc, "--text 2", WALL_HOLLOW_EDGE);
+    check_texts(&rt, alloc, "", LINES);
+    check_texts(&rt, alloc, "--workers 2 --board free", LINES);
+}
+
+// Whether the plate's script writes these first lines, and the same by these other words.
+fn writes_alike<R: Threads + Wait + Sync>(
     rt: &R,
     alloc: Global,
     words: &str,
-    table: &str,
-) -> Result<bool, Fail> {
-    for row in table.split('\n') {
-        if !row_fits(rt, alloc, words, row)? {
-            return Ok(false);
-        }
-    }
-    Ok(true)
-}
-
-// Whether the script writes this by this board, whatever the number of workers, and with `--ahead` by eight.
-fn alike_by<R: Threads + Wait + Sync>(
-    rt: &R,
-    alloc: Global,
-    board: &str,
-    script: &str,
-    output: &str,
-) -> Result<bool, Fail> {
-    for workers in WORKERS.split(' ') {
-        let words = format!(in alloc; "--workers {workers} --board {board}")?;
-        if !gives(rt, alloc, words.as_str(), script, 0, output)? {
-            return Ok(false);
-        }
-    }
-    let words = format!(in alloc; "--ahead --workers 8 --board {board}")?;
-    gives(rt, alloc, words.as_str(), script, 0, output)
-}
-
-// Whether the texts of two sets with these names, which the script binds, are equal.
-fn are_alike<R: Threads + Wait + Sync>(
-    rt: &R,
-    alloc: Global,
-    script: &str,
-    first: &str,
-    second: &str,
-) -> Result<bool, Fail> {
-    let script = format!(in alloc; "{script} / print {first} / print {second}")?;
-    let script = unfolded(alloc, script.as_str())?;
-    let words = "--text 1 --workers 2 --board lock";
-    let (status, text) = worked(rt, alloc, words, script.as_str())?;
-    let (_, text) = text.split_once("polyhedron ").ok_or("a text")?;
-    let (left, right) = text.split_once("polyhedron ").ok_or("two texts")?;
-    let (_, left) = left.split_once('\n').ok_or("a text")?;
-    let (_, right) = right.split_once('\n').ok_or("a text")?;
-    Ok(status == 0 && left == right)
-}
-
-#[test]
-fn parts_of_texts(rt: HostRuntime) -> Result<(), Fail> {
-    let alloc = rt.alloc();
-    assert!(rt; rows_fit(&rt, alloc, "", SOLIDS)?);
-    assert!(rt; rows_fit(&rt, alloc, "--text 1", SOLIDS)?);
-    assert!(rt; rows_fit(&rt, alloc, "--workers 2 --board free", SOLIDS)?);
-    assert!(rt; rows_fit(&rt, alloc, "--text 2", FACES_AND_SHELLS)?);
-    assert!(rt; rows_fit(&rt, alloc, "--text 2", WALL_HOLLOW_EDGE)?);
-    assert!(rt; rows_fit(&rt, alloc, "", LINES)?);
-    assert!(rt; rows_fit(&rt, alloc, "--workers 2 --board free", LINES)?);
-    Ok(())
-}
-
-#[test]
-fn plate_by_any_board(rt: HostRuntime) -> Result<(), Fail> {
-    let alloc = rt.alloc();
+) -> Result<bool, AllocError> {
     let (script, opening) = (unfolded(alloc, PLATE)?, unfolded(alloc, PLATE_OPENING)?);
-    let (status, output) = worked(&rt, alloc, "", script.as_str())?;
-    assert_eq!(rt; status, 0);
-    assert!(rt; output.starts_with(opening.as_str()));
-    assert!(rt; alike_by(&rt, alloc, "lock", script.as_str(), output.as_str())?);
-    assert!(rt; alike_by(&rt, alloc, "free", script.as_str(), output.as_str())?);
-    Ok(())
+    let (status, output) = worked(rt, alloc, "", script.as_str())?;
+    let begins = status == 0 && output.starts_with(opening.as_str());
+    Ok(begins && gives(rt, alloc, words, script.as_str(), 0, output.as_str())?)
+}
+
+fn check_plate<R: Threads + Wait + Abort + Sync>(rt: &R, alloc: Global, list: &str) {
+    for words in list.split('\n') {
+        check(rt, writes_alike(rt, alloc, words).ok(), words, "the plate");
+    }
+}
+
+#[test]
+fn plate_by_any_board(rt: HostRuntime) {
+    let alloc = rt.alloc();
+    check_plate(&rt, alloc, BY_TURNS);
+    check_plate(&rt, alloc, WITHOUT_TURNS);
+    check_plate(&rt, alloc, "--ahead --workers 8 --board lock");
+    check_plate(&rt, alloc, "--ahead --workers 8 --board free");
+}
+
+// Whether what is printed of two sets, behind their names, is equal.
+fn is_alike(written: &str) -> Option<bool> {
+    let (_, text) = written.split_once("polyhedron ")?;
+    let (left, right) = text.split_once("polyhedron ")?;
+    let (_, left) = left.split_once('\n')?;
+    let (_, right) = right.split_once('\n')?;
+    Some(left == right)
+}
+
+// Whether the texts of two sets, which the script binds and prints, are equal.
+fn are_alike<R: Threads + Wait + Sync>(rt: &R, alloc: Global, script: &str) -> Option<bool> {
+    let script = unfolded(alloc, script).ok()?;
+    let words = "--text 1 --workers 2 --board lock";
+    let (status, text) = worked(rt, alloc, words, script.as_str()).ok()?;
+    if status == 0 {
+        is_alike(text.as_str())
+    } else {
+        None
+    }
 }
 
 // A box and two boxes with a common wall that make it up; a cube and its boundary.
 #[test]
-fn alike(rt: HostRuntime) -> Result<(), Fail> {
-    assert!(rt; are_alike(&rt, rt.alloc(), BOXES, "U", "L")?);
-    let script = format!(in rt.alloc(); "{UNIT_BOX} / bd D A")?;
-    assert!(rt; !are_alike(&rt, rt.alloc(), script.as_str(), "D", "A")?);
-    Ok(())
+fn alike(rt: HostRuntime) {
+    check(&rt, are_alike(&rt, rt.alloc(), BOXES), "", BOXES);
+    let differ = are_alike(&rt, rt.alloc(), BOUNDARY) == Some(false);
+    check(&rt, Some(differ), "", BOUNDARY);
 }

@@ -1,15 +1,13 @@
 //! What the gate is told, of each job that a worker begins.
 
-use crate::gates::{Counting, Pairing};
-use crate::runs::{ended, unfolded};
+use crate::gates::{Counting, Holding};
+use crate::runs::{check, told, unfolded};
 use crate::tables::UNIT_BOX;
-use nef_io::{Gate, MemSink, SureSource};
-use std::alloc::Global;
+use nef_shell::code;
+use std::alloc::{AllocError, Global};
 use std::process::Abort;
 use std::sync::Wait;
-use std::test::Fail;
 use std::thread::Threads;
-use tests_board::gates::Holding;
 
 // Words, a script, how it ends, and the calls for each of the jobs 0 to 17, for later ones, and from the board without a
 // lock: two half-spaces, with twelve candidates each, and their intersection, with eighteen; statements of each kind, of
@@ -32,87 +30,85 @@ Done: 10 10 10 10 10 10 10 10 10 10 10 10 3 3 3 3 3 3 0 138
 ; half A 1 0 0 0 closed / has A 0 0 0 1 / ball B => \
 Refused { line: 3, kind: UnknownCommand }: 0 0 0 0 0 0 0 0 0 0 0 0 0 0 0 0 0 0 0 0";
 
-// How a run of the script ends that tells the gate of its jobs.
-fn told<R: Threads + Wait + Sync, G: Gate + Sync>(
-    rt: &R,
-    alloc: Global,
-    words: &str,
-    script: &str,
-    gate: &G,
-) -> Result<String, Fail> {
-    let script = unfolded(alloc, script)?;
-    let mut source = SureSource::new(alloc, script.as_bytes())?;
-    let mut sink = MemSink::new(alloc, 64, 64, &[])?;
-    let status = ended(rt, alloc, words, &mut source, &mut sink, gate)?;
-    Ok(format!(in alloc; "{status:?}")?)
-}
-
 // How the run ends, and the calls.
 fn counted<R: Threads + Wait + Sync>(
     rt: &R,
     alloc: Global,
     words: &str,
     script: &str,
-) -> Result<String, Fail> {
+) -> Result<String, AllocError> {
+    let script = unfolded(alloc, script)?;
     let gate = Counting::new(alloc, 18)?;
-    let mut text = told(rt, alloc, words, script, &gate)?;
-    text.push(':')?;
-    for calls in gate.calls(alloc)?.as_slice() {
-        text.push_str(format!(in alloc; " {calls}")?.as_str())?;
-    }
+    let status = told(rt, alloc, words, script.as_str(), &gate)?;
+    let mut text = format!(in alloc; "{status:?}:")?;
+    gate.push_calls(&mut text)?;
     Ok(text)
 }
 
-fn check_counted<R: Threads + Wait + Abort + Sync>(rt: &R, alloc: Global) -> Result<(), Fail> {
-    for row in COUNTED.split('\n') {
-        let (words, rest) = row.split_once("; ").ok_or("words")?;
-        let (script, wanted) = rest.split_once(" => ").ok_or("a row")?;
-        let given = counted(rt, alloc, words, script)?;
-        assert_eq!(rt; given.as_str(), wanted, "{words}");
-    }
-    Ok(())
-}
-
-// Whether the run works the whole script, and job 1 was held no longer than until job 2 began.
-fn begins_beside<R: Threads + Wait + Sync>(
-    rt: &R,
-    alloc: Global,
-    words: &str,
-    script: &str,
-) -> Result<bool, Fail> {
-    let gate = Holding::new();
-    let status = told(rt, alloc, words, script, &gate)?;
-    Ok(status.as_str() == "Done" && !gate.limit_reached())
-}
-
-// Whether it does, and the first job 0 was held no longer than until another one began.
-fn runs_beside<R: Threads + Wait + Sync>(
-    rt: &R,
-    alloc: Global,
-    words: &str,
-    script: &str,
-) -> Result<bool, Fail> {
-    let gate = Pairing::new();
-    let status = told(rt, alloc, words, script, &gate)?;
-    Ok(status.as_str() == "Done" && !gate.limit_reached())
+// Whether the row holds.
+fn holds<R: Threads + Wait + Sync>(rt: &R, alloc: Global, row: &str) -> Option<bool> {
+    let (words, rest) = row.split_once("; ")?;
+    let (script, wanted) = rest.split_once(" => ")?;
+    let given = counted(rt, alloc, words, script).ok()?;
+    Some(given.as_str() == wanted)
 }
 
 // The gate hears of each job, with `--ahead` as without it.
 #[test]
-fn jobs_counted(rt: HostRuntime) -> Result<(), Fail> {
-    check_counted(&rt, rt.alloc())
+fn jobs_counted(rt: HostRuntime) {
+    for row in COUNTED.split('\n') {
+        check(&rt, holds(&rt, rt.alloc(), row), "", row);
+    }
 }
 
-// Two jobs of one statement run beside each other; with `--ahead`, two statements of which neither needs the other, and
-// two jobs of a statement that runs beside no other.
+// Whether the run works the whole script, and each job that the gate holds was held for no longer than it has to.
+fn runs_beside<R: Threads + Wait + Sync>(
+    rt: &R,
+    alloc: Global,
+    gate: &Holding,
+    words: &str,
+    script: &str,
+) -> Result<bool, AllocError> {
+    let script = unfolded(alloc, script)?;
+    let status = told(rt, alloc, words, script.as_str(), gate)?;
+    Ok(code(&status) == 0 && !gate.limit_reached())
+}
+
+// The same where each job 1 is held until a job 2 began.
+fn check_jobs<R: Threads + Wait + Abort + Sync>(rt: &R, alloc: Global, words: &str, script: &str) {
+    let gate = Holding::new(1, 2, 1);
+    check(
+        rt,
+        runs_beside(rt, alloc, &gate, words, script).ok(),
+        words,
+        script,
+    );
+}
+
+// The same where the first job 0 is held until another one began.
+fn check_statements<R: Threads + Wait + Abort + Sync>(
+    rt: &R,
+    alloc: Global,
+    words: &str,
+    script: &str,
+) {
+    let gate = Holding::new(0, 0, 2);
+    check(
+        rt,
+        runs_beside(rt, alloc, &gate, words, script).ok(),
+        words,
+        script,
+    );
+}
+
+// Two jobs of one statement run beside each other; with `--ahead`, two jobs of a statement that runs beside no other, and
+// two statements of which neither needs the other.
 #[test]
-fn two_beside_each_other(rt: HostRuntime) -> Result<(), Fail> {
+fn two_beside_each_other(rt: HostRuntime) {
     let alloc = rt.alloc();
-    assert!(rt; begins_beside(&rt, alloc, "--workers 2", UNIT_BOX)?);
-    assert!(rt; begins_beside(&rt, alloc, "--workers 2 --board free", UNIT_BOX)?);
-    let one = "half A 1 0 0 0 closed";
-    assert!(rt; begins_beside(&rt, alloc, "--ahead --workers 2", one)?);
+    check_jobs(&rt, alloc, "--workers 2", UNIT_BOX);
+    check_jobs(&rt, alloc, "--workers 2 --board free", UNIT_BOX);
+    check_jobs(&rt, alloc, "--ahead --workers 2", "half A 1 0 0 0 closed");
     let two = "half A 1 0 0 0 closed / half B 1 0 0 0 open / has A 0 0 0 1 / has B 0 0 0 1";
-    assert!(rt; runs_beside(&rt, alloc, "--ahead --workers 2", two)?);
-    Ok(())
+    check_statements(&rt, alloc, "--ahead --workers 2", two);
 }

@@ -1,9 +1,8 @@
 //! Turned sets.
 
-use crate::runs::{fits, unfolded, worked};
-use std::alloc::Global;
+use crate::runs::{check, check_rows, unfolded, worked};
+use std::alloc::{AllocError, Global};
 use std::sync::Wait;
-use std::test::Fail;
 use std::thread::Threads;
 
 // The part of space with x and z at least 0 and y above 0, without a piece of a slanted plane, and with the point
@@ -15,8 +14,9 @@ const CORNER: &str = "half a -1 0 0 0 closed / half b 0 -1 0 0 open / half c 0 0
     half p 0 0 1 7 closed / half q 0 0 -1 -7 closed / and r l m / and s r n / and t s o / \
     and u t p / and v u q / or A k v";
 
-// The orders of the axes that turns put in place of x, y and z. Each is that of eight turns in a row.
-const ORDERS: &str = "x y z / x z y / y x z / y z x / z x y / z y x";
+// The orders of the axes that turns put in place of x, y and z, each before the places of the two words behind a normal.
+// Each is that of eight turns in a row.
+const ORDERS: &str = "0 1 2 3 4 / 0 2 1 3 4 / 1 0 2 3 4 / 1 2 0 3 4 / 2 0 1 3 4 / 2 1 0 3 4";
 
 // For each turn the one that undoes it. A turn negates the new x, y and z where its number has the bits 1, 2 and 4.
 const BACKS: &str = "0 1 2 3 4 5 6 7 8 9 12 13 10 11 14 15 16 18 17 19 20 22 21 23 \
@@ -47,96 +47,90 @@ half A 1 0 0 0 closed / turn B A 1 / turn C B 1 / has B 1 0 0 1 => in
 half A 1 0 0 0 closed / turn B A 1 / has B 1 0 0 1 / turn C B 1 / has C 1 0 0 1 / \
     has C -1 0 0 1 => in / not / in";
 
-// The entry of the axis with this letter.
-fn entry_of<'a>(axis: &str, x: &'a str, y: &'a str, z: &'a str) -> &'a str {
-    match axis {
-        "x" => x,
-        "y" => y,
-        _ => z,
+// Adds the word, or the opposite number.
+fn push_signed(script: &mut String, word: &str, negated: bool) -> Result<(), AllocError> {
+    match word.strip_prefix('-') {
+        Some(digits) if negated => write!(script, " {digits}"),
+        None if negated => write!(script, " -{word}"),
+        _ => write!(script, " {word}"),
     }
 }
 
-// The number, or its opposite.
-fn signed(alloc: Global, number: &str, negated: bool) -> Result<String, Fail> {
-    let text = match number.strip_prefix('-') {
-        Some(digits) if negated => String::from_str(alloc, digits)?,
-        None if negated => format!(in alloc; "-{number}")?,
-        _ => String::from_str(alloc, number)?,
-    };
-    Ok(text)
+// Adds the words of a half-space behind its name, with the normal turned.
+fn push_words(script: &mut String, order: &str, negated: usize, words: &str) -> Option<()> {
+    let mut bits = negated;
+    for place in order.split(' ') {
+        let word = words.split(' ').nth(place.parse().ok()?)?;
+        push_signed(script, word, bits % 2 == 1).ok()?;
+        bits /= 2;
+    }
+    script.push('\n').ok()
 }
 
-// The line for the turned set, whose names begin with another letter. A half-space has its normal turned.
-fn turned_line(alloc: Global, order: &str, negated: usize, line: &str) -> Result<String, Fail> {
-    let mut words = Vec::new(alloc);
-    for word in line.split(' ') {
-        words.push(word)?;
-    }
-    let mut axes = order.split(' ');
-    match words.as_slice() {
-        ["half", name, x, y, z, d, mode] => {
-            let a = entry_of(axes.next().unwrap_or(""), x, y, z);
-            let b = entry_of(axes.next().unwrap_or(""), x, y, z);
-            let c = entry_of(axes.next().unwrap_or(""), x, y, z);
-            let a = signed(alloc, a, negated % 2 == 1)?;
-            let b = signed(alloc, b, negated / 2 % 2 == 1)?;
-            let c = signed(alloc, c, negated / 4 % 2 == 1)?;
-            Ok(format!(in alloc; "half t{name} {a} {b} {c} {d} {mode}\n")?)
-        }
-        [verb, name, left, right] => Ok(format!(in alloc; "{verb} t{name} t{left} t{right}\n")?),
-        _ => Err("a line of the set".into()),
-    }
-}
-
-// The set, built as it is and from turned half-spaces; the set turned, and what was built turned back.
-fn turned_script(alloc: Global, order: &str, turn: usize, back: &str) -> Result<String, Fail> {
-    let mut script = unfolded(alloc, CORNER)?;
-    for line in CORNER.split(" / ") {
-        let line = turned_line(alloc, order, turn % 8, line)?;
-        script.push_str(line.as_str())?;
-    }
-    let questions = format!(in alloc;
-        "turn B A {turn}\nsame B tA\nturn C tA {back}\nsame C A\nprint A\nprint C\n"
-    )?;
-    script.push_str(questions.as_str())?;
-    Ok(script)
-}
-
-// Whether the turned set is the one that is built anew, and comes back to its text.
-fn turns<R: Threads + Wait + Sync>(
-    rt: &R,
+// Adds the line for the turned set, whose names begin with another letter.
+fn push_line(
     alloc: Global,
+    script: &mut String,
     order: &str,
-    turn: usize,
-    back: &str,
-) -> Result<bool, Fail> {
-    let script = turned_script(alloc, order, turn, back)?;
-    let (status, text) = worked(rt, alloc, "", script.as_str())?;
-    let Some(texts) = text.strip_prefix("same\nsame\npolyhedron A\n") else {
-        return Ok(false);
-    };
-    let Some((first, second)) = texts.split_once("polyhedron C\n") else {
-        return Ok(false);
-    };
-    Ok(status == 0 && first == second)
-}
-
-#[test]
-fn each_turn(rt: HostRuntime) -> Result<(), Fail> {
-    assert_eq!(rt; BACKS.split(' ').count(), 48);
-    for (turn, back) in BACKS.split(' ').enumerate() {
-        let Some(order) = ORDERS.split(" / ").nth(turn / 8) else {
-            return Err("an order".into());
-        };
-        assert!(rt; turns(&rt, rt.alloc(), order, turn, back)?);
+    negated: usize,
+    line: &str,
+) -> Option<()> {
+    let (verb, names) = line.split_once(' ')?;
+    if verb == "half" {
+        let (name, words) = names.split_once(' ')?;
+        write!(script, "half t{name}").ok()?;
+        push_words(script, order, negated, words)
+    } else {
+        let names = names.replace(alloc, " ", " t").ok()?;
+        writeln!(script, "{verb} t{names}").ok()
     }
-    Ok(())
+}
+
+// Adds the set, built from turned half-spaces.
+fn push_turned(alloc: Global, script: &mut String, order: &str, negated: usize) -> Option<()> {
+    for line in CORNER.split(" / ") {
+        push_line(alloc, script, order, negated, line)?;
+    }
+    Some(())
+}
+
+// Whether both sets have the other's text, behind their answers.
+fn is_alike(written: &str) -> Option<bool> {
+    let texts = written.strip_prefix("same\nsame\npolyhedron A\n")?;
+    let (first, second) = texts.split_once("polyhedron C\n")?;
+    Some(first == second)
+}
+
+// Whether the set turned is the one that is built anew, and that one turned back has the text of the first.
+fn turns<R: Threads + Wait + Sync>(rt: &R, alloc: Global, turn: usize, back: &str) -> Option<bool> {
+    let order = ORDERS.split(" / ").nth(turn / 8)?;
+    let mut script = unfolded(alloc, CORNER).ok()?;
+    push_turned(alloc, &mut script, order, turn % 8)?;
+    write!(
+        script,
+        "turn B A {turn}\nsame B tA\nturn C tA {back}\nsame C A\nprint A\nprint C\n"
+    )
+    .ok()?;
+    let (status, text) = worked(rt, alloc, "", script.as_str()).ok()?;
+    Some(status == 0 && is_alike(text.as_str()) == Some(true))
 }
 
 #[test]
-fn rows_of_turns(rt: HostRuntime) -> Result<(), Fail> {
-    assert!(rt; fits(&rt, rt.alloc(), "--workers 2", ROWS, 0)?);
+fn each_turn(rt: HostRuntime) {
+    check(&rt, Some(BACKS.split(' ').count() == 48), "", BACKS);
+    for (turn, back) in BACKS.split(' ').enumerate() {
+        check(
+            &rt,
+            turns(&rt, rt.alloc(), turn, back),
+            "turned back by",
+            back,
+        );
+    }
+}
+
+#[test]
+fn rows_of_turns(rt: HostRuntime) {
+    check_rows(&rt, rt.alloc(), "--workers 2", ROWS, 0);
     let refused = "empty A / turn B A 48 => line 2: coefficient out of range";
-    assert!(rt; fits(&rt, rt.alloc(), "", refused, 1)?);
-    Ok(())
+    check_rows(&rt, rt.alloc(), "", refused, 1);
 }

@@ -1,12 +1,11 @@
 //! When answers are written, and in how many pieces.
 
-use crate::runs::{ended, unfolded};
-use nef_io::{Failed, Gate, OpenGate, Sink, SureSource};
+use crate::runs::{check, ended, unfolded};
+use nef_io::{Failed, Gate, Sink, SureSource};
 use nef_shell::code;
-use std::alloc::Global;
+use std::alloc::{AllocError, Global};
 use std::sync::Wait;
 use std::sync::atomic::{AtomicU64, Ordering};
-use std::test::Fail;
 use std::thread::Threads;
 
 // Takes each piece whole, and counts them.
@@ -46,22 +45,12 @@ impl Gate for Hearing<'_> {
     }
 }
 
-// The exit status of a run of the script, and how many pieces it writes.
-fn pieces<R: Threads + Wait + Sync>(
+// The exit status, the number of pieces, and the jobs that the gate hears of before the first piece and after it.
+fn heard<R: Threads + Wait + Sync>(
     rt: &R,
     alloc: Global,
     script: &str,
-) -> Result<(u8, u64), Fail> {
-    let pieces = AtomicU64::new(0);
-    let mut source = SureSource::new(alloc, script.as_bytes())?;
-    let mut sink = Counted { pieces: &pieces };
-    let status = ended(rt, alloc, "", &mut source, &mut sink, &OpenGate)?;
-    Ok((code(&status), pieces.load(Ordering::SeqCst)))
-}
-
-// The exit status, the jobs that the gate hears of before the first piece and after it, and the number of pieces.
-fn heard<R: Threads + Wait + Sync>(rt: &R, alloc: Global, script: &str) -> Result<String, Fail> {
-    let script = unfolded(alloc, script)?;
+) -> Result<String, AllocError> {
     let pieces = AtomicU64::new(0);
     let gate = Hearing {
         pieces: &pieces,
@@ -74,11 +63,22 @@ fn heard<R: Threads + Wait + Sync>(rt: &R, alloc: Global, script: &str) -> Resul
     let before = gate.before.load(Ordering::SeqCst);
     let after = gate.after.load(Ordering::SeqCst);
     let count = pieces.load(Ordering::SeqCst);
-    Ok(format!(in alloc; "{} {before} {after} {count}", code(&status))?)
+    format!(in alloc; "{} {count} {before} {after}.", code(&status))
+}
+
+// Whether what is heard begins so.
+fn begins<R: Threads + Wait + Sync>(
+    rt: &R,
+    alloc: Global,
+    script: &str,
+    wanted: &str,
+) -> Result<bool, AllocError> {
+    let heard = heard(rt, alloc, script)?;
+    Ok(heard.starts_with(wanted))
 }
 
 // As many questions as a script may have.
-fn many_questions(alloc: Global) -> Result<String, Fail> {
+fn many_questions(alloc: Global) -> Result<String, AllocError> {
     let mut script = String::from_str(alloc, "full U\n")?;
     for _ in 0..70_000 {
         script.push_str("has U 0 0 0 1\n")?;
@@ -86,19 +86,28 @@ fn many_questions(alloc: Global) -> Result<String, Fail> {
     Ok(script)
 }
 
-// Two half-spaces of twelve jobs each, with a question between them; answers of several lines; a refusal.
-#[test]
-fn whole_pieces_as_worked(rt: HostRuntime) -> Result<(), Fail> {
-    let alloc = rt.alloc();
-    let halves = "half A 1 0 0 0 closed / has A 0 0 0 1 / half B 1 0 0 0 open / has B 0 0 0 1";
-    assert_eq!(rt; heard(&rt, alloc, halves)?.as_str(), "0 12 12 2");
-    let script = unfolded(
-        alloc,
-        "empty E / count E / print E / has E 0 0 0 1 / same E E",
-    )?;
-    assert_eq!(rt; pieces(&rt, alloc, script.as_str())?, (0, 4));
-    assert_eq!(rt; pieces(&rt, alloc, "ball A\n")?, (1, 1));
+fn are_whole<R: Threads + Wait + Sync>(rt: &R, alloc: Global) -> Result<bool, AllocError> {
     let script = many_questions(alloc)?;
-    assert_eq!(rt; pieces(&rt, alloc, script.as_str())?, (0, 70_000));
-    Ok(())
+    begins(rt, alloc, script.as_str(), "0 70000 ")
+}
+
+// Scripts, and what is heard: two half-spaces of twelve jobs each, with a question between them; answers of several lines;
+// a refusal.
+const HEARD: &str =
+    "half A 1 0 0 0 closed / has A 0 0 0 1 / half B 1 0 0 0 open / has B 0 0 0 1 => 0 2 12 12.
+empty E / count E / print E / has E 0 0 0 1 / same E E => 0 4 
+ball A => 1 1 ";
+
+fn row_begins<R: Threads + Wait + Sync>(rt: &R, alloc: Global, row: &str) -> Option<bool> {
+    let (script, wanted) = row.split_once(" => ")?;
+    let script = unfolded(alloc, script).ok()?;
+    begins(rt, alloc, script.as_str(), wanted).ok()
+}
+
+#[test]
+fn whole_pieces_as_worked(rt: HostRuntime) {
+    for row in HEARD.split('\n') {
+        check(&rt, row_begins(&rt, rt.alloc(), row), "", row);
+    }
+    check(&rt, are_whole(&rt, rt.alloc()).ok(), "", "many questions");
 }
