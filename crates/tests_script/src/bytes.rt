@@ -1,52 +1,52 @@
 //! Bytes from sources and into sinks, and reads and writes that fail.
 
-ghost use Rattle.std.specs.Prelude.{◌≡◌, ◌≤◌, ◌++◌, IfOk};
+ghost use Rattle.std.specs.Prelude.{◌≡◌, ◌++◌, IfOk};
 
-use crate::same::check;
+use crate::same::{check, check_bytes};
 use nef_io::{
     Failed, FromReader, Gate, INPUT_LIMIT, IntoWriter, MemSink, MemSource, OpenGate, OutOfMemory,
     ReadAll, Sink, Source, SureSink, SureSource, put_all, read_all,
 };
 use std::alloc::Global;
+use std::process::Abort;
+use std::test::Fail;
 
 // Two half-spaces and a question to each.
 const SCRIPT: &str = "half A 1 0 0 0 closed\nhas A 0 0 0 1\nhalf B 1 0 0 0 open\nhas B 0 0 0 1\n";
 
-// Whether the source gives the script.
-fn gives<S: Source>(alloc: Global, source: &mut S) -> bool {
-    match read_all(alloc, source) {
-        Ok(bytes) => bytes.as_slice() == SCRIPT.as_bytes(),
-        Err(_) => false,
-    }
+// Stops the test where the source does not give the script.
+fn check_script<S: Source>(rt: &impl Abort, alloc: Global, source: &mut S) {
+    let bytes = read_all(alloc, source).expect(rt, "no read fails");
+    check_bytes(rt, bytes.as_slice(), SCRIPT.as_bytes(), "the script");
 }
 
-fn sure_gives(alloc: Global) -> Result<bool, OutOfMemory> {
-    let mut source = SureSource::new(alloc, SCRIPT.as_bytes())?;
-    Ok(gives(alloc, &mut source))
-}
-
-// The same of a reader.
-fn reader_gives(alloc: Global) -> bool {
-    let mut source = FromReader::new(SCRIPT.as_bytes());
-    gives(alloc, &mut source)
-}
-
-// The script read ten bytes at a time, where the read of this number fails.
-fn failing_at(alloc: Global, number: u64) -> Result<MemSource, OutOfMemory> {
-    MemSource::new(alloc, SCRIPT.as_bytes(), 10, &[number])
-}
-
-fn gives_before(alloc: Global, number: u64) -> Result<bool, OutOfMemory> {
-    let mut source = failing_at(alloc, number)?;
-    Ok(gives(alloc, &mut source))
-}
-
-// The script has 70 bytes, so that seven reads of ten give it, and the eighth finds the end.
 #[test]
-fn sources(rt: HostRuntime) {
-    check(&rt, sure_gives(rt.alloc()).ok(), "a sure source");
-    check(&rt, Some(reader_gives(rt.alloc())), "a reader");
-    check(&rt, gives_before(rt.alloc(), 9).ok(), "a ninth read");
+fn sure_source(rt: HostRuntime) -> Result<(), Fail> {
+    let mut source = SureSource::new(rt.alloc(), SCRIPT.as_bytes())?;
+    check_script(&rt, rt.alloc(), &mut source);
+    Ok(())
+}
+
+// Stops the test where the sink does not take the piece.
+fn check_put<K: Sink>(rt: &impl Abort, sink: &mut K, piece: &str) {
+    check(rt, &put_all(sink, piece.as_bytes()), &Ok(()), piece);
+}
+
+// Stops the test where the sink takes the whole piece.
+fn check_refused<K: Sink>(rt: &impl Abort, sink: &mut K, piece: &str) {
+    check(rt, &put_all(sink, piece.as_bytes()), &Err(Failed), piece);
+}
+
+// The second of the three pieces does not fit.
+#[test]
+fn sure_sink(rt: HostRuntime) {
+    let mut room = [0u8; 8];
+    let mut sink = SureSink::new(&mut room);
+    check_put(&rt, &mut sink, "in\n");
+    check_put(&rt, &mut sink, "not in\n");
+    check_put(&rt, &mut sink, "not\n");
+    check_bytes(&rt, sink.kept(), b"in\nnot\n", "what fits");
+    OpenGate.before(0, true);
 }
 
 // How many bytes the source gives.
@@ -55,65 +55,26 @@ fn length_read<S: Source>(alloc: Global, source: &mut S) -> Result<usize, ReadAl
     Ok(bytes.len())
 }
 
-fn fails_at(alloc: Global, number: u64) -> Result<bool, OutOfMemory> {
-    let mut source = failing_at(alloc, number)?;
-    Ok(length_read(alloc, &mut source) == Err(ReadAll::ReadFault))
-}
-
-#[test]
-fn failing_reads(rt: HostRuntime) {
-    for number in 1..=8u64 {
-        check(&rt, fails_at(rt.alloc(), number).ok(), "a read that fails");
-    }
-}
-
-// Whether so many line feeds are read so.
-fn are_read(
-    alloc: Global,
-    count: usize,
-    wanted: Result<usize, ReadAll>,
-) -> Result<bool, OutOfMemory> {
+// How many line feeds are read where there are so many.
+fn feeds_read(alloc: Global, count: usize) -> Result<Result<usize, ReadAll>, OutOfMemory> {
     let feeds = vec![in alloc; b'\n'; count]?;
     let mut source = SureSource::new(alloc, &feeds)?;
-    Ok(length_read(alloc, &mut source) == wanted)
+    Ok(length_read(alloc, &mut source))
 }
 
 #[test]
-fn longest_input(rt: HostRuntime) {
-    let longest = are_read(rt.alloc(), INPUT_LIMIT, Ok(1_048_576));
-    check(&rt, longest.ok(), "the longest input");
-    let longer = are_read(rt.alloc(), INPUT_LIMIT + 1, Err(ReadAll::TooLong));
-    check(&rt, longer.ok(), "a longer one");
+fn longest_input(rt: HostRuntime) -> Result<(), Fail> {
+    let longest = feeds_read(rt.alloc(), INPUT_LIMIT)?;
+    check(&rt, &longest, &Ok(1_048_576), "the longest input");
+    let longer = feeds_read(rt.alloc(), INPUT_LIMIT + 1)?;
+    check(&rt, &longer, &Err(ReadAll::TooLong), "a longer one");
+    Ok(())
 }
 
-// For each piece whether the sink takes it.
-fn put<K: Sink>(alloc: Global, sink: &mut K, pieces: &str) -> Result<String, OutOfMemory> {
-    let mut marks = String::new(alloc);
-    for piece in pieces.split('|') {
-        let mark = if put_all(sink, piece.as_bytes()).is_ok() {
-            "y"
-        } else {
-            "n"
-        };
-        marks.push_str(mark)?;
-    }
-    Ok(marks)
-}
-
-// The second of the three pieces does not fit. A sure sink takes it all the same, and keeps what fits.
-fn sure_takes(alloc: Global) -> Result<bool, OutOfMemory> {
-    let mut room = [0u8; 8];
-    let mut sink = SureSink::new(&mut room);
-    let marks = put(alloc, &mut sink, "in\n|not in\n|not\n")?;
-    Ok(marks.as_str() == "yyy" && sink.kept() == b"in\nnot\n".as_slice())
-}
-
-// A full writer takes nothing.
-fn full_refuses(alloc: Global) -> Result<bool, OutOfMemory> {
-    let mut full = [0u8; 0];
-    let mut sink = IntoWriter::new(full.as_mut_slice());
-    let marks = put(alloc, &mut sink, "in\n")?;
-    Ok(marks.as_str() == "n")
+#[test]
+fn from_reader(rt: HostRuntime) {
+    let mut source = FromReader::new(SCRIPT.as_bytes());
+    check_script(&rt, rt.alloc(), &mut source);
 }
 
 // What a list of bytes holds that two pieces were put into. It always tells that, so the clause can state it.
@@ -126,46 +87,70 @@ fn held(alloc: Global, first: &[u8], second: &[u8]) -> Result<Vec<u8>, Failed>
     Ok(sink.into_inner())
 }
 
-fn holds_both(alloc: Global) -> bool {
-    match held(alloc, b"in\n", b"not\n") {
-        Ok(bytes) => bytes.as_slice() == b"in\nnot\n".as_slice(),
-        Err(_) => false,
+#[test]
+fn into_writer(rt: HostRuntime) -> Result<(), Fail> {
+    let bytes = held(rt.alloc(), b"in\n", b"not\n")?;
+    check_bytes(&rt, bytes.as_slice(), b"in\nnot\n", "two pieces");
+    Ok(())
+}
+
+#[test]
+fn into_full_writer(rt: HostRuntime) {
+    let mut full = [0u8; 0];
+    let mut sink = IntoWriter::new(full.as_mut_slice());
+    check_refused(&rt, &mut sink, "in\n");
+}
+
+// The script read ten bytes at a time, where the read of this number fails.
+fn failing_at(alloc: Global, number: u64) -> Result<MemSource, OutOfMemory> {
+    MemSource::new(alloc, SCRIPT.as_bytes(), 10, &[number])
+}
+
+fn check_failing(rt: &impl Abort, alloc: Global, number: u64) -> Result<(), OutOfMemory> {
+    let mut source = failing_at(alloc, number)?;
+    let read = length_read(alloc, &mut source);
+    check(rt, &read, &Err(ReadAll::ReadFault), "a read that fails");
+    Ok(())
+}
+
+// The script has 70 bytes, so that seven reads of ten give it, and the eighth finds the end.
+#[test]
+fn failing_reads(rt: HostRuntime) -> Result<(), Fail> {
+    for number in 1..=8u64 {
+        check_failing(&rt, rt.alloc(), number)?;
     }
+    Ok(())
 }
 
 #[test]
-fn sinks(rt: HostRuntime) {
-    check(&rt, sure_takes(rt.alloc()).ok(), "a sure sink");
-    check(&rt, full_refuses(rt.alloc()).ok(), "a full writer");
-    check(&rt, Some(holds_both(rt.alloc())), "a list of bytes");
-    OpenGate.before(0, true);
+fn reads_before_the_failing_one(rt: HostRuntime) -> Result<(), Fail> {
+    let mut source = failing_at(rt.alloc(), 9)?;
+    check_script(&rt, rt.alloc(), &mut source);
+    Ok(())
 }
 
-// Whether a sink with this room, which takes so many bytes at a time, and of which this write fails, takes the pieces so
-// and has these bytes then.
-fn takes(
-    alloc: Global,
-    room: usize,
-    most: usize,
-    fails: u64,
-    pieces: &str,
-    wanted: (&str, &str),
-) -> Result<bool, OutOfMemory>
-    requires { 1 ≤ most }
-{
-    let mut sink = MemSink::new(alloc, room, most, &[fails])?;
-    let marks = put(alloc, &mut sink, pieces)?;
-    Ok(marks.as_str() == wanted.0 && sink.taken() == wanted.1.as_bytes())
-}
-
-// The second write of five bytes fails; there is no room for the second piece; seven writes are before the one that fails.
+// Five bytes are written at a time, and the second write fails.
 #[test]
-fn failing_writes(rt: HostRuntime) {
-    let refusal = "line 1: unknown command\n";
-    let second = takes(rt.alloc(), 64, 5, 2, refusal, ("n", "line "));
-    check(&rt, second.ok(), "the second write");
-    let full = takes(rt.alloc(), 3, 64, 0, "in\n|not\n", ("yn", "in\n"));
-    check(&rt, full.ok(), "no room");
-    let eighth = takes(rt.alloc(), 64, 1, 8, "in\nnot\n", ("y", "in\nnot\n"));
-    check(&rt, eighth.ok(), "the eighth write");
+fn failing_write(rt: HostRuntime) -> Result<(), Fail> {
+    let mut sink = MemSink::new(rt.alloc(), 64, 5, &[2])?;
+    check_refused(&rt, &mut sink, "line 1: unknown command\n");
+    check_bytes(&rt, sink.taken(), b"line ", "before the failing write");
+    Ok(())
+}
+
+#[test]
+fn no_room_left(rt: HostRuntime) -> Result<(), Fail> {
+    let mut sink = MemSink::new(rt.alloc(), 3, 64, &[])?;
+    check_put(&rt, &mut sink, "in\n");
+    check_refused(&rt, &mut sink, "not\n");
+    check_bytes(&rt, sink.taken(), b"in\n", "what there is room for");
+    Ok(())
+}
+
+#[test]
+fn writes_before_the_failing_one(rt: HostRuntime) -> Result<(), Fail> {
+    let mut sink = MemSink::new(rt.alloc(), 64, 1, &[8])?;
+    check_put(&rt, &mut sink, "in\nnot\n");
+    check_bytes(&rt, sink.taken(), b"in\nnot\n", "seven writes");
+    Ok(())
 }

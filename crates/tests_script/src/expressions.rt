@@ -8,6 +8,8 @@ use crate::same::check;
 use nef_expr::{Node, Nodes, OutOfMemory, plain_has};
 use nef_geo::{Label, Oriented, Plane, Point};
 use std::alloc::Global;
+use std::process::Abort;
+use std::test::Fail;
 
 // x <= 0 and y <= 0, the closure of the first, which nothing stands on, and the symmetric difference.
 fn quarters(alloc: Global, left: Oriented, lower: Oriented) -> Result<Nodes, OutOfMemory>
@@ -29,34 +31,48 @@ fn quarters(alloc: Global, left: Oriented, lower: Oriented) -> Result<Nodes, Out
     Ok(nodes)
 }
 
-// The points have the labels that they have to have.
-fn has_labels(alloc: Global, nodes: &Nodes) -> Result<bool, OutOfMemory>
+fn check_label(
+    rt: &impl Abort,
+    alloc: Global,
+    nodes: &Nodes,
+    p: &Point,
+    wanted: Label,
+) -> Result<(), Fail>
     requires four { length nodes.now ≡ 4 }
     requires plain { IsPlain (node_set nodes.now 3) }
 {
-    let within = plain_has(alloc, nodes, 3, &Point::of(-1, 1, 0, 1))?;
-    let beside = plain_has(alloc, nodes, 3, &Point::of(-1, -1, 0, 1))?;
-    let without = plain_has(alloc, nodes, 3, &Point::of(2048, 0, 0, 1))?;
-    Ok((within, beside, without) == (Label::In, Label::Not, Label::Out))
+    let label = plain_has(alloc, nodes, 3, p)?;
+    check(rt, &label, &wanted, "a point");
+    Ok(())
 }
 
-fn has_nodes(alloc: Global, nodes: &Nodes) -> Result<bool, OutOfMemory>
+fn check_labels(rt: &impl Abort, alloc: Global, nodes: &Nodes) -> Result<(), Fail>
     requires four { length nodes.now ≡ 4 }
     requires plain { IsPlain (node_set nodes.now 3) }
 {
-    let are_kept = nodes.len() == 4 && matches!(nodes.get(2), Node::Cl(0));
-    Ok(are_kept && has_labels(alloc, nodes)?)
+    check_label(rt, alloc, nodes, &Point::of(-1, 1, 0, 1), Label::In)?;
+    check_label(rt, alloc, nodes, &Point::of(-1, -1, 0, 1), Label::Not)?;
+    check_label(rt, alloc, nodes, &Point::of(2048, 0, 0, 1), Label::Out)
 }
 
-fn has_quarters(alloc: Global) -> Option<bool> {
-    let left = Plane::read(1, 0, 0, 0).ok()?;
-    let lower = Plane::read(0, 1, 0, 0).ok()?;
-    let nodes = quarters(alloc, left, lower).ok()?;
-    has_nodes(alloc, &nodes).ok()
+fn check_nodes(rt: &impl Abort, alloc: Global, nodes: &Nodes) -> Result<(), Fail>
+    requires four { length nodes.now ≡ 4 }
+    requires plain { IsPlain (node_set nodes.now 3) }
+{
+    check(rt, &nodes.len(), &4, "the nodes");
+    assert!(rt; matches!(nodes.get(2), Node::Cl(0)));
+    check_labels(rt, alloc, nodes)
 }
 
 #[test]
-fn labels_of_quarters(rt: HostRuntime) {
-    check(&rt, has_quarters(rt.alloc()), "quarters");
-    check(&rt, Some(Nodes::new(rt.alloc()).is_empty()), "no nodes");
+fn labels_of_quarters(rt: HostRuntime) -> Result<(), Fail> {
+    let (left, lower) = (Plane::read(1, 0, 0, 0)?, Plane::read(0, 1, 0, 0)?);
+    let nodes = quarters(rt.alloc(), left, lower)?;
+    check_nodes(&rt, rt.alloc(), &nodes)
+}
+
+#[test]
+fn no_nodes(rt: HostRuntime) {
+    let nodes = Nodes::new(rt.alloc());
+    check(&rt, &nodes.is_empty(), &true, "no nodes");
 }

@@ -1,9 +1,10 @@
 //! Lines, words, numbers and names.
 
-use crate::same::check;
-use nef_lex::{is_name, lines, whole_number, words};
+use crate::same::{check, check_bytes, check_text};
+use nef_lex::{Line, is_name, lines, whole_number, words};
 use std::alloc::{AllocError, Global};
 use std::process::Abort;
+use std::test::Fail;
 
 // Scripts, and the lines of each: their texts, with a bar after each.
 const LINES: &str = " => ;\
@@ -52,30 +53,31 @@ const OTHER_WORDS: &str = "abcdefghijklmnopqrstuvwxyz_012345
 a-b
 \u{e9}";
 
-// Whether the script has these lines, with a bar after each, numbered from 1 on.
-fn has_lines(script: &str, texts: &str) -> bool {
-    let mut wanted = texts.split_terminator('|');
-    let mut number = 0u64;
-    for line in lines(script.as_bytes()) {
-        number = number.wrapping_add(1);
-        let text = wanted.next().unwrap_or("no line");
-        if line.number != number || line.text != text.as_bytes() {
-            return false;
-        }
-    }
-    wanted.next().is_none()
+fn numbered(line: Option<Line<'_>>) -> Option<(u64, &[u8])> {
+    let line = line?;
+    Some((line.number, line.text))
 }
 
-fn row_has_lines(row: &str) -> Option<bool> {
-    let (script, texts) = row.split_once(" => ")?;
-    Some(has_lines(script, texts))
+fn check_line(rt: &impl Abort, line: Option<Line<'_>>, number: u64, text: &str) {
+    let wanted = Some((number, text.as_bytes()));
+    check(rt, &numbered(line), &wanted, text);
+}
+
+fn check_lines(rt: &impl Abort, script: &str, texts: &str) {
+    let mut left = lines(script.as_bytes());
+    for (i, text) in texts.split_terminator('|').enumerate() {
+        check_line(rt, left.next(), i as u64 + 1, text);
+    }
+    check(rt, &left.next().is_some(), &false, script);
 }
 
 #[test]
-fn lines_of_scripts(rt: HostRuntime) {
+fn lines_of_scripts(rt: HostRuntime) -> Result<(), Fail> {
     for row in LINES.split(';') {
-        check(&rt, row_has_lines(row), row);
+        let (script, texts) = row.split_once(" => ").ok_or("a row")?;
+        check_lines(&rt, script, texts);
     }
+    Ok(())
 }
 
 // The words, with a bar after each.
@@ -88,40 +90,36 @@ fn joined_words(alloc: Global, line: &str) -> Result<Vec<u8>, AllocError> {
     Ok(joined)
 }
 
-fn has_words(alloc: Global, row: &str) -> Option<bool> {
-    let (line, wanted) = row.split_once(" => ")?;
-    let joined = joined_words(alloc, line).ok()?;
-    Some(joined.as_slice() == wanted.as_bytes())
-}
-
 #[test]
-fn words_of_lines(rt: HostRuntime) {
+fn words_of_lines(rt: HostRuntime) -> Result<(), Fail> {
     for row in WORDS.split(';') {
-        check(&rt, has_words(rt.alloc(), row), row);
+        let (line, wanted) = row.split_once(" => ").ok_or("a row")?;
+        let joined = joined_words(rt.alloc(), line)?;
+        check_bytes(&rt, joined.as_slice(), wanted.as_bytes(), line);
     }
+    Ok(())
 }
 
-fn is_number(alloc: Global, row: &str) -> Option<bool> {
-    let (word, wanted) = row.split_once(" => ")?;
-    let number = format!(in alloc; "{:?}", whole_number(word.as_bytes())).ok()?;
-    Some(number.as_str() == wanted)
+fn number_text(alloc: Global, word: &str) -> Result<String, AllocError> {
+    format!(in alloc; "{:?}", whole_number(word.as_bytes()))
 }
 
 #[test]
-fn numbers(rt: HostRuntime) {
+fn numbers(rt: HostRuntime) -> Result<(), Fail> {
     for row in NUMBERS.split('\n') {
-        check(&rt, is_number(rt.alloc(), row), row);
+        let (word, wanted) = row.split_once(" => ").ok_or("a row")?;
+        let number = number_text(rt.alloc(), word)?;
+        check_text(&rt, number.as_str(), wanted, word);
     }
-}
-
-fn check_names(rt: &impl Abort, table: &str, are_names: bool) {
-    for word in table.split('\n') {
-        check(rt, Some(is_name(word.as_bytes()) == are_names), word);
-    }
+    Ok(())
 }
 
 #[test]
 fn names(rt: HostRuntime) {
-    check_names(&rt, NAMES, true);
-    check_names(&rt, OTHER_WORDS, false);
+    for word in NAMES.split('\n') {
+        check(&rt, &is_name(word.as_bytes()), &true, word);
+    }
+    for word in OTHER_WORDS.split('\n') {
+        check(&rt, &is_name(word.as_bytes()), &false, word);
+    }
 }

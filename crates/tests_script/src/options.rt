@@ -1,10 +1,11 @@
 //! Words of the command line that are accepted or refused.
 
-use crate::same::check;
+use crate::same::{check, check_text};
 use nef_words::{Options, WordsFault, line_words, read_words};
 use std::alloc::{AllocError, Global};
 use std::io::{Error, ErrorKind};
 use std::process::Abort;
+use std::test::Fail;
 
 // Words, with a bar after each, and what they choose: how many workers over which board, how many boxes of the generated
 // script, the version of the texts, and whether statements may run ahead.
@@ -101,60 +102,52 @@ fn answer(alloc: Global, read: &Result<Options, WordsFault>) -> Result<String, A
     }
 }
 
-fn chooses(alloc: Global, words: &str, wanted: &str) -> Result<bool, AllocError> {
-    let found = answer(alloc, &read(alloc, words)?)?;
-    Ok(found.as_str() == wanted)
-}
-
-fn row_chooses(alloc: Global, row: &str) -> Option<bool> {
-    let (words, wanted) = row.split_once(" => ")?;
-    chooses(alloc, words, wanted).ok()
-}
-
 #[test]
-fn accepted_words(rt: HostRuntime) {
+fn accepted_words(rt: HostRuntime) -> Result<(), Fail> {
     for row in ACCEPTED.split('\n') {
-        check(&rt, row_chooses(rt.alloc(), row), row);
+        let (words, wanted) = row.split_once(" => ").ok_or("a row")?;
+        let found = answer(rt.alloc(), &read(rt.alloc(), words)?)?;
+        check_text(&rt, found.as_str(), wanted, words);
     }
+    Ok(())
 }
 
-fn are_refused(alloc: Global, words: &str) -> Result<bool, AllocError> {
-    let read = read(alloc, words)?;
-    Ok(read == Err(WordsFault::Refused))
-}
-
-fn check_refused(rt: &impl Abort, alloc: Global, table: &str) {
+fn check_refused(rt: &impl Abort, alloc: Global, table: &str) -> Result<(), Fail> {
     for words in table.split('\n') {
-        check(rt, are_refused(alloc, words).ok(), words);
+        check(rt, &read(alloc, words)?, &Err(WordsFault::Refused), words);
     }
+    Ok(())
 }
 
 #[test]
-fn refused_words(rt: HostRuntime) {
-    check_refused(&rt, rt.alloc(), REFUSED_NUMBERS);
-    check_refused(&rt, rt.alloc(), REFUSED_WORDS);
+fn refused_words(rt: HostRuntime) -> Result<(), Fail> {
+    check_refused(&rt, rt.alloc(), REFUSED_NUMBERS)?;
+    check_refused(&rt, rt.alloc(), REFUSED_WORDS)
 }
 
-// Whether the word so many times is refused.
-fn is_refused(alloc: Global, word: &str, count: u32) -> Result<bool, AllocError> {
+// The word so many times, with a bar after each.
+fn repeated(alloc: Global, word: &str, count: u32) -> Result<String, AllocError> {
     let mut words = String::new(alloc);
     for _ in 0..count {
         words.push_str(word)?;
         words.push('|')?;
     }
-    are_refused(alloc, words.as_str())
+    Ok(words)
 }
 
 // Words beyond sixteen, and beyond what two bytes count, are refused and are no want of memory.
 #[test]
-fn many_words(rt: HostRuntime) {
+fn many_words(rt: HostRuntime) -> Result<(), Fail> {
     for count in [16, 17, 33, 257, 65_537] {
+        let words = repeated(rt.alloc(), "--ahead", count)?;
         check(
             &rt,
-            is_refused(rt.alloc(), "--ahead", count).ok(),
+            &read(rt.alloc(), words.as_str())?,
+            &Err(WordsFault::Refused),
             "many words",
         );
     }
+    Ok(())
 }
 
 // What the words of a line say, with a bar after each.
@@ -166,24 +159,20 @@ fn read_line(alloc: Global, words: &str) -> Result<String, AllocError> {
     }
 }
 
-fn line_chooses(alloc: Global, words: &str, wanted: &str) -> Result<bool, AllocError> {
-    let found = read_line(alloc, words)?;
-    Ok(found.as_str() == wanted)
-}
-
-// Whether a line that could not be read is this fault.
-fn is_fault(kind: ErrorKind, wanted: WordsFault) -> bool {
+// The fault of a line that could not be read.
+fn line_fault(kind: ErrorKind) -> Option<WordsFault> {
     let line = Err(Error::from(kind));
-    line_words(&line).err() == Some(wanted)
+    line_words(&line).err()
 }
 
 #[test]
-fn words_of_a_line(rt: HostRuntime) {
+fn words_of_a_line(rt: HostRuntime) -> Result<(), Fail> {
     let words = "nef|--stairs|3|";
-    let chooses = line_chooses(rt.alloc(), words, "1 Lock Some(3) One false");
-    check(&rt, chooses.ok(), words);
-    let refused = is_fault(ErrorKind::InvalidData, WordsFault::Refused);
-    check(&rt, Some(refused), "no text");
-    let unheld = is_fault(ErrorKind::OutOfMemory, WordsFault::OutOfMemory);
-    check(&rt, Some(unheld), "no memory");
+    let found = read_line(rt.alloc(), words)?;
+    check_text(&rt, found.as_str(), "1 Lock Some(3) One false", words);
+    let unreadable = line_fault(ErrorKind::InvalidData);
+    check(&rt, &unreadable, &Some(WordsFault::Refused), "no text");
+    let unheld = line_fault(ErrorKind::OutOfMemory);
+    check(&rt, &unheld, &Some(WordsFault::OutOfMemory), "no memory");
+    Ok(())
 }

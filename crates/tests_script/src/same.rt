@@ -1,13 +1,19 @@
 //! Comparisons that stop a test.
 
+use std::fmt::Debug;
 use std::process::Abort;
 
-/// Stops the test where the row doesn't hold, or couldn't be worked.
-pub(crate) fn check(rt: &impl Abort, holds: Option<bool>, row: &str) {
-    assert!(rt; matches!(holds, Some(true)), "{row:?}");
+/// Stops the test where what was found is not what was wanted.
+pub(crate) fn check<T: PartialEq + Debug>(rt: &impl Abort, found: &T, wanted: &T, of: &str) {
+    assert_eq!(rt; *found, *wanted, "{of}");
 }
 
-/// Stops the test where the text that was found is not what was wanted.
+/// The same of texts.
 pub(crate) fn check_text(rt: &impl Abort, found: &str, wanted: &str, of: &str) {
+    assert_eq!(rt; found, wanted, "{of:?}");
+}
+
+/// The same of bytes.
+pub(crate) fn check_bytes(rt: &impl Abort, found: &[u8], wanted: &[u8], of: &str) {
     assert_eq!(rt; found, wanted, "{of:?}");
 }

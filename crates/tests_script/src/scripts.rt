@@ -1,10 +1,12 @@
 //! Scripts that are refused, what commands become, and the limits of a script.
 
-use crate::same::check;
-use nef_expr::{Node, Nodes};
+use crate::same::{check, check_text};
+use nef_expr::Node;
 use nef_geo::{Dir, Oriented, Point};
-use nef_script::{Command, Name, OutOfMemory, Script, ScriptFault, parse};
+use nef_script::{Command, Name, OutOfMemory, Script, ScriptFault, ScriptKind, parse};
 use std::alloc::Global;
+use std::process::Abort;
+use std::test::Fail;
 
 // Each row is a script, with its lines between the `/`, and its first refusal. The rows from the bad
 // byte on hold two faults on one line, or a fault on an earlier line.
@@ -128,32 +130,62 @@ pub(crate) fn unfolded(alloc: Global, script: &str) -> Result<String, OutOfMemor
     Ok(lines)
 }
 
+fn fault(alloc: Global, script: &[u8]) -> Option<ScriptFault> {
+    parse(alloc, script).err()
+}
+
+// The first refusal of the lines between the `/`.
+fn fault_of_lines(alloc: Global, script: &str) -> Result<Option<ScriptFault>, OutOfMemory> {
+    let lines = unfolded(alloc, script)?;
+    Ok(fault(alloc, lines.as_bytes()))
+}
+
 // The first refusal, as it is printed.
-fn refusal(alloc: Global, script: &[u8]) -> Result<String, OutOfMemory> {
-    match parse(alloc, script) {
-        Ok(_) => String::from_str(alloc, "none"),
-        Err(ScriptFault::Refused { line, kind }) => format!(in alloc; "line {line}: {kind}"),
-        Err(ScriptFault::OutOfMemory) => Err(OutOfMemory),
+fn refusal(alloc: Global, script: &str) -> Result<String, OutOfMemory> {
+    match fault_of_lines(alloc, script)? {
+        Some(ScriptFault::Refused { line, kind }) => format!(in alloc; "line {line}: {kind}"),
+        Some(ScriptFault::OutOfMemory) => Err(OutOfMemory),
+        None => String::from_str(alloc, "none"),
     }
-}
-
-fn refuses(alloc: Global, script: &[u8], wanted: &str) -> Result<bool, OutOfMemory> {
-    let found = refusal(alloc, script)?;
-    Ok(found.as_str() == wanted)
-}
-
-// Whether the lines between the `/` are refused as the row says.
-fn row_refuses(alloc: Global, row: &str) -> Option<bool> {
-    let (script, wanted) = row.split_once(" => ")?;
-    let lines = unfolded(alloc, script).ok()?;
-    refuses(alloc, lines.as_bytes(), wanted).ok()
 }
 
 #[test]
-fn refusals(rt: HostRuntime) {
+fn refusals(rt: HostRuntime) -> Result<(), Fail> {
     for row in REFUSALS.split('\n') {
-        check(&rt, row_refuses(rt.alloc(), row), row);
+        let (script, wanted) = row.split_once(" => ").ok_or("a row")?;
+        let found = refusal(rt.alloc(), script)?;
+        check_text(&rt, found.as_str(), wanted, script);
     }
+    Ok(())
+}
+
+fn point_text(alloc: Global, p: &Point) -> Result<String, OutOfMemory> {
+    format!(in alloc; "{} {} {} {}", p.x(), p.y(), p.z(), p.w())
+}
+
+fn dir_text(alloc: Global, d: &Dir) -> Result<String, OutOfMemory> {
+    format!(in alloc; "{} {} {}", d.x(), d.y(), d.z())
+}
+
+fn joined_text(alloc: Global, p: &Point, q: &Point) -> Result<String, OutOfMemory> {
+    let p = point_text(alloc, p)?;
+    let q = point_text(alloc, q)?;
+    format!(in alloc; " from {p} to {q}")
+}
+
+fn ray_text(alloc: Global, p: &Point, d: &Dir) -> Result<String, OutOfMemory> {
+    let p = point_text(alloc, p)?;
+    let d = dir_text(alloc, d)?;
+    format!(in alloc; " from {p} toward {d}")
+}
+
+fn has_text(alloc: Global, p: &Point) -> Result<String, OutOfMemory> {
+    let p = point_text(alloc, p)?;
+    format!(in alloc; " at {p}")
+}
+
+fn name_text(alloc: Global, name: &Name) -> Result<String, OutOfMemory> {
+    format!(in alloc; " as {}", str::from_utf8(name.as_bytes()).unwrap_or("?"))
 }
 
 // The line of a command, what it does, and with which node.
@@ -170,168 +202,212 @@ fn head(command: &Command) -> (u64, &'static str, usize) {
     }
 }
 
-fn push_point(text: &mut String, word: &str, p: &Point) -> Result<(), OutOfMemory> {
-    write!(text, " {word} {} {} {} {}", p.x(), p.y(), p.z(), p.w())
-}
-
-fn push_points(text: &mut String, p: &Point, q: &Point) -> Result<(), OutOfMemory> {
-    push_point(text, "from", p)?;
-    push_point(text, "to", q)
-}
-
-fn push_ray(text: &mut String, p: &Point, d: &Dir) -> Result<(), OutOfMemory> {
-    push_point(text, "from", p)?;
-    write!(text, " toward {} {} {}", d.x(), d.y(), d.z())
-}
-
-fn push_name(text: &mut String, name: &Name) -> Result<(), OutOfMemory> {
-    write!(
-        text,
-        " as {}",
-        str::from_utf8(name.as_bytes()).unwrap_or("?")
-    )
-}
-
-// Adds what else the command has.
-fn push_rest(text: &mut String, command: &Command) -> Result<(), OutOfMemory> {
+// What else the command has.
+fn rest(alloc: Global, command: &Command) -> Result<String, OutOfMemory> {
     match command {
-        Command::Turn { from, turn, .. } => write!(text, " from {from} by {turn}"),
-        Command::Has { point, .. } => push_point(text, "at", point),
-        Command::Joined { first, second, .. } => push_points(text, first, second),
-        Command::Ray { point, dir, .. } => push_ray(text, point, dir),
-        Command::Same { right, .. } => write!(text, " as {right}"),
-        Command::Print { name, .. } => push_name(text, name),
-        _ => Ok(()),
+        Command::Turn { from, turn, .. } => format!(in alloc; " from {from} by {turn}"),
+        Command::Has { point, .. } => has_text(alloc, point),
+        Command::Joined { first, second, .. } => joined_text(alloc, first, second),
+        Command::Ray { point, dir, .. } => ray_text(alloc, point, dir),
+        Command::Same { right, .. } => format!(in alloc; " as {right}"),
+        Command::Print { name, .. } => name_text(alloc, name),
+        _ => Ok(String::new(alloc)),
     }
 }
 
-fn push_command(text: &mut String, command: &Command) -> Result<(), OutOfMemory> {
+fn command_text(alloc: Global, command: &Command) -> Result<String, OutOfMemory> {
     let (line, does, node) = head(command);
-    write!(text, "line {line} {does} {node}")?;
-    push_rest(text, command)?;
-    text.push('\n')
+    let rest = rest(alloc, command)?;
+    format!(in alloc; "line {line} {does} {node}{rest}\n")
 }
 
 // How many nodes the script makes, and its commands.
 fn script_text(alloc: Global, script: &Script) -> Result<String, OutOfMemory> {
     let mut text = format!(in alloc; "{} nodes\n", script.nodes().len())?;
     for command in script.commands() {
-        push_command(&mut text, command)?;
+        text.push_str(command_text(alloc, command)?.as_str())?;
     }
     Ok(text)
 }
 
-fn tells(alloc: Global, text: &str, wanted: &str) -> Option<bool> {
-    let script = parse(alloc, text.as_bytes()).ok()?;
-    let told = script_text(alloc, &script).ok()?;
-    Some(told.as_str() == wanted)
+fn told(alloc: Global, text: &str) -> Result<String, Fail> {
+    let script = parse(alloc, text.as_bytes())?;
+    let told = script_text(alloc, &script)?;
+    Ok(told)
+}
+
+fn check_told(rt: &impl Abort, alloc: Global, script: &str, wanted: &str) -> Result<(), Fail> {
+    let told = told(alloc, script)?;
+    check_text(rt, told.as_str(), wanted, script);
+    Ok(())
 }
 
 #[test]
-fn commands_of_scripts(rt: HostRuntime) {
-    check(&rt, tells(rt.alloc(), COMMANDS, COMMANDS_TOLD), COMMANDS);
-    check(&rt, tells(rt.alloc(), COPIES, COPIES_TOLD), COPIES);
+fn commands_of_scripts(rt: HostRuntime) -> Result<(), Fail> {
+    check_told(&rt, rt.alloc(), COMMANDS, COMMANDS_TOLD)?;
+    check_told(&rt, rt.alloc(), COPIES, COPIES_TOLD)
 }
 
-// Whether it is 2 x - y - 3 z - 4, looked at from the other side.
-fn is_turned(half: &Oriented) -> bool {
-    let plane = half.plane();
-    let numbers = (plane.a(), plane.b(), plane.c(), plane.d());
-    half.flipped() && numbers == (2, -1, -3, -4)
+fn half_text(alloc: Global, half: &Oriented, closed: bool) -> Result<String, OutOfMemory> {
+    let (plane, flipped) = (half.plane(), half.flipped());
+    let (a, b, c, d) = (plane.a(), plane.b(), plane.c(), plane.d());
+    format!(in alloc; "half {a} {b} {c} {d}, flipped {flipped}, closed {closed}")
 }
 
-fn is_open_half(node: &Node) -> bool {
+fn node_text(alloc: Global, node: &Node) -> Result<String, OutOfMemory> {
     match node {
-        Node::Half { oriented, closed } => !*closed && is_turned(oriented),
-        _ => false,
+        Node::And(left, right) => format!(in alloc; "and {left} {right}"),
+        Node::Half { oriented, closed } => half_text(alloc, oriented, *closed),
+        _ => String::from_str(alloc, "another"),
     }
 }
 
-// Node 8 of the copies stands on the nodes 6 and 7, of which the first is the turned open half-space.
-fn are_kept(nodes: &Nodes) -> bool {
-    nodes.len() > 8 && matches!(nodes.get(8), Node::And(6, 7)) && is_open_half(nodes.get(6))
+fn node_of_copies(alloc: Global, number: usize) -> Result<String, Fail> {
+    let script = parse(alloc, COPIES.as_bytes())?;
+    if number < script.nodes().len() {
+        Ok(node_text(alloc, script.nodes().get(number))?)
+    } else {
+        Err("a node".into())
+    }
 }
 
-fn copies_are_kept(alloc: Global) -> Option<bool> {
-    let script = parse(alloc, COPIES.as_bytes()).ok()?;
-    Some(are_kept(script.nodes()))
+fn check_copy(rt: &impl Abort, alloc: Global, number: usize, wanted: &str) -> Result<(), Fail> {
+    let node = node_of_copies(alloc, number)?;
+    check_text(rt, node.as_str(), wanted, "a node of the copies");
+    Ok(())
 }
 
 #[test]
-fn copies_are_kept_once(rt: HostRuntime) {
-    check(&rt, copies_are_kept(rt.alloc()), COPIES);
+fn copies_are_kept_once(rt: HostRuntime) -> Result<(), Fail> {
+    check_copy(&rt, rt.alloc(), 8, "and 6 7")?;
+    let first = "half 2 -1 -3 -4, flipped true, closed false";
+    check_copy(&rt, rt.alloc(), 6, first)
 }
 
-// A half-space and all turns of it but the first, and then a turn of each of those.
-fn all_turns(alloc: Global) -> Result<String, OutOfMemory> {
-    let mut turns = String::from_str(alloc, "half A0 1 2 3 4 open\n")?;
-    let mut turns_of_turns = String::from_str(alloc, "turn B0 A0 25\n")?;
+// All turns of a half-space but the first.
+fn push_turns(text: &mut String) -> Result<(), OutOfMemory> {
     for turn in 1..48 {
-        write!(turns, "turn A{turn} A0 {turn}\n")?;
-        write!(turns_of_turns, "turn B{turn} A{turn} 25\n")?;
+        write!(text, "turn A{turn} A0 {turn}\n")?;
     }
-    turns.push_str(turns_of_turns.as_str())?;
-    Ok(turns)
+    Ok(())
 }
 
-fn makes_48(alloc: Global) -> Option<bool> {
-    let text = all_turns(alloc).ok()?;
-    let script = parse(alloc, text.as_bytes()).ok()?;
-    Some(script.nodes().len() == 48)
+// A turn of each of those.
+fn push_turns_of_turns(text: &mut String) -> Result<(), OutOfMemory> {
+    for turn in 0..48 {
+        write!(text, "turn B{turn} A{turn} 25\n")?;
+    }
+    Ok(())
+}
+
+fn all_turns(alloc: Global) -> Result<String, OutOfMemory> {
+    let mut text = String::from_str(alloc, "half A0 1 2 3 4 open\n")?;
+    push_turns(&mut text)?;
+    push_turns_of_turns(&mut text)?;
+    Ok(text)
+}
+
+fn node_count(alloc: Global, text: &str) -> Result<usize, ScriptFault> {
+    let script = parse(alloc, text.as_bytes())?;
+    Ok(script.nodes().len())
 }
 
 // Each of the 48 turns adds one node, and no turn of those adds another.
 #[test]
-fn copies_are_at_most_48(rt: HostRuntime) {
-    check(&rt, makes_48(rt.alloc()), "48 nodes");
+fn copies_are_at_most_48(rt: HostRuntime) -> Result<(), Fail> {
+    let text = all_turns(rt.alloc())?;
+    check(&rt, &node_count(rt.alloc(), &text)?, &48, "the nodes");
+    Ok(())
 }
 
-// Whether a comment of 256 bytes, and then so many carriage returns, is refused so.
-fn line_refuses(alloc: Global, returns: usize, wanted: &str) -> Result<bool, OutOfMemory> {
+// A comment of 256 bytes, and then so many carriage returns.
+fn long_line(alloc: Global, returns: usize) -> Result<Vec<u8>, OutOfMemory> {
     let mut line = Vec::new(alloc);
     line.push(b'#')?;
     line.extend_from_slice(&[b' '; 255])?;
     for _ in 0..returns {
         line.push(b'\r')?;
     }
-    refuses(alloc, line.as_slice(), wanted)
+    Ok(line)
 }
 
-fn feeds_refuse(alloc: Global, count: usize, wanted: &str) -> Result<bool, OutOfMemory> {
+fn fault_of_long_line(alloc: Global, returns: usize) -> Result<Option<ScriptFault>, OutOfMemory> {
+    let line = long_line(alloc, returns)?;
+    Ok(fault(alloc, &line))
+}
+
+fn fault_of_line_feeds(alloc: Global, count: usize) -> Result<Option<ScriptFault>, OutOfMemory> {
     let script = vec![in alloc; b'\n'; count]?;
-    refuses(alloc, script.as_slice(), wanted)
+    Ok(fault(alloc, &script))
 }
 
-// The same of lines that bind 4,096 names, and then another line.
-fn names_refuse(alloc: Global, last: &str, wanted: &str) -> Result<bool, OutOfMemory> {
-    let mut script = String::new(alloc);
-    for number in 1..4097u32 {
-        write!(script, "empty n{number}\n")?;
+// Lines that bind 4,096 names, and then another line.
+fn many_names(alloc: Global, last: &[u8]) -> Result<Vec<u8>, OutOfMemory> {
+    let mut script = Vec::new(alloc);
+    for i in 1..4097u32 {
+        let line = format!(in alloc; "empty n{i}\n")?;
+        script.extend_from_slice(line.as_bytes())?;
     }
-    script.push_str(last)?;
-    refuses(alloc, script.as_bytes(), wanted)
+    script.extend_from_slice(last)?;
+    Ok(script)
+}
+
+fn fault_of_names(alloc: Global, last: &[u8]) -> Result<Option<ScriptFault>, OutOfMemory> {
+    let script = many_names(alloc, last)?;
+    Ok(fault(alloc, &script))
+}
+
+fn refused(line: u64, kind: ScriptKind) -> Option<ScriptFault> {
+    Some(ScriptFault::Refused { line, kind })
 }
 
 #[test]
-fn longest_line(rt: HostRuntime) {
-    let line = line_refuses(rt.alloc(), 1, "none");
-    check(&rt, line.ok(), "257 bytes");
-    let line = line_refuses(rt.alloc(), 2, "line 1: line too long");
-    check(&rt, line.ok(), "258 bytes");
+fn longest_line(rt: HostRuntime) -> Result<(), Fail> {
+    check(&rt, &fault_of_long_line(rt.alloc(), 1)?, &None, "257 bytes");
+    let fault = refused(1, ScriptKind::LineTooLong);
+    check(
+        &rt,
+        &fault_of_long_line(rt.alloc(), 2)?,
+        &fault,
+        "258 bytes",
+    );
+    Ok(())
 }
 
 #[test]
-fn longest_script(rt: HostRuntime) {
-    let script = feeds_refuse(rt.alloc(), 1_048_576, "none");
-    check(&rt, script.ok(), "the longest script");
-    let script = feeds_refuse(rt.alloc(), 1_048_577, "line 0: script too long");
-    check(&rt, script.ok(), "a longer script");
+fn longest_script(rt: HostRuntime) -> Result<(), Fail> {
+    check(
+        &rt,
+        &fault_of_line_feeds(rt.alloc(), 1_048_576)?,
+        &None,
+        "the longest script",
+    );
+    let fault = refused(0, ScriptKind::ScriptTooLong);
+    check(
+        &rt,
+        &fault_of_line_feeds(rt.alloc(), 1_048_577)?,
+        &fault,
+        "a longer script",
+    );
+    Ok(())
 }
 
 #[test]
-fn most_names(rt: HostRuntime) {
-    let names = names_refuse(rt.alloc(), "", "none");
-    check(&rt, names.ok(), "4,096 names");
-    let names = names_refuse(rt.alloc(), "empty n4097", "line 4097: too many names");
-    check(&rt, names.ok(), "4,097 names");
+fn most_names(rt: HostRuntime) -> Result<(), Fail> {
+    check(&rt, &fault_of_names(rt.alloc(), b"")?, &None, "4,096 names");
+    let fault = refused(4097, ScriptKind::TooManyNames);
+    check(
+        &rt,
+        &fault_of_names(rt.alloc(), b"empty n4097")?,
+        &fault,
+        "4,097 names",
+    );
+    Ok(())
+}
+
+#[test]
+fn texts(rt: HostRuntime) -> Result<(), Fail> {
+    let text = format!(in rt.alloc(); "{}", ScriptKind::BadMode)?;
+    check_text(&rt, text.as_str(), "mode is not open or closed", "a kind");
+    Ok(())
 }
