@@ -12,13 +12,13 @@ use Rattle.law_complex.specs.Complexes.{Vertex, Edge, Complex, Corner, HasEnds, 
 use Rattle.law_complex.specs.Skeleton.{IsEdgePoint, IsOnEdges, IsFacetPoint, Spot, at_vertex, on_edge, in_facet, IsSpot, IsSkeletonPoint, PlaneMeet, meets_vertex, meets_edge, LiesIn, Meets, IsFirstInPlane, IsCornerAt, RayNames, HasCorner}
 use Rattle.law_complex.specs.Rays.{VertexSide, IsAbove, RayDown}
 use Rattle.law_links.specs.Links.{AreAlong, LinkAlong, LinkAcross, FacetLink, LinkInSface, AreSidesAlong, pos_arcs, neg_arcs, around_ends, LinkAlongEdge, LinkAcrossFacet, LinkDown, VolumeLink}
-use Rattle.nef_parts.specs.Cycles.{IsNextArc, NextCorner, StepsTo, IsCycle, Cycles}
-use Rattle.nef_parts.specs.Sides.{IsSideNumber}
-use Rattle.nef_parts.specs.Numbers.{HasRows, count_items, count_sides, IsVolumeOf, IsSideBelow, FacetNumbers, VolumeNumbers, pos_of, neg_of, IsFacetAt, IsFacet, IsVolume, IsParts, cycle_corners, shell_sides}
-use Rattle.nef_parts.specs.Shells.{ShellLink, IsNamed, IsShell, Shells}
-use Rattle.nef_parts.specs.declared.parts.Facet.{Facet}
-use Rattle.nef_parts.specs.declared.parts.Parts.{Parts}
-use Rattle.nef_parts.specs.declared.parts.Side.{Side as NamedSide}
+use Rattle.nef_complex.specs.Cycles.{IsNextArc, NextCorner, StepsTo, IsCycle, Cycles}
+use Rattle.nef_complex.specs.Sides.{IsSideNumber}
+use Rattle.nef_complex.specs.Numbers.{HasRows, count_items, count_sides, IsVolumeOf, IsSideBelow, FacetNumbers, VolumeNumbers, pos_of, neg_of, IsFacetAt, IsFacet, IsVolume, IsParts, cycle_corners, shell_sides}
+use Rattle.nef_complex.specs.Shells.{ShellLink, IsNamed, IsShell, Shells}
+use Rattle.nef_complex.specs.declared.parts.Facet.{Facet}
+use Rattle.nef_complex.specs.declared.parts.Parts.{Parts}
+use Rattle.nef_complex.specs.declared.parts.Side.{Side as NamedSide}
 
 abbrev pub made : List Form → List Vertex → List Edge → Complex
 made hs vs es = record { carriers = hs; vertices = vs; edges = es }

@@ -22,10 +22,10 @@ use Rattle.nef_smap.specs.Sides.{sides_of}
 use Rattle.law_complex.specs.Complexes.{Vertex, Complex, Corner}
 use Rattle.law_complex.specs.Rays.{VertexSide, HasSideLabel}
 use Rattle.law_links.specs.Links.{FacetLink, VolumeLink}
-use Rattle.nef_parts.specs.Cycles.{NextCorner, IsCornerBelow, IsCycle, IsCycleBelow, Cycles}
-use Rattle.nef_parts.specs.Numbers.{IsFacetOf, IsVolumeOf, IsFacetAt, IsFacet, IsParts, cycle_corners}
-use Rattle.nef_parts.specs.declared.parts.Facet.{Facet}
-use Rattle.nef_parts.specs.declared.parts.Parts.{Parts}
+use Rattle.nef_complex.specs.Cycles.{NextCorner, IsCornerBelow, IsCycle, IsCycleBelow, Cycles}
+use Rattle.nef_complex.specs.Numbers.{IsFacetOf, IsVolumeOf, IsFacetAt, IsFacet, IsParts, cycle_corners}
+use Rattle.nef_complex.specs.declared.parts.Facet.{Facet}
+use Rattle.nef_complex.specs.declared.parts.Parts.{Parts}
 use Rattle.nef_result.specs.Ends.{end_at, Ends, ends}
 use Rattle.nef_result.proofs.Walls.{Axis, on_x, on_y, on_z}
 use Rattle.nef_result.proofs.CornerVertices.{end_of}

@@ -23,12 +23,12 @@ use Rattle.nef_complex.specs.declared.complex.Complex.{Complex}
 use Rattle.nef_complex.specs.declared.complex.Vertex.{Vertex}
 use Rattle.nef_complex.specs.Complexes.{vertex_of, edge_of, corner_of, complex_of, ShowsSet}
 use Rattle.nef_unique.proofs.Vertices.{cone-carried, edges-one}
-use Rattle.nef_core.specs.declared.how.TextVersion.TheVariants.{One}
-use Rattle.nef_parts.specs.Numbers.{IsFacet, IsParts, cycle_corners}
-use Rattle.nef_parts.specs.Text.{Word, line, label_word, option_word, numbers, signed, plane_words, vertex_text, svertex_line, arc_line, sloop_line, edge_line, cycle_line, facet_text, volume_line, text}
-use Rattle.nef_parts.specs.declared.parts.Cycle.{Cycle}
-use Rattle.nef_parts.specs.declared.parts.Facet.{Facet}
-use Rattle.nef_parts.specs.declared.parts.Parts.{Parts}
+use Rattle.nef_core.specs.declared.work.TextVersion.TheVariants.{One}
+use Rattle.nef_complex.specs.Numbers.{IsFacet, IsParts, cycle_corners}
+use Rattle.nef_complex.specs.Text.{Word, line, label_word, option_word, numbers, signed, plane_words, vertex_text, svertex_line, arc_line, sloop_line, edge_line, cycle_line, facet_text, volume_line, text}
+use Rattle.nef_complex.specs.declared.parts.Cycle.{Cycle}
+use Rattle.nef_complex.specs.declared.parts.Facet.{Facet}
+use Rattle.nef_complex.specs.declared.parts.Parts.{Parts}
 use Rattle.nef_result.proofs.Walls.{Axis, on_x, on_y, on_z, IsWhole, empty-whole, full-whole}
 use Rattle.nef_result.proofs.Listed.{frame_vertices, AreOf, vertices-listed}
 use Rattle.nef_result.proofs.FrameEdges.{frame_edges, frame-edges}

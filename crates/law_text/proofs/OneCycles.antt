@@ -5,7 +5,7 @@ use Rattle.std.specs.List.{All}
 use Rattle.law_sphere.specs.Maps.{At}
 use Rattle.law_sphere.proofs.Equal.{same-lists}
 use Rattle.law_complex.specs.Complexes.{Complex, Corner}
-use Rattle.nef_parts.specs.Cycles.{NextCorner, IsCornerBelow, StepsTo, IsCycle, IsCycleBelow, Cycles}
+use Rattle.nef_complex.specs.Cycles.{NextCorner, IsCornerBelow, StepsTo, IsCycle, IsCycleBelow, Cycles}
 
 below-apart : (j k : Corner) → IsCornerBelow j k → IsCornerBelow k j → ⊥
 below-apart j k (inl h) (inl g) = omega (arith, ints)

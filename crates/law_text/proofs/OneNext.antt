@@ -16,7 +16,7 @@ use Rattle.law_sphere.proofs.Turn.{turn-same}
 use Rattle.law_complex.specs.Complexes.{Vertex, Edge, Complex, Corner, IsCorner}
 use Rattle.law_complex.specs.Shows.{Shows}
 use Rattle.law_links.proofs.EdgeEnds.{end-level, close_way, on-close, corner_of}
-use Rattle.nef_parts.specs.Cycles.{Leads, IsNextArc}
+use Rattle.nef_complex.specs.Cycles.{Leads, IsNextArc}
 use Rattle.nef_facets.proofs.EdgeViews.{EdgeFrom, edge-from, one-vertex, one-svertex}
 use Rattle.nef_facets.proofs.NextCorners.{turned-level, arc-no_sloop, corner-same}
 use Rattle.law_text.proofs.OneCycles.{HasOneNext}

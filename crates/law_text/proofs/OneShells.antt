@@ -9,9 +9,9 @@ use Rattle.nef_smap.specs.Sides.{SeeOneWay, AreSfaces}
 use Rattle.nef_classes.proofs.ClassLists.{is-at_within, is-at_some}
 use Rattle.law_complex.specs.Complexes.{Complex}
 use Rattle.law_complex.specs.Rays.{VertexSide}
-use Rattle.nef_parts.specs.Sides.{IsSideNumber}
-use Rattle.nef_parts.specs.Shells.{IsNamed, IsNameBelow, IsListed, IsShell, IsShellBelow, Shells}
-use Rattle.nef_parts.specs.declared.parts.Side.{Side}
+use Rattle.nef_complex.specs.Sides.{IsSideNumber}
+use Rattle.nef_complex.specs.Shells.{IsNamed, IsNameBelow, IsListed, IsShell, IsShellBelow, Shells}
+use Rattle.nef_complex.specs.declared.parts.Side.{Side}
 use Rattle.law_text.proofs.Numbering.{IsEarlier, numbers-one}
 use Rattle.law_text.proofs.Rows.{list-one}
 

@@ -4,7 +4,7 @@ use Rattle.nef_space.specs.Lists.{IsAt, IsInTable}
 use Rattle.nef_classes.proofs.ClassLists.{is-at_within, is-at_some, is-at_one}
 use Rattle.nef_smap.proofs.SideLists.{at-from_get}
 use Rattle.law_complex.specs.Complexes.{Vertex, Complex}
-use Rattle.nef_parts.specs.Numbers.{HasRows}
+use Rattle.nef_complex.specs.Numbers.{HasRows}
 
 pub list-one : {X : Type 0} (xs ys : List X) → length xs ≡ length ys → ((k : ℕ) (x y : X) → IsAt xs k x → IsAt ys k y → x ≡ y) → xs ≡ ys
 list-one [] [] e same = refl

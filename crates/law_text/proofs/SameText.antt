@@ -11,11 +11,11 @@ use Rattle.nef_complex.specs.declared.complex.Complex.{Complex}
 use Rattle.nef_complex.specs.declared.complex.Vertex.{Vertex}
 use Rattle.nef_complex.specs.declared.complex.Edge.{Edge}
 use Rattle.nef_complex.specs.Complexes.{complex_of, vertex_of, edge_of, ShowsSet}
-use Rattle.nef_core.specs.declared.how.TextVersion.{TextVersion}
-use Rattle.nef_core.specs.declared.how.TextVersion.TheVariants.{One, Two}
-use Rattle.nef_parts.specs.declared.parts.Parts.{Parts}
-use Rattle.nef_parts.specs.Numbers.{IsParts}
-use Rattle.nef_parts.specs.Text.{text, Spells}
+use Rattle.nef_core.specs.declared.work.TextVersion.{TextVersion}
+use Rattle.nef_core.specs.declared.work.TextVersion.TheVariants.{One, Two}
+use Rattle.nef_complex.specs.declared.parts.Parts.{Parts}
+use Rattle.nef_complex.specs.Numbers.{IsParts}
+use Rattle.nef_complex.specs.Text.{text, Spells}
 use Rattle.nef_unique.proofs.Sets.{vertices-set}
 use Rattle.nef_unique.proofs.Vertices.{edges-one, set-vertices}
 use Rattle.law_text.proofs.Whole.{vertices-read}

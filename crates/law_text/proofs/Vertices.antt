@@ -16,10 +16,10 @@ use Rattle.nef_smap.specs.declared.map.SLoop.{SLoop}
 use Rattle.nef_complex.specs.declared.complex.Vertex.{Vertex}
 use Rattle.nef_unique.proofs.Injective.{dir-one, svertex-equal, arc-equal, sloop-equal, map-equal, vertex-equal}
 use Rattle.nef_complex.specs.declared.complex.Complex.{Complex}
-use Rattle.nef_core.specs.declared.how.TextVersion.{TextVersion}
-use Rattle.nef_core.specs.declared.how.TextVersion.TheVariants.{One, Two}
-use Rattle.nef_parts.specs.declared.parts.Parts.{Parts}
-use Rattle.nef_parts.specs.Text.{Word, label_word, option_word, numbers, vertex_line, svertex_line, arc_line, sloop_line, vertex_text, sface_line, faced_text, with_rows, vertices_text}
+use Rattle.nef_core.specs.declared.work.TextVersion.{TextVersion}
+use Rattle.nef_core.specs.declared.work.TextVersion.TheVariants.{One, Two}
+use Rattle.nef_complex.specs.declared.parts.Parts.{Parts}
+use Rattle.nef_complex.specs.Text.{Word, label_word, option_word, numbers, vertex_line, svertex_line, arc_line, sloop_line, vertex_text, sface_line, faced_text, with_rows, vertices_text}
 use Rattle.law_text.proofs.Lines.{ArePlain, Starts, Lacks, same-head, line-starts, line-ends, starts-onto, starts-lacks}
 use Rattle.law_text.proofs.Words.{decimal-plain, numbers-plain, signed-plain, label-plain, option-plain, label-one, option-one}
 use Rattle.law_text.proofs.Lists.{Reads, ReadsAll, Any, all-lack, all-read, four_parts}

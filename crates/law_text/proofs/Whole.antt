@@ -8,14 +8,14 @@ use Rattle.nef_complex.specs.declared.complex.Corner.{Corner}
 use Rattle.nef_complex.specs.declared.complex.Edge.{Edge}
 use Rattle.nef_complex.specs.declared.complex.Vertex.{Vertex}
 use Rattle.nef_complex.specs.declared.complex.Complex.{Complex}
-use Rattle.nef_parts.specs.declared.parts.Cycle.{Cycle}
-use Rattle.nef_parts.specs.declared.parts.Facet.{Facet}
-use Rattle.nef_core.specs.declared.how.TextVersion.{TextVersion}
-use Rattle.nef_core.specs.declared.how.TextVersion.TheVariants.{One, Two}
-use Rattle.nef_parts.specs.declared.parts.Parts.{Parts}
-use Rattle.nef_parts.specs.declared.parts.Shell.{Shell}
-use Rattle.nef_parts.specs.declared.parts.Side.{Side}
-use Rattle.nef_parts.specs.Text.{Word, label_word, numbers, corner_words, edge_line, cycle_line, facet_line, facet_text, volume_line, side_words, shell_line, shelled_text, with_rows, counts, version_word, first_line, vertices_text, volumes_text, text}
+use Rattle.nef_complex.specs.declared.parts.Cycle.{Cycle}
+use Rattle.nef_complex.specs.declared.parts.Facet.{Facet}
+use Rattle.nef_core.specs.declared.work.TextVersion.{TextVersion}
+use Rattle.nef_core.specs.declared.work.TextVersion.TheVariants.{One, Two}
+use Rattle.nef_complex.specs.declared.parts.Parts.{Parts}
+use Rattle.nef_complex.specs.declared.parts.Shell.{Shell}
+use Rattle.nef_complex.specs.declared.parts.Side.{Side}
+use Rattle.nef_complex.specs.Text.{Word, label_word, numbers, corner_words, edge_line, cycle_line, facet_line, facet_text, volume_line, side_words, shell_line, shelled_text, with_rows, counts, version_word, first_line, vertices_text, volumes_text, text}
 use Rattle.law_text.proofs.Lines.{Each-append, IsPlain, ArePlain, Starts, Lacks, line-starts, line-ends, starts-onto, starts-lacks}
 use Rattle.law_text.proofs.Words.{decimal-plain, numbers-plain, signed-plain, label-plain}
 use Rattle.law_text.proofs.Lists.{Reads, ReadsAll, Any, all-lack, all-read, same-length, four_parts}

@@ -3,7 +3,7 @@ use Rattle.std.proofs.Common.{◌≡◌, ℕ, ℤ, pos, negsuc, zero, suc, ◌+�
 use Rattle.std.specs.Fmt.{digits, digits_onto, digit_glyph, decimal, signed_decimal}
 use Rattle.nef_space.specs.declared.label.Label.{Label}
 use Rattle.nef_space.specs.declared.label.Label.TheVariants.{Out, Not, In}
-use Rattle.nef_parts.specs.Text.{Word, label_word, option_word, numbers, signed}
+use Rattle.nef_complex.specs.Text.{Word, label_word, option_word, numbers, signed}
 use Rattle.law_text.proofs.Lines.{IsPlain, ArePlain}
 
 -- ---- numbers, of any size

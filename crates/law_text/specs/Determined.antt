@@ -8,10 +8,10 @@ use Rattle.law_complex.specs.Belongs.{Belongs}
 use Rattle.nef_complex.specs.declared.complex.Complex.{Complex}
 use Rattle.nef_complex.specs.Complexes.{complex_of, ShowsSet}
 use Rattle.law_turns.specs.Turned.{turned_set}
-use Rattle.nef_core.specs.declared.how.TextVersion.{TextVersion}
-use Rattle.nef_parts.specs.declared.parts.Parts.{Parts}
-use Rattle.nef_parts.specs.Numbers.{IsParts}
-use Rattle.nef_parts.specs.Text.{text, Spells}
+use Rattle.nef_core.specs.declared.work.TextVersion.{TextVersion}
+use Rattle.nef_complex.specs.declared.parts.Parts.{Parts}
+use Rattle.nef_complex.specs.Numbers.{IsParts}
+use Rattle.nef_complex.specs.Text.{text, Spells}
 
 -- complexes with the same vertices and edges have the same parts, whatever their carriers
 abbrev pub SamePartsOfSame : Type 0

@@ -5,10 +5,10 @@ use Rattle.nef_space.specs.Local.{SameSet}
 use Rattle.nef_space.specs.Sets.{Set}
 use Rattle.nef_complex.specs.declared.complex.Complex.{Complex}
 use Rattle.nef_complex.specs.Complexes.{complex_of, ShowsSet}
-use Rattle.nef_core.specs.declared.how.TextVersion.TheVariants.{One}
-use Rattle.nef_parts.specs.declared.parts.Parts.{Parts}
-use Rattle.nef_parts.specs.Numbers.{IsParts}
-use Rattle.nef_parts.specs.Text.{text}
+use Rattle.nef_core.specs.declared.work.TextVersion.TheVariants.{One}
+use Rattle.nef_complex.specs.declared.parts.Parts.{Parts}
+use Rattle.nef_complex.specs.Numbers.{IsParts}
+use Rattle.nef_complex.specs.Text.{text}
 
 abbrev pub empty_text : List ℕ
 empty_text = concat (

@@ -1,9 +1,9 @@
 -- What the text of a complex tells.
 use Rattle.std.specs.Prelude.{◌≡◌}
 use Rattle.nef_complex.specs.declared.complex.Complex.{Complex}
-use Rattle.nef_core.specs.declared.how.TextVersion.{TextVersion}
-use Rattle.nef_parts.specs.declared.parts.Parts.{Parts}
-use Rattle.nef_parts.specs.Text.{counts, text}
+use Rattle.nef_core.specs.declared.work.TextVersion.{TextVersion}
+use Rattle.nef_complex.specs.declared.parts.Parts.{Parts}
+use Rattle.nef_complex.specs.Text.{counts, text}
 
 -- complexes with one text, in either version, have the same vertices: the same points, with equal maps
 abbrev pub TextReadsBack : Type 0

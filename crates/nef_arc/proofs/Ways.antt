@@ -1,16 +1,9 @@
 -- The way back along an arc, and the order of two directions on it.
-use Rattle.std.proofs.Common.{◌≡◌, ℤ, Bool, true, false, ap, ◌∙◌, Ordering, Less, Equal, Greater, refl, sym, subst, ◌↔◌, ◌⊎◌, inl, inr}
-use Rattle.std.specs.Ordering.{MatchOrdering, int_eq}
-use Rattle.std.specs.Prelude.{◌&&◌}
-use Rattle.std.specs.Bool.{IsTrue}
-use Rattle.std.proofs.lemmas.Bool.Decides.{Decides-int_eq}
-use lib.Dec.{T}
-use Rattle.nef_geo.specs.Shapes.{vector_of}
-use Rattle.nef_geo.specs.declared.dir.Dir.{Dir}
-use Rattle.nef_geo.proofs.Unique.{same_directions_equal}
-use Rattle.nef_space.specs.Vectors.{Vector, vector, opposite, IsDirection, SameDirection}
+use Rattle.std.proofs.Common.{◌≡◌, Ordering, Less, Equal, Greater, refl, sym, subst, ◌↔◌, ◌⊎◌, inl, inr}
+use Rattle.std.specs.Ordering.{MatchOrdering}
+use Rattle.nef_space.specs.Vectors.{Vector, opposite, IsDirection, SameDirection}
 use Rattle.law_cyclic.specs.Arcs.{IsOnCircle, IsStrictlyOn}
-use Rattle.law_cyclic.proofs.Directions.{way_back_passes_the_same, same-refl}
+use Rattle.law_cyclic.proofs.Directions.{way_back_passes_the_same}
 use Rattle.law_cyclic.proofs.StrictlyOn.{same-sym}
 use Rattle.law_cyclic.proofs.Cyclic.{one_is_first, never_both_ways}
 use Rattle.nef_arc.specs.declared.arc.Arc.{Arc}
@@ -61,33 +54,3 @@ ranked_greater a d e p q n m = record {
     from (inl h) = absurd (m h)
     from (inr (inl h)) = absurd (n h)
     from (inr (inr h)) = h
-
--- ---- the program's test of equality
-abbrev pub equal_test : Dir → Dir → Bool
-equal_test d e = int_eq d.x e.x && (int_eq d.y e.y && int_eq d.z e.z)
-
-all_three : (p q r : Bool) → true ≡ (p && (q && r)) → IsTrue p × IsTrue q × IsTrue r
-all_three true true true h = (refl, refl, refl)
-all_three true true false h = absurd (subst T h tt)
-all_three true false r h = absurd (subst T h tt)
-all_three false q r h = absurd (subst T h tt)
-
-pub same_if_equal : (d e : Dir) → true ≡ equal_test d e → SameDirection (vector_of d) (vector_of e)
-same_if_equal d e h =
-    let tests = all_three (int_eq d.x e.x) (int_eq d.y e.y) (int_eq d.z e.z) h in
-    subst (SameDirection (vector_of d)) (same_vector d.x d.y d.z e.x e.y e.z ((Decides-int_eq d.x e.x).0 tests.0) ((Decides-int_eq d.y e.y).0 tests.1) ((Decides-int_eq d.z e.z).0 tests.2)) (same-refl (vector_of d) d.some)
-  where
-    same_vector : (x y z x' y' z' : ℤ) → x ≡ x' → y ≡ y' → z ≡ z' → vector x y z ≡ vector x' y' z'
-    same_vector x y z x' y' z' p q r = rw (p, q, r) refl
-
-itself : (x : ℤ) → int_eq x x ≡ true
-itself x = (Decides-int_eq x x).1 refl
-
-equal_to_itself : (d : Dir) → equal_test d d ≡ true
-equal_to_itself d = rw (itself d.x, itself d.y, itself d.z) refl
-
--- directions in normal form that aren't equal aren't the same
-pub apart_if_unequal : (d e : Dir) → false ≡ equal_test d e → SameDirection (vector_of d) (vector_of e) → ⊥
-apart_if_unequal d e h same =
-    let equal : false ≡ true = h ∙ ap (equal_test d) (sym (same_directions_equal d e same)) ∙ equal_to_itself d in
-    subst T (sym equal) tt

@@ -8,8 +8,8 @@ use Rattle.nef_geo.specs.declared.sign.Sign.{Sign}
 use Rattle.nef_geo.specs.declared.sign.Sign.TheVariants.{Minus, Zero, Plus}
 use Rattle.law_cyclic.specs.Arcs.{IsStrictlyOn}
 use Rattle.nef_arc.specs.declared.arc.Arc.{Arc}
-use Rattle.nef_arc.specs.declared.common.Crossing.{Crossing}
-use Rattle.nef_arc.specs.declared.common.Crossing.TheVariants.{Nowhere, One, Two}
+use Rattle.nef_arc.specs.declared.arc.Crossing.{Crossing}
+use Rattle.nef_arc.specs.declared.arc.Crossing.TheVariants.{Nowhere, One, Two}
 
 abbrev pub normal_vector : Arc → Vector
 normal_vector a = vector_of a.normal

@@ -1,8 +1,7 @@
-//! Arcs of great circles.
+//! Arcs of great circles, and the directions that two of them have in common.
 
-ghost use Rattle.std.specs.Prelude.{◌≡◌, pos};
-ghost use Rattle.nef_space.specs.Vectors.{dot};
-ghost use Rattle.nef_geo.specs.Shapes.{vector_of};
+ghost use Rattle.std.specs.Prelude.{◌≡◌};
+ghost use Rattle.nef_geo.specs.Prelude.{pos, dot, vector_of};
 
 use nef_geo::Dir;
 
@@ -10,9 +9,9 @@ use nef_geo::Dir;
 /// Where the two are the same, it is the whole circle but one point. An arc may be longer than half a circle.
 #[derive(Debug, Clone, Copy, PartialEq, Eq)]
 pub struct Arc {
-    pub(crate) source: Dir,
-    pub(crate) target: Dir,
-    pub(crate) normal: Dir,
+    pub source: Dir,
+    pub target: Dir,
+    pub normal: Dir,
     pub ghost source_level: { dot (vector_of normal) (vector_of source) ≡ pos 0 },
     pub ghost target_level: { dot (vector_of normal) (vector_of target) ≡ pos 0 },
 }
@@ -32,25 +31,13 @@ impl Arc {
             normal,
         }
     }
+}
 
-    /// Where the arc begins.
-    pub fn source(&self) -> &Dir
-        ensures source { result.now ≡ self.now.source }
-    {
-        &self.source
-    }
-
-    /// Where the arc ends.
-    pub fn target(&self) -> &Dir
-        ensures target { result.now ≡ self.now.target }
-    {
-        &self.target
-    }
-
-    /// What the arc goes counterclockwise about.
-    pub fn normal(&self) -> &Dir
-        ensures normal { result.now ≡ self.now.normal }
-    {
-        &self.normal
-    }
+/// The directions strictly on both of two arcs whose normals aren't parallel. Two directions stand in their order as
+/// triples of numbers.
+#[derive(Debug, Clone, Copy, PartialEq, Eq)]
+pub enum Crossing {
+    Nowhere,
+    One(Dir),
+    Two(Dir, Dir),
 }

@@ -1,12 +1,13 @@
-//! Whether a direction is on an arc.
+//! The directions on an arc and on two, the way along an arc and the way back.
 
-ghost use Rattle.std.specs.Prelude.{ℤ, ◌≡◌, pos, ◌<ℤ◌, ◌↔◌, IsTrue};
-ghost use Rattle.nef_geo.specs.Shapes.{vector_of};
-ghost use Rattle.nef_arc.specs.Arcs.{IsOn, IsEnd, OnWay, IsPastSource, IsBeforeTarget, IsPassed};
-ghost use Rattle.nef_geo.specs.Signs.{sign_of};
+ghost use Rattle.std.specs.Prelude.{◌≡◌, ◌≢◌, ◌↔◌, ◌⊎◌};
+ghost use Rattle.nef_geo.specs.Prelude.{IsTrue, normal_limit, IsBelow, Vector, opposite, IsAtMost, IsParallel, SameDirection, triple_of, vector_of};
+ghost use Rattle.nef_arc.specs.Arcs.{normal_vector, source_vector, target_vector, IsOn, IsOnBefore, IsEnd, OnWay, IsPastSource, IsBeforeTarget, IsPassed, IsOnBoth, IsCrossing};
+ghost use Rattle.nef_arc.specs.declared.arc.Crossing.TheVariants.{Two};
 
-use crate::arc::Arc;
-use nef_geo::{Dir, Sign, dot, triple};
+use crate::arc::{Arc, Crossing};
+use nef_geo::{Dir, Sign, common_perpendicular, dot, triple};
+use std::cmp::Ordering;
 
 // Whether the direction is less than half a circle ahead of the source.
 fn is_past_source(arc: &Arc, d: &Dir) -> bool
@@ -34,10 +35,19 @@ fn is_on_way(turn: Sign, arc: &Arc, d: &Dir) -> bool
     }
 }
 
-// Whether a direction on the arc's circle that is neither end is passed. Where the ends are the same, each is.
-fn is_passed(arc: &Arc, d: &Dir) -> bool
-    ensures passed { IsTrue result ↔ IsPassed arc.now (vector_of d.now) }
+fn is_end(arc: &Arc, d: &Dir) -> bool
+    ensures end { IsTrue result ↔ IsEnd arc.now (vector_of d.now) }
 {
+    arc.source.is_same(d) || arc.target.is_same(d)
+}
+
+// Whether a direction on the arc's circle is strictly on the arc. Where the ends are the same, each is but them.
+fn is_inside(arc: &Arc, d: &Dir) -> bool
+    ensures inside { IsTrue result ↔ ((IsEnd arc.now (vector_of d.now) → ⊥) × IsPassed arc.now (vector_of d.now)) }
+{
+    if is_end(arc, d) {
+        return false;
+    }
     if arc.source.is_same(&arc.target) {
         return true;
     }
@@ -45,22 +55,75 @@ fn is_passed(arc: &Arc, d: &Dir) -> bool
     is_on_way(turn, arc, d)
 }
 
-fn is_end(arc: &Arc, d: &Dir) -> bool
-    ensures end { IsTrue result ↔ IsEnd arc.now (vector_of d.now) }
-{
-    arc.source.is_same(d) || arc.target.is_same(d)
-}
-
-// Whether a direction on the arc's circle is strictly on the arc.
-fn is_inside(arc: &Arc, d: &Dir) -> bool
-    ensures inside { IsTrue result ↔ ((IsEnd arc.now (vector_of d.now) → ⊥) × IsPassed arc.now (vector_of d.now)) }
-{
-    !is_end(arc, d) && is_passed(arc, d)
-}
-
 /// Whether the direction is strictly on the arc. The ends aren't.
 pub fn strictly_on(arc: &Arc, d: &Dir) -> bool
     ensures on { IsTrue result ↔ IsOn arc.now (vector_of d.now) }
 {
     dot(&arc.normal, d) == Sign::Zero && is_inside(arc, d)
+}
+
+fn on_both(a: &Arc, b: &Arc, d: &Dir) -> bool
+    ensures on { IsTrue result ↔ IsOnBoth a.now b.now (vector_of d.now) }
+{
+    strictly_on(a, d) && strictly_on(b, d)
+}
+
+fn in_order(d: Dir, e: Dir) -> Crossing
+    requires apart { vector_of d ≢ vector_of e }
+    ensures in_order { ((result ≡ Two d e) × IsBelow (triple_of (vector_of d)) (triple_of (vector_of e))) ⊎ ((result ≡ Two e d) × IsBelow (triple_of (vector_of e)) (triple_of (vector_of d))) }
+{
+    if d < e {
+        Crossing::Two(d, e)
+    } else {
+        Crossing::Two(e, d)
+    }
+}
+
+/// The directions strictly on both arcs, whose normals aren't parallel and have entries of at most `2^11` in size.
+///
+/// The two great circles meet in the direction of the cross product of the normals and in its opposite, and nowhere
+/// else.
+pub fn crossing(a: &Arc, b: &Arc) -> Crossing
+    requires apart { IsParallel (normal_vector a.now) (normal_vector b.now) → ⊥ }
+    requires first_small { IsAtMost normal_limit (normal_vector a.now) }
+    requires second_small { IsAtMost normal_limit (normal_vector b.now) }
+    ensures crossing { IsCrossing a.now b.now result }
+{
+    let ahead = common_perpendicular(&a.normal, &b.normal);
+    let behind = ahead.back();
+    match (on_both(a, b, &ahead), on_both(a, b, &behind)) {
+        (false, false) => Crossing::Nowhere,
+        (true, false) => Crossing::One(ahead),
+        (false, true) => Crossing::One(behind),
+        (true, true) => in_order(ahead, behind),
+    }
+}
+
+/// The way back: the same directions, from the target to the source about the opposite normal.
+pub fn reverse(arc: &Arc) -> Arc
+    ensures normal { normal_vector result ≡ opposite (normal_vector arc.now) }
+    ensures source { source_vector result ≡ target_vector arc.now }
+    ensures target { target_vector result ≡ source_vector arc.now }
+    ensures directions { (d : Vector) → IsOn result d ↔ IsOn arc.now d }
+{
+    Arc::of(arc.target, arc.source, arc.normal.back())
+}
+
+/// Which of two directions strictly on the arc comes first from the source: `Less` where the first does.
+pub fn next_along(arc: &Arc, d: &Dir, e: &Dir) -> Ordering
+    requires d_on { IsOn arc.now (vector_of d.now) }
+    requires e_on { IsOn arc.now (vector_of e.now) }
+    ensures less { (result ≡ Ordering.Less) ↔ IsOnBefore arc.now (vector_of e.now) (vector_of d.now) }
+    ensures equal { (result ≡ Ordering.Equal) ↔ SameDirection (vector_of d.now) (vector_of e.now) }
+    ensures greater { (result ≡ Ordering.Greater) ↔ IsOnBefore arc.now (vector_of d.now) (vector_of e.now) }
+{
+    if d.is_same(e) {
+        return Ordering::Equal;
+    }
+    let way = Arc::of(arc.source, *e, arc.normal);
+    if strictly_on(&way, d) {
+        Ordering::Less
+    } else {
+        Ordering::Greater
+    }
 }

@@ -3,8 +3,7 @@ use Rattle.std.proofs.Common.{◌≡◌, ℕ, zero, suc, ◌*◌, ◌<◌, ◌�
 use Rattle.std.proofs.lemmas.List.{length-replicate}
 use Rattle.std.proofs.lemmas.Option.{slice_get_within}
 use Rattle.atomic_table.specs.Table.{opening}
-use Rattle.nef_core.specs.State.{State as Machine}
-use Rattle.nef_core.specs.Machine.{start}
+use Rattle.nef_core.specs.Machine.{State as Machine, start}
 use Rattle.nef_core.specs.declared.machine.Slot.{Slot}
 use Rattle.nef_core.specs.declared.machine.Slot.TheVariants.{Open, InHand}
 use Rattle.nef_core.specs.declared.machine.Event.{Event}
@@ -12,7 +11,7 @@ use Rattle.nef_core.proofs.Places.{get_replicate, only_one}
 use Rattle.nef_core.proofs.Deposits.{open_not_held, same_slot}
 use Rattle.nef_core.specs.Results.{HasResult}
 use Rattle.nef_board.specs.declared.state.BoardState.{BoardState}
-use Rattle.nef_board.specs.declared.view.LockView.{LockView}
+use Rattle.nef_board.specs.declared.board.LockView.{LockView}
 use Rattle.nef_board.specs.Sound.{owed, Sound, IsSound}
 use Rattle.nef_board.specs.Views.{first_view}
 use Rattle.nef_core.specs.Passes.{Fits}

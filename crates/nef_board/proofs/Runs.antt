@@ -5,8 +5,7 @@ use mathlib.Core.Option.{some, none, some-injective, some-ne-none}
 use lib.ListN.{get_elem?}
 use Rattle.atomic_table.specs.Table.{State}
 use Rattle.atomic_table.proofs.Lists.{set_else, set_again}
-use Rattle.nef_core.specs.State.{State as Machine}
-use Rattle.nef_core.specs.Machine.{start, after, replay, IsLegal}
+use Rattle.nef_core.specs.Machine.{State as Machine, start, after, replay, IsLegal}
 use Rattle.nef_core.specs.Accounts.{IsAccounted}
 use Rattle.nef_core.specs.Results.{AllDone, ResultsFit}
 use Rattle.nef_core.specs.declared.machine.Slot.TheVariants.{InHand}
@@ -15,7 +14,7 @@ use Rattle.nef_core.proofs.Schedules.{claim_answers, past_answers, past_is_same}
 use Rattle.nef_core.proofs.Accounts.{accounted}
 use Rattle.nef_core.proofs.Passes.{held_in}
 use Rattle.nef_board.specs.declared.state.BoardState.{BoardState}
-use Rattle.nef_board.specs.declared.view.LockView.{LockView}
+use Rattle.nef_board.specs.declared.board.LockView.{LockView}
 use Rattle.nef_board.specs.Rule.{IsPlaced, Shows}
 use Rattle.nef_board.specs.Views.{seeing, taken_in}
 use Rattle.nef_board.specs.Laws.{IsSeat, SplitIsNothing, JoinIsNothing, TakingIsNothing, FailingIsNothing, TurnIsAway, FreeingIsClaim, FreeingIsNone, FreeingIsDeposit, FreeingIsGiveBack, BoardRuns}

@@ -9,8 +9,7 @@ use prog.Atomic.{either}
 use lib.ListN.{get_elem?}
 use Rattle.atomic_table.specs.Table.{State, step, Act, keeps, takes, gives, stepped, Allows, Splits, Joins, Final, Seen, Valid, carried_after}
 use Rattle.atomic_table.proofs.Lists.{at_set, set_here, set_else, set_again}
-use Rattle.nef_core.specs.State.{State as Machine}
-use Rattle.nef_core.specs.Machine.{after}
+use Rattle.nef_core.specs.Machine.{State as Machine, after}
 use Rattle.nef_core.specs.declared.machine.Slot.{Slot}
 use Rattle.nef_core.specs.declared.machine.Slot.TheVariants.{Open, InHand, Done}
 use Rattle.nef_core.specs.declared.machine.Event.TheVariants.{Claim, Deposit, GiveBack}
@@ -18,10 +17,10 @@ use Rattle.nef_core.proofs.Places.{get_set_here, get_set_other, same_or_not, wit
 use Rattle.nef_core.proofs.Deposits.{open_not_held, open_not_done, held_not_done, done_not_held, held_by, not_among, among}
 use Rattle.nef_core.proofs.Schedules.{claimed, past_is_same}
 use Rattle.nef_board.specs.declared.state.BoardState.{BoardState}
-use Rattle.nef_core.specs.declared.view.View.{View}
+use Rattle.nef_core.specs.declared.board.View.{View}
 use Rattle.nef_core.specs.Passes.{deposited, Fits}
 use Rattle.nef_core.proofs.Passes.{fits_cut, fits_new, fits_beside, fits_taken_in, fits_at_end, fits_holding, fits_deposited, fits_gave_back, fits_moved, held_in}
-use Rattle.nef_board.specs.declared.view.LockView.{LockView}
+use Rattle.nef_board.specs.declared.board.LockView.{LockView}
 use Rattle.nef_board.specs.Sound.{IsSound}
 use Rattle.nef_board.specs.Views.{seeing, claimed_view, ended_view, deposited_view, back_view, job_in, cut, new_view, taken_in, spent}
 use Rattle.nef_board.specs.Rule.{IsPlaced, IsThere, SawIs, Shows, Kept, Found, Took, Claimed, Ended, Deposited, GaveBack}

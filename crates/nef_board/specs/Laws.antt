@@ -9,7 +9,7 @@ use Rattle.nef_core.specs.Results.{ResultsFit}
 use Rattle.nef_core.specs.declared.machine.Event.TheVariants.{Claim, Deposit, GiveBack}
 use Rattle.nef_core.specs.declared.board.Claim.TheVariants.{Got, NoneLeft}
 use Rattle.nef_board.specs.declared.state.BoardState.{BoardState}
-use Rattle.nef_board.specs.declared.view.LockView.{LockView}
+use Rattle.nef_board.specs.declared.board.LockView.{LockView}
 use Rattle.nef_board.specs.Sound.{IsSound}
 use Rattle.nef_board.specs.Rule.{Shows, Kept}
 use Rattle.nef_board.specs.Views.{seeing, claimed_view, ended_view, deposited_view, back_view, cut, new_view, taken_in, spent}

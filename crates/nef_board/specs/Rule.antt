@@ -6,9 +6,9 @@ use Rattle.atomic_table.specs.Table.{State, Me, Step}
 use Rattle.nef_core.specs.declared.machine.Slot.TheVariants.{InHand}
 use Rattle.nef_core.specs.Results.{AllDone}
 use Rattle.nef_board.specs.declared.state.BoardState.{BoardState}
-use Rattle.nef_core.specs.declared.view.View.{View}
+use Rattle.nef_core.specs.declared.board.View.{View}
 use Rattle.nef_core.specs.Passes.{Fits}
-use Rattle.nef_board.specs.declared.view.LockView.{LockView}
+use Rattle.nef_board.specs.declared.board.LockView.{LockView}
 use Rattle.nef_board.specs.Sound.{IsSound}
 use Rattle.nef_board.specs.Views.{seeing, claimed_view, ended_view, deposited_view, back_view}
 

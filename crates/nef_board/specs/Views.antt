@@ -1,9 +1,9 @@
 -- The views of passes: what every pass knows, and what is seen under the turn.
 use Rattle.std.specs.Prelude.{ℕ, Option, Some, None}
-use Rattle.nef_core.specs.declared.view.View.{View}
+use Rattle.nef_core.specs.declared.board.View.{View}
 use Rattle.nef_core.specs.Passes as passes
 use Rattle.nef_board.specs.declared.state.BoardState.{BoardState}
-use Rattle.nef_board.specs.declared.view.LockView.{LockView}
+use Rattle.nef_board.specs.declared.board.LockView.{LockView}
 
 abbrev pub job_in : Option ℕ → ℕ
 job_in None = 0

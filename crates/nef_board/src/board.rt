@@ -1,17 +1,15 @@
-//! The board.
-ghost use Rattle.std.specs.Prelude.{◌≡◌, true, false, ◌+◌, ◌<◌, IfOk, Some, None, [], ◌∷◌, ◌==◌};
-ghost use Rattle.nef_board.specs.Rule.{Found, Took};
+//! The board, its passes, what holds between any two steps, and what holds on every schedule.
+ghost use Rattle.std.specs.Prelude.{◌≡◌, true, false, ◌+◌, ◌<◌, ◌≤◌, IfOk, Some, None, [], ◌∷◌, ◌==◌};
+ghost use Rattle.nef_board.specs.Rule.{Found, Took, Kept, Claimed, Ended, Deposited, GaveBack};
 ghost use Rattle.atomic_table.specs.Table.{Allows, step};
 ghost use mathlib.Core.Option.{none};
 ghost use prog.Atomic.{either};
-ghost use Rattle.nef_board.specs.Views.{seeing};
+ghost use Rattle.nef_board.specs.Views.{seeing, first_view, cut, new_view};
+ghost use Rattle.nef_board.specs.Laws.{SplitIsNothing, JoinIsNothing, TakingIsNothing, FailingIsNothing, TurnIsAway, FreeingIsClaim, FreeingIsNone, FreeingIsDeposit, FreeingIsGiveBack, BoardRuns};
 
-use crate::pass::LockPass;
-use crate::rule::{Claims, Cut, Deposits, Ends, GivesBack, LockRule, Takes};
 use crate::state::BoardState;
-use crate::view::LockView;
-use atomic_table::{Seat, Shared, Table, TableRule};
-use nef_core::{Board, Claim, Job, Order, OutOfMemory, Receipt};
+use atomic_table::{Join, Play, Seat, Shared, Split, Table, TableRule};
+use nef_core::{Board, Claim, Job, Order, OutOfMemory, Receipt, View};
 use std::alloc::Global;
 use std::sync::Wait;
 use std::{hint, thread};
@@ -26,6 +24,29 @@ pub struct LockBoard<'a, R, J: Job> {
     table: Table<Option<BoardState<J::Out>>, LockView<J::Out>, Order<'a, J>, LockRule, Global>,
     ghost word_count: { table.shared.table_id.words ≡ 1 },
     ghost slot_count: { table.shared.table_id.slots ≡ 1 },
+}
+
+/// What every pass knows, and the state that it found while it has the turn.
+// No value of it is made.
+pub struct LockView<T> {
+    pub known: View,
+    pub saw: Option<BoardState<T>>,
+}
+
+/// A pass of a [`LockBoard`].
+#[derive(Drop)]
+pub struct LockPass<J: Job> {
+    seat: Seat<Option<BoardState<J::Out>>, LockView<J::Out>>,
+    number: u64,
+    made: u64,
+    ended: bool,
+    pub ghost live: { seat.me.0.known.live ≡ true },
+    pub ghost same_number: { seat.me.0.known.number ≡ number },
+    pub ghost same_made: { seat.me.0.known.made ≡ made },
+    pub ghost room: { seat.me.0.known.made + seat.me.0.known.spare ≤ 4294967296 },
+    pub ghost same_end: { seat.me.0.known.ended ≡ ended },
+    pub ghost away: { seat.me.0.saw ≡ None },
+    pub ghost free: { seat.me.1 ≡ [] },
 }
 
 impl<'a, R: Wait + Sync, J: Job> LockBoard<'a, R, J> {
@@ -73,17 +94,12 @@ const TRIES: u32 = 64;
 // one that has just given it back, and asks for it again at once, works on without waiting.
 const PAUSES: u32 = 16;
 
-// Waits for a short time.
-fn pause() {
-    for _ in 0..PAUSES {
-        hint::spin_loop();
-    }
-}
-
 // Waits a little, or lets others run where the turn was asked for often. How often it was asked for since.
 fn wait(asked: u32) -> u32 {
     if asked < TRIES {
-        pause();
+        for _ in 0..PAUSES {
+            hint::spin_loop();
+        }
         asked + 1
     } else {
         thread::yield_now();
@@ -149,13 +165,9 @@ impl<'a, R: Wait + Sync, J: Job> Board<J> for LockBoard<'a, R, J> {
     }
 
     fn join(&self, pass: &mut LockPass<J>, other: LockPass<J>) {
-        let LockPass {
-            seat,
-            number: _,
-            made: _,
-            ended: _,
-        } = other;
-        self.table.shared.join_seat::<Cut>(&mut pass.seat, seat);
+        self.table
+            .shared
+            .join_seat::<Cut>(&mut pass.seat, other.seat);
     }
 
     fn claim(&self, pass: &mut LockPass<J>) -> Claim {
@@ -199,21 +211,97 @@ impl<'a, R: Wait + Sync, J: Job> Board<J> for LockBoard<'a, R, J> {
         mut pass: LockPass<J>,
     ) -> Result<Vec<Option<J::Out>>, OutOfMemory> {
         let state = take_turn(self.rt, &self.table.shared, &mut pass.seat);
-        let LockBoard { rt: _, table } = self;
-        let LockPass {
-            seat,
-            number: _,
-            made: _,
-            ended: _,
-        } = pass;
-        let mut closed = table.close_with(seat);
+        let LockPass { seat, .. } = pass;
+        let mut closed = self.table.close_with(seat);
         drop(closed.take(0));
         closed.free();
-        let BoardState {
-            machine: _,
-            history: _,
-            results,
-        } = state;
-        Ok(results)
+        Ok(state.results)
     }
 }
+
+/// The state at home, or seen by the pass that has the turn, is sound and fits all views.
+pub struct LockRule;
+
+impl<'a, J: Job> TableRule<Option<BoardState<J::Out>>, LockView<J::Out>, Order<'a, J>>
+    for LockRule {
+    ghost holds = { λ order s. Kept order.jobs order.seats (J.right order.job.now) s };
+
+    ghost first = { λ order. first_view order.jobs order.seats };
+}
+
+/// Tries to take the turn.
+pub struct Takes;
+
+impl<T> Play<Option<BoardState<T>>, LockView<T>> for Takes {
+    ghost then = { Took };
+}
+
+/// Frees the turn after a claim that got a job.
+pub struct Claims;
+
+impl<T> Play<Option<BoardState<T>>, LockView<T>> for Claims {
+    ghost then = { Claimed };
+}
+
+/// Frees the turn after a claim that got none.
+pub struct Ends;
+
+impl<T> Play<Option<BoardState<T>>, LockView<T>> for Ends {
+    ghost then = { Ended };
+}
+
+/// Frees the turn after a deposit.
+pub struct Deposits;
+
+impl<T> Play<Option<BoardState<T>>, LockView<T>> for Deposits {
+    ghost then = { Deposited };
+}
+
+/// Frees the turn after a giving back.
+pub struct GivesBack;
+
+impl<T> Play<Option<BoardState<T>>, LockView<T>> for GivesBack {
+    ghost then = { GaveBack };
+}
+
+/// Cuts a pass in two, and takes one in.
+pub struct Cut;
+
+impl<T> Split<LockView<T>> for Cut {
+    ghost left = { cut };
+
+    ghost right = { new_view };
+}
+
+impl<T> Join<LockView<T>> for Cut {
+    ghost use Rattle.nef_board.specs.Views.{taken_in, spent};
+
+    ghost both = { taken_in };
+
+    ghost spent = { spent };
+}
+
+/// Each kind of atomic step leaves the machine as it is, but for the store that frees the turn,
+/// which is the one event of its call.
+///
+/// The steps are splitting and joining a seat, the compare-exchange of the turn, the exchanges
+/// that take the state out and lay it in, and that store.
+pub fn steps_are_events<J: Job>()
+    ensures split { (work : J) → SplitIsNothing (J.right work) }
+    ensures join { (work : J) → JoinIsNothing (J.right work) }
+    ensures take { (work : J) → TakingIsNothing (J.right work) }
+    ensures fail { (work : J) → FailingIsNothing (J.right work) }
+    ensures exchange { (work : J) → TurnIsAway (J.right work) }
+    ensures claim { (work : J) → FreeingIsClaim (J.right work) }
+    ensures past { (work : J) → FreeingIsNone (J.right work) }
+    ensures deposit { (work : J) → FreeingIsDeposit (J.right work) }
+    ensures give_back { (work : J) → FreeingIsGiveBack (J.right work) }
+{}
+
+/// Whenever the state is home, its machine is the replay of the legal history that it keeps,
+/// in which each pass has just its job in hand, one claim and one deposit for each job that it
+/// deposited or took in, and one giving back for each further claim. Each job that is done has
+/// its right result, and no other job has one.
+pub fn board_runs<J: Job>()
+    ensures { (work : J) → BoardRuns (J.right work) }
+{}

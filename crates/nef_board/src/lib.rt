@@ -2,14 +2,7 @@
 #![tactic(auto)]
 
 mod board;
-mod laws;
-mod pass;
-mod rule;
 mod state;
-mod view;
 
-pub use board::LockBoard;
-pub use laws::{board_runs, steps_are_events};
-pub use pass::LockPass;
-pub use rule::LockRule;
+pub use board::{LockBoard, LockPass, LockRule, board_runs, steps_are_events};
 pub use state::BoardState;

@@ -1,5 +1,5 @@
 //! What the lock keeps.
-use nef_core::{Claim, Event, Machine, OutOfMemory, Receipt};
+use nef_core::{Claim, Event, Machine, OutOfMemory, Receipt, empty_places};
 use std::alloc::Global;
 
 /// The machine, the events that led to it, and the results.
@@ -14,7 +14,7 @@ pub struct BoardState<T> {
 
 impl<T: Drop> BoardState<T> {
     ghost use Rattle.std.specs.Prelude.{◌≡◌, ◌<◌, ◌^◌, ◌++◌, ◌∷◌, [], Some, None, IfOk, slice_get, slice_set, replicate};
-    ghost use Rattle.nef_core.specs.Claims.{MatchClaim};
+    ghost use Rattle.nef_core.specs.Views.{MatchClaim};
     ghost use Rattle.nef_core.specs.Machine.{start, after, reply};
     ghost use Rattle.nef_core.specs.declared.machine.Slot.TheVariants.{InHand};
     ghost use Rattle.nef_board.specs.Sound.{IsSound};
@@ -30,7 +30,7 @@ impl<T: Drop> BoardState<T> {
     {
         let machine = Machine::new(alloc, jobs)?;
         let history = Vec::with_capacity(alloc, 2 * jobs as usize)?;
-        let results = no_results(alloc, jobs as usize)?;
+        let results = empty_places(alloc, jobs as usize)?;
         Ok(BoardState {
             machine,
             history,
@@ -86,17 +86,4 @@ impl<T: Drop> BoardState<T> {
         self.machine.step(Event::GiveBack(pass, job));
         self.history.push_reserved(Event::GiveBack(pass, job));
     }
-}
-
-ghost use Rattle.std.specs.Prelude.{◌≡◌, IfOk, None, replicate};
-
-// As many places for results, all empty.
-fn no_results<T: Drop>(alloc: Global, count: usize) -> Result<Vec<Option<T>>, OutOfMemory>
-    ensures { IfOk result (λ v. v.items ≡ replicate count None) }
-{
-    let mut results = Vec::with_capacity(alloc, count)?;
-    for _ in 0..count {
-        results.push_reserved(None);
-    }
-    Ok(results)
 }

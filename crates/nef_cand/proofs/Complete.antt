@@ -21,7 +21,7 @@ use Rattle.nef_cand.specs.declared.named.Named.{Named}
 use Rattle.nef_cand.specs.declared.named.Operand.TheVariants.{First, Second}
 use Rattle.nef_cand.specs.Names.{named_point, IsAmong, IsNamed, IsNamedIn, AreNamed, IsOnceEach}
 use Rattle.nef_cand.specs.Candidates.{IsListed, AreExactly, IsVertexOf, AreCandidates}
-use Rattle.nef_cand.specs.Points.{Adds, CutsOne, ListsNamed}
+use Rattle.nef_cand.specs.Points.{Adds, CutsOne, ListsCandidates}
 use Rattle.nef_cand.specs.Near.{HasTogether, IsCandidate}
 use Rattle.nef_complex.proofs.Reading.{read-at}
 use Rattle.nef_cand.proofs.Adding.{adds-both, adds-with}
@@ -128,15 +128,12 @@ exactly-as : (P Q : Place → Type 0) (ps : List Point) → ((y : Place) → P y
 exactly-as P Q ps f g x = record { ordered = x.ordered; each = λ p h. f (place_of p) (x.each p h); all = λ y h. x.all y (g y h) }
 
 -- of all cuts by carriers of the other
-pub lists-named : (s t : Set) (a b : ProgramComplex) (xs ys ns : List Named) → ShowsSet s a → ShowsSet t b → HasTogether a b xs ys ns
-    → Adds (CutsOne (complex_of a) b.carriers) (IsNamedIn First (complex_of a)) [] xs → Adds (CutsOne (complex_of b) a.carriers) (IsNamedIn Second (complex_of b)) [] ys → ListsNamed a b ns
-lists-named s t a b xs ys ns S T all third fourth = record {
-  lists = record {
-    exactly = exactly;
-    framed = each-framed s t a b (map named_point ns) S.shows T.shows exactly.each;
-    complete = λ r u y X Y v. vertices-listed r u (complex_of a) (complex_of b) (map named_point ns) y exactly X.shows Y.shows v;
-  };
-  named = together-named a b (CutsOne (complex_of a) b.carriers) (CutsOne (complex_of b) a.carriers) xs ys ns all third fourth;
+pub lists-candidates : (s t : Set) (a b : ProgramComplex) (xs ys ns : List Named) → ShowsSet s a → ShowsSet t b → HasTogether a b xs ys ns
+    → Adds (CutsOne (complex_of a) b.carriers) (IsNamedIn First (complex_of a)) [] xs → Adds (CutsOne (complex_of b) a.carriers) (IsNamedIn Second (complex_of b)) [] ys → ListsCandidates a b (map named_point ns)
+lists-candidates s t a b xs ys ns S T all third fourth = record {
+  exactly = exactly;
+  framed = each-framed s t a b (map named_point ns) S.shows T.shows exactly.each;
+  complete = λ r u y X Y v. vertices-listed r u (complex_of a) (complex_of b) (map named_point ns) y exactly X.shows Y.shows v;
 }
   where
     forth : (y : Place) → Has a b (CutsOne (complex_of a) b.carriers) (CutsOne (complex_of b) a.carriers) xs ys ns all third fourth y → IsCandidate (complex_of a) (complex_of b) y

@@ -12,8 +12,7 @@ use Rattle.nef_smap.proofs.SideLists.{get-from_at}
 use Rattle.nef_complex.specs.Index.{AreHolders, AreInOrder}
 use Rattle.nef_complex.specs.Planes.{HoldsBoth}
 use Rattle.nef_complex.proofs.PlaneSearch.{never-below}
-use Rattle.nef_cand.specs.Points.{IsLineThrough}
-use Rattle.nef_cand.proofs.Planes.{line-of}
+use Rattle.nef_cand.proofs.Planes.{IsLineThrough, line-of}
 
 -- two different planes of the list hold both points
 abbrev pub AreHeldByTwo : List Plane → Place → Place → Type 0
@@ -36,7 +35,7 @@ module _ (hs : List Plane) (p q : Place) (ns : List ℕ) (H : AreHolders hs p q 
           is-at_one hs k g h (subst (λ (m : ℕ). IsAt hs m g) e (get-from_at hs i g a)) (get-from_at hs k h b)
 
   -- and the first two are different, since each carrier is listed once
-  pub first-two : AreInOrder hs → (i k : ℕ) (g h : Plane) → IsAt ns 0 i → IsAt ns 1 k → IsAt hs i g → IsAt hs k h → IsLineThrough (record { first = g; second = h }) p q
+  pub first-two : AreInOrder hs → (i k : ℕ) (g h : Plane) → IsAt ns 0 i → IsAt ns 1 k → IsAt hs i g → IsAt hs k h → IsLineThrough g h p q
   first-two order i k g h a b c d =
       let o = H.each 0 i a in
       let r = H.each 1 k b in

@@ -109,10 +109,6 @@ edge-crosses c h e u v a b y (r, t, f, g, x) =
     subst (λ (w : Vertex). IsCrossing (form_of h) (place_of w.point) (place_of v.point) y) (at-one c.vertices e.low r u f a)
     (subst (λ (w : Vertex). IsCrossing (form_of h) (place_of r.point) (place_of w.point) y) (at-one c.vertices e.high t v g b) x)
 
-pub edge-cuts : (c : Complex) (h : Plane) (e : Edge) (u v : Vertex) → At c.vertices e.low u → At c.vertices e.high v
-    → (N : Named → Type 0) (ps qs : List Named) → Adds (IsCrossing (form_of h) (place_of u.point) (place_of v.point)) N ps qs → Adds (CutsEdge c h e) N ps qs
-edge-cuts c h e u v a b N ps qs = adds-as (IsCrossing (form_of h) (place_of u.point) (place_of v.point)) (CutsEdge c h e) N ps qs (λ y x. (u, v, a, b, x)) (edge-crosses c h e u v a b)
-
 -- a plane cuts the complex where it crosses one of its edges
 pub some-cut : (c : Complex) (h : Plane) (y : Place) → AnyAt (CutsEdge c h) c.edges y → IsCutBy (complex_of c) (form_of h) y
 some-cut c h y (k, e, a, (u, v, f, g, x)) =
@@ -140,9 +136,6 @@ cut-some c h y (k, e, v, w, a, H, m, o, n) =
                 (subst (λ (r : PlainVertex). IsCrossing (form_of h) v.point r.point y) (sym t.2) (record { between = m; on = o; parts = n })),
           ),
         )
-
-pub cuts-all : (c : Complex) (h : Plane) (N : Named → Type 0) (ps qs : List Named) → Adds (AnyAt (CutsEdge c h) c.edges) N ps qs → Adds (IsCutBy (complex_of c) (form_of h)) N ps qs
-cuts-all c h N ps qs = adds-as (AnyAt (CutsEdge c h) c.edges) (IsCutBy (complex_of c) (form_of h)) N ps qs (some-cut c h) (cut-some c h)
 
 -- ---- the vertices
 pub vertex-named : (o : Operand) (c : Complex) (k : ℕ) (u : Vertex) → At c.vertices k u → IsNamedIn o (complex_of c) (record { point = u.point; name = name.Vertex o k })

@@ -1,14 +1,14 @@
+pub mod Planes
 pub mod Crossing
 pub mod Adding
-pub mod Planes
 pub mod EdgeLines
 pub mod Held
 pub mod Missing
+pub mod MissedFrame
 pub mod Order
 pub mod Complete
 pub mod Halves
 pub mod Framed
-pub mod Sides
 pub mod Apart
 pub mod Both
 pub mod NearCuts

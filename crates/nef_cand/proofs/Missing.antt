@@ -1,5 +1,5 @@
 -- A plane that leaves the open frame on one side crosses no edge.
-use Rattle.std.proofs.Common.{◌≡◌, ℕ, ℤ, pos, ◌+◌, ◌*◌, ◌≤◌, ◌+ℤ◌, ◌*ℤ◌, ◌≤ℤ◌, ◌<ℤ◌, nat_abs, arith, ap, subst, ⊎_elim, List}
+use Rattle.std.proofs.Common.{◌≡◌, ℕ, ℤ, pos, ◌+◌, ◌*◌, ◌≤◌, ◌+ℤ◌, ◌*ℤ◌, ◌≤ℤ◌, ◌<ℤ◌, nat_abs, arith, ap, subst, ⊎_elim}
 use Rattle.std.proofs.lemmas.Int.{ints, by_lt_z, unsigned_abs-mul}
 use Rattle.std.proofs.Math.Nat.{mul-le-mul_right}
 use lib.IntN.{zero-*ℤ}
@@ -7,14 +7,12 @@ use Rattle.nef_space.proofs.Order.{abs_plus, abs_times, mul_nonneg, mul_le_right
 use Rattle.nef_space.specs.Limits.{half_side, point_limit}
 use Rattle.nef_space.specs.Place.{Place, Form, InClosedFrame}
 use Rattle.nef_space.specs.Sets.{Set}
-use Rattle.nef_cand.specs.declared.named.Named.{Named}
 use Rattle.law_complex.specs.Shows.{Shows}
 use Rattle.law_complex.specs.Complexes.{Complex}
+use Rattle.nef_complex.proofs.Framed.{dim-framed}
 use Rattle.nef_cand.specs.Candidates.{IsCutBy}
-use Rattle.nef_cand.specs.Points.{Adds, MissesFrame}
-use Rattle.nef_cand.proofs.Adding.{adds-none}
+use Rattle.nef_cand.specs.Points.{MissesFrame}
 use Rattle.nef_cand.proofs.Crossing.{never-crosses}
-use Rattle.nef_cand.proofs.Framed.{framed}
 
 module _ (h : Form) (far : half_side * (nat_abs h.a + nat_abs h.b + nat_abs h.c) ≤ nat_abs h.d) where
   share : (a b c d w : ℕ) → half_side * (a + b + c) ≤ d → a * (half_side * w) + b * (half_side * w) + c * (half_side * w) ≤ d * w
@@ -48,11 +46,8 @@ module _ (h : Form) (far : half_side * (nat_abs h.a + nat_abs h.b + nat_abs h.c)
 pub never-cut : (s : Set) (C : Complex) (h : Form) → Shows s C → MissesFrame h → (y : Place) → IsCutBy C h y → ⊥
 never-cut s C h S n y (k, e, v, w, x, H, m, o, off) =
     never-crosses h v.point w.point
-    (n v.point w.point (framed s v.point 0 (omega arith) (S.vertices e.low v H.low)) (framed s w.point 0 (omega arith) (S.vertices e.high w H.high)))
+    (n v.point w.point (dim-framed s v.point 0 (omega arith) (S.vertices e.low v H.low)) (dim-framed s w.point 0 (omega arith) (S.vertices e.high w H.high)))
     y (record { between = m; on = o; parts = off })
-
-pub nothing-cut : (s : Set) (C : Complex) (h : Form) (N : Named → Type 0) (ps : List Named) → Shows s C → MissesFrame h → Adds (IsCutBy C h) N ps ps
-nothing-cut s C h N ps S n = adds-none (IsCutBy C h) N ps (never-cut s C h S n)
 
 -- ---- by the numbers that the program reads
 pub number-fits : (x y : ℤ) (k : ℕ) → x ≡ y → nat_abs y ≤ k → k ≤ point_limit → nat_abs x ≤ point_limit

@@ -1,12 +1,14 @@
 -- Cuts within the spans of carriers.
-use Rattle.std.proofs.Common.{◌≡◌, ℕ, ◌+◌, ◌<◌, pos, List, [], ◌∷◌, ◌++◌, length, map, Option, Some, None, arith, sym, subst, ◌⊎◌, inl, inr}
+use Rattle.std.proofs.Common.{◌≡◌, ℕ, ◌+◌, ◌*◌, ◌<◌, ◌≤◌, ℤ, pos, neg_ℤ, ◌*ℤ◌, ◌≤ℤ◌, nat_abs, List, [], ◌∷◌, ◌++◌, length, map, Option, Some, None, arith, sym, subst, ◌⊎◌, inl, inr}
 use Rattle.std.specs.List.{Contains}
 use Rattle.std.specs.Option.{MatchOption}
 use Rattle.std.proofs.Math.Nat.{eq-or-lt_of_le}
+use Rattle.std.proofs.lemmas.Int.{ints}
 use Rattle.std.proofs.lemmas.List.Elements.{Contains-append_left, Contains-push, Contains-push_cases}
+use Rattle.nef_space.specs.Limits.{half_side}
 use Rattle.nef_space.specs.Lists.{IsAt}
 use Rattle.nef_space.specs.Local.{IsVertex}
-use Rattle.nef_space.specs.Place.{Place, Form, form_at, SamePlace}
+use Rattle.nef_space.specs.Place.{Place, Form, form_at, SamePlace, InClosedFrame}
 use Rattle.nef_space.specs.Sets.{Set}
 use Rattle.nef_geo.specs.Shapes.{place_of, form_of}
 use Rattle.nef_geo.specs.declared.plane.Plane.{Plane}
@@ -14,7 +16,7 @@ use Rattle.nef_geo.specs.declared.point.Point.{Point}
 use Rattle.law_near.proofs.Rays.{same-place_sym}
 use Rattle.law_sphere.specs.Maps.{At}
 use Rattle.law_sphere.proofs.Lists.{at-one}
-use Rattle.nef_smap.proofs.Lists.{at-within, at-map, at-contains, contains-at}
+use Rattle.nef_smap.proofs.Lists.{at-within, at-map, map-at, at-contains, contains-at}
 use Rattle.nef_smap.proofs.SideLists.{get-from_at}
 use Rattle.law_complex.specs.Laws.{IsNearCut, IsSkeletonIn, HoldsEdge}
 use Rattle.law_complex.proofs.Candidates.{candidates-suffice}
@@ -26,17 +28,18 @@ use Rattle.nef_complex.specs.Complexes.{complex_of, ShowsSet}
 use Rattle.nef_complex.specs.Index.{IsSpanOn}
 use Rattle.nef_complex.specs.Indexing.{AreAlone}
 use Rattle.nef_complex.specs.Spans.{IsInSpan, IsNarrower}
+use Rattle.nef_complex.proofs.Framed.{edge-framed}
 use Rattle.nef_complex.proofs.Reading.{got-at}
 use Rattle.nef_complex.proofs.Spanned.{span-same, span-between, spanned}
 use Rattle.nef_cand.specs.declared.named.Named.{Named}
 use Rattle.nef_cand.specs.declared.named.Operand.{Operand}
 use Rattle.nef_cand.specs.declared.named.Operand.TheVariants.{First, Second}
 use Rattle.nef_cand.specs.declared.named.Name.TheVariants as name
-use Rattle.nef_cand.specs.declared.near.Spanned.{Spanned}
+use Rattle.nef_cand.specs.declared.listing.Spanned.{Spanned}
 use Rattle.nef_cand.specs.Candidates.{IsVertexOf, IsCutBy}
 use Rattle.nef_cand.specs.Names.{named_point, IsNamedIn}
-use Rattle.nef_cand.specs.Points.{Adds, IsOnlyCrossing, MissesFrame}
-use Rattle.nef_cand.specs.Near.{IsSpanned, AreSpannedCarriers, CutsEdgeNear, CutsEdgeNearOne, CutsNear, HasTogether, IsCandidate, ListsNear}
+use Rattle.nef_cand.specs.Points.{Adds, CutsOne, IsOnlyCrossing, MissesFrame}
+use Rattle.nef_cand.specs.Near.{IsSpanned, AreSpannedCarriers, frame_span, framed_plane, CutsEdgeNear, CutsEdgeNearOne, CutsNear, HasTogether, IsCandidate, ListsNear}
 use Rattle.nef_cand.proofs.Adding.{AnyAt, adds-as}
 use Rattle.nef_cand.proofs.Complete.{vertex-of, cuts-any, together-exactly, together-named}
 use Rattle.nef_cand.proofs.Framed.{each-framed}
@@ -84,11 +87,11 @@ abbrev pub IsNearOf : Complex → Edge → Spanned → Option Point → Type 0
 IsNearOf c e x o = MatchOption o ((y : Place) → CutsEdgeNear c e x y → ⊥) (λ m. CutsEdgeNear c e x (place_of m) × ((y : Place) → CutsEdgeNear c e x y → SamePlace (place_of m) y))
 
 module _ (c : Complex) (x : Spanned) (e : Edge) (u v : Vertex) (a : At c.vertices e.low u) (b : At c.vertices e.high v) where
-  pub near-kept : (p : Point) (o : Option Point) → IsOnlyCrossing (form_of x.plane) (place_of u.point) (place_of v.point) (place_of p)
-      → MatchOption o (IsInSpan x.span (place_of p) → ⊥) (λ m. (m ≡ p) × IsInSpan x.span (place_of p)) → IsNearOf c e x o
-  near-kept p None C n = λ y d. n (span-same x.span y (place_of p) (same-place_sym (place_of p) y (C.1 y (edge-crosses c x.plane e u v a b y d.0))) d.1)
-  near-kept p (Some m) C k = subst (λ (r : Point). CutsEdgeNear c e x (place_of r) × ((y : Place) → CutsEdgeNear c e x y → SamePlace (place_of r) y)) (sym k.0)
-      (((u, v, a, b, C.0), k.1), λ y d. C.1 y (edge-crosses c x.plane e u v a b y d.0))
+  pub near-beyond : (p : Point) → IsOnlyCrossing (form_of x.plane) (place_of u.point) (place_of v.point) (place_of p) → (IsInSpan x.span (place_of p) → ⊥) → IsNearOf c e x None
+  near-beyond p C n = λ y d. n (span-same x.span y (place_of p) (same-place_sym (place_of p) y (C.1 y (edge-crosses c x.plane e u v a b y d.0))) d.1)
+
+  pub near-within : (p : Point) → IsOnlyCrossing (form_of x.plane) (place_of u.point) (place_of v.point) (place_of p) → IsInSpan x.span (place_of p) → IsNearOf c e x (Some p)
+  near-within p C k = (((u, v, a, b, C.0), k), λ y d. C.1 y (edge-crosses c x.plane e u v a b y d.0))
 
 -- the points of an edge lie within what is as wide as the spans of its ends
 pub ends-spanned : (c : Complex) (ss : List Span) → AreAlone c.vertices ss → (x : Spanned) (e : Edge) (s t r : Span) → IsAt ss e.low s → IsAt ss e.high t → IsNarrower s r → IsNarrower t r
@@ -109,6 +112,26 @@ near-all c xs N ps qs = adds-as (AnyAt (CutsEdgeNearOne c xs) c.edges) (CutsNear
 
     back : (y : Place) → CutsNear (complex_of c) xs y → AnyAt (CutsEdgeNearOne c xs) c.edges y
     back y (i, x, b, (d, s)) = let z = cut-some c x.plane y d in (z.0, z.1, z.2, (i, x, b, (z.3, s)))
+
+-- ---- within the whole frame
+in-frame_span : (y : Place) → InClosedFrame y → IsInSpan frame_span y
+in-frame_span y i = (side y.x y.w i.along_x, side y.y y.w i.along_y, side y.z y.w i.along_z)
+  where
+    side : (x : ℤ) (w : ℕ) → nat_abs x ≤ half_side * w → ((neg_ℤ (pos half_side) *ℤ pos w) ≤ℤ x) × (x ≤ℤ (pos half_side *ℤ pos w))
+    side x w l = (omega (arith, ints, l), omega (arith, ints, l))
+
+-- all cuts lie there
+pub framed-cuts : (s : Set) (c : Complex) → ShowsSet s c → (hs : List Plane) (N : Named → Type 0) (ps qs : List Named) → Adds (CutsNear (complex_of c) (map framed_plane hs)) N ps qs → Adds (CutsOne (complex_of c) hs) N ps qs
+framed-cuts s c S hs N ps qs = adds-as (CutsNear (complex_of c) (map framed_plane hs)) (CutsOne (complex_of c) hs) N ps qs forth back
+  where
+    in-frame : (h : Form) (y : Place) → IsCutBy (complex_of c) h y → InClosedFrame y
+    in-frame h y (k, e, v, w, a, H, m, o, n) = edge-framed s (complex_of c) S.shows k y (e, v, w, a, H, m)
+
+    forth : (y : Place) → CutsNear (complex_of c) (map framed_plane hs) y → CutsOne (complex_of c) hs y
+    forth y (i, x, a, (d, j)) = let h = at-map framed_plane hs i x a in (i, h.0, h.1, subst (λ (z : Spanned). IsCutBy (complex_of c) (form_of z.plane) y) (sym h.2) d)
+
+    back : (y : Place) → CutsOne (complex_of c) hs y → CutsNear (complex_of c) (map framed_plane hs) y
+    back y (i, h, a, d) = (i, framed_plane h, map-at framed_plane hs i h a, (d, in-frame_span y (in-frame (form_of h) y d)))
 
 -- ---- all that is listed
 module _ (a b : Complex) (xs : List Spanned) (A : AreSpannedCarriers b (length b.carriers) xs) where

@@ -6,14 +6,14 @@ use Rattle.std.specs.Prelude.{◌&&◌}
 use Rattle.std.proofs.lemmas.Bool.Decides.{Decides-int_eq}
 use lib.Dec.{T}
 use Rattle.nef_space.proofs.Ring.{ring, at, num, ◌⊖◌, ◌⊗◌}
-use Rattle.nef_space.specs.Place.{Place, Form}
+use Rattle.nef_space.specs.Place.{Place, Form, normal_of}
+use Rattle.nef_space.specs.Vectors.{IsDirection, cross}
 use Rattle.nef_geo.specs.Meet.{IsSamePlane}
 use Rattle.nef_geo.specs.Shapes.{form_of}
 use Rattle.nef_geo.specs.declared.plane.Plane.{Plane}
 use Rattle.nef_geo.proofs.Unique.{same_planes_equal}
 use Rattle.nef_complex.specs.Planes.{HoldsBoth}
 use Rattle.nef_complex.proofs.SamePlanes.{parallel-equal}
-use Rattle.nef_cand.specs.Points.{IsLineThrough}
 
 -- ---- the program's test of equality
 abbrev pub plane_test : Plane → Plane → Bool
@@ -54,7 +54,13 @@ tested-other g h e same =
     subst T (sym equal) tt
 
 -- ---- two planes through both points
-pub line-of : (g h : Plane) (p q : Place) → HoldsBoth (form_of g) p q → HoldsBoth (form_of h) p q → (h ≡ g → ⊥) → IsLineThrough (record { first = g; second = h }) p q
+-- both hold them, and their normals aren't parallel
+pub record IsLineThrough (g h : Plane) (p q : Place) : Type 0 where
+  pub first : HoldsBoth (form_of g) p q
+  pub second : HoldsBoth (form_of h) p q
+  pub independent : IsDirection (cross (normal_of (form_of g)) (normal_of (form_of h)))
+
+pub line-of : (g h : Plane) (p q : Place) → HoldsBoth (form_of g) p q → HoldsBoth (form_of h) p q → (h ≡ g → ⊥) → IsLineThrough g h p q
 line-of g h p q i k n = record {
   first = i;
   second = k;

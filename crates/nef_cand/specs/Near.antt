@@ -1,6 +1,7 @@
 -- Candidates near what the sets have in the planes that cut.
-use Rattle.std.specs.Prelude.{◌≡◌, ℕ, ◌<◌, ◌⊎◌, List, [], ◌++◌, map}
+use Rattle.std.specs.Prelude.{◌≡◌, ℕ, ◌<◌, pos, neg_ℤ, ◌⊎◌, List, [], ◌++◌, map}
 use Rattle.std.specs.List.{Contains}
+use Rattle.nef_space.specs.Limits.{half_side}
 use Rattle.nef_space.specs.Place.{Place, IsPlaceBelow}
 use Rattle.nef_space.specs.Sets.{Set}
 use Rattle.nef_geo.specs.Shapes.{place_of, form_of}
@@ -12,12 +13,14 @@ use Rattle.law_complex.specs.Complexes.{Complex as PlainComplex}
 use Rattle.law_complex.specs.Laws.{IsCut, IsVertexOfBoth}
 use Rattle.nef_complex.specs.declared.complex.Complex.{Complex}
 use Rattle.nef_complex.specs.declared.complex.Edge.{Edge}
+use Rattle.nef_complex.specs.declared.spans.Bounds.{Bounds}
+use Rattle.nef_complex.specs.declared.spans.Span.{Span}
 use Rattle.nef_complex.specs.Complexes.{complex_of, ShowsSet}
 use Rattle.nef_complex.specs.Index.{IsSpanOn}
 use Rattle.nef_complex.specs.Spans.{IsInSpan}
 use Rattle.nef_cand.specs.declared.named.Named.{Named}
 use Rattle.nef_cand.specs.declared.named.Operand.TheVariants.{First, Second}
-use Rattle.nef_cand.specs.declared.near.Spanned.{Spanned}
+use Rattle.nef_cand.specs.declared.listing.Spanned.{Spanned}
 use Rattle.nef_cand.specs.Candidates.{IsListed, IsVertexOf, IsCutBy, AreFramed}
 use Rattle.nef_cand.specs.Names.{named_point, AreNamed, IsNamedIn, IsOnceEach}
 use Rattle.nef_cand.specs.Points.{Adds, CutsEdge, MissesFrame}
@@ -31,6 +34,14 @@ IsSpanned c xs h = (x : Spanned) × Contains xs x × (x.plane ≡ h) × IsSpanOn
 pub record AreSpannedCarriers (c : Complex) (n : ℕ) (xs : List Spanned) : Type 0 where
   pub each : (x : Spanned) → Contains xs x → (k : ℕ) × At c.carriers k x.plane
   pub all : (k : ℕ) (h : Plane) → k < n → At c.carriers k h → MissesFrame (form_of h) ⊎ IsSpanned c xs h
+
+-- a span of the whole frame
+abbrev pub frame_span : Span
+frame_span = let b : Bounds = record { low = neg_ℤ (pos half_side); high = pos half_side } in record { x = b; y = b; z = b }
+
+-- the plane, with that span
+abbrev pub framed_plane : Plane → Spanned
+framed_plane h = record { plane = h; span = frame_span }
 
 -- ---- cuts within spans
 -- y is a cut of an edge by the carrier, within its span

@@ -1,13 +1,10 @@
 -- Points added to a list, and where a plane parts an edge.
-use Rattle.std.specs.Prelude.{◌≡◌, ℕ, ◌≤◌, pos, ◌⊎◌, List, length, map}
+use Rattle.std.specs.Prelude.{◌≡◌, ℕ, pos, ◌⊎◌, List, map}
 use Rattle.std.specs.List.{Contains}
-use Rattle.nef_space.specs.Place.{Place, Form, form_at, normal_of, InClosedFrame, SamePlace, IsBetween}
-use Rattle.nef_space.specs.Vectors.{IsDirection, cross}
+use Rattle.nef_space.specs.Place.{Place, Form, form_at, InClosedFrame, SamePlace, IsBetween}
 use Rattle.nef_geo.specs.Shapes.{place_of, form_of}
 use Rattle.nef_geo.specs.declared.plane.Plane.{Plane}
 use Rattle.nef_geo.specs.declared.point.Point.{Point}
-use Rattle.nef_geo.specs.declared.sign.Sign.{Sign}
-use Rattle.nef_geo.specs.Signs.{sign_of}
 use Rattle.nef_geo.specs.Steps.{HasOppositeSigns}
 use Rattle.law_sphere.specs.Maps.{At}
 use Rattle.law_complex.specs.Complexes.{Complex as PlainComplex}
@@ -15,9 +12,8 @@ use Rattle.nef_complex.specs.declared.complex.Complex.{Complex}
 use Rattle.nef_complex.specs.declared.complex.Edge.{Edge}
 use Rattle.nef_complex.specs.declared.complex.Vertex.{Vertex}
 use Rattle.nef_complex.specs.Planes.{HoldsBoth}
-use Rattle.nef_cand.specs.declared.line.Line.{Line}
 use Rattle.nef_cand.specs.declared.named.Named.{Named}
-use Rattle.nef_cand.specs.Names.{named_point, IsAmong, AreNamed}
+use Rattle.nef_cand.specs.Names.{IsAmong}
 use Rattle.nef_space.specs.Sets.{Set}
 use Rattle.law_complex.specs.Laws.{IsVertexOfBoth}
 use Rattle.nef_complex.specs.Complexes.{complex_of, ShowsSet}
@@ -33,12 +29,6 @@ pub record Adds (P : Place → Type 0) (N : Named → Type 0) (ns ms : List Name
 pub record HasBoth {X : Type 0} (xs ys zs : List X) : Type 0 where
   pub kept : (x : X) → Contains xs x ⊎ Contains ys x → Contains zs x
   pub only : (x : X) → Contains zs x → Contains xs x ⊎ Contains ys x
-
--- the planes of the line hold both points, and their normals aren't parallel
-pub record IsLineThrough (l : Line) (p q : Place) : Type 0 where
-  pub first : HoldsBoth (form_of l.first) p q
-  pub second : HoldsBoth (form_of l.second) p q
-  pub independent : IsDirection (cross (normal_of (form_of l.first)) (normal_of (form_of l.second)))
 
 -- y lies strictly between p and q on the plane, which doesn't hold both
 pub record IsCrossing (h : Form) (p q y : Place) : Type 0 where
@@ -61,11 +51,6 @@ point_of v = v.point
 abbrev pub points_of : Complex → List Point
 points_of c = map point_of c.vertices
 
--- the signs of the form at all points of the vertices
-pub record AreSides (h : Form) (vs : List Vertex) (signs : List Sign) : Type 0 where
-  pub all : length vs ≤ length signs
-  pub each : (k : ℕ) (v : Vertex) (s : Sign) → At vs k v → At signs k s → s ≡ sign_of (form_at h (place_of v.point))
-
 -- one of the planes cuts an edge at y
 abbrev pub CutsOne : PlainComplex → List Plane → Place → Type 0
 CutsOne C hs y = (i : ℕ) × (h : Plane) × At hs i h × IsCutBy C (form_of h) y
@@ -75,11 +60,6 @@ pub record ListsCandidates (a b : Complex) (ps : List Point) : Type 0 where
   pub exactly : AreCandidates (complex_of a) (complex_of b) ps
   pub framed : AreFramed ps
   pub complete : (s t : Set) (y : Place) → ShowsSet s a → ShowsSet t b → IsVertexOfBoth s t y → IsListed ps y
-
--- these points are the candidates of the two complexes, and each lies where its name tells
-pub record ListsNamed (a b : Complex) (ns : List Named) : Type 0 where
-  pub lists : ListsCandidates a b (map named_point ns)
-  pub named : AreNamed (complex_of a) (complex_of b) ns
 
 -- at no two points of the closed frame has the form opposite signs
 abbrev pub MissesFrame : Form → Type 0

@@ -1,8 +1,7 @@
 //! The candidates of a combination, listed by several threads.
 
-ghost use Rattle.std.specs.Prelude.{◌≡◌, min, length, IfOk, []};
-ghost use Rattle.nef_space.specs.Sets.{Set};
-ghost use Rattle.nef_complex.specs.Complexes.{complex_of, ShowsSet};
+ghost use Rattle.std.specs.Prelude.{◌≡◌};
+ghost use Rattle.nef_complex.specs.Prelude.{min, length, IfOk, [], Set, complex_of, ShowsSet};
 ghost use Rattle.nef_core.specs.Work.{crew_of};
 ghost use Rattle.nef_core.specs.declared.work.Work.TheVariants.{Listing};
 ghost use Rattle.nef_cand.specs.declared.named.Operand.TheVariants.{First, Second};
@@ -11,9 +10,8 @@ ghost use Rattle.nef_cand.specs.Points.{Adds};
 ghost use Rattle.nef_cand.specs.Near.{CutsNear, ListsNear};
 
 use crate::OutOfMemory;
-use crate::merging::merged;
-use crate::named::{Named, Operand};
-use crate::near::{Spanned, gathered_near, near_candidates, near_cuts, spanned_carriers};
+use crate::listing::{Spanned, near_candidates, near_cuts, spanned_carriers};
+use crate::named::{Named, Operand, merged, together};
 use nef_complex::Complex;
 use nef_core::Work;
 use std::alloc::Global;
@@ -126,5 +124,5 @@ pub fn near_candidates_by_threads<R: Threads + Sync>(
     let inside_back = second?;
     let inside_b = third?;
     let inside_a = merged(alloc, inside_front.as_slice(), inside_back.as_slice())?;
-    gathered_near(alloc, a, b, inside_a.as_slice(), inside_b.as_slice())
+    together(alloc, a, b, inside_a.as_slice(), inside_b.as_slice())
 }

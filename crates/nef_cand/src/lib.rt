@@ -5,19 +5,11 @@
 //! the vertices on the carrier may be left out.
 #![tactic(auto)]
 
-mod added;
 mod by_threads;
-mod line;
 mod listing;
-mod merging;
 mod named;
-mod near;
-mod points;
-mod spans;
 
 pub use by_threads::near_candidates_by_threads;
-pub use listing::{candidates, cut_candidates, named_candidates};
-pub use named::{Name, Named, Operand, named_points};
-pub use near::near_candidates;
+pub use listing::{candidates, cut_candidates, misses_frame, near_candidates};
+pub use named::{Name, Named, Operand, named_points, vertex_points};
 pub use nef_complex::OutOfMemory;
-pub use points::vertex_points;

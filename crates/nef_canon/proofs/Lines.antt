@@ -1,10 +1,14 @@
 -- Lines written word by word.
-use Rattle.std.proofs.Common.{◌≡◌, List, ℕ, zero, suc, ℤ, ◌+◌, ◌<◌, ◌≤◌, [], ◌∷◌, ◌++◌, length, take, Some, slice_get, arith, refl, ap, sym, ◌∙◌, append_assoc}
+use Rattle.std.proofs.Common.{◌≡◌, List, ℕ, zero, suc, ℤ, ◌+◌, ◌<◌, ◌≤◌, [], ◌∷◌, ◌++◌, length, take, get_or, Option, Some, None, MatchOption, option_to_list, slice_get, decimal, arith, refl, ap, sym, ◌∙◌, subst, append_assoc}
 use Rattle.std.proofs.lemmas.List.{append-nil, take_more, take_all}
 use Rattle.std.proofs.lemmas.Option.{get_or_from_slice_get}
 use Rattle.std.specs.Fmt.{signed_decimal}
 use Rattle.std.specs.List.{flat_map, join_with_byte}
-use Rattle.nef_parts.specs.Text.{Word, line, with_rows}
+use Rattle.nef_core.specs.declared.work.TextVersion.{TextVersion}
+use Rattle.nef_core.specs.declared.work.TextVersion.TheVariants.{One, Two}
+use Rattle.nef_complex.specs.declared.complex.Complex.{Complex}
+use Rattle.nef_complex.specs.declared.parts.Parts.{Parts}
+use Rattle.nef_complex.specs.Text.{Word, line, with_rows, vertex_text, sface_line, vertices_text, volume_line, shell_line, volumes_text}
 use Rattle.nef_canon.specs.Words.{blanked}
 
 pub blanked-append : (us vs : List Word) → blanked (us ++ vs) ≡ blanked us ++ blanked vs
@@ -21,6 +25,10 @@ more-words o w t s us vs e f =
     f ∙ ap (λ (r : List ℕ). r ++ blanked vs) e ∙ append_assoc o (w ++ blanked us) (blanked vs)
     ∙ ap (λ (r : List ℕ). o ++ r) (append_assoc w (blanked us) (blanked vs) ∙ ap (λ (r : List ℕ). w ++ r) (sym (blanked-append us vs)))
 
+-- a number is written that is another
+pub counted : (s t : List ℕ) (m n : ℕ) → t ≡ s ++ blanked (decimal m ∷ []) → m ≡ n → t ≡ s ++ blanked (decimal n ∷ [])
+counted s t m n e f = e ∙ ap (λ (k : ℕ). s ++ blanked (decimal k ∷ [])) f
+
 -- the line is ended
 pub line-ended : (o w t s : List ℕ) (us : List Word) → t ≡ o ++ (w ++ blanked us) → s ≡ t ++ 10 ∷ [] → s ≡ o ++ line (w ∷ us)
 line-ended o w t s us e f =
@@ -31,14 +39,25 @@ line-ended o w t s us e f =
 pub line-begun : (o w t : List ℕ) → t ≡ o ++ w → t ≡ o ++ (w ++ blanked [])
 line-begun o w t e = e ∙ ap (λ (r : List ℕ). o ++ r) (sym (append-nil w))
 
--- two numbers of one corner more
-pub more-corners : (o s t u : List ℕ) (us : List Word) (v w : Word) → s ≡ o ++ blanked us → t ≡ s ++ blanked (v ∷ []) → u ≡ t ++ blanked (w ∷ []) → u ≡ o ++ blanked (us ++ v ∷ w ∷ [])
-more-corners o s t u us v w e f g =
-    more-words o [] t u (us ++ v ∷ []) (w ∷ []) (more-words o [] s t us (v ∷ []) e f) g ∙ ap (λ (ws : List Word). o ++ blanked ws) (append_assoc us (v ∷ []) (w ∷ []))
-
 pub flat_map-last : {X Y : Type 0} (f : X → List Y) (xs : List X) (x : X) → flat_map f (xs ++ x ∷ []) ≡ flat_map f xs ++ f x
 flat_map-last f [] x = append-nil (f x)
 flat_map-last f (y ∷ xs) x = ap (λ (r : List _). f y ++ r) (flat_map-last f xs x) ∙ sym (append_assoc (f y) (flat_map f xs) (f x))
+
+-- the words of one element more
+pub more-elements : {X : Type 0} (f : X → List Word) (xs ys : List X) → xs ≡ ys → (i : ℕ) (d : X) → i < length xs → (o w s t : List ℕ) → s ≡ o ++ (w ++ blanked (flat_map f (take i ys))) → t ≡ s ++ blanked (f (get_or xs i d))
+    → t ≡ o ++ (w ++ blanked (flat_map f (take (i + 1) ys)))
+more-elements {X} f xs ys same i d l o w s t e g =
+    let m : i < length ys = subst (λ (zs : List X). i < length zs) same l in
+    let own : t ≡ s ++ blanked (f (get_or ys i d)) = g ∙ ap (λ (zs : List X). s ++ blanked (f (get_or zs i d))) same in
+    let more : flat_map f (take (i + 1) ys) ≡ flat_map f (take i ys) ++ f (get_or ys i d) = ap (flat_map f) (take_more ys i d m) ∙ flat_map-last f (take i ys) (get_or ys i d) in
+    more-words o w s t (flat_map f (take i ys)) (f (get_or ys i d)) e own ∙ ap (λ (ws : List Word). o ++ (w ++ blanked ws)) (sym more)
+
+pub all-elements : {X : Type 0} (f : X → List Word) (xs ys : List X) → xs ≡ ys → (i : ℕ) → length xs ≤ i → (o w t : List ℕ) → t ≡ o ++ (w ++ blanked (flat_map f (take i ys))) → t ≡ o ++ (w ++ blanked (flat_map f ys))
+all-elements {X} f xs ys same i l o w t e =
+    e ∙ ap (λ (zs : List X). o ++ (w ++ blanked (flat_map f zs))) (take_all i ys (subst (λ (zs : List X). length zs ≤ i) same l))
+
+pub both-words : (s t u : List ℕ) (a b : Word) → t ≡ s ++ blanked (a ∷ []) → u ≡ t ++ blanked (b ∷ []) → u ≡ s ++ blanked (a ∷ b ∷ [])
+both-words s t u a b e f = more-words s [] t u (a ∷ []) (b ∷ []) e f
 
 -- two words and two more
 pub two_pairs : (o s t : List ℕ) (a b c d : Word) → s ≡ o ++ blanked (a ∷ b ∷ []) → t ≡ s ++ blanked (c ∷ d ∷ []) → t ≡ o ++ blanked (a ∷ b ∷ c ∷ d ∷ [])
@@ -50,6 +69,20 @@ paired o s m n k l e f g = e ∙ ap (λ (x : ℤ). o ++ blanked (signed_decimal 
 -- a pair and a number more
 pub pair_more : (o s t : List ℕ) (a b c : Word) → s ≡ o ++ blanked (a ∷ b ∷ []) → t ≡ s ++ blanked (c ∷ []) → t ≡ o ++ blanked (a ∷ b ∷ c ∷ [])
 pair_more o s t a b c e f = more-words o [] s t (a ∷ b ∷ []) (c ∷ []) e f
+
+-- what an option is read as
+pub as-list : {X : Type 0} (o : Option X) (xs : List X) → MatchOption o (xs ≡ []) (λ x. xs ≡ x ∷ []) → xs ≡ option_to_list o
+as-list None xs h = h
+as-list (Some x) xs h = h
+
+-- four pieces one after the other, behind what there was
+pub pieces-behind : (o s t u r a b c d : List ℕ) → s ≡ o ++ a → t ≡ s ++ b → u ≡ t ++ c → r ≡ u ++ d → r ≡ o ++ a ++ b ++ c ++ d
+pieces-behind o s t u r a b c d e f g h = h ∙ ap (λ (x : List ℕ). x ++ d) (g ∙ ap (λ (x : List ℕ). x ++ c) (f ∙ ap (λ (x : List ℕ). x ++ b) e))
+
+pub four-pieces : (o s t u r a b c d : List ℕ) → s ≡ o ++ a → t ≡ s ++ b → u ≡ t ++ c → r ≡ u ++ d → r ≡ o ++ (a ++ b ++ c ++ d)
+four-pieces o s t u r a b c d e f g h =
+    pieces-behind o s t u r a b c d e f g h ∙ ap (λ (x : List ℕ). x ++ d) (ap (λ (x : List ℕ). x ++ c) (append_assoc o a b) ∙ append_assoc o (a ++ b) c)
+    ∙ append_assoc o (a ++ b ++ c) d
 
 -- ---- elements with their rows
 length-with_rows : {X Y : Type 0} (xs : List X) (rows : List (List Y)) → length (with_rows xs rows) ≡ length xs
@@ -76,3 +109,30 @@ row-more {X} {Y} f xs rows k x row a b l o s t e g =
 -- all elements
 pub rows-all : {X Y : Type 0} (f : X × List Y → List ℕ) (xs : List X) (rows : List (List Y)) (k : ℕ) → length xs ≤ k → flat_map f (take k (with_rows xs rows)) ≡ flat_map f (with_rows xs rows)
 rows-all f xs rows k l = ap (flat_map f) (take_all k (with_rows xs rows) (let n = length-with_rows xs rows in omega (arith, n, l)))
+
+-- ---- the two versions
+-- the text of an element, and in the second version that of its row
+abbrev pub versioned : {X Y : Type 0} → (X → List ℕ) → (List Y → List ℕ) → TextVersion → X × List Y → List ℕ
+versioned f g One = λ x. f x.0
+versioned f g Two = λ x. f x.0 ++ g x.1
+
+pub first-version : {X Y : Type 0} (f : X → List ℕ) (g : List Y → List ℕ) (version : TextVersion) (x : X) (row : List Y) (s t : List ℕ) → version ≡ One → t ≡ s ++ f x → t ≡ s ++ versioned f g version (x, row)
+first-version f g version x row s t e h = subst (λ (v : TextVersion). t ≡ s ++ versioned f g v (x, row)) (sym e) h
+
+pub second-version : {X Y : Type 0} (f : X → List ℕ) (g : List Y → List ℕ) (version : TextVersion) (x : X) (row : List Y) (s u t : List ℕ) → version ≡ Two → u ≡ s ++ f x → t ≡ u ++ g row → t ≡ s ++ versioned f g version (x, row)
+second-version f g version x row s u t e h k =
+    subst (λ (v : TextVersion). t ≡ s ++ versioned f g v (x, row)) (sym e) (k ∙ ap (λ (r : List ℕ). r ++ g row) h ∙ append_assoc s (f x) (g row))
+
+-- in the first version the rows are left out
+rows-first : {X Y : Type 0} (f : X → List ℕ) (xs : List X) (rows : List (List Y)) → flat_map (λ (z : X × List Y). f z.0) (with_rows xs rows) ≡ flat_map f xs
+rows-first f [] rows = refl
+rows-first f (x ∷ xs) [] = ap (λ (r : List ℕ). f x ++ r) (rows-first f xs [])
+rows-first f (x ∷ xs) (row ∷ rows) = ap (λ (r : List ℕ). f x ++ r) (rows-first f xs rows)
+
+pub vertices-all : (version : TextVersion) (c : Complex) (p : Parts) → flat_map (versioned vertex_text sface_line version) (with_rows c.vertices p.sface_of) ≡ vertices_text version c p
+vertices-all One c p = rows-first vertex_text c.vertices p.sface_of
+vertices-all Two c p = refl
+
+pub volumes-all : (version : TextVersion) (p : Parts) → flat_map (versioned volume_line (flat_map shell_line) version) (with_rows p.volumes p.shells) ≡ volumes_text version p
+volumes-all One p = rows-first volume_line p.volumes p.shells
+volumes-all Two p = refl

@@ -1,6 +1,6 @@
 -- Words behind blanks.
 use Rattle.std.specs.Prelude.{ℕ, List, [], ◌∷◌, ◌++◌}
-use Rattle.nef_parts.specs.Text.{Word}
+use Rattle.nef_complex.specs.Text.{Word}
 
 -- each word behind a blank
 abbrev pub blanked : List Word → List ℕ

@@ -2,10 +2,7 @@
 //! docs/text-format.md.
 #![tactic(auto)]
 
-mod facets;
-mod maps;
 mod text;
-mod volumes;
 mod words;
 
 pub use std::alloc::AllocError as OutOfMemory;

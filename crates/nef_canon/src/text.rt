@@ -1,49 +1,157 @@
-//! The whole text.
+//! The text of a complex with its parts: the lines of vertices with their sphere maps, of edges, of facets with their
+//! cycles, and of volumes with their shells.
 
-ghost use Rattle.std.specs.Prelude.{◌≡◌, ◌∷◌, [], ◌++◌, flat_map, length, OnOk, IfOk};
-ghost use Rattle.nef_complex.specs.Complexes.{complex_of};
-ghost use Rattle.nef_parts.specs.Numbers.{IsParts};
-ghost use Rattle.nef_parts.specs.Text.{numbers, counts, version_word, first_line, edge_line, vertices_text, volumes_text, text, Text};
-ghost use Rattle.nef_canon.specs.Words.{blanked};
+ghost use Rattle.std.specs.Prelude.{◌≡◌, ◌++◌};
+ghost use Rattle.nef_complex.specs.Prelude.{OnOk, IfOk, length, complex_of, IsParts, first_line, edge_line, text, Text, cycle_line, facet_text, svertex_line, arc_line, sloop_line, vertex_text, sface_line, vertices_text, shell_line, volumes_text};
 
 use crate::OutOfMemory;
-use crate::facets::add_facets;
-use crate::maps::{add_faced_vertices, add_vertices};
-use crate::volumes::{add_shelled_volumes, add_volumes};
-use crate::words::{add_count, add_label};
-use nef_complex::{Complex, Edge};
+use crate::words::{add_count, add_dir, add_each, add_label, add_option, add_plane, add_point};
+use nef_complex::{Complex, Cycle, Edge, Facet, Parts, Shell, Vertex};
 use nef_core::TextVersion;
-use nef_parts::Parts;
+use nef_smap::{SArc, SLoop, SVertex};
 use std::alloc::Global;
 
-fn version_digit(version: TextVersion) -> u8
-    ensures digit { result ∷ [] ≡ version_word version }
+fn add_svertex(text: &mut Vec<u8>, v: &SVertex) -> Result<(), OutOfMemory>
+    ensures added { OnOk result (text.new.items ≡ text.old.items ++ svertex_line v.now) }
 {
-    match version {
-        TextVersion::One => b'1',
-        TextVersion::Two => b'2',
-    }
-}
-
-// Adds a blank and the version.
-fn add_version(text: &mut Vec<u8>, version: TextVersion) -> Result<(), OutOfMemory>
-    ensures added { OnOk result (text.new.items ≡ text.old.items ++ blanked (version_word version ∷ [])) }
-{
-    text.push(b' ')?;
-    text.push(version_digit(version))?;
+    text.push(b's')?;
+    add_dir(text, &v.dir)?;
+    add_label(text, v.mark)?;
+    add_option(text, v.around)?;
+    text.push(b'\n')?;
     Ok(())
 }
 
-// Adds the numbers of vertices, edges, facets and volumes.
-fn add_totals(text: &mut Vec<u8>, c: &Complex, parts: &Parts) -> Result<(), OutOfMemory>
-    ensures added { OnOk result (text.new.items ≡ text.old.items ++ blanked (numbers (counts c.now parts.now))) }
+fn add_arc(text: &mut Vec<u8>, a: &SArc) -> Result<(), OutOfMemory>
+    ensures added { OnOk result (text.new.items ≡ text.old.items ++ arc_line a.now) }
 {
-    add_count(text, c.vertices.len())?;
-    add_count(text, c.edges.len())?;
-    add_count(text, parts.facets.len())?;
-    add_count(text, parts.volumes.len())
+    text.push(b'a')?;
+    add_count(text, a.source)?;
+    add_count(text, a.target)?;
+    add_dir(text, &a.normal)?;
+    add_label(text, a.mark)?;
+    add_label(text, a.pos)?;
+    add_label(text, a.neg)?;
+    text.push(b'\n')?;
+    Ok(())
 }
 
+fn add_sloop(text: &mut Vec<u8>, l: &SLoop) -> Result<(), OutOfMemory>
+    ensures added { OnOk result (text.new.items ≡ text.old.items ++ sloop_line l.now) }
+{
+    text.push(b'l')?;
+    add_dir(text, &l.normal)?;
+    add_label(text, l.mark)?;
+    add_label(text, l.pos)?;
+    add_label(text, l.neg)?;
+    text.push(b'\n')?;
+    Ok(())
+}
+
+fn add_vertex(text: &mut Vec<u8>, v: &Vertex) -> Result<(), OutOfMemory>
+    ensures added { OnOk result (text.new.items ≡ text.old.items ++ vertex_text v.now) }
+{
+    text.push(b'v')?;
+    add_point(text, &v.point)?;
+    add_label(text, v.map.mark)?;
+    add_option(text, v.map.ground)?;
+    text.push(b'\n')?;
+    add_each(text, v.map.svertices.as_slice(), add_svertex)?;
+    add_each(text, v.map.arcs.as_slice(), add_arc)?;
+    add_each(text, v.map.sloop.as_slice(), add_sloop)
+}
+
+fn add_faces(text: &mut Vec<u8>, faces: &[usize]) -> Result<(), OutOfMemory>
+    ensures added { OnOk result (text.new.items ≡ text.old.items ++ sface_line faces.now) }
+{
+    text.push(b'g')?;
+    for face in faces {
+        add_count(text, *face)?;
+    }
+    text.push(b'\n')?;
+    Ok(())
+}
+
+// Adds the vertices, each followed by its svertices, its arcs and its sloop, and in the second version by the numbers of the
+// sfaces of its sides.
+fn add_vertices(
+    text: &mut Vec<u8>,
+    c: &Complex,
+    parts: &Parts,
+    version: TextVersion,
+) -> Result<(), OutOfMemory>
+    requires as_many { length parts.now.sface_of ≡ length c.now.vertices }
+    ensures added { OnOk result (text.new.items ≡ text.old.items ++ vertices_text version c.now parts.now) }
+{
+    for number in 0..c.vertices.len() {
+        let v = c.vertices.at(number);
+        let faces = parts.sface_of.at(number).as_slice();
+        add_vertex(text, v)?;
+        match version {
+            TextVersion::One => (),
+            TextVersion::Two => add_faces(text, faces)?,
+        }
+    }
+    Ok(())
+}
+
+fn add_cycle(text: &mut Vec<u8>, cycle: &Cycle) -> Result<(), OutOfMemory>
+    ensures added { OnOk result (text.new.items ≡ text.old.items ++ cycle_line cycle.now) }
+{
+    text.push(b'c')?;
+    for k in cycle.corners.as_slice() {
+        add_count(text, k.vertex)?;
+        add_count(text, k.item)?;
+    }
+    text.push(b'\n')?;
+    Ok(())
+}
+
+// Adds the facet, followed by its cycles.
+fn add_facet(text: &mut Vec<u8>, f: &Facet) -> Result<(), OutOfMemory>
+    ensures added { OnOk result (text.new.items ≡ text.old.items ++ facet_text f.now) }
+{
+    text.push(b'f')?;
+    add_plane(text, &f.plane)?;
+    add_label(text, f.mark)?;
+    add_count(text, f.pos)?;
+    add_count(text, f.neg)?;
+    text.push(b'\n')?;
+    add_each(text, f.cycles.as_slice(), add_cycle)
+}
+
+fn add_shell(text: &mut Vec<u8>, shell: &Shell) -> Result<(), OutOfMemory>
+    ensures added { OnOk result (text.new.items ≡ text.old.items ++ shell_line shell.now) }
+{
+    text.push(b'h')?;
+    for s in shell.sides.as_slice() {
+        add_count(text, s.vertex)?;
+        add_count(text, s.side)?;
+    }
+    text.push(b'\n')?;
+    Ok(())
+}
+
+// Adds the volumes, in the second version each followed by its shells.
+fn add_volumes(text: &mut Vec<u8>, parts: &Parts, version: TextVersion) -> Result<(), OutOfMemory>
+    requires as_many { length parts.now.shells ≡ length parts.now.volumes }
+    ensures added { OnOk result (text.new.items ≡ text.old.items ++ volumes_text version parts.now) }
+{
+    for number in 0..parts.volumes.len() {
+        let label = *parts.volumes.at(number);
+        let own = parts.shells.at(number).as_slice();
+        text.push(b'w')?;
+        add_label(text, label)?;
+        text.push(b'\n')?;
+        match version {
+            TextVersion::One => (),
+            TextVersion::Two => add_each(text, own, add_shell)?,
+        }
+    }
+    Ok(())
+}
+
+// Adds the line with the numbers of vertices, edges, facets and volumes.
 fn add_first(
     text: &mut Vec<u8>,
     c: &Complex,
@@ -52,9 +160,16 @@ fn add_first(
 ) -> Result<(), OutOfMemory>
     ensures added { OnOk result (text.new.items ≡ text.old.items ++ first_line version c.now parts.now) }
 {
-    text.extend_from_slice(b"nef3")?;
-    add_version(text, version)?;
-    add_totals(text, c, parts)?;
+    let digit = match version {
+        TextVersion::One => b'1',
+        TextVersion::Two => b'2',
+    };
+    text.extend_from_slice(b"nef3 ")?;
+    text.push(digit)?;
+    add_count(text, c.vertices.len())?;
+    add_count(text, c.edges.len())?;
+    add_count(text, parts.facets.len())?;
+    add_count(text, parts.volumes.len())?;
     text.push(b'\n')?;
     Ok(())
 }
@@ -70,46 +185,6 @@ fn add_edge(text: &mut Vec<u8>, e: &Edge) -> Result<(), OutOfMemory>
     add_label(text, e.mark)?;
     text.push(b'\n')?;
     Ok(())
-}
-
-fn add_edges(text: &mut Vec<u8>, edges: &[Edge]) -> Result<(), OutOfMemory>
-    ensures added { OnOk result (text.new.items ≡ text.old.items ++ flat_map edge_line edges.now) }
-{
-    for e in edges {
-        add_edge(text, e)?;
-    }
-    Ok(())
-}
-
-// Adds the vertices as the version has them.
-fn add_vertex_lines(
-    text: &mut Vec<u8>,
-    c: &Complex,
-    parts: &Parts,
-    version: TextVersion,
-) -> Result<(), OutOfMemory>
-    requires as_many { length parts.now.sface_of ≡ length c.now.vertices }
-    ensures added { OnOk result (text.new.items ≡ text.old.items ++ vertices_text version c.now parts.now) }
-{
-    match version {
-        TextVersion::One => add_vertices(text, c.vertices.as_slice()),
-        TextVersion::Two => add_faced_vertices(text, &c.vertices, &parts.sface_of),
-    }
-}
-
-// Adds the volumes as the version has them.
-fn add_volume_lines(
-    text: &mut Vec<u8>,
-    parts: &Parts,
-    version: TextVersion,
-) -> Result<(), OutOfMemory>
-    requires as_many { length parts.now.shells ≡ length parts.now.volumes }
-    ensures added { OnOk result (text.new.items ≡ text.old.items ++ volumes_text version parts.now) }
-{
-    match version {
-        TextVersion::One => add_volumes(text, parts.volumes.as_slice()),
-        TextVersion::Two => add_shelled_volumes(text, &parts.volumes, &parts.shells),
-    }
 }
 
 /// The text of the complex with its parts, in this version: the first line with the numbers of vertices, edges, facets and
@@ -128,9 +203,9 @@ pub fn write_text(
 {
     let mut out = Vec::new(alloc);
     add_first(&mut out, c, parts, version)?;
-    add_vertex_lines(&mut out, c, parts, version)?;
-    add_edges(&mut out, c.edges.as_slice())?;
-    add_facets(&mut out, parts.facets.as_slice())?;
-    add_volume_lines(&mut out, parts, version)?;
+    add_vertices(&mut out, c, parts, version)?;
+    add_each(&mut out, c.edges.as_slice(), add_edge)?;
+    add_each(&mut out, parts.facets.as_slice(), add_facet)?;
+    add_volumes(&mut out, parts, version)?;
     Ok(out)
 }

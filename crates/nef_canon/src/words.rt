@@ -1,13 +1,27 @@
 //! Words of a line, each behind a blank.
 
-ghost use Rattle.std.specs.Prelude.{◌≡◌, ◌++◌, ◌∷◌, [], decimal, OnOk};
-ghost use Rattle.std.specs.Fmt.{signed_decimal};
-ghost use Rattle.nef_parts.specs.Text.{label_word, option_word, dir_words, point_words, plane_words};
+ghost use Rattle.std.specs.Prelude.{◌≡◌, ◌++◌, ◌∷◌};
+ghost use Rattle.nef_complex.specs.Prelude.{ℕ, List, [], flat_map, decimal, OnOk, signed_decimal, label_word, option_word, dir_words, point_words, plane_words};
 ghost use Rattle.nef_canon.specs.Words.{blanked};
 
 use crate::OutOfMemory;
 use itoa::Buffer;
 use nef_geo::{Dir, Label, Plane, Point};
+
+/// Adds the text of each item, of which one is added by `add`.
+pub(crate) fn add_each<T, F: Fn(&mut Vec<u8>, &T) -> Result<(), OutOfMemory>>(
+    text: &mut Vec<u8>,
+    items: &[T],
+    add: F,
+) -> Result<(), OutOfMemory>
+    requires callable { F.IsAlwaysCallable add }
+    ensures added { (line : T → List ℕ) → ((before : _) (item : _) (outcome : _) (after : _) → F.post add before item outcome after → OnOk outcome (after.now.items ≡ before.now.items ++ line item.now)) → OnOk result (text.new.items ≡ text.old.items ++ flat_map line items.now) }
+{
+    for item in items {
+        add(text, item)?;
+    }
+    Ok(())
+}
 
 /// Adds a blank and the number.
 pub(crate) fn add_count(text: &mut Vec<u8>, n: usize) -> Result<(), OutOfMemory>
@@ -29,41 +43,28 @@ pub(crate) fn add_number(text: &mut Vec<u8>, n: i64) -> Result<(), OutOfMemory>
     Ok(())
 }
 
-fn label_letter(label: Label) -> u8
-    ensures letter { result ∷ [] ≡ label_word label }
-{
-    match label {
-        Label::Out => b'o',
-        Label::Not => b'n',
-        Label::In => b'i',
-    }
-}
-
 /// Adds a blank and the label.
 pub(crate) fn add_label(text: &mut Vec<u8>, label: Label) -> Result<(), OutOfMemory>
     ensures added { OnOk result (text.new.items ≡ text.old.items ++ blanked (label_word label ∷ [])) }
 {
+    let letter = match label {
+        Label::Out => b'o',
+        Label::Not => b'n',
+        Label::In => b'i',
+    };
     text.push(b' ')?;
-    text.push(label_letter(label))?;
+    text.push(letter)?;
     Ok(())
-}
-
-fn option_letter(label: Option<Label>) -> u8
-    ensures letter { result ∷ [] ≡ option_word label }
-{
-    match label {
-        Some(label) => label_letter(label),
-        None => b'-',
-    }
 }
 
 /// Adds a blank and the label, or a dash where none is given.
 pub(crate) fn add_option(text: &mut Vec<u8>, label: Option<Label>) -> Result<(), OutOfMemory>
     ensures added { OnOk result (text.new.items ≡ text.old.items ++ blanked (option_word label ∷ [])) }
 {
-    text.push(b' ')?;
-    text.push(option_letter(label))?;
-    Ok(())
+    match label {
+        Some(label) => add_label(text, label),
+        None => text.extend_from_slice(b" -"),
+    }
 }
 
 // Adds two numbers, each behind a blank.
@@ -99,18 +100,4 @@ pub(crate) fn add_plane(text: &mut Vec<u8>, h: &Plane) -> Result<(), OutOfMemory
     add_pair(text, h.a(), h.b())?;
     add_pair(text, h.c(), h.d())?;
     Ok(())
-}
-
-/// Adds the labels of an item, each behind a blank: its mark, and those of its two sides.
-pub(crate) fn add_labels(
-    text: &mut Vec<u8>,
-    mark: Label,
-    pos: Label,
-    neg: Label,
-) -> Result<(), OutOfMemory>
-    ensures added { OnOk result (text.new.items ≡ text.old.items ++ blanked (label_word mark ∷ label_word pos ∷ label_word neg ∷ [])) }
-{
-    add_label(text, mark)?;
-    add_label(text, pos)?;
-    add_label(text, neg)
 }

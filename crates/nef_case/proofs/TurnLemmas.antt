@@ -1,6 +1,6 @@
 -- A turn is known by what it makes of the numbers 1, 2 and 3, so that finitely many tests say all of turns.
-use Rattle.std.proofs.Common.{◌≡◌, ℕ, zero, suc, ◌+◌, ◌-◌, ◌*◌, ◌/◌, ◌%◌, ◌<◌, ℤ, pos, negsuc, neg_ℤ, List, length, Bool, true, false, cond, refl, sym, ◌∙◌, ap, subst, inl, inr, arith}
-use Rattle.std.specs.Prelude.{unsigned_abs, ◌==◌, nat_lt}
+use Rattle.std.proofs.Common.{◌≡◌, ℕ, zero, suc, ◌+◌, ◌-◌, ◌*◌, ◌/◌, ◌%◌, ◌^◌, ◌<◌, ◌≤◌, ℤ, pos, negsuc, neg_ℤ, List, length, Bool, true, false, cond, refl, sym, ◌∙◌, ap, subst, inl, inr, arith}
+use Rattle.std.specs.Prelude.{nat_abs, unsigned_abs, ◌==◌, nat_lt}
 use Rattle.std.specs.Int.{is_negative}
 use Rattle.std.specs.Ordering.{int_eq}
 use Rattle.std.specs.List.{All}
@@ -8,7 +8,7 @@ use Rattle.std.proofs.lemmas.Bool.{cases_order}
 use lib.Dec.{T, eqb→eq, ltb→lt}
 use lib.IntN.{neg_ℤ-neg_ℤ}
 use mir.Val.{bool_byte, to_z, of_z, SFits}
-use mir.Syntax.{w8}
+use mir.Syntax.{w8, w64}
 use Rattle.std.proofs.lemmas.Int.{to_z-of_z}
 use Rattle.nef_case.specs.Keys.{number_at}
 use Rattle.nef_case.specs.Turns.{Triple, ordered, has_bit, negated_if, negated, turned, IsEntry, coordinate, named_by, made_by, IsRowOf, Undoes, IsComposition, triple_of, numbered, IsTurnRow}
@@ -145,23 +145,50 @@ composed-only j k r hr e i hi other = numbers-differ i r hi hr (other numbered �
 pub composed-undone : (j k r : ℕ) → r < 48 → turned r numbered ≡ turned j (turned k numbered) → Undoes j k → r ≡ 0
 composed-undone j k r hr e undoes = numbers-differ r 0 hr (omega arith) (e ∙ undoes numbered)
 
+-- ---- entries as machine numbers
+-- an entry of eight bits as a number of 64
+abbrev pub wide : ℤ → ℤ
+wide e = to_z w64 (of_z w64 (to_z w8 (of_z w8 e)))
+
+-- a number of 64 bits that is handed on
+abbrev pub word : ℤ → ℤ
+word x = to_z w64 (of_z w64 x)
+
+narrow-fits : (e : ℤ) → IsEntry e → SFits w8 e
+narrow-fits (pos n) h = let l = h.high in record { sfits = omega (arith, l) }
+narrow-fits (negsuc n) h = let l = h.high in record { sfits = omega (arith, l) }
+
+entry-fits : (e : ℤ) → IsEntry e → SFits w64 e
+entry-fits (pos n) h = let l = h.high in record { sfits = omega (arith, l) }
+entry-fits (negsuc n) h = let l = h.high in record { sfits = omega (arith, l) }
+
+pub word-is : (e : ℤ) → IsEntry e → word e ≡ e
+word-is e h = to_z-of_z w64 e (entry-fits e h)
+
+pub wide-is : (e : ℤ) → IsEntry e → wide e ≡ e
+wide-is e h = ap word (to_z-of_z w8 e (narrow-fits e h)) ∙ word-is e h
+
+pub wide-small : (e : ℤ) → IsEntry e → nat_abs (wide e) < 2 ^ 63
+wide-small e h = subst (λ (i : ℤ). nat_abs i < 2 ^ 63) (sym (wide-is e h)) (let l = h.high in omega (arith, l))
+
 pub composed-row : (j k : ℕ) (later earlier : List ℤ) (w : Triple) → length earlier ≡ 3 → All IsEntry earlier → IsRowOf k earlier → IsRowOf j later
-    → w ≡ made_by later (triple_of earlier) → w ≡ turned j (turned k numbered)
+    → w ≡ made_by later (wide (number_at earlier 0), wide (number_at earlier 1), wide (number_at earlier 2)) → w ≡ turned j (turned k numbered)
 composed-row j k later earlier w l entries is_earlier is_later e =
-    e ∙ is_later (triple_of earlier) ∙ ap (turned j) (triple_of-row k earlier l entries is_earlier)
+    e ∙ ap (made_by later) (same_triple _ _ _ _ _ _ (wide-is _ (entry 0 (omega (arith, l)))) (wide-is _ (entry 1 (omega (arith, l)))) (wide-is _ (entry 2 (omega (arith, l)))))
+    ∙ is_later (triple_of earlier) ∙ ap (turned j) (triple_of-row k earlier l entries is_earlier)
+  where
+    entry : (i : ℕ) → i < length earlier → IsEntry (number_at earlier i)
+    entry i h = entries i (pos 0) h
 
--- ---- a number of eight bits that is handed on
-pub handed_on : (x : ℤ) → SFits w8 x → to_z w8 (of_z w8 x) ≡ x
-handed_on x fits = to_z-of_z w8 x fits
+pub size_read : (u : ℕ) (x : ℤ) → SFits w64 x → u ≡ unsigned_abs (word x) → u ≡ unsigned_abs x
+size_read u x fits e = e ∙ ap unsigned_abs (to_z-of_z w64 x fits)
 
-pub size_read : (u : ℕ) (x : ℤ) → SFits w8 x → u ≡ unsigned_abs (to_z w8 (of_z w8 x)) → u ≡ unsigned_abs x
-size_read u x fits e = e ∙ ap unsigned_abs (handed_on x fits)
-
-pub sign_read : (f : ℕ) (x : ℤ) → SFits w8 x → f ≡ bool_byte (is_negative (to_z w8 (of_z w8 x))) → f ≡ bool_byte (is_negative x)
-sign_read f x fits e = e ∙ ap (λ (i : ℤ). bool_byte (is_negative i)) (handed_on x fits)
+pub sign_read : (f : ℕ) (x : ℤ) → SFits w64 x → f ≡ bool_byte (is_negative (word x)) → f ≡ bool_byte (is_negative x)
+sign_read f x fits e = e ∙ ap (λ (i : ℤ). bool_byte (is_negative i)) (to_z-of_z w64 x fits)
 
 pub falls_read : (f u v : ℕ) (y z : ℤ) → u ≡ unsigned_abs y → v ≡ unsigned_abs z → f ≡ bool_byte (nat_lt v u) → f ≡ bool_byte (nat_lt (unsigned_abs z) (unsigned_abs y))
 falls_read f u v y z p q e = e ∙ ap (λ (i : ℕ). bool_byte (nat_lt i u)) q ∙ ap (λ (i : ℕ). bool_byte (nat_lt (unsigned_abs z) i)) p
 
-pub entry_read : (x e : ℤ) (v : Triple) → SFits w8 x → SFits w8 e → x ≡ named_by (to_z w8 (of_z w8 e)) v → to_z w8 (of_z w8 x) ≡ named_by e v
-entry_read x e v fits fits_e eq = handed_on x fits ∙ eq ∙ ap (λ (i : ℤ). named_by i v) (handed_on e fits_e)
+pub at_most-one : (f : ℕ) (b : Bool) → f ≡ bool_byte b → f ≤ 1
+at_most-one f true e = omega (arith, e)
+at_most-one f false e = omega (arith, e)

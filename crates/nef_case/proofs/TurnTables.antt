@@ -6,7 +6,7 @@ use Rattle.std.specs.List.{All}
 use lib.Dec.{T, ltb→lt, leb→le}
 use Rattle.nef_case.specs.Turns.{Triple, turned, IsEntry, IsRowOf, Undoes, IsTurnRow, numbered}
 use Rattle.nef_case.proofs.Rows.{both_left, both_right}
-use Rattle.nef_case.proofs.TurnLemmas.{made-turned, undoes-by_numbers, below-passes, number_by, numbers-differ, same_parts, parts-same, inverse-one}
+use Rattle.nef_case.proofs.TurnLemmas.{triple, same_triple, word, word-is, made-turned, undoes-by_numbers, below-passes, number_by, numbers-differ, same_parts, parts-same, inverse-one}
 
 -- n values of a function, from i on
 abbrev pub values_from : {A : Type 0} → (ℕ → A) → ℕ → ℕ → List A
@@ -64,11 +64,19 @@ row-is k h = subst (IsRowOf k) (sym (value-from_start row_of_turn 48 k [] h)) (m
 pub row-one : (k : ℕ) → k < 48 → (j : ℕ) → j < 48 → IsRowOf j (get_or turn_rows k []) → j ≡ k
 row-one k h j hj other = numbers-differ j k hj h (sym (other numbered) ∙ row-is k h numbered)
 
--- the first entry of a turn's row
-pub first-named : (w : Triple) → IsTurnRow w → 1 ≤ unsigned_abs w.0
-first-named w (k, h, e) =
+-- the entries of a turn's row
+pub record HasEntries (w : Triple) : Type 0 where
+  pub of_x : IsEntry w.0
+  pub of_y : IsEntry w.1
+  pub of_z : IsEntry w.2
+
+pub turn-entries : (w : Triple) → IsTurnRow w → HasEntries w
+turn-entries w (k, h, e) =
     let all = entries-are (turned k numbered) (below-passes 48 (λ k. are_entries (turned k numbered)) tt k h) in
-    subst (λ (v : Triple). 1 ≤ unsigned_abs v.0) e (all 0 (pos 0) (omega arith)).low
+    subst HasEntries e (record { of_x = all 0 (pos 0) (omega arith); of_y = all 1 (pos 0) (omega arith); of_z = all 2 (pos 0) (omega arith) })
+
+pub words-are : (w : Triple) → HasEntries w → triple (word w.0) (word w.1) (word w.2) ≡ w
+words-are (a, b, c) h = same_triple _ _ _ a b c (word-is a h.of_x) (word-is b h.of_y) (word-is c h.of_z)
 
 -- ---- inverses
 -- the place, with the sign of what stands there

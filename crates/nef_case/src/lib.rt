@@ -30,12 +30,8 @@ macro_rules! rows {
     };
 }
 
-mod labels;
-mod passing;
 mod table;
 mod turns;
 
-pub use labels::{arc_closure, arc_interior, op_and, op_diff, op_or, op_xor};
-pub use passing::between;
-pub use table::CaseTable;
+pub use table::{CaseTable, arc_closure, arc_interior, between, op_and, op_diff, op_or, op_xor};
 pub use turns::{turn_compose, turn_inverse, turn_row, turned_coordinates};

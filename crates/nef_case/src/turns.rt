@@ -3,7 +3,7 @@
 //! and z. Of (x, y, z) the orders 0 to 5 make (x, y, z), (x, z, y), (y, x, z), (y, z, x), (z, x, y) and (z, y, x).
 
 ghost use Rattle.std.specs.Prelude.{◌≡◌, ℕ, ◌<◌, ◌^◌, All, nat_abs};
-ghost use Rattle.nef_case.specs.Turns.{IsEntry, IsRowOf, Undoes, IsComposition, IsTurnRow, triple_of, named_by, made_by, numbered, turned};
+ghost use Rattle.nef_case.specs.Turns.{IsEntry, IsRowOf, Undoes, IsComposition, IsTurnRow, named_by, made_by, numbered, turned};
 
 // The rows of the turns whose orders these are, from the old coordinates that become the new x, y and z.
 macro_rules! turn_rows {
@@ -103,44 +103,20 @@ pub fn turn_compose(j: usize, k: usize) -> usize
     ensures only { (i : ℕ) → i < 48 → IsComposition i j k → i ≡ result }
     ensures undone { Undoes j k → result ≡ 0 }
 {
-    let earlier = turn_row(k);
+    let row = turn_row(k);
     let later = turn_row(j);
-    let row = composed(&later, &earlier);
-    number_of(&row)
+    let (x, y, z) = turned_coordinates(&later, row[0] as i64, row[1] as i64, row[2] as i64);
+    number_of(x, y, z)
 }
 
-/// The row of the turn with the row `earlier` and then the turn with the row `later`.
-fn composed(later: &[i8; 3], earlier: &[i8; 3]) -> [i8; 3]
-    requires later { All IsEntry later.now }
-    requires earlier { All IsEntry earlier.now }
-    ensures { triple_of result ≡ made_by later.now (triple_of earlier.now) }
-{
-    [
-        named(later[0], earlier),
-        named(later[1], earlier),
-        named(later[2], earlier),
-    ]
-}
-
-/// The entry of the row that an entry of a later turn's row names, with the sign of both.
-fn named(entry: i8, row: &[i8; 3]) -> i8
-    requires entry { IsEntry entry }
-    requires row { All IsEntry row.now }
-    ensures entry { result ≡ named_by entry (triple_of row.now) }
-{
-    let named = row[entry.unsigned_abs() as usize - 1];
-    if entry < 0 { -named } else { named }
-}
-
-/// The number of the turn with the row.
-fn number_of(row: &[i8; 3]) -> usize
-    requires turn { IsTurnRow (triple_of row.now) }
+/// The number of the turn whose row has these entries.
+fn number_of(x: i64, y: i64, z: i64) -> usize
+    requires turn { IsTurnRow (x, y, z) }
     ensures below { result < 48 }
-    ensures row { turned result numbered ≡ triple_of row.now }
+    ensures row { turned result numbered ≡ (x, y, z) }
 {
-    let [x, y, z] = row;
-    let order = 2 * (x.unsigned_abs() as usize - 1)
-        + usize::from(y.unsigned_abs() > z.unsigned_abs());
-    let negated = usize::from(*x < 0) + 2 * usize::from(*y < 0) + 4 * usize::from(*z < 0);
+    let first = x.unsigned_abs() as usize - 1;
+    let order = 2 * first + usize::from(y.unsigned_abs() > z.unsigned_abs());
+    let negated = usize::from(x < 0) + 2 * usize::from(y < 0) + 4 * usize::from(z < 0);
     8 * order + negated
 }

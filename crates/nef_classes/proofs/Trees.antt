@@ -5,7 +5,7 @@ use Rattle.std.proofs.lemmas.Bool.Decides.{eqb_tells}
 use Rattle.std.proofs.lemmas.List.{length-take}
 use Rattle.std.proofs.Math.ListN.{length-set}
 use Rattle.nef_space.specs.Lists.{IsAt, Chained}
-use Rattle.nef_classes.specs.declared.link.Link.{Link}
+use Rattle.nef_classes.specs.declared.forest.Link.{Link}
 use Rattle.nef_classes.specs.Classes.{AreLinked, AreClasses}
 use Rattle.nef_classes.proofs.Chains.{chain-here, chain-link, chain-trans, chain-turned, chain-keeps, chain-map}
 use Rattle.nef_classes.proofs.ClassLists.{Either, earlier, last, is-at_one, is-at_within, is-at_left, is-at_last, is-at_either}

@@ -1,7 +1,7 @@
 -- Classes of numbers that links join, each with one number that stands for it, and their numbering.
 use Rattle.std.specs.Prelude.{◌≡◌, ℕ, ◌<◌, List, length, ◌↔◌}
 use Rattle.nef_space.specs.Lists.{IsAt, Chained}
-use Rattle.nef_classes.specs.declared.link.Link.{Link}
+use Rattle.nef_classes.specs.declared.forest.Link.{Link}
 
 -- a link of the list leads from s to t
 abbrev pub AreLinked : List Link → ℕ → ℕ → Type 0

@@ -1,7 +1,7 @@
 -- Classes as trees: a list of parents, one for each number.
 use Rattle.std.specs.Prelude.{◌≡◌, ℕ, ◌≤◌, List, length, slice_set, ◌⊎◌, ◌↔◌}
 use Rattle.nef_space.specs.Lists.{IsAt, Chained}
-use Rattle.nef_classes.specs.declared.link.Link.{Link}
+use Rattle.nef_classes.specs.declared.forest.Link.{Link}
 
 -- no parent is greater than its number
 abbrev pub AreOrdered : List ℕ → Type 0

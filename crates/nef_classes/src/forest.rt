@@ -1,25 +1,27 @@
-//! Classes as trees: each number has a parent, which is never greater, and the root of a tree, its own parent, is the
-//! least number of a class.
+//! Classes of numbers that links join, as trees: each number has a parent, which is never greater, and the root of a tree,
+//! its own parent, is the least number of a class. Classes are numbered by first appearance.
 
-ghost use Rattle.std.specs.Prelude.{◌≡◌, ◌<◌, length, ℕ, IfOk};
-ghost use Rattle.nef_space.specs.Lists.{IsAt, Chained};
-ghost use Rattle.nef_classes.specs.Classes.{AreWithin, AreClasses};
+ghost use Rattle.std.specs.Prelude.{◌≡◌, ◌<◌};
+ghost use Rattle.nef_geo.specs.Prelude.{length, ℕ, IfOk, IsAt, Chained};
+ghost use Rattle.nef_classes.specs.Classes.{AreWithin, AreClasses, AreNumbered};
 ghost use Rattle.nef_classes.specs.Forest.{AreOrdered, IsLifted, HasSameTrees, AreTogether, AreRoots};
 
 use crate::OutOfMemory;
-use crate::link::Link;
 use std::alloc::Global;
+
+/// Two numbers that are of one class.
+#[derive(Debug, Clone, Copy, PartialEq, Eq, Drop)]
+pub struct Link {
+    pub first: usize,
+    pub second: usize,
+}
 
 /// The numbers below `count`, each in its own place. `OutOfMemory` says that memory was wanted and not found.
 pub fn own_numbers(alloc: Global, count: usize) -> Result<Vec<usize>, OutOfMemory>
     ensures as_many { IfOk result (λ v. length v.items ≡ count) }
     ensures own { IfOk result (λ v. (i n : ℕ) → IsAt v.items i n → n ≡ i) }
 {
-    let mut numbers = Vec::new(alloc);
-    for number in 0..count {
-        numbers.push(number)?;
-    }
-    Ok(numbers)
+    (0..count).collect(alloc)
 }
 
 // Makes the parent of the number's parent the number's parent, and returns it.
@@ -88,4 +90,24 @@ pub fn class_of_each(alloc: Global, count: usize, links: &[Link]) -> Result<Vec<
     }
     flatten(parents.as_mut_slice());
     Ok(parents)
+}
+
+/// The numbers of classes by first appearance: the first element has 0, and each class whose first element comes later has
+/// the next number. `roots` holds for each element the first one of its class. `OutOfMemory` says that memory was wanted
+/// and not found.
+pub fn class_numbers(alloc: Global, roots: &[usize]) -> Result<Vec<usize>, OutOfMemory>
+    requires roots { AreRoots roots.now }
+    ensures numbers { IfOk result (λ v. AreNumbered roots.now v.items) }
+{
+    let mut numbers = Vec::new(alloc);
+    let mut next = 0;
+    for (number, root) in roots.iter().enumerate() {
+        if *root < number {
+            numbers.push(numbers[*root])?;
+        } else {
+            numbers.push(next)?;
+            next += 1;
+        }
+    }
+    Ok(numbers)
 }

@@ -2,16 +2,9 @@
 //! appearance.
 #![tactic(auto)]
 
-mod flat;
 mod forest;
-mod link;
-mod numbering;
-mod rows;
 mod table;
 
-pub use forest::{class_of_each, own_numbers};
-pub use link::Link;
-pub use numbering::class_numbers;
-pub use rows::empty_rows;
+pub use forest::{Link, class_numbers, class_of_each, own_numbers};
 pub use std::alloc::AllocError as OutOfMemory;
-pub use table::{Cell, Tie, number_rows};
+pub use table::{Cell, Tie, empty_rows, number_at, number_rows};

@@ -1,13 +1,14 @@
-//! The numbers of all elements of a table.
+//! The numbers of all elements of a table: its rows stand one after the other, so that elements become numbers, and the
+//! numbers of their classes are cut into rows again.
 
-ghost use Rattle.std.specs.Prelude.{IfOk};
-ghost use Rattle.nef_classes.specs.Tables.{AreTiedWithin, HasCounts, AreNumbers};
+ghost use Rattle.std.specs.Prelude.{◌≡◌, ◌<◌, ◌^◌};
+ghost use Rattle.nef_geo.specs.Prelude.{ℕ, [], length, IfOk, List as Sequence, IsAt, IsInTable};
+ghost use Rattle.nef_classes.specs.Classes.{AreWithin};
+ghost use Rattle.nef_classes.specs.Tables.{total, IsCellIn, place, AreTiedWithin, HasCounts, AreNumbers};
+ghost use Rattle.nef_classes.specs.Flat.{AreStarts, AreFlat, AreCut};
 
 use crate::OutOfMemory;
-use crate::flat::{flat_links, starts_of};
-use crate::forest::class_of_each;
-use crate::numbering::class_numbers;
-use crate::rows::rows_of;
+use crate::forest::{Link, class_numbers, class_of_each};
 use nef_geo::List;
 use std::alloc::Global;
 
@@ -23,6 +24,97 @@ pub struct Cell {
 pub struct Tie {
     pub first: Cell,
     pub second: Cell,
+}
+
+// Where each row begins when all rows stand one after the other, and after these where the last one ends. A table with
+// more elements than a `usize` counts finds no memory.
+fn starts_of(alloc: Global, counts: &[usize]) -> Result<Vec<usize>, OutOfMemory>
+    ensures starts { IfOk result (λ v. AreStarts counts.now v.items) }
+    ensures fits { IfOk result (λ v. total counts.now < 2 ^ 64) }
+{
+    let mut starts = Vec::new(alloc);
+    let mut next = 0_usize;
+    starts.push(next)?;
+    for count in counts {
+        next = match next.checked_add(*count) {
+            Some(sum) => sum,
+            None => return Err(OutOfMemory),
+        };
+        starts.push(next)?;
+    }
+    Ok(starts)
+}
+
+// The place of the element among all of the table.
+fn place_of(starts: &[usize], counts: &[usize], cell: &Cell) -> usize
+    requires starts { AreStarts counts.now starts.now }
+    requires fits { total counts.now < 2 ^ 64 }
+    requires within { IsCellIn counts.now cell.now }
+    ensures place { result ≡ place counts.now cell.now }
+    ensures within { result < total counts.now }
+{
+    starts[cell.row] + cell.column
+}
+
+// The ties between places.
+fn flat_links(
+    alloc: Global,
+    starts: &[usize],
+    counts: &[usize],
+    ties: &[Tie],
+) -> Result<Vec<Link>, OutOfMemory>
+    requires starts { AreStarts counts.now starts.now }
+    requires fits { total counts.now < 2 ^ 64 }
+    requires within { AreTiedWithin counts.now ties.now }
+    ensures within { IfOk result (λ v. AreWithin (total counts.now) v.items) }
+    ensures flat { IfOk result (λ v. AreFlat counts.now ties.now v.items) }
+{
+    let mut links = Vec::new(alloc);
+    for tie in ties {
+        links.push(Link {
+            first: place_of(starts, counts, &tie.first),
+            second: place_of(starts, counts, &tie.second),
+        })?;
+    }
+    Ok(links)
+}
+
+/// So many rows with nothing in them, each with room for so many elements. `OutOfMemory` says that memory was wanted and not
+/// found.
+pub fn empty_rows<T: Drop>(
+    alloc: Global,
+    count: usize,
+    room: usize,
+) -> Result<Vec<List<T>>, OutOfMemory>
+    ensures as_many { IfOk result (λ v. length v.items ≡ count) }
+    ensures empty { IfOk result (λ v. (k : ℕ) (row : Sequence T) → IsAt v.items k row → row ≡ []) }
+{
+    let mut rows = Vec::with_capacity(alloc, count)?;
+    for _number in 0..count {
+        rows.push(List::from_vec(Vec::with_capacity(alloc, room)?))?;
+    }
+    Ok(rows)
+}
+
+// The numbers in rows, which have `counts` of them.
+fn rows_of(
+    alloc: Global,
+    counts: &[usize],
+    numbers: &[usize],
+) -> Result<List<List<usize>>, OutOfMemory>
+    requires all { length numbers.now ≡ total counts.now }
+    ensures counts { IfOk result (λ rows. HasCounts counts.now rows) }
+    ensures cut { IfOk result (λ rows. AreCut counts.now numbers.now rows) }
+{
+    let mut rows = List::new(alloc);
+    let mut start = 0;
+    for count in counts {
+        let end = start + *count;
+        let row = Vec::from_slice(alloc, &numbers[start..end])?;
+        rows.push(List::from_vec(row))?;
+        start = end;
+    }
+    Ok(rows)
 }
 
 /// For each element of a table, whose rows have `counts` elements, the number of its class. Chains of ties join the
@@ -42,4 +134,12 @@ pub fn number_rows(
     let roots = class_of_each(alloc, starts[counts.len()], &links)?;
     let numbers = class_numbers(alloc, &roots)?;
     rows_of(alloc, counts, &numbers)
+}
+
+/// The number in this row of the table, at this place.
+pub fn number_at(rows: &List<List<usize>>, row: usize, column: usize) -> usize
+    requires some { (n : ℕ) × IsInTable rows.now row column n }
+    ensures number { IsInTable rows.now row column result }
+{
+    *rows.at(row).at(column)
 }

@@ -16,6 +16,8 @@ pub mod Turned
 pub mod Spanning
 pub mod Grouped
 pub mod Spanned
+pub mod Framed
+pub mod Outside
 pub mod Walking
 pub mod SamePoints
 pub mod TakenRows

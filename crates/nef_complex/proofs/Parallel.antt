@@ -1,5 +1,6 @@
 -- Runs of parallel planes, and the one of a run that holds a point.
-use Rattle.std.proofs.Common.{◌≡◌, ℕ, zero, suc, ◌+◌, ◌-◌, ◌<◌, ◌≤◌, ℤ, pos, negsuc, ◌+ℤ◌, ◌-ℤ◌, ◌*ℤ◌, ◌<ℤ◌, List, [], ◌∷◌, ◌++◌, length, get_or, take, drop, arith, refl, ap, sym, ◌∙◌, ◌⊎◌, inl, inr, ⊎_elim, subst, false, Result, Ok, Err, Ordering, Less, Equal, Greater}
+use Rattle.std.proofs.Common.{◌≡◌, ℕ, zero, suc, ◌+◌, ◌-◌, ◌<◌, ◌≤◌, ℤ, pos, negsuc, ◌+ℤ◌, ◌-ℤ◌, ◌*ℤ◌, ◌<ℤ◌, List, [], ◌∷◌, ◌++◌, length, get_or, take, drop, arith, refl, ap, sym, ◌∙◌, ◌⊎◌, inl, inr, ⊎_elim, subst, Bool, true, false, IsTrue, Option, Some, None, is_some, IfSome, Result, Ok, Err, Ordering, Less, Equal, Greater}
+use Rattle.std.specs.Bool.{then_some}
 use Rattle.std.specs.List.Sorted.{IsNonDecreasingBy, IsSearchInRange, IsBinarySearchResult}
 use Rattle.std.specs.Ordering.{int_cmp, ordering_index}
 use Rattle.std.specs.Result.{IfOk, is_ok}
@@ -9,6 +10,7 @@ use Rattle.std.proofs.lemmas.Int.{ints}
 use Rattle.std.proofs.lemmas.List.{drop_more, length-take, length-drop, get_or-take, get_or-drop}
 use Rattle.nef_space.proofs.Order.{lt_by, mul_pos, sub_pos}
 use Rattle.nef_space.proofs.Ring.{at, ◌⊕◌, ◌⊖◌, ◌⊗◌}
+use Rattle.nef_arc.proofs.SignNumbers.{not_true}
 use Rattle.nef_space.specs.Lists.{IsAt}
 use Rattle.nef_space.specs.Numbers.{IsBelow}
 use Rattle.nef_space.specs.Place.{Place, Form, form_at, form_numbers, normal_of}
@@ -154,6 +156,18 @@ module _ (hs : List Plane) (first past : ℕ) (p : Place) (order : AreInOrder hs
       one i g u v a y (inr (inl o)) = let r = rises i k g h u o m a b in absurd (omega (arith, ints))
       one i g u v a y (inl e) = e
       one i g u v a y (inr (inr o)) = let r = rises k i h g l o v b a in absurd (omega (arith, ints))
+
+  -- a run of one plane, of which a test tells whether it holds the point
+  pub found-alone : (h : Plane) (t : Bool) (o : Option ℕ) → IsAt hs first h → first < past → (IsTrue t → form_at (form_of h) p ≡ pos 0) → o ≡ then_some t first → IfSome o (λ k. IsOnlyHolder hs first past p k)
+  found-alone h true o a l z e = subst (λ (r : Option ℕ). IfSome r (λ k. IsOnlyHolder hs first past p k)) (sym e) (found-holder first h (omega arith) l a (z refl))
+  found-alone h false o a l z e = subst (λ (r : Option ℕ). IfSome r (λ k. IsOnlyHolder hs first past p k)) (sym e) tt
+
+  pub missed-alone : (h : Plane) (t : Bool) (o : Option ℕ) → IsAt hs first h → past ≡ first + 1 → (form_at (form_of h) p ≡ pos 0 → IsTrue t) → o ≡ then_some t first → is_some o ≡ false → (k : ℕ) → IsHolderIn hs first past p k → ⊥
+  missed-alone h true (Some j) a l z e n k m = cc
+  missed-alone h true None a l z e n k m = cc
+  missed-alone h false o a l z e n k (u, v, (g, b, (y, _))) =
+      let same : k ≡ first = omega arith in
+      not_true (z (subst (λ (r : Plane). form_at (form_of r) p ≡ pos 0) (is-at_one hs first g h (subst (λ (j : ℕ). IsAt hs j g) same b) a) y))
 
   read-run : (i : ℕ) (d : Plane) → i < past - first → get_or (run_of hs first past) i d ≡ get_or hs (first + i) d
   read-run i d l = get_or-take (past - first) (drop first hs) i d l ∙ get_or-drop first hs i d

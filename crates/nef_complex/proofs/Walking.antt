@@ -7,7 +7,7 @@ use Rattle.nef_geo.specs.Shapes.{form_of}
 use Rattle.nef_geo.specs.declared.plane.Plane.{Plane}
 use Rattle.nef_classes.proofs.ClassLists.{less-or-last, is-at_one, is-at_within, is-at_some, is-at_left, is-at_last, Either, earlier, last, is-at_either}
 use Rattle.nef_complex.specs.Index.{AreInOrder}
-use Rattle.nef_complex.specs.Taken.{HasEntry, StandsAmong, AreTaken, AreWalked, AreAdded}
+use Rattle.nef_complex.specs.Taken.{HasEntry, StandsAmong, AreTaken, AreAdded}
 
 -- ---- entries
 pub entry-left : (ns : List ℕ) (n k : ℕ) → HasEntry ns k → HasEntry (ns ++ n ∷ []) k
@@ -17,6 +17,20 @@ pub entry-last : (ns : List ℕ) (n : ℕ) → HasEntry (ns ++ n ∷ []) n
 entry-last ns n = (length ns, is-at_last ns n)
 
 -- ---- the walk
+-- gs are taken from the first n of hs, but there may be more planes of gs
+pub record AreWalked (gs hs : List Plane) (n : ℕ) (ns : List ℕ) (others : List Plane) (ks : List ℕ) : Type 0 where
+  pub each : (i k : ℕ) → IsAt ns i k → StandsAmong gs hs i k
+  pub others_enough : length ks ≡ length others
+  pub others_each : (i k : ℕ) → IsAt ks i k → (k < n) × StandsAmong others hs i k
+  pub all : (k : ℕ) → k < n → HasEntry ns k ⊎ HasEntry ks k
+  pub ordered : AreInOrder others
+
+pub walked-same : (gs hs : List Plane) (n : ℕ) (ns ms : List ℕ) (others planes : List Plane) (ks js : List ℕ) → ms ≡ ns → planes ≡ others → js ≡ ks → AreWalked gs hs n ns others ks → AreWalked gs hs n ms planes js
+walked-same gs hs n ns ms others planes ks js a b d W =
+    subst (λ (x : List ℕ). AreWalked gs hs n x planes js) (sym a)
+    (subst (λ (x : List Plane). AreWalked gs hs n ns x js) (sym b)
+    (subst (λ (x : List ℕ). AreWalked gs hs n ns others x) (sym d) W))
+
 pub walked-none : (gs hs : List Plane) → AreWalked gs hs 0 [] [] []
 walked-none gs hs = record {
   each = λ i k a. cc;

@@ -1,13 +1,14 @@
 -- The program's complexes as complexes of any size, and which of them show a set.
-use Rattle.std.specs.Prelude.{ℕ, ◌<◌, ◌≤◌, List, map}
+use Rattle.std.specs.Prelude.{◌≡◌, ℕ, ◌<◌, ◌≤◌, pos, List, map}
 use Rattle.nef_space.specs.Lists.{IsAt}
-use Rattle.nef_space.specs.Place.{IsPlaceBelow}
+use Rattle.nef_space.specs.Place.{Place, form_at, InClosedFrame, IsPlaceBelow}
 use Rattle.nef_space.specs.Sets.{Set}
 use Rattle.nef_geo.specs.Shapes.{place_of, form_of}
 use Rattle.nef_geo.specs.declared.plane.Plane.{Plane}
 use Rattle.nef_geo.specs.declared.point.Point.{Point}
 use Rattle.nef_smap.specs.Maps.{map_of, IsLeastMap}
 use Rattle.law_complex.specs.Complexes.{Vertex as PlainVertex, Edge as PlainEdge, Complex as PlainComplex, Corner as PlainCorner, Edges}
+use Rattle.law_complex.specs.Laws.{IsSkeletonIn}
 use Rattle.law_complex.specs.Shows.{Shows}
 use Rattle.law_complex.specs.Skeleton.{PlaneMeet as PlainMeet, meets_vertex, meets_edge}
 use Rattle.nef_complex.specs.declared.complex.Vertex.{Vertex}
@@ -16,7 +17,9 @@ use Rattle.nef_complex.specs.declared.complex.Complex.{Complex}
 use Rattle.nef_complex.specs.declared.complex.Corner.{Corner}
 use Rattle.nef_complex.specs.declared.complex.PlaneMeet.{PlaneMeet}
 use Rattle.nef_complex.specs.declared.complex.PlaneMeet.TheVariants.{AtVertex, AtEdge}
+use Rattle.nef_complex.specs.declared.spans.Span.{Span}
 use Rattle.nef_complex.specs.Index.{IsIndexOf, HasHolders}
+use Rattle.nef_complex.specs.Spans.{IsInSpan}
 
 abbrev pub vertex_of : Vertex → PlainVertex
 vertex_of v = record { point = place_of v.point; map = map_of v.map }
@@ -44,6 +47,10 @@ pub record ShowsSet (s : Set) (c : Complex) : Type 0 where
   pub maps : (k : ℕ) (v : Vertex) → IsAt c.vertices k v → IsLeastMap v.map
   pub index : IsIndexOf c.vertices c.edges c.index
   pub holders : HasHolders c.carriers c.vertices c.edges c.index
+
+-- what the carrier with this number holds of the skeleton lies in the closed frame, and not within the window
+abbrev pub LiesOutside : Complex → Span → ℕ → Type 0
+LiesOutside c w k = (h : Plane) → IsAt c.carriers k h → (s : Set) (y : Place) → ShowsSet s c → form_at (form_of h) y ≡ pos 0 → IsSkeletonIn s (complex_of c) (form_of h) y → InClosedFrame y × (IsInSpan w y → ⊥)
 
 -- sorted vertices with least maps, which with their edges and these carriers are a complex that shows the set
 pub record AreVerticesOf (s : Set) (carriers : List Plane) (vertices : List Vertex) : Type 0 where

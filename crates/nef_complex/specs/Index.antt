@@ -10,7 +10,7 @@ use Rattle.law_sphere.specs.Maps.{At, Item, items, item_normal}
 use Rattle.nef_smap.specs.Maps.{map_of}
 use Rattle.nef_complex.specs.declared.complex.Vertex.{Vertex}
 use Rattle.nef_complex.specs.declared.complex.Edge.{Edge}
-use Rattle.nef_complex.specs.declared.index.PlaneIndex.{PlaneIndex}
+use Rattle.nef_complex.specs.declared.complex.PlaneIndex.{PlaneIndex}
 use Rattle.nef_complex.specs.declared.spans.Span.{Span}
 use Rattle.nef_complex.specs.declared.groups.Cluster.{Cluster}
 use Rattle.nef_complex.specs.declared.groups.Group.{Group}
@@ -40,13 +40,17 @@ abbrev pub AreInOrder : List Plane → Type 0
 AreInOrder hs = (i j : ℕ) (g h : Plane) → i < j → IsAt hs i g → IsAt hs j h → IsBelow (form_numbers (form_of g)) (form_numbers (form_of h))
 
 -- the planes are those of the items of the vertices, in order of their four numbers, once each; for each of them there are the numbers of the edges in it and of the vertices on it
-pub record IsIndexOf (vs : List Vertex) (es : List Edge) (x : PlaneIndex) : Type 0 where
-  pub planes : (h : Plane) → HasItemIn vs (form_of h) ↔ ((i : ℕ) × IsAt x.planes i h)
-  pub ordered : AreInOrder x.planes
-  pub as_many_edges : length x.edges ≡ length x.planes
-  pub as_many_vertices : length x.vertices ≡ length x.planes
-  pub edges : (i : ℕ) (h : Plane) (ns : List ℕ) → IsAt x.planes i h → IsAt x.edges i ns → AreNumbersWith (EdgeLiesIn vs es (form_of h)) ns
-  pub vertices : (i : ℕ) (h : Plane) (ns : List ℕ) → IsAt x.planes i h → IsAt x.vertices i ns → AreNumbersWith (LiesOn vs (form_of h)) ns
+pub record ArePlaneRows (vs : List Vertex) (es : List Edge) (hs : List Plane) (in_plane on_plane : List (List ℕ)) : Type 0 where
+  pub planes : (h : Plane) → HasItemIn vs (form_of h) ↔ ((i : ℕ) × IsAt hs i h)
+  pub ordered : AreInOrder hs
+  pub as_many_edges : length in_plane ≡ length hs
+  pub as_many_vertices : length on_plane ≡ length hs
+  pub edges : (i : ℕ) (h : Plane) (ns : List ℕ) → IsAt hs i h → IsAt in_plane i ns → AreNumbersWith (EdgeLiesIn vs es (form_of h)) ns
+  pub vertices : (i : ℕ) (h : Plane) (ns : List ℕ) → IsAt hs i h → IsAt on_plane i ns → AreNumbersWith (LiesOn vs (form_of h)) ns
+
+-- those of the index are
+abbrev pub IsIndexOf : List Vertex → List Edge → PlaneIndex → Type 0
+IsIndexOf vs es x = ArePlaneRows vs es x.planes x.edges x.vertices
 
 -- each of the numbers is that of an element
 abbrev pub AreWithin : {X : Type 0} → List X → List ℕ → Type 0

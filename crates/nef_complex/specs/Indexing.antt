@@ -2,14 +2,10 @@
 use Rattle.std.specs.Prelude.{◌≡◌, ℕ, ◌<◌, ◌⊎◌, List, [], ◌∷◌, ◌++◌, length}
 use Rattle.nef_space.specs.Lists.{IsAt}
 use Rattle.nef_space.specs.Vectors.{Vector, SameDirection}
-use Rattle.nef_geo.specs.Shapes.{form_of, place_of}
-use Rattle.nef_geo.specs.declared.plane.Plane.{Plane}
+use Rattle.nef_geo.specs.Shapes.{place_of}
 use Rattle.law_sphere.specs.Maps.{At, Map, Item, items, item_normal}
 use Rattle.nef_complex.specs.declared.complex.Vertex.{Vertex}
-use Rattle.nef_complex.specs.declared.complex.Edge.{Edge}
-use Rattle.nef_complex.specs.declared.index.PlaneIndex.{PlaneIndex}
 use Rattle.nef_complex.specs.declared.spans.Span.{Span}
-use Rattle.nef_complex.specs.Index.{HasItemIn, LiesOn, EdgeLiesIn, AreNumbersWith}
 use Rattle.nef_complex.specs.Spans.{IsInSpan, IsNarrower}
 
 -- some item of the map has the normal
@@ -37,17 +33,6 @@ pub record HaveOneMore (listed : List ℕ) (n m : ℕ) (old new : List (List ℕ
 -- row i has the number k
 abbrev pub HasNumber : List (List ℕ) → ℕ → ℕ → Type 0
 HasNumber rows k i = (row : List ℕ) × IsAt rows i row × (j : ℕ) × IsAt row j k
-
--- after all others the new index has the plane of an item, with the numbers of the edges in it and of the vertices on it
-pub record HasOneMore (vs : List Vertex) (es : List Edge) (h : Plane) (old new : PlaneIndex) : Type 0 where
-  pub item : HasItemIn vs (form_of h)
-  pub edges : List ℕ
-  pub vertices : List ℕ
-  pub are_edges : AreNumbersWith (EdgeLiesIn vs es (form_of h)) edges
-  pub are_vertices : AreNumbersWith (LiesOn vs (form_of h)) vertices
-  pub planes_are : new.planes ≡ old.planes ++ h ∷ []
-  pub edges_are : new.edges ≡ old.edges ++ edges ∷ []
-  pub vertices_are : new.vertices ≡ old.vertices ++ vertices ∷ []
 
 -- the numbers below n stand in the pairs, each with a key, and no others do
 pub record AreKeyed (n : ℕ) (pairs : List (ℕ × ℕ)) : Type 0 where

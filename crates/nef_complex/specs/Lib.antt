@@ -6,3 +6,9 @@ pub mod Indexing
 pub mod Runs
 pub mod Tables
 pub mod Taken
+pub mod Sides
+pub mod Cycles
+pub mod Shells
+pub mod Numbers
+pub mod Text
+pub mod Prelude

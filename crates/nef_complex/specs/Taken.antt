@@ -1,8 +1,7 @@
 -- The carriers of a complex among others.
-use Rattle.std.specs.Prelude.{◌≡◌, ◌⊎◌, ℕ, ◌<◌, ◌≤◌, List, length}
+use Rattle.std.specs.Prelude.{◌⊎◌, ℕ, ◌<◌, ◌≤◌, List, length}
 use Rattle.nef_space.specs.Lists.{IsAt}
 use Rattle.nef_geo.specs.declared.plane.Plane.{Plane}
-use Rattle.nef_complex.specs.Index.{AreInOrder}
 
 -- the number stands in the list
 abbrev pub HasEntry : List ℕ → ℕ → Type 0
@@ -19,14 +18,6 @@ pub record AreTaken (gs hs : List Plane) (ns : List ℕ) (others : List Plane) (
   pub others_enough : length others ≤ length ks
   pub others_each : (i k : ℕ) → IsAt ks i k → StandsAmong others hs i k
   pub all : (k : ℕ) → k < length hs → HasEntry ns k ⊎ HasEntry ks k
-
--- so it is of the first n of hs, but there may be more planes of gs
-pub record AreWalked (gs hs : List Plane) (n : ℕ) (ns : List ℕ) (others : List Plane) (ks : List ℕ) : Type 0 where
-  pub each : (i k : ℕ) → IsAt ns i k → StandsAmong gs hs i k
-  pub others_enough : length ks ≡ length others
-  pub others_each : (i k : ℕ) → IsAt ks i k → (k < n) × StandsAmong others hs i k
-  pub all : (k : ℕ) → k < n → HasEntry ns k ⊎ HasEntry ks k
-  pub ordered : AreInOrder others
 
 -- the new list has what the old one has and the numbers that stand in the table at the first n of the places, and no others
 pub record AreAdded (table places : List ℕ) (n : ℕ) (old new : List ℕ) : Type 0 where

@@ -1,7 +1,19 @@
-//! What a complex is made of.
+//! What a complex is made of, its vertices by their points, and its index: the planes of the items, with the edges and the
+//! vertices of each; and the carriers that hold a vertex or an edge.
 
-use crate::index::PlaneIndex;
-use nef_geo::{Label, List, Plane, Point};
+ghost use Rattle.std.specs.Prelude.{◌<◌};
+ghost use Rattle.nef_geo.specs.Prelude.{ℕ, IsNone, IfSome, IfOk, IfErr, length, place_of, form_of, IsAt, Set};
+ghost use Rattle.nef_geo.specs.declared.plane.Plane.{Plane};
+ghost use Rattle.law_complex.specs.Skeleton.{IsVertexPoint};
+ghost use Rattle.nef_complex.specs.Complexes.{complex_of, AreSorted, AreBelow, AreAbove, ShowsSet};
+ghost use Rattle.nef_complex.specs.declared.complex.Edge.{Edge as EdgeValue};
+ghost use Rattle.nef_complex.specs.declared.complex.Vertex.{Vertex as VertexValue};
+ghost use Rattle.nef_complex.specs.Index.{HasItemIn, LiesOn, EdgeLiesIn, AreNumbersWith, AreHolders, AreHoldersAlong, AreSpans, AreClusters};
+
+use crate::groups::Cluster;
+use crate::spans::Span;
+use crate::table::Table;
+use nef_geo::{Label, List, Plane, Point, lex_cmp};
 use nef_smap::SphereMap;
 
 /// A vertex: a point where no direction is flat, with the least map of the set there.
@@ -47,4 +59,119 @@ pub struct Corner {
 pub enum PlaneMeet {
     AtVertex(usize),
     AtEdge(usize),
+}
+
+/// The number of the vertex at `p`, by halving. Where `p` is no vertex, `Err` says how many vertices come before it; all
+/// others come after it.
+pub fn find_vertex(c: &Complex, p: &Point) -> Result<usize, usize>
+    requires sorted { AreSorted c.now.vertices }
+    ensures found { IfOk result (λ k. IsVertexPoint (complex_of c.now) k (place_of p.now)) }
+    ensures before { IfErr result (λ n. AreBelow c.now.vertices n p.now) }
+    ensures after { IfErr result (λ n. AreAbove c.now.vertices n p.now) }
+{
+    c.vertices
+        .as_slice()
+        .binary_search_by(|v| lex_cmp(&v.point, p))
+}
+
+/// The number of the vertex at `p`. `None` comes exactly where `p` is no vertex.
+pub fn vertex_at(c: &Complex, p: &Point) -> Option<usize>
+    requires sorted { AreSorted c.now.vertices }
+    ensures found { IfSome result (λ k. IsVertexPoint (complex_of c.now) k (place_of p.now)) }
+    ensures none { IsNone result → (k : ℕ) → IsVertexPoint (complex_of c.now) k (place_of p.now) → ⊥ }
+{
+    match find_vertex(c, p) {
+        Ok(number) => Some(number),
+        Err(_before) => None,
+    }
+}
+
+/// The planes of the items of all vertices, in order of their four numbers, once each; and for each of them the numbers
+/// of the edges that lie in it and those of the vertices on it, in increasing order. Besides, for each vertex the numbers
+/// of the carriers that hold it, and for each edge those of the carriers that hold both of its ends, in increasing order;
+/// and for each carrier the numbers of the vertices on it, those of the edges in it, and a span of these vertices; and the
+/// carriers in clusters of groups of such as lie close to one another.
+#[derive(Debug, Drop)]
+pub struct PlaneIndex {
+    pub planes: List<Plane>,
+    pub edges: Table,
+    pub vertices: Table,
+    pub at_vertex: Table,
+    pub at_edge: Table,
+    pub on_carrier: List<List<usize>>,
+    pub in_carrier: List<List<usize>>,
+    pub spans: List<Span>,
+    pub clusters: List<Cluster>,
+}
+
+/// The numbers of the edges that lie in a plane, and of the vertices on it, in increasing order.
+#[derive(Debug, Clone, Copy)]
+pub struct PlaneItems<'a> {
+    pub edges: &'a [usize],
+    pub vertices: &'a [usize],
+}
+
+/// The edges and vertices of the plane, by halving. `None` comes exactly where no vertex has an item in the plane.
+pub fn plane_items<'a>(c: &'a Complex, h: &Plane) -> Option<PlaneItems<'a>>
+    requires shows { (s : Set) × ShowsSet s c.now }
+    ensures item { IfSome result (λ r. HasItemIn c.now.vertices (form_of h.now)) }
+    ensures edges { IfSome result (λ r. AreNumbersWith (EdgeLiesIn c.now.vertices c.now.edges (form_of h.now)) r.edges.now) }
+    ensures vertices { IfSome result (λ r. AreNumbersWith (LiesOn c.now.vertices (form_of h.now)) r.vertices.now) }
+    ensures none { IsNone result → HasItemIn c.now.vertices (form_of h.now) → ⊥ }
+{
+    match c.index.planes.as_slice().binary_search(h) {
+        Ok(number) => Some(PlaneItems {
+            edges: c.index.edges.row(number),
+            vertices: c.index.vertices.row(number),
+        }),
+        Err(_place) => None,
+    }
+}
+
+/// The numbers of the carriers that hold the vertex with this number, in increasing order.
+pub fn vertex_holders(c: &Complex, number: usize) -> &[usize]
+    requires shows { (s : Set) × ShowsSet s c.now }
+    requires within { number < length c.now.vertices }
+    ensures holders { (v : VertexValue) → IsAt c.now.vertices number v → AreHolders c.now.carriers (place_of v.point) (place_of v.point) result.now }
+{
+    c.index.at_vertex.row(number)
+}
+
+/// The numbers of the carriers that hold both ends of the edge with this number, in increasing order.
+pub fn edge_holders(c: &Complex, number: usize) -> &[usize]
+    requires shows { (s : Set) × ShowsSet s c.now }
+    requires within { number < length c.now.edges }
+    ensures holders { (e : EdgeValue) → IsAt c.now.edges number e → AreHoldersAlong c.now.carriers c.now.vertices e result.now }
+{
+    c.index.at_edge.row(number)
+}
+
+/// The edges that lie in the carrier with this number, and the vertices on it.
+pub fn carrier_items<'a>(c: &'a Complex, number: usize) -> PlaneItems<'a>
+    requires shows { (s : Set) × ShowsSet s c.now }
+    requires within { number < length c.now.carriers }
+    ensures edges { (h : Plane) → IsAt c.now.carriers number h → AreNumbersWith (EdgeLiesIn c.now.vertices c.now.edges (form_of h)) result.edges.now }
+    ensures vertices { (h : Plane) → IsAt c.now.carriers number h → AreNumbersWith (LiesOn c.now.vertices (form_of h)) result.vertices.now }
+{
+    PlaneItems {
+        edges: c.index.in_carrier.at(number).as_slice(),
+        vertices: c.index.on_carrier.at(number).as_slice(),
+    }
+}
+
+/// For each carrier a span of the vertices on it.
+pub fn carrier_spans(c: &Complex) -> &[Span]
+    requires shows { (s : Set) × ShowsSet s c.now }
+    ensures spans { AreSpans c.now.carriers c.now.vertices result.now }
+{
+    c.index.spans.as_slice()
+}
+
+/// The carriers in groups, and these in clusters; each group and each cluster has a span of the vertices on its carriers.
+/// Each carrier stands in some group of some cluster.
+pub(crate) fn carrier_clusters(c: &Complex) -> &[Cluster]
+    requires shows { (s : Set) × ShowsSet s c.now }
+    ensures clusters { AreClusters c.now.carriers c.now.vertices result.now }
+{
+    c.index.clusters.as_slice()
 }

@@ -1,7 +1,7 @@
 //! Carriers in groups of such as lie close to one another, and these groups in clusters.
 
-ghost use Rattle.std.specs.Prelude.{ℕ, ◌<◌, length, IfOk};
-ghost use Rattle.nef_space.specs.Lists.{IsAt};
+ghost use Rattle.std.specs.Prelude.{◌<◌};
+ghost use Rattle.nef_geo.specs.Prelude.{ℕ, length, IfOk, IsAt};
 ghost use Rattle.nef_complex.specs.declared.groups.Cluster.{Cluster as ClusterValue};
 ghost use Rattle.nef_complex.specs.declared.groups.Group.{Group as GroupValue};
 ghost use Rattle.nef_complex.specs.Index.{StandsIn, IsInGroup, IsInCluster};

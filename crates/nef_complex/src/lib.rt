@@ -6,30 +6,23 @@
 
 mod complex;
 mod groups;
-mod holders;
-mod holding;
-mod index;
 mod indexing;
-mod runs;
+mod parts;
 mod sorted_carriers;
 mod spans;
 mod table;
-mod taken;
 mod taken_rows;
-mod turning;
-mod vertices;
+mod walk;
 
-pub use complex::{Complex, Corner, Edge, PlaneMeet, Vertex};
-pub use groups::{Cluster, Group};
-pub use holders::vertex_rows;
-pub use holding::{holds, holds_both, plane_normal};
-pub use index::{
-    PlaneIndex, PlaneItems, carrier_clusters, carrier_items, carrier_spans, edge_holders,
-    plane_items, vertex_holders,
+pub use complex::{
+    Complex, Corner, Edge, PlaneIndex, PlaneItems, PlaneMeet, Vertex, carrier_items, carrier_spans,
+    edge_holders, find_vertex, plane_items, vertex_at, vertex_holders,
 };
-pub use sorted_carriers::SortedCarriers;
-pub use spans::{Bounds, Span, vertex_spans};
+pub use indexing::vertex_rows;
+pub use parts::{Cycle, Facet, Parts, Shell, Side};
+pub use sorted_carriers::{SortedCarriers, holds};
+pub use spans::{Bounds, Span, may_meet, vertex_spans};
 pub use std::alloc::AllocError as OutOfMemory;
 pub use table::Table;
 pub use taken_rows::vertex_rows_from;
-pub use vertices::{find_vertex, vertex_at};
+pub use walk::{Search, search_carriers};

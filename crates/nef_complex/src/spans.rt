@@ -1,9 +1,7 @@
 //! Whole numbers that bound the coordinates of points.
 
-ghost use Rattle.std.specs.Prelude.{◌≡◌, ℕ, pos, ◌*ℤ◌, ◌<ℤ◌, ◌≤ℤ◌, ◌≤◌, nat_abs, List as Sequence, length, IfOk};
-ghost use Rattle.nef_space.specs.Limits.{point_limit};
-ghost use Rattle.nef_space.specs.Lists.{IsAt};
-ghost use Rattle.nef_geo.specs.Shapes.{place_of};
+ghost use Rattle.std.specs.Prelude.{◌≡◌, ◌*ℤ◌, ◌<ℤ◌, ◌≤ℤ◌, ◌≤◌, ◌↔◌};
+ghost use Rattle.nef_geo.specs.Prelude.{ℕ, pos, nat_abs, List as Sequence, length, IsTrue, IfOk, point_limit, IsAt, Place, place_of};
 ghost use Rattle.nef_complex.specs.declared.complex.Vertex.{Vertex};
 ghost use Rattle.nef_complex.specs.Index.{AreWithin};
 ghost use Rattle.nef_complex.specs.Spans.{IsInSpan, AreInSpan, AreNarrower, IsNarrower, AreSmall};
@@ -30,14 +28,6 @@ pub struct Span {
 }
 
 impl Bounds {
-    // Within these there is no number.
-    fn none() -> Bounds {
-        Bounds {
-            low: i64::MAX,
-            high: i64::MIN,
-        }
-    }
-
     // Those of x/w alone, the whole numbers next to it.
     fn of(x: i64, w: i64) -> Bounds
         requires small { nat_abs x ≤ point_limit }
@@ -67,12 +57,18 @@ impl Bounds {
 }
 
 impl Span {
-    // The span of no point.
-    pub(crate) fn none() -> Span {
+    /// The span of no point.
+    pub fn none() -> Span
+        ensures none { (y : Place) → IsInSpan result y → ⊥ }
+    {
+        let none = Bounds {
+            low: i64::MAX,
+            high: i64::MIN,
+        };
         Span {
-            x: Bounds::none(),
-            y: Bounds::none(),
-            z: Bounds::none(),
+            x: none,
+            y: none,
+            z: none,
         }
     }
 
@@ -99,6 +95,26 @@ impl Span {
             z: self.z.with(&other.z),
         }
     }
+}
+
+// Whether some number may lie within both.
+fn overlap(bounds: &Bounds, others: &Bounds) -> bool
+    ensures overlap { IsTrue result ↔ ((bounds.now.low ≤ℤ others.now.high) × (others.now.low ≤ℤ bounds.now.high)) }
+{
+    bounds.low <= others.high && others.low <= bounds.high
+}
+
+/// Whether the spans may have a point in common.
+pub fn may_meet(span: &Span, other: &Span) -> bool
+    ensures meets { (y : Place) → IsInSpan span.now y → IsInSpan other.now y → IsTrue result }
+{
+    if !overlap(&span.z, &other.z) {
+        return false;
+    }
+    if !overlap(&span.y, &other.y) {
+        return false;
+    }
+    overlap(&span.x, &other.x)
 }
 
 /// For each vertex the span of its point alone. `OutOfMemory` says that memory was wanted and not found.

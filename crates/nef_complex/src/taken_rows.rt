@@ -1,24 +1,78 @@
-//! The carriers that hold each vertex of a set that is made of others, by what is known of these.
+//! The carriers that hold each vertex of a set that is made of others, by what is known of these: where the carriers of these
+//! stand among its own, and which of its own aren't theirs.
 
-ghost use Rattle.std.specs.Prelude.{◌≡◌, List as Sequence, length, IsTrue, IfSome, IfOk, OnOk};
-ghost use Rattle.nef_space.specs.Lists.{IsAt};
-ghost use Rattle.nef_space.specs.Sets.{Set};
-ghost use Rattle.nef_geo.specs.Shapes.{place_of};
-ghost use Rattle.nef_geo.specs.declared.plane.Plane.{Plane as PlaneValue};
+ghost use Rattle.std.specs.Prelude.{◌≡◌};
+ghost use Rattle.nef_geo.specs.Prelude.{length, IsTrue, IfSome, IfOk, OnOk, IsAt, Set, place_of};
 ghost use Rattle.nef_complex.specs.declared.complex.Vertex.{Vertex as VertexValue};
 ghost use Rattle.nef_complex.specs.Complexes.{ShowsSet};
-ghost use Rattle.nef_complex.specs.Index.{AreWithin, AreHolders, AreVertexHolders};
+ghost use Rattle.nef_complex.specs.Index.{AreWithin, AreHolders, AreVertexHolders, AreInOrder};
 ghost use Rattle.nef_complex.specs.Taken.{AreAdded, AreTaken};
 
 use crate::OutOfMemory;
-use crate::complex::{Complex, Vertex};
-use crate::index::vertex_holders;
+use crate::complex::{Complex, Vertex, vertex_holders};
+use crate::indexing::CARRIERS_AT_VERTEX;
 use crate::sorted_carriers::SortedCarriers;
 use crate::table::Table;
-use crate::taken::{TakenCarriers, taken_carriers};
-use nef_geo::{Point, lex_cmp};
+use nef_geo::{List, Plane, Point, lex_cmp};
 use std::alloc::Global;
 use std::cmp::Ordering;
+
+// A complex, and for each of its carriers its number among all carriers; and the other ones of these, with their numbers.
+#[derive(Drop)]
+struct Source<'a> {
+    complex: &'a Complex,
+    numbers: Vec<usize>,
+    others: SortedCarriers,
+    other_numbers: Vec<usize>,
+}
+
+// Whether the plane stands at this place.
+fn stands_at(planes: &[Plane], place: usize, h: &Plane) -> bool
+    ensures stands { IsTrue result → IsAt planes.now place h.now }
+{
+    match planes.get(place) {
+        Some(g) => g.cmp(h).is_eq(),
+        None => false,
+    }
+}
+
+// Where the carriers of the complex stand among all, and which of all are others. Both lists stand in order, so that one way
+// through them is enough. `None` comes where one of the carriers was missed, as where it isn't among all.
+fn source_of<'a>(
+    alloc: Global,
+    complex: &'a Complex,
+    all: &[Plane],
+) -> Result<Option<Source<'a>>, OutOfMemory>
+    requires shows { (s : Set) × ShowsSet s complex.now }
+    requires ordered { AreInOrder all.now }
+    ensures shows { IfOk result (λ o. IfSome o (λ t. (s : Set) × ShowsSet s t.complex.now)) }
+    ensures taken { IfOk result (λ o. IfSome o (λ t. AreTaken t.complex.now.carriers all.now t.numbers.items t.others t.other_numbers.items)) }
+{
+    let carriers = complex.carriers.as_slice();
+    let mut numbers = Vec::with_capacity(alloc, carriers.len())?;
+    let mut others = List::new(alloc);
+    let mut other_numbers = Vec::new(alloc);
+    for number in 0..all.len() {
+        let h = &all[number];
+        if stands_at(carriers, numbers.len(), h) {
+            numbers.push(number)?;
+        } else {
+            others.push(*h)?;
+            other_numbers.push(number)?;
+        }
+    }
+    let found = numbers.len();
+    if found < carriers.len() {
+        return Ok(None);
+    }
+    let others = SortedCarriers::of(alloc, others)?;
+    Ok(Some(Source {
+        complex,
+        numbers,
+        others,
+        other_numbers,
+    }))
+}
 
 // Adds the numbers that stand at the listed places of the table.
 fn add_numbers(table: &[usize], listed: &[usize], row: &mut Vec<usize>) -> Result<(), OutOfMemory>
@@ -28,27 +82,6 @@ fn add_numbers(table: &[usize], listed: &[usize], row: &mut Vec<usize>) -> Resul
     for place in listed {
         row.push(table[*place])?;
     }
-    Ok(())
-}
-
-// Puts the numbers of all carriers that hold the point into the row, in place of what it had: those of the carriers that
-// are taken are listed, and the others are asked. What `found` has is of no use before or after.
-fn taken_row(
-    taken: &TakenCarriers,
-    listed: &[usize],
-    point: &Point,
-    found: &mut Vec<usize>,
-    row: &mut Vec<usize>,
-) -> Result<(), OutOfMemory>
-    requires taken { (gs hs : Sequence PlaneValue) × AreTaken gs hs taken.now.numbers.items taken.now.others taken.now.other_numbers.items × AreHolders gs (place_of point.now) (place_of point.now) listed.now }
-    ensures row { OnOk result ((gs hs : Sequence PlaneValue) → AreTaken gs hs taken.now.numbers.items taken.now.others taken.now.other_numbers.items → AreHolders gs (place_of point.now) (place_of point.now) listed.now → AreHolders hs (place_of point.now) (place_of point.now) row.new.items) }
-{
-    taken.others.holders(point, found)?;
-    row.clear();
-    add_numbers(taken.numbers.as_slice(), listed, row)?;
-    add_numbers(taken.other_numbers.as_slice(), found.as_slice(), row)?;
-    row.sort_unstable();
-    row.dedup();
     Ok(())
 }
 
@@ -72,73 +105,59 @@ fn is_vertex_at(vertices: &[Vertex], number: usize, point: &Point) -> bool
     }
 }
 
-// A complex, and how its carriers are numbered among those of the set whose rows are made; `None` where that isn't known.
-#[derive(Drop)]
-struct Source<'a> {
-    complex: &'a Complex,
-    taken: Option<TakenCarriers>,
-}
-
-// The complex as a source.
-fn source_of<'a>(
-    alloc: Global,
-    carriers: &SortedCarriers,
-    complex: &'a Complex,
-) -> Result<Source<'a>, OutOfMemory>
-    requires shows { (s : Set) × ShowsSet s complex.now }
-    ensures shows { IfOk result (λ o. (s : Set) × ShowsSet s o.complex.now) }
-    ensures taken { IfOk result (λ o. IfSome o.taken (λ t. AreTaken o.complex.now.carriers carriers.now t.numbers.items t.others t.other_numbers.items)) }
-{
-    let taken = taken_carriers(alloc, complex.carriers.as_slice(), carriers.planes())?;
-    Ok(Source { complex, taken })
-}
-
 // Where the vertex of the source with this number stands at the point, puts the numbers of all carriers that hold it into the
-// row, in place of what it had. Says whether it did.
+// row, in place of what it had: those of the source are listed, and the others are asked. Says whether it did. What `found`
+// has is of no use before or after.
 fn row_from(
     carriers: &SortedCarriers,
-    source: &Source,
+    source: &Option<Source>,
     number: usize,
     point: &Point,
     found: &mut Vec<usize>,
     row: &mut Vec<usize>,
 ) -> Result<bool, OutOfMemory>
-    requires shows { (s : Set) × ShowsSet s source.now.complex.now }
-    requires taken { IfSome source.now.taken (λ t. AreTaken source.now.complex.now.carriers carriers.now t.numbers.items t.others t.other_numbers.items) }
+    requires shows { IfSome source.now (λ t. (s : Set) × ShowsSet s t.complex.now) }
+    requires taken { IfSome source.now (λ t. AreTaken t.complex.now.carriers carriers.now t.numbers.items t.others t.other_numbers.items) }
     ensures row { IfOk result (λ b. IsTrue b → AreHolders carriers.now (place_of point.now) (place_of point.now) row.new.items) }
 {
-    let complex = source.complex;
-    match &source.taken {
+    match source {
         Some(taken) => {
+            let complex = taken.complex;
             if !is_vertex_at(complex.vertices.as_slice(), number, point) {
                 return Ok(false);
             }
-            taken_row(taken, vertex_holders(complex, number), point, found, row)?;
+            taken.others.holders(point, found)?;
+            row.clear();
+            add_numbers(
+                taken.numbers.as_slice(),
+                vertex_holders(complex, number),
+                row,
+            )?;
+            add_numbers(taken.other_numbers.as_slice(), found.as_slice(), row)?;
+            row.sort_unstable();
+            row.dedup();
             Ok(true)
         }
         None => Ok(false),
     }
 }
 
-// Few vertices lie on more carriers.
-const CARRIERS_AT_VERTEX: usize = 3;
-
 // Puts the numbers of all carriers that hold the point into the row, in place of what it had: by the row of a source whose
 // vertex stands there, or else by asking all.
 fn row_at(
     carriers: &SortedCarriers,
-    first: &Source,
+    first: &Option<Source>,
     at_first: usize,
-    second: &Source,
+    second: &Option<Source>,
     at_second: usize,
     point: &Point,
     found: &mut Vec<usize>,
     row: &mut Vec<usize>,
 ) -> Result<(), OutOfMemory>
-    requires first { (s : Set) × ShowsSet s first.now.complex.now }
-    requires second { (s : Set) × ShowsSet s second.now.complex.now }
-    requires taken_first { IfSome first.now.taken (λ t. AreTaken first.now.complex.now.carriers carriers.now t.numbers.items t.others t.other_numbers.items) }
-    requires taken_second { IfSome second.now.taken (λ t. AreTaken second.now.complex.now.carriers carriers.now t.numbers.items t.others t.other_numbers.items) }
+    requires first { IfSome first.now (λ t. (s : Set) × ShowsSet s t.complex.now) }
+    requires second { IfSome second.now (λ t. (s : Set) × ShowsSet s t.complex.now) }
+    requires taken_first { IfSome first.now (λ t. AreTaken t.complex.now.carriers carriers.now t.numbers.items t.others t.other_numbers.items) }
+    requires taken_second { IfSome second.now (λ t. AreTaken t.complex.now.carriers carriers.now t.numbers.items t.others t.other_numbers.items) }
     ensures row { OnOk result (AreHolders carriers.now (place_of point.now) (place_of point.now) row.new.items) }
 {
     if row_from(carriers, first, at_first, point, found, row)? {
@@ -164,8 +183,8 @@ pub fn vertex_rows_from(
     requires second { (s : Set) × ShowsSet s second.now }
     ensures rows { IfOk result (λ rows. AreVertexHolders carriers.now vertices.now rows) }
 {
-    let first = source_of(alloc, carriers, first)?;
-    let second = source_of(alloc, carriers, second)?;
+    let one = &source_of(alloc, first, carriers.planes())?;
+    let other = &source_of(alloc, second, carriers.planes())?;
     let mut rows = Table::with_rows(alloc, vertices.len(), CARRIERS_AT_VERTEX)?;
     let mut found = Vec::new(alloc);
     let mut row = Vec::new(alloc);
@@ -173,10 +192,10 @@ pub fn vertex_rows_from(
     let mut at_second = 0;
     for vertex in vertices {
         let point = &vertex.point;
-        at_first = next_vertex(first.complex.vertices.as_slice(), at_first, point);
-        at_second = next_vertex(second.complex.vertices.as_slice(), at_second, point);
+        at_first = next_vertex(first.vertices.as_slice(), at_first, point);
+        at_second = next_vertex(second.vertices.as_slice(), at_second, point);
         row_at(
-            carriers, &first, at_first, &second, at_second, point, &mut found, &mut row,
+            carriers, one, at_first, other, at_second, point, &mut found, &mut row,
         )?;
         rows.push(row.as_slice())?;
     }

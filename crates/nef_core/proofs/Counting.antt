@@ -2,8 +2,7 @@
 use Rattle.std.proofs.Common.{◌≡◌, ◌≢◌, ℕ, zero, suc, ◌+◌, ◌<◌, ◌≤◌, ◌==◌, ◌&&◌, List, [], ◌∷◌, refl, ap, sym, ◌∙◌, Some, None, slice_get, slice_set, arith, set, ◌⊎◌, inl, inr, Bool, true, false}
 use Rattle.std.proofs.lemmas.Bool.{eq-eqb, ne_eqb}
 use Rattle.std.proofs.lemmas.Option.{slice_get_within}
-use Rattle.nef_core.specs.State.{State}
-use Rattle.nef_core.specs.Machine.{start, after, replay, IsLegal}
+use Rattle.nef_core.specs.Machine.{State, start, after, replay, IsLegal}
 use Rattle.nef_core.specs.Counts.{one_if, is_own, is_done_by, total, at_most_one, claims, deposits, givings_back, claims_of, deposits_of, givings_back_of, handings_out}
 use Rattle.nef_core.specs.declared.machine.Slot.{Slot}
 use Rattle.nef_core.specs.declared.machine.Slot.TheVariants.{Open, InHand, Done}

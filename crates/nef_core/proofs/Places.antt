@@ -1,5 +1,5 @@
 -- Places of lists, with one of them set.
-use Rattle.std.proofs.Common.{◌≡◌, ℕ, zero, suc, ◌<◌, ◌≢◌, List, [], ◌∷◌, ◌++◌, length, refl, ap, sym, Some, slice_get, slice_set, replicate, arith, ◌⊎◌, inl, inr}
+use Rattle.std.proofs.Common.{◌≡◌, ℕ, zero, suc, ◌+◌, ◌<◌, ◌≢◌, List, [], ◌∷◌, ◌++◌, length, refl, ap, sym, Some, slice_get, slice_set, replicate, arith, ◌⊎◌, ◌∙◌, inl, inr, Option, None}
 use mathlib.Core.Option.{some, some-injective, some-ne-none}
 use lib.ListN.{get_elem?}
 
@@ -25,6 +25,20 @@ pub get_replicate : {X : Type 0} (n j : ℕ) (x : X) → j < n → slice_get (re
 get_replicate zero j x h = absurd (omega arith)
 get_replicate (suc n) zero x h = refl
 get_replicate (suc n) (suc j) x h = get_replicate n j x (omega arith)
+
+-- one time more, at the end
+pub replicate_more : {X : Type 0} (n : ℕ) (x : X) → replicate n x ++ x ∷ [] ≡ replicate (n + 1) x
+replicate_more zero x = refl
+replicate_more (suc n) x =
+    let e : suc (n + 1) ≡ suc n + 1 = omega arith in
+    ap (λ l. x ∷ l) (replicate_more n x) ∙ ap (λ (k : ℕ). replicate k x) e
+
+-- a place more, with nothing there
+pub none_more : {X : Type 0} (list : List (Option X)) → ((k : ℕ) (x : X) → slice_get list k ≡ Some (Some x) → ⊥) → (k : ℕ) (x : X) → slice_get (list ++ None ∷ []) k ≡ Some (Some x) → ⊥
+none_more [] none zero x e = cc
+none_more [] none (suc k) x e = cc
+none_more (y ∷ ys) none zero x e = none 0 x e
+none_more (y ∷ ys) none (suc k) x e = none_more ys (λ j z h. none (suc j) z h) k x e
 
 -- places of a list of views
 pub within : {A : Type 0} (l : List A) (i : ℕ) (a : A) → get_elem? l i ≡ some a → i < length l

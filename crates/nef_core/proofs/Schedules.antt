@@ -3,8 +3,7 @@ use Rattle.std.proofs.Common.{◌≡◌, ℕ, zero, suc, ◌+◌, ◌<◌, ◌�
 use Rattle.std.proofs.lemmas.Bool.Decides.{nat_tests}
 use Rattle.std.proofs.lemmas.Bool.{lt-ltb}
 use Rattle.std.proofs.Math.ListN.{length-set, length-replicate}
-use Rattle.nef_core.specs.State.{State}
-use Rattle.nef_core.specs.Machine.{start, after, reply, IsLegalStep, replay, IsLegal}
+use Rattle.nef_core.specs.Machine.{State, start, after, reply, IsLegalStep, replay, IsLegal}
 use Rattle.nef_core.specs.declared.board.Claim.TheVariants.{Got, NoneLeft}
 use Rattle.nef_core.specs.declared.machine.Slot.{Slot}
 use Rattle.nef_core.specs.declared.machine.Slot.TheVariants.{Open, InHand, Done}

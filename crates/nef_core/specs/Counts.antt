@@ -1,7 +1,6 @@
 -- How often a pass claimed, deposited and gave back, and which jobs are its own.
 use Rattle.std.specs.Prelude.{ℕ, Bool, ◌+◌, ◌==◌, ◌&&◌, List, [], ◌∷◌, Option, Some, None, if◌then◌else◌}
-use Rattle.nef_core.specs.State.{State}
-use Rattle.nef_core.specs.Machine.{after}
+use Rattle.nef_core.specs.Machine.{State, after}
 use Rattle.nef_core.specs.declared.machine.Slot.{Slot}
 use Rattle.nef_core.specs.declared.machine.Slot.TheVariants.{Open, InHand, Done}
 use Rattle.nef_core.specs.declared.machine.Event.{Event}

@@ -1,7 +1,6 @@
 -- The laws of the machine, over every legal list of events from the start.
 use Rattle.std.specs.Prelude.{◌≡◌, ℕ, ◌+◌, ◌<◌, ◌≤◌, List, ◌∷◌, ◌++◌, Some, slice_get, ◌⊎◌}
-use Rattle.nef_core.specs.State.{State}
-use Rattle.nef_core.specs.Machine.{start, reply, replay, IsLegal}
+use Rattle.nef_core.specs.Machine.{State, start, reply, replay, IsLegal}
 use Rattle.nef_core.specs.Counts.{is_own, is_done_by, total, at_most_one, claims, deposits, givings_back, claims_of, deposits_of, givings_back_of, handings_out}
 use Rattle.nef_core.specs.declared.machine.Slot.TheVariants.{Open, InHand, Done}
 use Rattle.nef_core.specs.declared.machine.Event.{Event}

@@ -1,11 +1,16 @@
 -- The machine of a board, one event after another.
 use Rattle.std.specs.Prelude.{◌≡◌, ℕ, ◌+◌, ◌<◌, List, [], ◌∷◌, length, replicate, slice_get, slice_set, Some, nat_lt, if◌then◌else◌}
-use Rattle.nef_core.specs.State.{State}
 use Rattle.nef_core.specs.declared.machine.Slot.TheVariants.{Open, InHand, Done}
 use Rattle.nef_core.specs.declared.machine.Event.{Event}
 use Rattle.nef_core.specs.declared.machine.Event.TheVariants.{Claim, Deposit, GiveBack}
 use Rattle.nef_core.specs.declared.board.Claim.{Claim as Reply}
 use Rattle.nef_core.specs.declared.board.Claim.TheVariants.{Got, NoneLeft}
+use Rattle.nef_core.specs.declared.machine.Slot.{Slot}
+
+-- the number to be handed out next, and what each job is
+pub record State : Type 0 where
+  pub next : ℕ
+  pub slots : List Slot
 
 abbrev pub start : ℕ → State
 start jobs = record { next = 0; slots = replicate jobs Open }

@@ -1,9 +1,9 @@
 -- What a pass of a board knows, after each kind of step, and when it fits the machine.
 use Rattle.std.specs.Prelude.{◌≡◌, ◌≢◌, ℕ, true, false, ◌+◌, ◌-◌, ◌<◌, ◌≤◌, [], ◌∷◌, ◌++◌, Some, None, slice_get, IfSome}
-use Rattle.nef_core.specs.State.{State as Machine}
+use Rattle.nef_core.specs.Machine.{State as Machine}
 use Rattle.nef_core.specs.Results.{AllDone}
 use Rattle.nef_core.specs.declared.machine.Slot.TheVariants.{InHand}
-use Rattle.nef_core.specs.declared.view.View.{View}
+use Rattle.nef_core.specs.declared.board.View.{View}
 
 abbrev pub first_view : ℕ → ℕ → View
 first_view jobs seats = record { live = true; number = 0; jobs = jobs; made = 1; spare = seats - 1; hand = None; ended = false; deposits = [] }

@@ -1,9 +1,14 @@
--- How many workers share work.
+-- How an operation runs, and how many workers share work.
 use Rattle.std.specs.Prelude.{ℕ, Bool, ◌&&◌, ◌/◌, min, max, nat_le, nat_lt, if◌then◌else◌}
-use Rattle.nef_core.specs.declared.how.BoardKind.{BoardKind}
-use Rattle.nef_core.specs.declared.how.BoardKind.TheVariants.{Lock, Free}
+use Rattle.nef_core.specs.declared.work.BoardKind.{BoardKind}
+use Rattle.nef_core.specs.declared.work.BoardKind.TheVariants.{Lock, Free}
 use Rattle.nef_core.specs.declared.work.Work.{Work}
 use Rattle.nef_core.specs.declared.work.Work.TheVariants.{LightJobs, HeavyJobs, Listing, Parts, Release, Round}
+
+-- by how many workers an operation runs, and over which board
+pub record Choice : Type 0 where
+  pub workers : ℕ
+  pub board : BoardKind
 
 -- the jobs of two sets, of which each has so many carriers at least, and which have so many vertices together: all count where they are heavy, and else no more than there are vertices
 abbrev pub combination_work : BoardKind → ℕ → ℕ → ℕ → Work

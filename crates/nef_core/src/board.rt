@@ -1,12 +1,47 @@
-//! What hands out jobs and keeps their results.
-ghost use Rattle.std.specs.Prelude.{◌≡◌, ℕ, Bool, true, false, ◌+◌, ◌<◌, IfOk, Option, Some, None, List, [], ◌∷◌, ◌++◌, slice_get, vec_len};
-ghost use Rattle.nef_core.specs.Claims.{MatchClaim};
+//! Jobs, what hands them out, and what keeps their results.
+ghost use Rattle.std.specs.Prelude.{◌≡◌, ℕ, Bool, true, false, ◌+◌, ◌<◌, IfOk, Option, Some, None, List, [], ◌∷◌, ◌++◌, slice_get, vec_len, replicate};
+ghost use Rattle.nef_core.specs.Views.{MatchClaim, has_job};
 ghost use Rattle.nef_core.specs.Results.{IsClosedWith};
-ghost use Rattle.nef_core.specs.Views.{has_job};
 
 use crate::OutOfMemory;
-use crate::job::Job;
 use std::alloc::Global;
+use std::collections::LinkedList;
+
+/// Numbered jobs, each with results that are right for it.
+pub trait Job: Sync {
+    type Out: Send + Drop;
+
+    /// How many jobs there are.
+    ghost count: { Self → ℕ };
+
+    /// The result is right for the job of this number.
+    ghost right: { Self → ℕ → Self.Out → Type 0 };
+
+    /// What has to be known of the job value, so that its jobs can be worked. Nothing, where the
+    /// value's type says it all.
+    ghost workable: { Self → Type 0 } = { λ job. Unit {0} };
+
+    /// Returns the number of jobs; they are numbered from 0.
+    fn jobs(&self) -> u64
+        ensures { result ≡ count self.now };
+
+    /// Works the job of this number and returns a right result for it.
+    ///
+    /// `OutOfMemory` says that memory was wanted and not found.
+    fn work(&self, alloc: Global, job: u64) -> Result<Self::Out, OutOfMemory>
+        requires job { job < count self.now }
+        requires workable { workable self.now }
+        ensures { IfOk result (λ out. right self.now job out) };
+}
+
+/// What the table of a board is told once: the job value, how many jobs it has, and how many
+/// passes there may be.
+#[derive(Drop)]
+pub struct Order<'a, J: Job> {
+    pub job: &'a J,
+    pub jobs: u64,
+    pub seats: u32,
+}
 
 /// The answer to a claim: a job, or that every number was handed out.
 #[derive(Debug, Clone, Copy, PartialEq, Eq)]
@@ -21,6 +56,26 @@ pub enum Claim {
 #[derive(Debug, Clone, Copy, PartialEq, Eq)]
 pub struct Receipt {
     pub job: u64,
+}
+
+/// What a pass of a board knows.
+// No value of it is made.
+pub struct View {
+    /// No other pass took it in.
+    pub live: bool,
+    pub number: u64,
+    /// How many jobs the board has.
+    pub jobs: u64,
+    /// How many passes there are, where this one may make more.
+    pub made: u64,
+    /// How many passes it may still make.
+    pub spare: u64,
+    /// The job in its hand.
+    pub hand: Option<u64>,
+    /// It was answered `NoneLeft`.
+    pub ended: bool,
+    /// The jobs that it deposited or took in, each with the number of the pass that deposited it.
+    pub deposits: LinkedList<(u64, u64)>,
 }
 
 /// Hands out each job of one job value once, and keeps the results.
@@ -115,4 +170,17 @@ pub trait Board<J: Job>: Sync + Drop {
         ensures right { IfOk result (λ v. (job : ℕ) (out : _) → slice_get v.items job ≡ Some (Some out) → J.right (made_for self) job out) }
         ensures done { IfOk result (λ v. (job : ℕ) → has_job job (deposits pass) ≡ true → (out : _) × (slice_get v.items job ≡ Some (Some out))) }
         ensures closed { IfOk result (λ v. IsClosedWith (J.count (made_for self)) (deposits pass) v.items) };
+}
+
+/// So many places with nothing there. `OutOfMemory` says that memory was wanted and not found.
+pub fn empty_places<X: Drop>(alloc: Global, count: usize) -> Result<Vec<Option<X>>, OutOfMemory>
+    ensures count { IfOk result (λ v. vec_len v ≡ count) }
+    ensures items { IfOk result (λ v. v.items ≡ replicate count None) }
+    ensures empty { IfOk result (λ v. (k : ℕ) (x : X) → slice_get v.items k ≡ Some (Some x) → ⊥) }
+{
+    let mut list = Vec::with_capacity(alloc, count)?;
+    for _ in 0..count {
+        list.push_reserved(None);
+    }
+    Ok(list)
 }

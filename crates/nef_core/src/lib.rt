@@ -2,20 +2,10 @@
 #![tactic(auto)]
 
 mod board;
-mod how;
-mod job;
-mod laws;
 mod machine;
-mod order;
-mod view;
 mod work;
 
-pub use board::{Board, Claim, Receipt};
-pub use how::{BoardKind, How, TextVersion};
-pub use job::Job;
-pub use laws::{every_claim_is_accounted_for, every_schedule};
-pub use machine::{Event, Machine, Slot};
-pub use order::Order;
+pub use board::{Board, Claim, Job, Order, Receipt, View, empty_places};
+pub use machine::{Event, Machine, Slot, every_claim_is_accounted_for, every_schedule};
 pub use std::alloc::AllocError as OutOfMemory;
-pub use view::View;
-pub use work::Work;
+pub use work::{BoardKind, How, TextVersion, Work};

@@ -9,9 +9,13 @@ use Rattle.law_sphere.specs.Maps.{At}
 use Rattle.nef_complex.specs.declared.complex.Vertex.{Vertex}
 use Rattle.nef_edges.specs.declared.edge_end.EdgeEnd.{EdgeEnd}
 use Rattle.nef_edges.specs.Order.{end_order, end_lt}
-use Rattle.nef_edges.specs.EdgeEnds.{AreArriving, IsAfter, NoneAfter, AllAfter, IsNext}
+use Rattle.nef_edges.specs.EdgeEnds.{AreArriving, IsAfter, NoneAfter, IsNext}
 use Rattle.nef_edges.proofs.Lines.{end_total}
 use Rattle.nef_edges.proofs.Places.{at-within, at-read, read-at}
+
+-- all ends from number p on stand after f
+abbrev pub AllAfter : List EdgeEnd → EdgeEnd → ℕ → Type 0
+AllAfter hs f p = (k : ℕ) (h : EdgeEnd) → At hs k h → p ≤ k → IsAfter f h
 
 pub weak : IsStrictWeakOrder end_lt
 weak = ranks_by end_total (λ (h : EdgeEnd). h)

@@ -1,5 +1,5 @@
 -- Ends of edges that arrive at vertices and lead on from them, and the next one in order.
-use Rattle.std.specs.Prelude.{◌≡◌, ℕ, ◌<◌, ◌≤◌, List, false, ◌⊎◌}
+use Rattle.std.specs.Prelude.{◌≡◌, ℕ, ◌<◌, List, false, ◌⊎◌}
 use Rattle.std.specs.declared.cmp.Ordering.TheVariants.{Greater}
 use Rattle.std.specs.Ordering.{is_lt}
 use Rattle.nef_space.specs.Vectors.{opposite, IsNormal}
@@ -35,10 +35,6 @@ IsAfter f h = end_order h f ≡ Greater
 -- none of the ends before number p stands after f
 abbrev pub NoneAfter : List EdgeEnd → EdgeEnd → ℕ → Type 0
 NoneAfter hs f p = (k : ℕ) (h : EdgeEnd) → At hs k h → k < p → IsAfter f h → ⊥
-
--- all ends from number p on stand after f
-abbrev pub AllAfter : List EdgeEnd → EdgeEnd → ℕ → Type 0
-AllAfter hs f p = (k : ℕ) (h : EdgeEnd) → At hs k h → p ≤ k → IsAfter f h
 
 -- h is the first of the ends after f: none of these is less
 pub record IsNext (hs : List EdgeEnd) (f h : EdgeEnd) : Type 0 where

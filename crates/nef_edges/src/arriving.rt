@@ -1,17 +1,17 @@
-//! The ends that arrive at vertices, in order.
+//! The ends that arrive at vertices, in order: by their lines, and on one line by their vertices.
 
-ghost use Rattle.std.specs.Prelude.{◌<◌, ◌≤◌, ◌+◌, ℕ, length, IsTrue, IfOk, OnOk};
-ghost use Rattle.std.specs.List.Sorted.{IsSortedBy};
-ghost use Rattle.law_sphere.specs.Maps.{At};
+ghost use Rattle.std.specs.Prelude.{◌<◌, ◌≤◌, ◌+◌, ◌≡◌, ◌*ℤ◌};
+ghost use Rattle.nef_complex.specs.Prelude.{ℕ, length, IsTrue, IfOk, OnOk, nat_abs, IsSortedBy, At, int_cmp, nat_cmp, ordering_then};
 ghost use Rattle.nef_edges.specs.declared.edge_end.EdgeEnd.{EdgeEnd};
-ghost use Rattle.nef_edges.specs.Order.{end_lt};
-ghost use Rattle.nef_edges.specs.EdgeEnds.{IsBefore, AreArriving, IsAfter, NoneAfter, AllAfter, IsNext};
+ghost use Rattle.nef_edges.specs.Order.{end_lt, moment_order, dir_order, end_order};
+ghost use Rattle.nef_edges.specs.EdgeEnds.{IsBefore, AreArriving, IsAfter, NoneAfter, IsNext};
+ghost use Rattle.nef_edges.specs.Widths.{moment_limit};
 
 use crate::OutOfMemory;
-use crate::edge_end::EdgeEnd;
-use crate::order::{end_cmp, key_cmp};
+use crate::edge_end::{EdgeEnd, product};
 use nef_complex::Vertex;
 use std::alloc::Global;
+use std::cmp::Ordering;
 
 // Adds the ends that arrive at vertex number i.
 fn add_arriving(ends: &mut Vec<EdgeEnd>, vertices: &[Vertex], i: usize) -> Result<(), OutOfMemory>
@@ -32,17 +32,6 @@ fn add_arriving(ends: &mut Vec<EdgeEnd>, vertices: &[Vertex], i: usize) -> Resul
 // Most vertices have three or four edges, of which about one in two arrives.
 const ENDS_AT_VERTEX: usize = 2;
 
-// The ends that arrive at any vertex.
-fn all_arriving(alloc: Global, vertices: &[Vertex]) -> Result<Vec<EdgeEnd>, OutOfMemory>
-    ensures all { IfOk result (λ v. AreArriving vertices.now (IsBefore (length vertices.now) 0) v.items) }
-{
-    let mut ends = Vec::with_capacity(alloc, vertices.len().saturating_mul(ENDS_AT_VERTEX))?;
-    for i in 0..vertices.len() {
-        add_arriving(&mut ends, vertices, i)?;
-    }
-    Ok(ends)
-}
-
 /// The ends that arrive at any vertex, by their lines and vertices.
 pub(crate) fn sorted_arriving(
     alloc: Global,
@@ -51,7 +40,10 @@ pub(crate) fn sorted_arriving(
     ensures all { IfOk result (λ v. AreArriving vertices.now (IsBefore (length vertices.now) 0) v.items) }
     ensures sorted { IfOk result (λ v. IsSortedBy end_lt v.items) }
 {
-    let mut ends = all_arriving(alloc, vertices)?;
+    let mut ends = Vec::with_capacity(alloc, vertices.len().saturating_mul(ENDS_AT_VERTEX))?;
+    for i in 0..vertices.len() {
+        add_arriving(&mut ends, vertices, i)?;
+    }
     ends.sort_unstable_by(end_cmp);
     Ok(ends)
 }
@@ -66,8 +58,8 @@ fn is_after(ends: &[EdgeEnd], number: usize, from: &EdgeEnd) -> bool
     }
 }
 
-// As many as `count_up_to` says, where all ends with the key of `from` lie on its line: most keys are those of one line. Where
-// several lines have the key this may be any number.
+// How many of the sorted ends don't stand after `from`, where all ends with its key lie on its line: most keys are those of
+// one line. Where several lines have the key this may be any number.
 fn guess_up_to(ends: &[EdgeEnd], from: &EdgeEnd) -> usize
     ensures within { result ≤ length ends.now }
 {
@@ -85,25 +77,67 @@ fn is_up_to(ends: &[EdgeEnd], number: usize, from: &EdgeEnd) -> bool
     number == 0 || end_cmp(&ends[number - 1], from).is_le()
 }
 
-// How many of the sorted ends don't stand after `from`. A guess is tried first, since two comparisons of lines tell whether
-// it is right, and halving takes one for each step among the ends on one line.
-fn count_up_to(ends: &[EdgeEnd], from: &EdgeEnd) -> usize
-    requires sorted { IsSortedBy end_lt ends.now }
-    ensures before { NoneAfter ends.now from.now result }
-    ensures after { AllAfter ends.now from.now result }
-{
-    let guess = guess_up_to(ends, from);
-    if is_after(ends, guess, from) && is_up_to(ends, guess, from) {
-        return guess;
-    }
-    ends.partition_point(|end| end_cmp(end, from).is_le())
-}
-
-/// The first of the sorted ends that stands after `from`.
+/// The first of the sorted ends that stands after `from`. A guess is tried first, since two comparisons of lines tell whether it
+/// is right, and halving takes one for each step among the ends on one line.
 pub(crate) fn next_after(ends: &[EdgeEnd], from: &EdgeEnd) -> EdgeEnd
     requires sorted { IsSortedBy end_lt ends.now }
     requires some { (k : ℕ) × (h : EdgeEnd) × At ends.now k h × IsAfter from.now h }
     ensures next { IsNext ends.now from.now result }
 {
-    ends[count_up_to(ends, from)]
+    let guess = guess_up_to(ends, from);
+    if is_after(ends, guess, from) && is_up_to(ends, guess, from) {
+        return ends[guess];
+    }
+    let count = ends.partition_point(|end| end_cmp(end, from).is_le());
+    ends[count]
+}
+
+// Compares n over the w of the one end's point with m over that of the other's.
+fn ratio_cmp(n: i128, a: &EdgeEnd, m: i128, b: &EdgeEnd) -> Ordering
+    requires n_small { nat_abs n ≤ moment_limit }
+    requires m_small { nat_abs m ≤ moment_limit }
+    ensures order { result ≡ int_cmp (n *ℤ b.now.point.w) (m *ℤ a.now.point.w) }
+{
+    let (w, v) = (a.point.w(), b.point.w());
+    (n * v as i128).cmp(&(m * w as i128))
+}
+
+// Compares the moments of two lines. All three numbers are worked out at once: mostly both lines are one.
+fn moment_cmp(a: &EdgeEnd, b: &EdgeEnd) -> Ordering
+    ensures order { result ≡ moment_order a.now b.now }
+{
+    let n = product(&a.point, &a.dir);
+    let m = product(&b.point, &b.dir);
+    ratio_cmp(n.0, a, m.0, b)
+        .then(ratio_cmp(n.1, a, m.1, b))
+        .then(ratio_cmp(n.2, a, m.2, b))
+}
+
+// Compares two lines with one key.
+fn line_cmp(a: &EdgeEnd, b: &EdgeEnd) -> Ordering
+    ensures order { result ≡ ordering_then (dir_order a.now.dir b.now.dir) (moment_order a.now b.now) }
+{
+    a.dir.cmp(&b.dir).then_with(|| moment_cmp(a, b))
+}
+
+// Compares two ends whose lines have one key. Most lines have different ones, so this isn't made part of `end_cmp`.
+#[inline(never)]
+fn tied_cmp(a: &EdgeEnd, b: &EdgeEnd) -> Ordering
+    ensures order { result ≡ ordering_then (ordering_then (dir_order a.now.dir b.now.dir) (moment_order a.now b.now)) (nat_cmp a.now.vertex b.now.vertex) }
+{
+    line_cmp(a, b).then(a.vertex.cmp(&b.vertex))
+}
+
+// Compares the keys of two ends' lines.
+fn key_cmp(a: &EdgeEnd, b: &EdgeEnd) -> Ordering
+    ensures order { result ≡ int_cmp a.now.key b.now.key }
+{
+    a.key.cmp(&b.key)
+}
+
+// Compares the lines of two ends, and then the numbers of their vertices.
+fn end_cmp(a: &EdgeEnd, b: &EdgeEnd) -> Ordering
+    ensures order { result ≡ end_order a.now b.now }
+{
+    key_cmp(a, b).then_with(|| tied_cmp(a, b))
 }

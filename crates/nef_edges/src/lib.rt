@@ -7,8 +7,6 @@
 
 mod arriving;
 mod edge_end;
-mod moment;
-mod order;
 mod pairing;
 
 pub use pairing::{pair, pair_from};

@@ -1,11 +1,7 @@
 //! The edges from all svertices that lead on.
 
-ghost use Rattle.std.specs.Prelude.{◌≡◌, ◌<◌, ◌+◌, ℕ, length, map, IfOk, OnOk};
-ghost use Rattle.std.specs.List.Sorted.{IsSortedBy};
-ghost use Rattle.nef_space.specs.Sets.{Set};
-ghost use Rattle.law_complex.specs.Complexes.{Edges};
-ghost use Rattle.nef_complex.specs.Complexes.{vertex_of, edge_of, AreVerticesOf, ShowsSet};
-ghost use Rattle.nef_complex.specs.Index.{AreVertexHolders};
+ghost use Rattle.std.specs.Prelude.{◌≡◌, ◌<◌, ◌+◌};
+ghost use Rattle.nef_complex.specs.Prelude.{length, map, IfOk, OnOk, IsSortedBy, Set, Edges, vertex_of, edge_of, AreVerticesOf, ShowsSet, AreVertexHolders};
 ghost use Rattle.nef_edges.specs.Order.{end_lt};
 ghost use Rattle.nef_edges.specs.EdgeEnds.{IsBefore, AreArriving};
 ghost use Rattle.nef_edges.specs.Pairs.{AreJoined, AreEdges};

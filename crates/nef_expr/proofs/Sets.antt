@@ -6,8 +6,7 @@ use Rattle.std.proofs.Math.Seq.{get_or-append_seam}
 use Rattle.std.proofs.lemmas.Option.{slice_get_within}
 use Rattle.nef_space.specs.Sets.{Set}
 use Rattle.nef_expr.specs.declared.nodes.Node.{Node}
-use Rattle.nef_expr.specs.declared.nodes.Node.TheVariants as node
-use Rattle.nef_expr.specs.Nodes.{operand, set_of, sets_after, NamesBelow}
+use Rattle.nef_expr.specs.Nodes.{Shape, shape_of, operand, made_of, set_of, sets_after, UsesBelow, NamesBelow}
 use Rattle.nef_expr.specs.Laws.{EarlierSetsStay, NewSetIsOfItsNode, EachSetIsOfItsNode}
 
 pub sets_after-length : (ss : List Set) (ns : List Node) → length (sets_after ss ns) ≡ length ss + length ns
@@ -41,19 +40,13 @@ new-set ns n =
     ap (λ ss. operand ss (length ns)) (sets_after-append [] ns (n ∷ [])) ∙ ap (operand (sets_after [] ns ++ set_of (sets_after [] ns) n ∷ [])) f ∙ operand-last (sets_after [] ns) (set_of (sets_after [] ns) n)
 
 -- a node makes the same set of operands that are the same
-set_of-same : (k : ℕ) (ss ts : List Set) (n : Node) → ((i : ℕ) → i < k → operand ss i ≡ operand ts i) → NamesBelow k n → set_of ss n ≡ set_of ts n
-set_of-same k ss ts (node.Half o c) same b = refl
-set_of-same k ss ts node.Empty same b = refl
-set_of-same k ss ts node.Full same b = refl
-set_of-same k ss ts (node.And i j) same b = let e = same i b.0 in let f = same j b.1 in cc
-set_of-same k ss ts (node.Or i j) same b = let e = same i b.0 in let f = same j b.1 in cc
-set_of-same k ss ts (node.Diff i j) same b = let e = same i b.0 in let f = same j b.1 in cc
-set_of-same k ss ts (node.Xor i j) same b = let e = same i b.0 in let f = same j b.1 in cc
-set_of-same k ss ts (node.Not i) same b = ap Set.other (same i b)
-set_of-same k ss ts (node.Int i) same b = ap Set.inside (same i b)
-set_of-same k ss ts (node.Cl i) same b = ap Set.closed (same i b)
-set_of-same k ss ts (node.Bd i) same b = ap Set.border (same i b)
-set_of-same k ss ts (node.Reg i) same b = ap Set.regular (same i b)
+made_of-same : (k : ℕ) (ss ts : List Set) (s : Shape) → ((i : ℕ) → i < k → operand ss i ≡ operand ts i) → UsesBelow k s → made_of ss s ≡ made_of ts s
+made_of-same k ss ts (Shape.leaf s) same b = refl
+made_of-same k ss ts (Shape.unary make i) same b = ap make (same i b)
+made_of-same k ss ts (Shape.binary make i j) same b = let e = same i b.0 in let f = same j b.1 in cc
+
+pub set_of-same : (k : ℕ) (ss ts : List Set) (n : Node) → ((i : ℕ) → i < k → operand ss i ≡ operand ts i) → NamesBelow k n → set_of ss n ≡ set_of ts n
+set_of-same k ss ts n same b = made_of-same k ss ts (shape_of n) same b
 
 -- the set made at place k of the nodes, after the sets ss, is the one that its node makes of all
 at-place : (ss : List Set) (ns : List Node) (k : ℕ) (n : Node) → slice_get ns k ≡ Some n → NamesBelow (length ss + k) n → operand (sets_after ss ns) (length ss + k) ≡ set_of (sets_after ss ns) n

@@ -15,56 +15,40 @@ use Rattle.std.proofs.lemmas.Map.Steps.{length-le_from_distinct_below}
 use Rattle.std.proofs.lemmas.Option.{slice_get_within, slice_get-get_or, get_or_from_slice_get}
 use Rattle.nef_case.specs.Turns.{IsComposition}
 use Rattle.nef_expr.specs.declared.nodes.Node.{Node}
-use Rattle.nef_expr.specs.declared.nodes.Node.TheVariants as node
-use Rattle.nef_expr.specs.declared.origin.Origin.{Origin}
-use Rattle.nef_expr.specs.Nodes.{NamesBelow, IsOrdered}
+use Rattle.nef_expr.specs.declared.table.Origin.{Origin}
+use Rattle.nef_expr.specs.Nodes.{Shape, shape_of, UsesBelow, Uses, NamesBelow, IsOrdered}
 use Rattle.nef_expr.specs.Turns.{IsNode, TurnOf}
 use Rattle.nef_expr.specs.Table.{most_bases, origin, key_of, HasOrigin, IsOfOrigin, AreOrigins, Table, IsCopyOf, HavePlaces, IsTable}
-use Rattle.nef_expr.specs.Copying.{Extends, Stays, IsTurnedNode, OperandsTurned, IsMarked, AreNeeded, AreCopies}
+use Rattle.nef_expr.specs.Copying.{Extends, Stays, turned_shape, IsTurnedNode, OperandsTurned, IsMarked, AreNeeded, AreCopies}
 use Rattle.nef_expr.proofs.Operands.{operand-below}
 use Rattle.nef_expr.proofs.Places.{slice_get-left, slice_get-seam, slice_get-below, place-push}
-use Rattle.nef_expr.proofs.Chains.{turn_of-more, Image, image-turn, pair-of, turn-twice, turn-between, own-image}
+use Rattle.nef_expr.proofs.Chains.{turn_of-more, Image, image-turn, turn-within, turn-twice, turn-between, own-image}
 
 -- ---- the copy of one node
 module _ (ns : List Node) (t : ℕ) (copies : List ℕ) where
   there : (i l : ℕ) → TurnOf ns t i l → l < length ns
-  there i l turn = let p = pair-of ns t i l turn in slice_get_within ns l p.m p.m_is
+  there i l turn = (turn-within ns t i l turn).1
+
+  uses-turned : (s : Shape) → ((i : ℕ) → Uses i s → TurnOf ns t i (slice_index copies i)) → UsesBelow (length ns) (turned_shape t (slice_index copies) s)
+  uses-turned (Shape.leaf s) turned = tt
+  uses-turned (Shape.unary make i) turned = there i _ (turned i refl)
+  uses-turned (Shape.binary make i j) turned = (there i _ (turned i (inl refl)), there j _ (turned j (inr refl)))
 
   pub new-names : (n m : Node) → OperandsTurned ns t copies n → IsTurnedNode t copies n m → NamesBelow (length ns) m
-  new-names (node.Half o c) m turned (p, e, f) = rw e tt
-  new-names node.Empty m turned e = rw e tt
-  new-names node.Full m turned e = rw e tt
-  new-names (node.And i j) m turned e = rw e (there i _ (turned i (inl refl)), there j _ (turned j (inr refl)))
-  new-names (node.Or i j) m turned e = rw e (there i _ (turned i (inl refl)), there j _ (turned j (inr refl)))
-  new-names (node.Diff i j) m turned e = rw e (there i _ (turned i (inl refl)), there j _ (turned j (inr refl)))
-  new-names (node.Xor i j) m turned e = rw e (there i _ (turned i (inl refl)), there j _ (turned j (inr refl)))
-  new-names (node.Not i) m turned e = rw e (there i _ (turned i refl))
-  new-names (node.Int i) m turned e = rw e (there i _ (turned i refl))
-  new-names (node.Cl i) m turned e = rw e (there i _ (turned i refl))
-  new-names (node.Bd i) m turned e = rw e (there i _ (turned i refl))
-  new-names (node.Reg i) m turned e = rw e (there i _ (turned i refl))
+  new-names n m turned e = subst (UsesBelow (length ns)) (sym e) (uses-turned (shape_of n) turned)
 
   module _ (m : Node) where
     more : (i : ℕ) → TurnOf ns t i (slice_index copies i) → TurnOf (ns ++ m ∷ []) t i (slice_index copies i)
     more i turn = turn_of-more ns (m ∷ []) t i (slice_index copies i) turn
 
-    image-from : (n : Node) → OperandsTurned ns t copies n → IsTurnedNode t copies n m → Image (ns ++ m ∷ []) t n m
-    image-from (node.Half o c) turned made = made
-    image-from node.Empty turned made = made
-    image-from node.Full turned made = made
-    image-from (node.And i j) turned made = (slice_index copies i, slice_index copies j, made, more i (turned i (inl refl)), more j (turned j (inr refl)))
-    image-from (node.Or i j) turned made = (slice_index copies i, slice_index copies j, made, more i (turned i (inl refl)), more j (turned j (inr refl)))
-    image-from (node.Diff i j) turned made = (slice_index copies i, slice_index copies j, made, more i (turned i (inl refl)), more j (turned j (inr refl)))
-    image-from (node.Xor i j) turned made = (slice_index copies i, slice_index copies j, made, more i (turned i (inl refl)), more j (turned j (inr refl)))
-    image-from (node.Not i) turned made = (slice_index copies i, made, more i (turned i refl))
-    image-from (node.Int i) turned made = (slice_index copies i, made, more i (turned i refl))
-    image-from (node.Cl i) turned made = (slice_index copies i, made, more i (turned i refl))
-    image-from (node.Bd i) turned made = (slice_index copies i, made, more i (turned i refl))
-    image-from (node.Reg i) turned made = (slice_index copies i, made, more i (turned i refl))
+    image-from : (s : Shape) → ((i : ℕ) → Uses i s → TurnOf ns t i (slice_index copies i)) → shape_of m ≡ turned_shape t (slice_index copies) s → Image (ns ++ m ∷ []) t s (shape_of m)
+    image-from (Shape.leaf s) turned made = made
+    image-from (Shape.unary make i) turned made = (slice_index copies i, made, more i (turned i refl))
+    image-from (Shape.binary make i j) turned made = (slice_index copies i, slice_index copies j, made, more i (turned i (inl refl)), more j (turned j (inr refl)))
 
     -- the node that is added is the image
     pub new-image : (k : ℕ) (n : Node) → IsNode ns k n → OperandsTurned ns t copies n → IsTurnedNode t copies n m → TurnOf (ns ++ m ∷ []) t k (length ns)
-    new-image k n is turned made = image-turn (ns ++ m ∷ []) t k (length ns) n m (slice_get-left ns (m ∷ []) k n is) (slice_get-seam ns m []) (image-from n turned made)
+    new-image k n is turned made = image-turn (ns ++ m ∷ []) t k (length ns) (shape_of n) (shape_of m) (n, slice_get-left ns (m ∷ []) k n is, refl) (m, slice_get-seam ns m [], refl) (image-from (shape_of n) turned made)
 
 -- ---- one node more
 pub ordered-push : (ns : List Node) (n : Node) → IsOrdered ns → NamesBelow (length ns) n → IsOrdered (ns ++ n ∷ [])

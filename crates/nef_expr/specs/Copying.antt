@@ -1,11 +1,8 @@
 -- How the copy of a node is made.
 use Rattle.std.specs.Prelude.{◌≡◌, ℕ, ◌+◌, ◌<◌, ◌≤◌, Bool, true, false, List, ◌++◌, Some, slice_get, slice_index, slice_index_or, length, ◌⊎◌}
-use Rattle.nef_geo.specs.declared.plane.Oriented.{Oriented}
-use Rattle.nef_geo.specs.Shapes.{given_form}
-use Rattle.law_turns.specs.Turned.{turned_plane}
+use Rattle.law_turns.specs.Turned.{turned_set}
 use Rattle.nef_expr.specs.declared.nodes.Node.{Node}
-use Rattle.nef_expr.specs.declared.nodes.Node.TheVariants as node
-use Rattle.nef_expr.specs.Nodes.{IsOperand}
+use Rattle.nef_expr.specs.Nodes.{Shape, shape_of, IsOperand}
 use Rattle.nef_expr.specs.Turns.{TurnOf}
 use Rattle.nef_expr.specs.Table.{Table}
 
@@ -19,20 +16,15 @@ pub record Stays (old new : Table) : Type 0 where
   pub origins : Extends old.origins new.origins
   pub bases : new.bases ≡ old.bases
 
+-- the shape with the turned set, or with other operands
+abbrev pub turned_shape : ℕ → (ℕ → ℕ) → Shape → Shape
+turned_shape t at (Shape.leaf s) = Shape.leaf (turned_set t s)
+turned_shape t at (Shape.unary make i) = Shape.unary make (at i)
+turned_shape t at (Shape.binary make i j) = Shape.binary make (at i) (at j)
+
 -- the node m is of the kind of n, with the turned half-space, or with the copies of the operands
 abbrev pub IsTurnedNode : ℕ → List ℕ → Node → Node → Type 0
-IsTurnedNode t copies (node.Half o c) m = (p : Oriented) × (m ≡ node.Half p c) × (given_form p ≡ turned_plane t (given_form o))
-IsTurnedNode t copies node.Empty m = m ≡ node.Empty
-IsTurnedNode t copies node.Full m = m ≡ node.Full
-IsTurnedNode t copies (node.And i j) m = m ≡ node.And (slice_index copies i) (slice_index copies j)
-IsTurnedNode t copies (node.Or i j) m = m ≡ node.Or (slice_index copies i) (slice_index copies j)
-IsTurnedNode t copies (node.Diff i j) m = m ≡ node.Diff (slice_index copies i) (slice_index copies j)
-IsTurnedNode t copies (node.Xor i j) m = m ≡ node.Xor (slice_index copies i) (slice_index copies j)
-IsTurnedNode t copies (node.Not i) m = m ≡ node.Not (slice_index copies i)
-IsTurnedNode t copies (node.Int i) m = m ≡ node.Int (slice_index copies i)
-IsTurnedNode t copies (node.Cl i) m = m ≡ node.Cl (slice_index copies i)
-IsTurnedNode t copies (node.Bd i) m = m ≡ node.Bd (slice_index copies i)
-IsTurnedNode t copies (node.Reg i) m = m ≡ node.Reg (slice_index copies i)
+IsTurnedNode t copies n m = shape_of m ≡ turned_shape t (slice_index copies) (shape_of n)
 
 -- each operand's image stands at its place
 abbrev pub OperandsTurned : List Node → ℕ → List ℕ → Node → Type 0

@@ -9,19 +9,34 @@ use Rattle.nef_expr.specs.declared.nodes.Node.TheVariants as node
 abbrev pub operand : List Set → ℕ → Set
 operand ss k = slice_index_or ss k Set.empty
 
+-- what a node says: a set that needs no other, or how a set is made of one or two others, which are named by their numbers
+pub data Shape : Type 0 where
+  leaf : Set → Shape
+  unary : (Set → Set) → ℕ → Shape
+  binary : (Set → Set → Set) → ℕ → ℕ → Shape
+
+abbrev pub shape_of : Node → Shape
+shape_of (node.Half o c) = Shape.leaf (Set.half (given_form o) c)
+shape_of node.Empty = Shape.leaf Set.empty
+shape_of node.Full = Shape.leaf Set.full
+shape_of (node.And i j) = Shape.binary Set.both i j
+shape_of (node.Or i j) = Shape.binary Set.either i j
+shape_of (node.Diff i j) = Shape.binary Set.less i j
+shape_of (node.Xor i j) = Shape.binary Set.one_of i j
+shape_of (node.Not i) = Shape.unary Set.other i
+shape_of (node.Int i) = Shape.unary Set.inside i
+shape_of (node.Cl i) = Shape.unary Set.closed i
+shape_of (node.Bd i) = Shape.unary Set.border i
+shape_of (node.Reg i) = Shape.unary Set.regular i
+
+-- the set of that shape, where ss are the sets of the first nodes
+abbrev pub made_of : List Set → Shape → Set
+made_of ss (Shape.leaf s) = s
+made_of ss (Shape.unary make i) = make (operand ss i)
+made_of ss (Shape.binary make i j) = make (operand ss i) (operand ss j)
+
 abbrev pub set_of : List Set → Node → Set
-set_of ss (node.Half o c) = Set.half (given_form o) c
-set_of ss node.Empty = Set.empty
-set_of ss node.Full = Set.full
-set_of ss (node.And i j) = Set.both (operand ss i) (operand ss j)
-set_of ss (node.Or i j) = Set.either (operand ss i) (operand ss j)
-set_of ss (node.Diff i j) = Set.less (operand ss i) (operand ss j)
-set_of ss (node.Xor i j) = Set.one_of (operand ss i) (operand ss j)
-set_of ss (node.Not i) = Set.other (operand ss i)
-set_of ss (node.Int i) = Set.inside (operand ss i)
-set_of ss (node.Cl i) = Set.closed (operand ss i)
-set_of ss (node.Bd i) = Set.border (operand ss i)
-set_of ss (node.Reg i) = Set.regular (operand ss i)
+set_of ss n = made_of ss (shape_of n)
 
 -- the sets of all nodes, first to last, after those of ss
 abbrev pub sets_after : List Set → List Node → List Set
@@ -33,34 +48,22 @@ abbrev pub node_set : List Node → ℕ → Set
 node_set ns k = operand (sets_after [] ns) k
 
 -- the operands are among the first n nodes
-abbrev pub NamesBelow : ℕ → Node → Type 0
-NamesBelow n (node.Half o c) = Unit {0}
-NamesBelow n node.Empty = Unit {0}
-NamesBelow n node.Full = Unit {0}
-NamesBelow n (node.And i j) = (i < n) × (j < n)
-NamesBelow n (node.Or i j) = (i < n) × (j < n)
-NamesBelow n (node.Diff i j) = (i < n) × (j < n)
-NamesBelow n (node.Xor i j) = (i < n) × (j < n)
-NamesBelow n (node.Not i) = i < n
-NamesBelow n (node.Int i) = i < n
-NamesBelow n (node.Cl i) = i < n
-NamesBelow n (node.Bd i) = i < n
-NamesBelow n (node.Reg i) = i < n
+abbrev pub UsesBelow : ℕ → Shape → Type 0
+UsesBelow n (Shape.leaf s) = Unit {0}
+UsesBelow n (Shape.unary make i) = i < n
+UsesBelow n (Shape.binary make i j) = (i < n) × (j < n)
 
--- node k is an operand of the node
+abbrev pub NamesBelow : ℕ → Node → Type 0
+NamesBelow n m = UsesBelow n (shape_of m)
+
+-- node k is an operand
+abbrev pub Uses : ℕ → Shape → Type 0
+Uses k (Shape.leaf s) = ⊥
+Uses k (Shape.unary make i) = k ≡ i
+Uses k (Shape.binary make i j) = (k ≡ i) ⊎ (k ≡ j)
+
 abbrev pub IsOperand : ℕ → Node → Type 0
-IsOperand k (node.Half o c) = ⊥
-IsOperand k node.Empty = ⊥
-IsOperand k node.Full = ⊥
-IsOperand k (node.And i j) = (k ≡ i) ⊎ (k ≡ j)
-IsOperand k (node.Or i j) = (k ≡ i) ⊎ (k ≡ j)
-IsOperand k (node.Diff i j) = (k ≡ i) ⊎ (k ≡ j)
-IsOperand k (node.Xor i j) = (k ≡ i) ⊎ (k ≡ j)
-IsOperand k (node.Not i) = k ≡ i
-IsOperand k (node.Int i) = k ≡ i
-IsOperand k (node.Cl i) = k ≡ i
-IsOperand k (node.Bd i) = k ≡ i
-IsOperand k (node.Reg i) = k ≡ i
+IsOperand k n = Uses k (shape_of n)
 
 -- each node names earlier nodes only
 abbrev pub IsOrdered : List Node → Type 0

@@ -4,7 +4,7 @@ use Rattle.std.specs.Ordering.{nat_cmp}
 use Rattle.std.specs.BTreeMap.{BTreeMap, get}
 use Rattle.nef_case.specs.Turns.{IsComposition}
 use Rattle.nef_expr.specs.declared.nodes.Node.{Node}
-use Rattle.nef_expr.specs.declared.origin.Origin.{Origin}
+use Rattle.nef_expr.specs.declared.table.Origin.{Origin}
 use Rattle.nef_expr.specs.Nodes.{IsOrdered}
 use Rattle.nef_expr.specs.Turns.{TurnOf}
 

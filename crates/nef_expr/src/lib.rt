@@ -5,17 +5,11 @@
 //! use no topology.
 #![tactic(auto)]
 
-mod copying;
-mod half;
-mod laws;
 mod nodes;
-mod origin;
 mod plain;
 mod table;
 
-pub use laws::node_laws;
 pub use nodes::{Node, Nodes};
-pub use origin::Origin;
-pub use plain::plain_has;
+pub use plain::{node_laws, plain_has};
 pub use std::alloc::AllocError as OutOfMemory;
-pub use table::TurnedNodes;
+pub use table::{Origin, TurnedNodes};

@@ -1,6 +1,7 @@
 //! The nodes of a script: each names earlier nodes by their numbers.
 
-ghost use Rattle.std.specs.Prelude.{◌≡◌, ◌<◌, [], ◌∷◌, ◌++◌, length, slice_get, Some, IfOk, OnErr, ◌==◌};
+ghost use Rattle.std.specs.Prelude.{◌≡◌, ◌<◌, ◌↔◌, ◌⊎◌, ◌∷◌, ◌++◌};
+ghost use Rattle.nef_geo.specs.Prelude.{ℕ, [], length, slice_get, Some, IfOk, IfSome, OnErr};
 
 use crate::OutOfMemory;
 use nef_geo::Oriented;
@@ -27,6 +28,26 @@ pub enum Node {
     Cl(usize),
     Bd(usize),
     Reg(usize),
+}
+
+impl Node {
+    ghost use Rattle.nef_expr.specs.Nodes.{IsOperand, NamesBelow};
+
+    /// The numbers of its operands.
+    pub fn operands(&self) -> (Option<usize>, Option<usize>)
+        ensures operands { (k : ℕ) → IsOperand k self.now ↔ ((result.0 ≡ Some k) ⊎ (result.1 ≡ Some k)) }
+        ensures below { (n : ℕ) → NamesBelow n self.now → IfSome result.0 (λ k. k < n) × IfSome result.1 (λ k. k < n) }
+    {
+        match *self {
+            Node::Half { .. } | Node::Empty | Node::Full => (None, None),
+            Node::And(i, j) | Node::Or(i, j) | Node::Diff(i, j) | Node::Xor(i, j) => {
+                (Some(i), Some(j))
+            }
+            Node::Not(i) | Node::Int(i) | Node::Cl(i) | Node::Bd(i) | Node::Reg(i) => {
+                (Some(i), None)
+            }
+        }
+    }
 }
 
 /// The nodes in order. Contracts see the list of them.
@@ -95,12 +116,5 @@ impl Nodes {
         ensures ordered { IsOrdered self.now }
     {
         self.list.len()
-    }
-
-    /// Whether there are none.
-    pub fn is_empty(&self) -> bool
-        ensures empty { result ≡ (length self.now == 0) }
-    {
-        self.list.is_empty()
     }
 }

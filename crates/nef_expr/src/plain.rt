@@ -1,27 +1,15 @@
-//! The label of a point for a node without topology.
+//! The label of a point for a node without topology, and what holds of every list of nodes.
 
-ghost use Rattle.std.specs.Prelude.{◌≡◌, ◌<◌, ◌↔◌, length, IfOk, IsTrue};
-ghost use Rattle.nef_space.specs.Sets.{InHalf};
-ghost use Rattle.nef_space.specs.Local.{HasLabel};
-ghost use Rattle.nef_geo.specs.Shapes.{given_form, place_of};
+ghost use Rattle.std.specs.Prelude.{◌<◌};
+ghost use Rattle.nef_geo.specs.Prelude.{length, IfOk, HasLabel, place_of};
 ghost use Rattle.nef_expr.specs.Nodes.{NamesBelow, node_set};
 ghost use Rattle.nef_expr.specs.Plain.{IsPlain, TellsNext};
+ghost use Rattle.nef_expr.specs.Laws.{EarlierSetsStay, NewSetIsOfItsNode, EachSetIsOfItsNode, NodeTurned, NodeHoldsTurned};
 
 use crate::OutOfMemory;
 use crate::nodes::{Node, Nodes};
-use nef_geo::{Label, Oriented, Point, Sign};
+use nef_geo::{Label, Point, Sign};
 use std::alloc::Global;
-
-// Whether the point is in the half-space.
-fn half_holds(oriented: &Oriented, closed: bool, p: &Point) -> bool
-    ensures half { IsTrue result ↔ InHalf (given_form oriented.now) closed (place_of p.now) }
-{
-    match oriented.side(p) {
-        Sign::Minus => true,
-        Sign::Zero => closed,
-        Sign::Plus => false,
-    }
-}
 
 // Whether the node's set holds at the point, where `holding` tells it of the earlier nodes' sets.
 // Of a node with topology it tells nothing.
@@ -30,7 +18,11 @@ fn node_holds(node: &Node, holding: &[bool], p: &Point) -> bool
     ensures told { TellsNext holding.now node.now result (place_of p.now) }
 {
     match *node {
-        Node::Half { oriented, closed } => half_holds(&oriented, closed, p),
+        Node::Half { oriented, closed } => match oriented.side(p) {
+            Sign::Minus => true,
+            Sign::Zero => closed,
+            Sign::Plus => false,
+        },
         Node::Empty => false,
         Node::Full => true,
         Node::And(i, j) => holding[i] && holding[j],
@@ -65,3 +57,16 @@ pub fn plain_has(alloc: Global, nodes: &Nodes, k: usize, p: &Point) -> Result<La
         Ok(Label::Not)
     }
 }
+
+/// A node that is added leaves the sets of the earlier nodes, and its own set is the one that its
+/// node makes of theirs. So the set of each node is the one that it makes of the list's sets.
+///
+/// A node's turned image, a node of its kind with the turned half-space or with turned operands, has the turned set, under
+/// each of the 48 turns: it holds at a turned point exactly where the node's set holds at the point.
+pub fn node_laws()
+    ensures earlier { EarlierSetsStay }
+    ensures new { NewSetIsOfItsNode }
+    ensures each { EachSetIsOfItsNode }
+    ensures turned { NodeTurned }
+    ensures turned_holds { NodeHoldsTurned }
+{}

@@ -1,22 +1,32 @@
-//! Nodes with their bases and turns.
+//! Nodes with their bases and turns, and the steps of copying a node: which nodes are needed, and the turned image of
+//! each.
 
-ghost use Rattle.std.specs.Prelude.{◌≡◌, ℕ, ◌+◌, ◌*◌, ◌<◌, ◌≤◌, [], ◌∷◌, ◌++◌, length, slice_get, IfOk, IfSome, OnErr, None, Some};
+ghost use Rattle.std.specs.Prelude.{◌≡◌, ◌+◌, ◌*◌, ◌<◌, ◌≤◌, ◌∷◌, ◌++◌};
+ghost use Rattle.nef_geo.specs.Prelude.{ℕ, [], length, slice_get, IfOk, IfSome, OnErr, None, Some, form, given_form};
+ghost use Rattle.law_turns.specs.Turned.{turned_plane};
 ghost use Rattle.nef_expr.specs.Nodes.{NamesBelow, IsOrdered};
 ghost use Rattle.nef_expr.specs.Turns.{TurnOf};
 ghost use Rattle.nef_expr.specs.Table.{most_bases, origin, key_of, HasOrigin, IsOfOrigin, AreOrigins, IsCopyOf};
-ghost use Rattle.nef_expr.specs.Copying.{Stays, OperandsTurned};
+ghost use Rattle.nef_expr.specs.Copying.{Stays, OperandsTurned, IsTurnedNode, MarksOperands, AreNeeded};
 
 use crate::OutOfMemory;
-use crate::copying::{needed_nodes, turned_node};
 use crate::nodes::{Node, Nodes};
-use crate::origin::Origin;
-use nef_case::turn_compose;
+use nef_case::{turn_compose, turn_row, turned_coordinates};
+use nef_geo::Oriented;
 use std::alloc::Global;
 use std::collections::BTreeMap;
 use std::marker::Model;
 
 // How many turns there are.
 const TURNS: usize = 48;
+
+/// Whose image a node is: of the base with this number, counted from 0, under the turn with this number, which is
+/// below 48.
+#[derive(Debug, Clone, Copy)]
+pub struct Origin {
+    pub base: usize,
+    pub turn: usize,
+}
 
 /// The nodes of a script's own lines, which are the bases, and turned copies of them. Each node has a base and a turn,
 /// and no two nodes have both in common. Contracts see the nodes, their origins and how many bases there are.
@@ -69,13 +79,7 @@ impl TurnedNodes {
         ensures ordered { IsOrdered result }
         ensures origins { AreOrigins result self.origins self.bases }
     {
-        let TurnedNodes {
-            nodes,
-            origins: _origins,
-            bases: _bases,
-            places: _places,
-        } = self;
-        Nodes::from_list(nodes)
+        Nodes::from_list(self.nodes)
     }
 
     /// Adds a node of a line's own, whose operands are earlier nodes, and gives its number. It is the next base, with the
@@ -173,4 +177,87 @@ impl TurnedNodes {
         self.bases = bases;
         Ok(number)
     }
+}
+
+// The numbers of the plane as it was given, up to a positive factor.
+fn given(oriented: &Oriented) -> (i64, i64, i64, i64)
+    ensures given { form result.0 result.1 result.2 result.3 ≡ given_form oriented.now }
+{
+    let plane = oriented.plane();
+    if oriented.flipped() {
+        (-plane.a(), -plane.b(), -plane.c(), -plane.d())
+    } else {
+        (plane.a(), plane.b(), plane.c(), plane.d())
+    }
+}
+
+// The given plane with its normal turned by the turn `t`, which is below 48.
+fn turned_half(oriented: &Oriented, t: usize) -> Oriented
+    requires turn { t < 48 }
+    ensures turned { given_form result ≡ turned_plane t (given_form oriented.now) }
+{
+    let (a, b, c, d) = given(oriented);
+    let row = turn_row(t);
+    let (x, y, z) = turned_coordinates(&row, a, b, c);
+    Oriented::of(x, y, z, d)
+}
+
+// The node of the same kind with the turned half-space, or with the copies of its operands, which stand at the places
+// of these.
+fn turned_node(node: &Node, t: usize, copies: &[usize]) -> Node
+    requires turn { t < 48 }
+    requires operands { NamesBelow (length copies.now) node.now }
+    ensures turned { IsTurnedNode t copies.now node.now result }
+{
+    match *node {
+        Node::Half { oriented, closed } => Node::Half {
+            oriented: turned_half(&oriented, t),
+            closed,
+        },
+        Node::Empty => Node::Empty,
+        Node::Full => Node::Full,
+        Node::And(i, j) => Node::And(copies[i], copies[j]),
+        Node::Or(i, j) => Node::Or(copies[i], copies[j]),
+        Node::Diff(i, j) => Node::Diff(copies[i], copies[j]),
+        Node::Xor(i, j) => Node::Xor(copies[i], copies[j]),
+        Node::Not(i) => Node::Not(copies[i]),
+        Node::Int(i) => Node::Int(copies[i]),
+        Node::Cl(i) => Node::Cl(copies[i]),
+        Node::Bd(i) => Node::Bd(copies[i]),
+        Node::Reg(i) => Node::Reg(copies[i]),
+    }
+}
+
+// Marks the operands of the node.
+fn mark_operands(marks: &mut [bool], node: &Node)
+    requires operands { NamesBelow (length marks.old) node.now }
+    ensures marked { MarksOperands node.now marks.old marks.new }
+{
+    match *node {
+        Node::Half { .. } | Node::Empty | Node::Full => {}
+        Node::And(i, j) | Node::Or(i, j) | Node::Diff(i, j) | Node::Xor(i, j) => {
+            marks[i] = true;
+            marks[j] = true;
+        }
+        Node::Not(i) | Node::Int(i) | Node::Cl(i) | Node::Bd(i) | Node::Reg(i) => marks[i] = true,
+    }
+}
+
+// Of the first `k + 1` nodes those that the set of node `k` is made of, at any depth: with each node its operands. They
+// are marked from the last one on.
+fn needed_nodes(alloc: Global, nodes: &[Node], k: usize) -> Result<Vec<bool>, OutOfMemory>
+    requires existing { k < length nodes.now }
+    requires ordered { IsOrdered nodes.now }
+    ensures needed { IfOk result (λ v. AreNeeded nodes.now k v.items) }
+{
+    let mut marks = vec![in alloc; false; k]?;
+    marks.push(true)?;
+    let list = marks.as_mut_slice();
+    for back in 0..k + 1 {
+        let i = k - back;
+        if list[i] {
+            mark_operands(list, &nodes[i]);
+        }
+    }
+    Ok(marks)
 }

@@ -9,7 +9,7 @@ use Rattle.nef_edges.proofs.Places.{some-at, at-within}
 use Rattle.law_complex.specs.Complexes.{Vertex as PlainVertex, Complex as PlainComplex, Corner as PlainCorner}
 use Rattle.nef_complex.specs.declared.complex.Corner.{Corner}
 use Rattle.nef_complex.specs.Complexes.{corner_of}
-use Rattle.nef_parts.specs.Cycles.{IsCornerBelow}
+use Rattle.nef_complex.specs.Cycles.{IsCornerBelow}
 use Rattle.nef_facets.specs.Corners.{corner_from, corners_at, HasItem, AreCorners}
 use Rattle.nef_facets.proofs.Lists.{is-at_parts, is-at_second}
 

@@ -13,9 +13,9 @@ use Rattle.law_complex.specs.Shows.{Shows}
 use Rattle.nef_complex.specs.declared.complex.Corner.{Corner}
 use Rattle.nef_complex.specs.Complexes.{corner_of}
 use Rattle.law_links.specs.Links.{FacetLink}
-use Rattle.nef_parts.specs.declared.parts.Cycle.{Cycle}
-use Rattle.nef_parts.specs.Cycles.{NextCorner, IsCornerBelow, StepsTo, IsCycle, IsCycleBelow, Cycles}
-use Rattle.nef_parts.specs.Numbers.{IsFacetOf, FacetNumbers, cycle_corners}
+use Rattle.nef_complex.specs.declared.parts.Cycle.{Cycle}
+use Rattle.nef_complex.specs.Cycles.{NextCorner, IsCornerBelow, StepsTo, IsCycle, IsCycleBelow, Cycles}
+use Rattle.nef_complex.specs.Numbers.{IsFacetOf, FacetNumbers, cycle_corners}
 use Rattle.nef_facets.specs.Corners.{AreInOrder, AreCorners, corner_from}
 use Rattle.nef_facets.specs.Next.{AreNext}
 use Rattle.nef_facets.specs.Orbits.{IsStep, StepsOver, IsOrbit, AreOrbits, AreCornersOf, AreNumbered, IsCycleOf, AreGrouped}

@@ -19,7 +19,7 @@ use Rattle.nef_edges.proofs.Rays.{opposites-same}
 use Rattle.law_links.proofs.Ties.{IsTied, tied-turned}
 use Rattle.law_links.proofs.EdgeEnds.{EdgeWays, edge-ways, ends-tied, opposite-way}
 use Rattle.nef_conn.proofs.SameRay.{on-ray}
-use Rattle.nef_parts.specs.Cycles.{Leads}
+use Rattle.nef_complex.specs.Cycles.{Leads}
 
 -- an edge from svertex a of vertex i to svertex b of vertex j
 pub record EdgeFrom (s : Set) (C : Complex) (i a j b : ℕ) : Type 0 where

@@ -8,7 +8,7 @@ use Rattle.nef_edges.proofs.Places.{some-at, at-within}
 use Rattle.law_complex.specs.Complexes.{Complex, Corner as PlainCorner}
 use Rattle.nef_complex.specs.declared.complex.Corner.{Corner}
 use Rattle.nef_complex.specs.Complexes.{corner_of}
-use Rattle.nef_parts.specs.Numbers.{IsFacetOf, FacetNumbers}
+use Rattle.nef_complex.specs.Numbers.{IsFacetOf, FacetNumbers}
 use Rattle.nef_facets.specs.Corners.{corner_from, HasItem, AreCorners}
 use Rattle.nef_facets.specs.Facets.{AreFirsts}
 use Rattle.nef_facets.proofs.Order.{number-below}

@@ -4,7 +4,7 @@ use Rattle.std.proofs.lemmas.Bool.{cases_order}
 use Rattle.nef_space.specs.Lists.{IsAt}
 use Rattle.nef_classes.proofs.ClassLists.{Either, earlier, last, is-at_either, is-at_last, is-at_left, is-at_one, is-at_within, less-or-last}
 use Rattle.nef_complex.specs.declared.complex.Corner.{Corner}
-use Rattle.nef_parts.specs.declared.parts.Cycle.{Cycle}
+use Rattle.nef_complex.specs.declared.parts.Cycle.{Cycle}
 use Rattle.nef_facets.specs.Orbits.{AreCornersOf, IsCycleOf, AreGrouped}
 use Rattle.nef_facets.proofs.Lists.{AreEach}
 use Rattle.nef_classes.proofs.Writes.{set-same, set-other, set-at}

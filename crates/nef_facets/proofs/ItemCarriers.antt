@@ -6,6 +6,7 @@ use Rattle.nef_space.specs.Sets.{Set}
 use Rattle.nef_space.specs.Vectors.{Vector, IsNormal, SameDirection}
 use Rattle.law_sphere.specs.Maps.{At, Item, items, item_normal}
 use Rattle.law_complex.specs.Complexes.{Vertex as PlainVertex, Corner as PlainCorner, IsCorner}
+use Rattle.nef_classes.proofs.ClassLists.{is-at_one}
 use Rattle.nef_complex.specs.declared.complex.Vertex.{Vertex}
 use Rattle.nef_complex.specs.declared.complex.Complex.{Complex}
 use Rattle.nef_complex.specs.Complexes.{vertex_of, complex_of}
@@ -17,7 +18,7 @@ use Rattle.nef_geo.specs.declared.plane.Plane.{Plane}
 use Rattle.nef_smap.specs.Maps.{map_of}
 use Rattle.law_sphere.proofs.Lists.{at-one}
 use Rattle.nef_smap.proofs.SideLists.{at-some}
-use Rattle.nef_facets.specs.Carriers.{HasItem}
+use Rattle.nef_facets.specs.Carriers.{HasItem, IsPlaneAt}
 use Rattle.law_complex.specs.Shows.{Shows}
 
 -- the plane holds the point and has the normal
@@ -46,6 +47,10 @@ none-held c p n ns H none i f a q =
     let here = got-some c.carriers i g.0 g.1 in
     let r = H.all i (g.0, here, (w.0, w.0)) in
     none r.0 i (some-at ns r.0 i r.1) (g.0, here, w)
+
+-- the carrier with the number of a plane that has an item is that plane
+pub carrier-plane : (c : Complex) (k : PlainCorner) (n : ℕ) (h : Plane) → (g : Plane) × IsAt c.carriers n g × IsPlaneAt (complex_of c) g k → IsAt c.carriers n h → IsPlaneAt (complex_of c) h k
+carrier-plane c k n h (g, a, P) b = subst (λ (f : Plane). IsPlaneAt (complex_of c) f k) (is-at_one c.carriers n g h a b) P
 
 -- ---- the program's vertices and items
 module _ (c : Complex) (k : PlainCorner) (h : HasItem (complex_of c) k) where

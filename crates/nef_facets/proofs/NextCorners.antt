@@ -40,7 +40,7 @@ use Rattle.law_links.proofs.NearVertex.{facet-near}
 use Rattle.law_links.proofs.Ties.{IsTied, tied-turned, tied-both, tied-ahead}
 use Rattle.law_links.proofs.EdgeEnds.{end-level, close_way, on-close, tied-close_way, tied-turn, corner_of, opposite-way, dot-opposite}
 use Rattle.nef_classes.proofs.Chains.{chain-link, chain-turned}
-use Rattle.nef_parts.specs.Cycles.{IsNextArc, NextCorner}
+use Rattle.nef_complex.specs.Cycles.{IsNextArc, NextCorner}
 use Rattle.nef_facets.proofs.EdgeViews.{EdgeFrom, edge-from, one-vertex, one-svertex}
 
 pub turned-level : (n m d : Vector) → SameDirection n m → dot n d ≡ pos 0 → dot m d ≡ pos 0

@@ -19,7 +19,7 @@ use Rattle.nef_complex.specs.declared.complex.Vertex.{Vertex}
 use Rattle.nef_complex.specs.declared.complex.Complex.{Complex}
 use Rattle.nef_complex.specs.declared.complex.Corner.{Corner}
 use Rattle.nef_complex.specs.Complexes.{vertex_of, complex_of, corner_of}
-use Rattle.nef_parts.specs.Cycles.{Leads, NextCorner}
+use Rattle.nef_complex.specs.Cycles.{Leads, NextCorner}
 use Rattle.nef_facets.specs.Corners.{AreInOrder, AreCorners, HasItem}
 use Rattle.nef_facets.specs.Next.{IsArcInto, LeavesFrom, HasNext, AreNext}
 use Rattle.nef_facets.proofs.CornerLists.{corner}

@@ -8,7 +8,7 @@ use Rattle.nef_classes.proofs.ClassLists.{is-at_left}
 use Rattle.nef_edges.proofs.Places.{at-some, at-map}
 use Rattle.law_complex.specs.Complexes.{Complex, Corner}
 use Rattle.law_links.specs.Links.{LinkAlong, LinkAcross, FacetLink}
-use Rattle.nef_parts.specs.Numbers.{count_items, FacetNumbers}
+use Rattle.nef_complex.specs.Numbers.{count_items, FacetNumbers}
 use Rattle.nef_classes.specs.declared.table.Cell.{Cell}
 use Rattle.nef_classes.specs.declared.table.Tie.{Tie}
 use Rattle.nef_classes.specs.Tables.{AreTiedWithin, AreTied, HasCounts, AreNumbers}

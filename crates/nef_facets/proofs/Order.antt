@@ -11,7 +11,7 @@ use Rattle.nef_classes.proofs.ClassLists.{is-at_one, is-at_within, is-at_get, is
 use Rattle.nef_complex.specs.declared.complex.Corner.{Corner}
 use Rattle.nef_complex.specs.Complexes.{corner_of}
 use Rattle.law_complex.specs.Complexes.{Corner as PlainCorner}
-use Rattle.nef_parts.specs.Cycles.{IsCornerBelow}
+use Rattle.nef_complex.specs.Cycles.{IsCornerBelow}
 use Rattle.nef_facets.specs.Corners.{AreInOrder, stands_before}
 
 -- of two corners one isn't below the other both ways, and none is below itself

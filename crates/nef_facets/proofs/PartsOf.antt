@@ -10,9 +10,9 @@ use Rattle.law_complex.specs.Complexes.{Complex}
 use Rattle.law_complex.specs.Shows.{Shows}
 use Rattle.nef_complex.specs.declared.complex.Corner.{Corner}
 use Rattle.nef_complex.specs.Complexes.{corner_of}
-use Rattle.nef_parts.specs.Cycles.{Cycles}
-use Rattle.nef_parts.specs.Numbers.{IsFacetOf, FacetNumbers, cycle_corners}
-use Rattle.nef_parts.specs.declared.parts.Cycle.{Cycle}
+use Rattle.nef_complex.specs.Cycles.{Cycles}
+use Rattle.nef_complex.specs.Numbers.{IsFacetOf, FacetNumbers, cycle_corners}
+use Rattle.nef_complex.specs.declared.parts.Cycle.{Cycle}
 use Rattle.nef_facets.specs.declared.parts.FacetParts.{FacetParts}
 use Rattle.nef_facets.specs.Corners.{AreCorners, corner_from}
 use Rattle.nef_facets.specs.Facets.{IsPlaneAt, IsMarkAt, AreFirsts, IsFacetParts}

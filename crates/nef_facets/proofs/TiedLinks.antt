@@ -15,7 +15,7 @@ use Rattle.nef_classes.specs.declared.table.Cell.{Cell}
 use Rattle.nef_classes.specs.declared.table.Tie.{Tie}
 use Rattle.nef_classes.specs.Tables.{IsCellIn, AreTied, AreTiedWithin}
 use Rattle.law_links.specs.Links.{LinkAlong, LinkAcross}
-use Rattle.nef_parts.specs.Numbers.{count_items}
+use Rattle.nef_complex.specs.Numbers.{count_items}
 use Rattle.nef_facets.specs.Ties.{cell_of, corner_at, edge_tie, IsTieAlong, IsTieAcross, Any, Adds}
 
 pub tie-same : (t u : Tie) → t.first ≡ u.first → t.second ≡ u.second → t ≡ u

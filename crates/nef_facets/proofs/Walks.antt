@@ -1,7 +1,9 @@
 -- Walks along the steps, and the orbits that they make.
-use Rattle.std.proofs.Common.{◌≡◌, ℕ, zero, suc, ◌+◌, ◌<◌, ◌≤◌, List, [], ◌∷◌, ◌++◌, length, Bool, true, false, arith, refl, ap, sym, ◌∙◌, ◌⊎◌, inl, inr, ⊎_elim, subst, set, get_or, Option, Some}
+use Rattle.std.proofs.Common.{◌≡◌, ℕ, zero, suc, ◌+◌, ◌<◌, ◌≤◌, List, [], ◌∷◌, ◌++◌, length, Bool, true, false, arith, refl, ap, sym, ◌∙◌, ◌⊎◌, inl, inr, ⊎_elim, subst, set, get_or, replicate, Option, Some}
 use Rattle.std.proofs.Math.ListN.{length-set}
 use Rattle.std.proofs.lemmas.Bool.{cases_order}
+use Rattle.std.proofs.lemmas.List.{length-replicate, get_or-replicate}
+use Rattle.std.proofs.lemmas.Option.{get_or_from_slice_get}
 use Rattle.std.specs.List.{All}
 use Rattle.nef_space.specs.Lists.{IsAt}
 use Rattle.nef_classes.proofs.ClassLists.{Either, earlier, last, is-at_either, is-at_last, is-at_left, is-at_one, is-at_within, is-at_some, is-at_get, less-or-last}
@@ -185,6 +187,17 @@ orbits-none ns bs e none = record {
   ordered = λ m n i j x y l a. cc;
   low = λ m i x a. cc;
 }
+
+-- none is marked at first
+unmarked-at : (n : ℕ) (bs : List Bool) → bs ≡ replicate n false → (i : ℕ) (b : Bool) → IsAt bs i b → b ≡ false
+unmarked-at n bs e i b a =
+    let at : IsAt (replicate n false) i b = subst (λ (xs : List Bool). IsAt xs i b) e a in
+    let l = is-at_within (replicate n false) i b at in
+    let m = length-replicate n false in
+    sym (get_or_from_slice_get (replicate n false) i b b at) ∙ get_or-replicate n i false b (omega (arith, l, m))
+
+pub orbits-begun : (ns : List ℕ) (bs : List Bool) → bs ≡ replicate (length ns) false → AreOrbitsTo ns 0 [] bs
+orbits-begun ns bs e = orbits-none ns bs (ap length e ∙ length-replicate (length ns) false) (unmarked-at (length ns) bs e)
 
 pub orbits-all : (ns : List ℕ) (start : ℕ) (xs : List (List ℕ)) (bs : List Bool) → AreOrbitsTo ns start xs bs → length ns ≤ start → AreOrbits ns xs
 orbits-all ns start xs bs O h = record { each = O.each; all = λ i l. O.all i (O.below i (omega arith) l); ordered = O.ordered }

@@ -4,7 +4,7 @@ use Rattle.nef_space.specs.Lists.{IsAt}
 use Rattle.law_complex.specs.Complexes.{Complex, Corner as PlainCorner}
 use Rattle.nef_complex.specs.declared.complex.Corner.{Corner}
 use Rattle.nef_complex.specs.Complexes.{corner_of}
-use Rattle.nef_parts.specs.Cycles.{IsCornerBelow}
+use Rattle.nef_complex.specs.Cycles.{IsCornerBelow}
 pub use Rattle.nef_facets.specs.Carriers.{HasItem}
 
 abbrev pub corner_from : PlainCorner → Corner

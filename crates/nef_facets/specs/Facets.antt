@@ -10,9 +10,9 @@ use Rattle.law_sphere.specs.Maps.{Item, item_normal, item_mark}
 use Rattle.law_complex.specs.Complexes.{Vertex, Complex, Corner, IsCorner}
 use Rattle.nef_complex.specs.declared.complex.Corner.{Corner as CornerValue}
 use Rattle.nef_complex.specs.Complexes.{corner_of}
-use Rattle.nef_parts.specs.Cycles.{Cycles}
-use Rattle.nef_parts.specs.Numbers.{IsFacetOf, FacetNumbers, cycle_corners}
-use Rattle.nef_parts.specs.declared.parts.Cycle.{Cycle}
+use Rattle.nef_complex.specs.Cycles.{Cycles}
+use Rattle.nef_complex.specs.Numbers.{IsFacetOf, FacetNumbers, cycle_corners}
+use Rattle.nef_complex.specs.declared.parts.Cycle.{Cycle}
 pub use Rattle.nef_facets.specs.Carriers.{IsPlaneAt}
 use Rattle.nef_facets.specs.declared.parts.FacetParts.{FacetParts}
 

@@ -6,7 +6,7 @@ use Rattle.law_sphere.specs.Maps.{At, Arc, Map}
 use Rattle.law_complex.specs.Complexes.{Vertex, Complex, Corner as PlainCorner}
 use Rattle.nef_complex.specs.declared.complex.Corner.{Corner}
 use Rattle.nef_complex.specs.Complexes.{corner_of}
-use Rattle.nef_parts.specs.Cycles.{NextCorner}
+use Rattle.nef_complex.specs.Cycles.{NextCorner}
 
 -- arc k has the normal and ends at svertex b
 abbrev pub IsArcInto : Map → ℕ → Vector → ℕ → Type 0

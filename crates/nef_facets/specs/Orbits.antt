@@ -4,8 +4,8 @@ use Rattle.std.specs.List.{All}
 use Rattle.nef_space.specs.Lists.{IsAt}
 use Rattle.nef_complex.specs.declared.complex.Corner.{Corner}
 use Rattle.nef_complex.specs.Complexes.{corner_of}
-use Rattle.nef_parts.specs.Numbers.{IsFacetOf}
-use Rattle.nef_parts.specs.declared.parts.Cycle.{Cycle}
+use Rattle.nef_complex.specs.Numbers.{IsFacetOf}
+use Rattle.nef_complex.specs.declared.parts.Cycle.{Cycle}
 
 -- the step from each number stands at its place; no two lead to one
 pub record IsStep (ns : List ℕ) : Type 0 where

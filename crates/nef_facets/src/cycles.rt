@@ -1,23 +1,151 @@
-//! The cycles of each facet.
+//! The next corner of each corner, and the cycles of each facet.
 
-ghost use Rattle.std.specs.Prelude.{◌≡◌, ◌<◌, ℕ, length, IfOk};
-ghost use Rattle.nef_space.specs.Lists.{IsAt};
-ghost use Rattle.nef_space.specs.Sets.{Set};
-ghost use Rattle.nef_complex.specs.Complexes.{complex_of, corner_of, ShowsSet};
-ghost use Rattle.nef_parts.specs.Numbers.{IsFacetOf, FacetNumbers};
-ghost use Rattle.nef_facets.specs.Corners.{AreCorners};
+ghost use Rattle.std.specs.Prelude.{◌≡◌, ◌<◌};
+ghost use Rattle.nef_complex.specs.Prelude.{ℕ, length, IfOk, false, IsAt, Set, vector_of, At, complex_of, corner_of, ShowsSet, IsFacetOf, FacetNumbers, Leads};
+ghost use Rattle.law_complex.specs.Complexes.{Edge as PlainEdge};
+ghost use Rattle.nef_smap.specs.Maps.{map_of};
+ghost use Rattle.nef_facets.specs.Corners.{AreCorners, AreInOrder, stands_before};
 ghost use Rattle.nef_facets.specs.Facets.{AreCyclesOf};
-ghost use Rattle.nef_facets.specs.Orbits.{AreCornersOf, AreNumbered, AreGrouped};
+ghost use Rattle.nef_facets.specs.Orbits.{AreCornersOf, AreNumbered, AreGrouped, IsStep, IsClosed, ComesBack, AreMarked, AreOrbits};
+ghost use Rattle.nef_facets.specs.Next.{IsArcInto, HaveNextFrom, KeepsNext, AreNext};
 
 use crate::OutOfMemory;
-use crate::firsts::number_of;
-use crate::next::next_corners;
-use crate::orbits::orbits;
-use nef_classes::empty_rows;
-use nef_complex::{Complex, Corner};
-use nef_geo::List;
-use nef_parts::Cycle;
+use nef_classes::{empty_rows, number_at, own_numbers};
+use nef_complex::{Complex, Corner, Cycle};
+use nef_geo::{Dir, List};
+use nef_smap::SphereMap;
 use std::alloc::Global;
+
+/// An end of an edge: a svertex of a vertex.
+#[derive(Clone, Copy)]
+struct End {
+    vertex: usize,
+    svertex: usize,
+}
+
+// The number of the arc with the normal that ends at the svertex.
+fn arc_into(map: &SphereMap, svertex: usize, normal: &Dir) -> usize
+    requires some { (k : ℕ) × IsArcInto (map_of map.now) svertex (vector_of normal.now) k }
+    ensures arc { IsArcInto (map_of map.now) svertex (vector_of normal.now) result }
+{
+    for (number, arc) in map.arcs.as_slice().iter().enumerate() {
+        if arc.target == svertex && normal.is_same(&arc.normal) {
+            return number;
+        }
+    }
+    unreachable!()
+}
+
+fn is_before(j: &Corner, k: &Corner) -> bool
+    ensures before { result ≡ stands_before j.now k.now }
+{
+    j.vertex < k.vertex || j.vertex == k.vertex && j.item < k.item
+}
+
+// The number of a listed corner: how many stand before it.
+fn position(corners: &[Corner], k: &Corner) -> usize
+    requires ordered { AreInOrder corners.now }
+    requires listed { (i : ℕ) × IsAt corners.now i k.now }
+    ensures position { IsAt corners.now result k.now }
+{
+    corners.partition_point(|j| is_before(j, k))
+}
+
+// Notes the next corners of the arcs that begin where an edge leaves, which leads to the other end.
+fn add_next(next: &mut Vec<usize>, c: &Complex, corners: &[Corner], from: &End, to: &End)
+    requires shows { (s : Set) × ShowsSet s c.now }
+    requires corners { AreCorners (complex_of c.now) corners.now }
+    requires edge { (n : ℕ) × (e : PlainEdge) × At (complex_of c.now).edges n e × Leads e from.now.vertex from.now.svertex to.now.vertex to.now.svertex }
+    requires as_many { length next.old.items ≡ length corners.now }
+    ensures as_many { length next.new.items ≡ length corners.now }
+    ensures kept { KeepsNext (complex_of c.now) corners.now next.old.items next.new.items }
+    ensures added { HaveNextFrom (complex_of c.now) corners.now from.now.vertex from.now.svertex next.new.items }
+{
+    let here = &c.vertices.at(from.vertex).map;
+    for (number, arc) in here.arcs.as_slice().iter().enumerate() {
+        if arc.source == from.svertex {
+            let item = arc_into(&c.vertices.at(to.vertex).map, to.svertex, &arc.normal);
+            let j = Corner {
+                vertex: from.vertex,
+                item: number,
+            };
+            let k = Corner {
+                vertex: to.vertex,
+                item,
+            };
+            let following = position(corners, &k);
+            let place = position(corners, &j);
+            next[place] = following;
+        }
+    }
+}
+
+/// For each corner the number of the next one.
+pub(crate) fn next_corners(
+    alloc: Global,
+    c: &Complex,
+    corners: &[Corner],
+) -> Result<Vec<usize>, OutOfMemory>
+    requires shows { (s : Set) × ShowsSet s c.now }
+    requires corners { AreCorners (complex_of c.now) corners.now }
+    ensures next { IfOk result (λ v. AreNext (complex_of c.now) corners.now v.items) }
+{
+    let mut next = own_numbers(alloc, corners.len())?;
+    for edge in c.edges.as_slice() {
+        let low = End {
+            vertex: edge.low,
+            svertex: edge.low_svertex,
+        };
+        let high = End {
+            vertex: edge.high,
+            svertex: edge.high_svertex,
+        };
+        add_next(&mut next, c, corners, &low, &high);
+        add_next(&mut next, c, corners, &high, &low);
+    }
+    Ok(next)
+}
+
+// The orbit from an unmarked number on. Its numbers get marked.
+fn walk(
+    alloc: Global,
+    next: &[usize],
+    marks: &mut Vec<bool>,
+    start: usize,
+) -> Result<List<usize>, OutOfMemory>
+    requires step { IsStep next.now }
+    requires as_many { length marks.old.items ≡ length next.now }
+    requires start { IsAt marks.old.items start false }
+    requires closed { IsClosed next.now marks.old.items }
+    ensures as_many { length marks.new.items ≡ length next.now }
+    ensures back { IfOk result (λ xs. ComesBack next.now start xs) }
+    ensures apart { IfOk result (λ xs. (k l i : ℕ) → IsAt xs k i → IsAt xs l i → k ≡ l) }
+    ensures marked { IfOk result (λ xs. AreMarked xs marks.old.items marks.new.items) }
+{
+    let mut orbit = List::new(alloc);
+    let mut now = start;
+    while !marks[now] {
+        marks[now] = true;
+        orbit.push(now)?;
+        now = next[now];
+    }
+    Ok(orbit)
+}
+
+// All orbits, each from its least number on, in the order of these.
+fn orbits(alloc: Global, next: &[usize]) -> Result<List<List<usize>>, OutOfMemory>
+    requires step { IsStep next.now }
+    ensures orbits { IfOk result (λ xs. AreOrbits next.now xs) }
+{
+    let mut marks = vec![in alloc; false; next.len()]?;
+    let mut orbits = List::new(alloc);
+    for start in 0..next.len() {
+        if !marks[start] {
+            orbits.push(walk(alloc, next, &mut marks, start)?)?;
+        }
+    }
+    Ok(orbits)
+}
 
 // The corners with these numbers.
 fn cycle_of(alloc: Global, corners: &[Corner], orbit: &[usize]) -> Result<Cycle, OutOfMemory>
@@ -43,10 +171,11 @@ fn grouped(
     ensures as_many { IfOk result (λ ys. length ys ≡ count) }
     ensures grouped { IfOk result (λ ys. AreGrouped rows.now corners.now orbits.now (length orbits.now) ys) }
 {
-    let mut cycles = empty_rows(alloc, count)?;
+    let mut cycles = empty_rows(alloc, count, 0)?;
     for orbit in orbits {
         let cycle = cycle_of(alloc, corners, orbit.as_slice())?;
-        let number = number_of(rows, &corners[*orbit.at(0)]);
+        let first = corners[*orbit.at(0)];
+        let number = number_at(rows, first.vertex, first.item);
         cycles[number].push(cycle)?;
     }
     Ok(List::from_vec(cycles))

@@ -4,21 +4,10 @@
 //! Source: Granados et al., "Boolean Operations on 3D Selective Nef Complexes", ESA 2003.
 #![tactic(auto)]
 
-mod across;
-mod along;
-mod carriers;
-mod corners;
 mod cycles;
-mod firsts;
-mod next;
-mod numbers;
-mod orbits;
 mod parts;
-mod planes;
-mod position;
+mod ties;
 
-pub use across::across_ties;
-pub use along::along_ties;
-pub use numbers::facet_ties;
-pub use parts::{FacetParts, facets, facets_of_ties};
+pub use parts::{FacetParts, facet_ties, facets, facets_of_ties};
 pub use std::alloc::AllocError as OutOfMemory;
+pub use ties::{across_ties, along_ties};

@@ -1,25 +1,20 @@
 //! All facets of a complex.
 
-ghost use Rattle.std.specs.Prelude.{map, ◌↔◌, IfOk};
-ghost use Rattle.nef_space.specs.Sets.{Set};
-ghost use Rattle.law_complex.specs.Complexes.{Corner as PlainCorner};
-ghost use Rattle.nef_complex.specs.Complexes.{complex_of, ShowsSet};
+ghost use Rattle.std.specs.Prelude.{◌↔◌, ◌≡◌, ◌++◌};
+ghost use Rattle.nef_complex.specs.Prelude.{map, IfOk, OnOk, length, Set, Corner as PlainCorner, complex_of, ShowsSet, count_items, FacetNumbers};
+ghost use Rattle.law_complex.specs.Complexes.{Complex as PlainComplex};
 ghost use Rattle.law_links.specs.Links.{FacetLink};
-ghost use Rattle.nef_parts.specs.Numbers.{count_items};
 ghost use Rattle.nef_classes.specs.Tables.{AreTied, AreTiedWithin};
 ghost use Rattle.nef_facets.specs.Ties.{cell_of};
-ghost use Rattle.nef_facets.specs.Facets.{IsFacetParts};
+ghost use Rattle.nef_facets.specs.Facets.{IsFacetParts, AreFirsts, ArePlanesAt, AreMarksAt};
+ghost use Rattle.nef_facets.specs.Corners.{corners_at, AreCorners, AreListed};
 
 use crate::OutOfMemory;
-use crate::corners::corners;
 use crate::cycles::facet_cycles;
-use crate::firsts::first_corners;
-use crate::numbers::{facet_numbers, facet_ties};
-use crate::planes::{marks, planes};
-use nef_classes::Tie;
-use nef_complex::Complex;
+use crate::ties::{across_ties, along_ties, carrier_of};
+use nef_classes::{Tie, number_at, number_rows};
+use nef_complex::{Complex, Corner, Cycle};
 use nef_geo::{Label, List, Plane};
-use nef_parts::Cycle;
 use std::alloc::Global;
 
 /// The facets in the order of their numbers: of each the plane, the mark and the cycles. For each vertex the numbers of
@@ -30,6 +25,101 @@ pub struct FacetParts {
     pub marks: List<Label>,
     pub cycles: List<List<Cycle>>,
     pub facet_of: List<List<usize>>,
+}
+
+/// The ties between corners that are linked along an edge or across a facet. A corner is an element of the table that has a
+/// row for each vertex and an element for each of its items. `OutOfMemory` says that memory was wanted and not found.
+pub fn facet_ties(alloc: Global, c: &Complex) -> Result<Vec<Tie>, OutOfMemory>
+    requires shows { (s : Set) × ShowsSet s c.now }
+    ensures within { IfOk result (λ v. AreTiedWithin (map count_items (complex_of c.now).vertices) v.items) }
+    ensures links { IfOk result (λ v. (j k : PlainCorner) → AreTied v.items (cell_of j) (cell_of k) ↔ FacetLink (complex_of c.now) j k) }
+{
+    let mut ties = along_ties(alloc, c)?;
+    let across = across_ties(alloc, c)?;
+    ties.extend_from_slice(&across)?;
+    Ok(ties)
+}
+
+// For each vertex the numbers of the facets of its items, of which these are the ties. Facets are numbered from 0 by first
+// appearance.
+fn facet_numbers(alloc: Global, c: &Complex, ties: &[Tie]) -> Result<List<List<usize>>, OutOfMemory>
+    requires within { AreTiedWithin (map count_items (complex_of c.now).vertices) ties.now }
+    requires links { (j k : PlainCorner) → AreTied ties.now (cell_of j) (cell_of k) ↔ FacetLink (complex_of c.now) j k }
+    ensures numbers { IfOk result (λ rows. FacetNumbers (complex_of c.now) rows) }
+{
+    // How many items each vertex has.
+    let mut counts = Vec::new(alloc);
+    for vertex in c.vertices.as_slice() {
+        counts.push(vertex.map.item_count())?;
+    }
+    number_rows(alloc, &counts, ties)
+}
+
+// Adds the corners of a vertex with so many items.
+fn add_corners(corners: &mut Vec<Corner>, vertex: usize, count: usize) -> Result<(), OutOfMemory>
+    ensures added { OnOk result (corners.new.items ≡ corners.old.items ++ corners_at vertex count) }
+{
+    for item in 0..count {
+        corners.push(Corner { vertex, item })?;
+    }
+    Ok(())
+}
+
+// The corners of the vertices in order, and of each the items in order.
+fn corners(alloc: Global, c: &Complex) -> Result<Vec<Corner>, OutOfMemory>
+    ensures all { IfOk result (λ v. AreCorners (complex_of c.now) v.items) }
+{
+    let mut corners = Vec::new(alloc);
+    for (number, vertex) in c.vertices.as_slice().iter().enumerate() {
+        add_corners(&mut corners, number, vertex.map.item_count())?;
+    }
+    Ok(corners)
+}
+
+// For each facet the first of its corners.
+fn first_corners(
+    alloc: Global,
+    rows: &List<List<usize>>,
+    corners: &[Corner],
+) -> Result<Vec<Corner>, OutOfMemory>
+    requires numbers { (C : PlainComplex) × FacetNumbers C rows.now × AreCorners C corners.now }
+    ensures firsts { IfOk result (λ v. AreFirsts rows.now corners.now v.items) }
+{
+    let mut firsts = Vec::new(alloc);
+    for corner in corners {
+        if number_at(rows, corner.vertex, corner.item) == firsts.len() {
+            firsts.push(*corner)?;
+        }
+    }
+    Ok(firsts)
+}
+
+// The planes of the corners' items.
+fn planes(alloc: Global, c: &Complex, corners: &[Corner]) -> Result<List<Plane>, OutOfMemory>
+    requires shows { (s : Set) × ShowsSet s c.now }
+    requires corners { AreListed (complex_of c.now) corners.now }
+    ensures as_many { IfOk result (λ hs. length hs ≡ length corners.now) }
+    ensures planes { IfOk result (λ hs. ArePlanesAt (complex_of c.now) corners.now hs) }
+{
+    let mut planes = List::new(alloc);
+    for corner in corners {
+        planes.push(*c.carriers.at(carrier_of(c, corner)))?;
+    }
+    Ok(planes)
+}
+
+// The marks of the corners' items.
+fn marks(alloc: Global, c: &Complex, corners: &[Corner]) -> Result<List<Label>, OutOfMemory>
+    requires corners { AreListed (complex_of c.now) corners.now }
+    ensures as_many { IfOk result (λ ls. length ls ≡ length corners.now) }
+    ensures marks { IfOk result (λ ls. AreMarksAt (complex_of c.now) corners.now ls) }
+{
+    let mut marks = List::new(alloc);
+    for corner in corners {
+        let map = &c.vertices.at(corner.vertex).map;
+        marks.push(map.item_at(corner.item).mark())?;
+    }
+    Ok(marks)
 }
 
 /// The facets of a complex, numbered by first appearance over the vertices in order and the items of each in order. The

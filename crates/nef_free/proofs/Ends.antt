@@ -5,15 +5,14 @@ use Rattle.std.proofs.lemmas.Option.{slice_get_within}
 use mathlib.Core.Option.{some}
 use lib.ListN.{get_elem?}
 use Rattle.atomic_table.specs.Table.{State, opening, Final, Seen}
-use Rattle.nef_core.specs.State.{State as Machine}
-use Rattle.nef_core.specs.Machine.{start, replay}
+use Rattle.nef_core.specs.Machine.{State as Machine, start, replay}
 use Rattle.nef_core.specs.Results.{HasResult, IsClosedWith}
 use Rattle.nef_core.specs.Views.{has_job}
 use Rattle.nef_core.specs.declared.machine.Slot.{Slot}
 use Rattle.nef_core.specs.declared.machine.Slot.TheVariants.{Open, InHand, Done}
 use Rattle.nef_core.proofs.Places.{get_replicate, only_one}
 use Rattle.nef_core.proofs.Deposits.{among, same_slot}
-use Rattle.nef_core.specs.declared.view.View.{View}
+use Rattle.nef_core.specs.declared.board.View.{View}
 use Rattle.nef_core.specs.Passes.{first_view, Fits}
 use Rattle.nef_core.proofs.Passes.{fits_first}
 use Rattle.nef_free.specs.Rule.{SlotIs, Shows, Kept}

@@ -10,8 +10,7 @@ use mathlib.Core.Option.{some, none, some-injective}
 use lib.ListN.{get_elem?}
 use Rattle.atomic_table.specs.Table.{State, step, Act, keeps, takes, gives, stepped, Allows, Splits, Joins, Valid, carried_after}
 use Rattle.atomic_table.proofs.Lists.{at_set, set_here, set_else, at_longer}
-use Rattle.nef_core.specs.State.{State as Machine}
-use Rattle.nef_core.specs.Machine.{start, after, replay, IsLegal}
+use Rattle.nef_core.specs.Machine.{State as Machine, start, after, replay, IsLegal}
 use Rattle.nef_core.specs.Views.{has_job}
 use Rattle.nef_core.specs.declared.machine.Slot.{Slot}
 use Rattle.nef_core.specs.declared.machine.Slot.TheVariants.{Open, InHand, Done}
@@ -20,14 +19,13 @@ use Rattle.nef_core.specs.declared.machine.Event.TheVariants.{Claim, Deposit, Gi
 use Rattle.nef_core.proofs.Places.{get_set_here, get_set_other, same_or_not, within, at_length, below_last}
 use Rattle.nef_core.proofs.Deposits.{open_not_held, open_not_done, held_not_done, held_by, same_slot, not_among}
 use Rattle.nef_core.proofs.Schedules.{claimed, replay_append, legal_more}
-use Rattle.nef_core.specs.declared.view.View.{View}
+use Rattle.nef_core.specs.declared.board.View.{View}
 use Rattle.nef_core.specs.Accounts.{IsAccounted}
 use Rattle.nef_core.proofs.Accounts.{accounted}
 use Rattle.nef_free.specs.Laws.{IsSeat}
 use Rattle.nef_core.specs.Passes.{holding, at_end, deposited, gave_back, cut, new_view, taken_in, spent, Fits}
 use Rattle.nef_core.proofs.Passes.{fits_cut, fits_new, fits_beside, fits_taken_in, fits_at_end, fits_holding, fits_deposited, fits_gave_back, fits_moved, held_in}
-use Rattle.nef_free.specs.Views.{is_below}
-use Rattle.nef_free.specs.Rule.{over, SlotIs, Shows, Kept, Claimed, Deposited, GaveBack}
+use Rattle.nef_free.specs.Rule.{is_below, over, SlotIs, Shows, Kept, Claimed, Deposited, GaveBack}
 use Rattle.nef_free.proofs.Views.{over_small, overs_set, overs_length, overs_snoc, still, moved, undrawn}
 
 true_not_false : (b : Bool) → b ≡ true → b ≡ false → ⊥

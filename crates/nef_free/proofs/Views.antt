@@ -7,7 +7,7 @@ use Rattle.atomic_table.proofs.Lists.{set_here, set_else}
 use Rattle.nef_core.specs.declared.machine.Slot.{Slot}
 use Rattle.nef_core.specs.declared.machine.Slot.TheVariants.{Open, InHand, Done}
 use Rattle.nef_core.proofs.Places.{same_or_not, within}
-use Rattle.nef_core.specs.declared.view.View.{View}
+use Rattle.nef_core.specs.declared.board.View.{View}
 use Rattle.nef_free.specs.Rule.{over, overs, SlotIs}
 
 pub overs_set : (views : List View) (k : ℕ) (v w : View) → get_elem? views k ≡ some v → overs (set views k w) + over v ≡ overs views + over w

@@ -3,14 +3,13 @@ use Rattle.std.specs.Prelude.{◌≡◌, ◌≢◌, ℕ, true, false, ◌+◌, �
 use mathlib.Core.Option.{none, some}
 use lib.ListN.{get_elem?}
 use Rattle.atomic_table.specs.Table.{State, stepped, keeps, takes, gives}
-use Rattle.nef_core.specs.State.{State as Machine}
-use Rattle.nef_core.specs.Machine.{start, after, reply, IsLegalStep, replay, IsLegal}
+use Rattle.nef_core.specs.Machine.{State as Machine, start, after, reply, IsLegalStep, replay, IsLegal}
 use Rattle.nef_core.specs.Accounts.{IsAccounted}
 use Rattle.nef_core.specs.declared.machine.Slot.TheVariants.{InHand}
 use Rattle.nef_core.specs.declared.machine.Event.{Event}
 use Rattle.nef_core.specs.declared.machine.Event.TheVariants.{Claim, Deposit, GiveBack}
 use Rattle.nef_core.specs.declared.board.Claim.TheVariants.{Got, NoneLeft}
-use Rattle.nef_core.specs.declared.view.View.{View}
+use Rattle.nef_core.specs.declared.board.View.{View}
 use Rattle.nef_free.specs.Rule.{Shows, Kept}
 use Rattle.nef_core.specs.Passes.{holding, at_end, deposited, gave_back, cut, new_view, taken_in, spent}
 

@@ -1,16 +1,24 @@
 -- What holds between any two steps of the board, and what each kind of step tells.
-use Rattle.std.specs.Prelude.{◌≡◌, ℕ, true, false, ◌+◌, ◌-◌, ◌^◌, ◌<◌, ◌≤◌, List, [], ◌∷◌, length, Option, Some, None, nat_lt, slice_get, slice_index, min, MatchBool, ◌⊎◌, cond, not, ◌&&◌}
+use Rattle.std.specs.Prelude.{◌≡◌, ℕ, true, false, ◌+◌, ◌-◌, ◌^◌, ◌<◌, ◌≤◌, List, [], ◌∷◌, length, Option, Some, None, nat_lt, slice_get, slice_index, min, MatchBool, ◌⊎◌, cond, not, ◌&&◌, Bool}
 use mathlib.Core.Option.{none, some}
 use lib.ListN.{get_elem?}
 use Rattle.atomic_table.specs.Table.{State, Me, Step}
-use Rattle.nef_core.specs.State.{State as Machine}
+use Rattle.nef_core.specs.Machine.{State as Machine, start, replay, IsLegal}
 use Rattle.nef_core.specs.Views.{has_job}
-use Rattle.nef_core.specs.Machine.{start, replay, IsLegal}
 use Rattle.nef_core.specs.declared.machine.Slot.{Slot}
 use Rattle.nef_core.specs.declared.machine.Slot.TheVariants.{Open, InHand, Done}
 use Rattle.nef_core.specs.declared.machine.Event.{Event}
-use Rattle.nef_core.specs.declared.view.View.{View}
+use Rattle.nef_core.specs.declared.board.View.{View}
 use Rattle.nef_core.specs.Passes.{holding, at_end, deposited, gave_back, Fits}
+
+-- the slots that a pass holds: that of the job in its hand, which is empty
+abbrev pub carried : {Out : Type 0} → Option ℕ → List (ℕ × Option Out)
+carried None = []
+carried (Some job) = (job, None) ∷ []
+
+abbrev pub is_below : ℕ → Option ℕ → Bool
+is_below jobs None = true
+is_below jobs (Some job) = nat_lt job jobs
 
 -- a view that may have drawn a number past the last one
 abbrev pub over : View → ℕ

@@ -1,12 +1,13 @@
-//! The board and its passes.
-ghost use Rattle.std.specs.Prelude.{◌≡◌, ℕ, true, false, ◌+◌, ◌^◌, ◌<◌, ◌≤◌, IfOk, Some, None, [], ◌==◌, if◌then◌else◌, replicate, vec_len, vec_capacity, slice_get};
+//! The board, its passes, what holds between any two steps, and what holds on every schedule.
+ghost use Rattle.std.specs.Prelude.{◌≡◌, ℕ, true, false, ◌+◌, ◌<◌, ◌≤◌, IfOk, Some, None, [], ◌==◌, if◌then◌else◌, vec_len, vec_capacity, slice_get};
 ghost use Rattle.std.specs.Mem.Slots.{slots_items, slots_len, IsFull};
 ghost use mathlib.Core.Option.{some};
 ghost use lib.ListN.{get_elem?};
-ghost use Rattle.nef_free.specs.Views.{carried, is_below};
+ghost use Rattle.nef_free.specs.Rule.{carried, is_below, Kept, Claimed, Deposited, GaveBack};
+ghost use Rattle.nef_core.specs.Passes.{first_view, cut, new_view};
+ghost use Rattle.nef_free.specs.Laws.{DrawIsClaim, DrawPastIsNone, StoreIsDeposit, StoreIsGiveBack, SplitIsNothing, JoinIsNothing, HeldIsAway, BoardRuns};
 
-use crate::rule::{Claims, Cut, Deposits, FreeRule, GivesBack};
-use atomic_table::{Closed, Seat, Table};
+use atomic_table::{Closed, Join, Play, Seat, Split, Table, TableRule};
 use nef_core::{Board, Claim, Job, Order, OutOfMemory, Receipt, View};
 use std::alloc::Global;
 
@@ -55,7 +56,7 @@ impl<'a, J: Job> FreeBoard<'a, J> {
         let Some(count) = (jobs as usize).checked_add(1) else {
             return Err(OutOfMemory);
         };
-        let words = zeros(alloc, count)?;
+        let words = Vec::from_elem(alloc, 0u64, count)?;
         let order = Order { job, jobs, seats };
         let (table, seat) = Table::vacant(alloc, words.as_slice(), jobs as usize, &order)?;
         Ok((FreeBoard { jobs, table }, FreePass { seat, ended: false }))
@@ -87,8 +88,9 @@ impl<'a, J: Job> Board<J> for FreeBoard<'a, J> {
     }
 
     fn join(&self, pass: &mut FreePass<J>, other: FreePass<J>) {
-        let FreePass { seat, ended: _ } = other;
-        self.table.shared.join_seat::<Cut>(&mut pass.seat, seat);
+        self.table
+            .shared
+            .join_seat::<Cut>(&mut pass.seat, other.seat);
     }
 
     fn claim(&self, pass: &mut FreePass<J>) -> Claim {
@@ -122,19 +124,9 @@ impl<'a, J: Job> Board<J> for FreeBoard<'a, J> {
 
     fn close(self, alloc: Global, pass: FreePass<J>) -> Result<Vec<Option<J::Out>>, OutOfMemory> {
         let mut results = Vec::with_capacity(alloc, self.jobs as usize)?;
-        let FreeBoard { jobs, table } = self;
-        let FreePass { seat, ended: _ } = pass;
-        let closed = table.close_with(seat);
-        let _ = jobs;
+        let closed = self.table.close_with(pass.seat);
         Ok(gathered(closed, results))
     }
-}
-
-fn zeros(alloc: Global, count: usize) -> Result<Vec<u64>, OutOfMemory>
-    ensures items { IfOk result (λ v. v.items ≡ replicate count 0) }
-    ensures few { IfOk result (λ v. count < 2 ^ 63) }
-{
-    Vec::from_elem(alloc, 0, count)
 }
 
 // What is kept of a slot.
@@ -166,3 +158,72 @@ fn gathered<T: Drop>(
     closed.free();
     results
 }
+
+/// The words, homes and views show the machine after some legal history.
+pub struct FreeRule;
+
+impl<'a, J: Job> TableRule<Option<J::Out>, View, Order<'a, J>> for FreeRule {
+    ghost holds = { λ order s. Kept order.jobs order.seats (J.right order.job.now) s };
+
+    ghost first = { λ order. first_view order.jobs order.seats };
+}
+
+/// Adds to the first word, and takes the slot of the job found.
+pub struct Claims;
+
+impl<T> Play<Option<T>, View> for Claims {
+    ghost then = { Claimed };
+}
+
+/// Stores 1 in the word of the job in hand.
+pub struct Deposits;
+
+impl<T> Play<Option<T>, View> for Deposits {
+    ghost then = { Deposited };
+}
+
+/// Stores 2 in the word of the job in hand.
+pub struct GivesBack;
+
+impl<T> Play<Option<T>, View> for GivesBack {
+    ghost then = { GaveBack };
+}
+
+/// Cuts a pass in two, and takes one in.
+pub struct Cut;
+
+impl Split<View> for Cut {
+    ghost left = { cut };
+
+    ghost right = { new_view };
+}
+
+impl Join<View> for Cut {
+    ghost use Rattle.nef_core.specs.Passes.{taken_in, spent};
+
+    ghost both = { taken_in };
+
+    ghost spent = { spent };
+}
+
+/// Each kind of atomic step is one event of the machine that the words, homes and views show, or
+/// leaves it as it is.
+///
+/// The steps are adding to the first word, the stores of 1 and of 2, splitting and joining a
+/// seat, and the exchange on a slot.
+pub fn steps_are_events<J: Job>()
+    ensures draw { (work : J) → DrawIsClaim (J.right work) }
+    ensures past { (work : J) → DrawPastIsNone (J.right work) }
+    ensures deposit { (work : J) → StoreIsDeposit (J.right work) }
+    ensures give_back { (work : J) → StoreIsGiveBack (J.right work) }
+    ensures split { (work : J) → SplitIsNothing (J.right work) }
+    ensures join { (work : J) → JoinIsNothing (J.right work) }
+    ensures exchange { (work : J) → HeldIsAway (J.right work) }
+{}
+
+/// Between any two steps the board shows the replay of a legal history, in which each pass has
+/// just its job in hand, one claim and one deposit for each job that it deposited or took in, and
+/// one giving back for each further claim.
+pub fn board_runs<J: Job>()
+    ensures { (work : J) → BoardRuns (J.right work) }
+{}

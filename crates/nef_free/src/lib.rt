@@ -2,9 +2,5 @@
 #![tactic(auto)]
 
 mod board;
-mod laws;
-mod rule;
 
-pub use board::{FreeBoard, FreePass};
-pub use laws::{board_runs, steps_are_events};
-pub use rule::FreeRule;
+pub use board::{FreeBoard, FreePass, FreeRule, board_runs, steps_are_events};

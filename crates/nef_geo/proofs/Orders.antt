@@ -33,10 +33,35 @@ IsRanked-from_cmp x p y q o sx sy e =
     numbers n w sn sw positive = ap (λ (m : ℤ). m *ℤ to_z w64 (of_z w64 w)) (kept n sn) ∙ ap (λ (m : ℤ). n *ℤ m) (kept w sw ∙ sym (pos_size w positive))
 
 -- points that agree in x and y are in the order of their z
-pub order-from_last : (p q : Place) (o : Ordering) → p.x *ℤ pos q.w ≡ q.x *ℤ pos p.w → p.y *ℤ pos q.w ≡ q.y *ℤ pos p.w → IsRanked p.z p q.z q o → MatchOrdering o (IsPlaceBelow p q) (SamePlace p q) (IsPlaceBelow q p)
+order-from_last : (p q : Place) (o : Ordering) → p.x *ℤ pos q.w ≡ q.x *ℤ pos p.w → p.y *ℤ pos q.w ≡ q.y *ℤ pos p.w → IsRanked p.z p q.z q o → MatchOrdering o (IsPlaceBelow p q) (SamePlace p q) (IsPlaceBelow q p)
 order-from_last p q Less ex ey h = inr (ex, inr (ey, inl h))
 order-from_last p q Equal ex ey h = record { along_x = ex; along_y = ey; along_z = h }
 order-from_last p q Greater ex ey h = inr (sym ex, inr (sym ey, inl h))
+
+-- x decides, then y, then z
+ranked-in_turn : (p q : Place) (x y z : Ordering) → IsRanked p.x p q.x q x → IsRanked p.y p q.y q y → IsRanked p.z p q.z q z
+    → MatchOrdering (ordering_then (ordering_then x y) z) (IsPlaceBelow p q) (SamePlace p q) (IsPlaceBelow q p)
+ranked-in_turn p q Less y z hx hy hz = inl hx
+ranked-in_turn p q Greater y z hx hy hz = inl hx
+ranked-in_turn p q Equal Less z hx hy hz = inr (hx, inl hy)
+ranked-in_turn p q Equal Greater z hx hy hz = inr (sym hx, inl hy)
+ranked-in_turn p q Equal Equal z hx hy hz = order-from_last p q z hx hy hz
+
+pub order-in_turn : (p q : Place) (x y z o : Ordering) → IsRanked p.x p q.x q x → IsRanked p.y p q.y q y → IsRanked p.z p q.z q z
+    → o ≡ ordering_then (ordering_then x y) z → MatchOrdering o (IsPlaceBelow p q) (SamePlace p q) (IsPlaceBelow q p)
+order-in_turn p q x y z o hx hy hz e =
+    subst (λ (k : Ordering). MatchOrdering k (IsPlaceBelow p q) (SamePlace p q) (IsPlaceBelow q p)) (sym e) (ranked-in_turn p q x y z hx hy hz)
+
+-- ---- orders that a later one decides
+pub then-is : (o k r : Ordering) (P : Type 0) → MatchOrdering o (r ≡ Less) P (r ≡ Greater) → (P → r ≡ k) → r ≡ ordering_then o k
+then-is Less k r P h f = h
+then-is Equal k r P h f = f h
+then-is Greater k r P h f = h
+
+pub then-both : (o k l r : Ordering) (P : Type 0) → MatchOrdering o (r ≡ Less) P (r ≡ Greater) → (P → r ≡ ordering_then k l) → r ≡ ordering_then (ordering_then o k) l
+then-both Less k l r P h f = h
+then-both Equal k l r P h f = f h
+then-both Greater k l r P h f = h
 
 -- ---- lists of numbers
 pub below-one_way : (xs ys : List ℤ) → IsBelow xs ys → IsBelow ys xs → ⊥

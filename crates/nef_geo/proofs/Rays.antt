@@ -1,5 +1,6 @@
 -- Hits: their numbers and their sizes.
-use Rattle.std.proofs.Common.{◌≡◌, ◌≢◌, ℕ, ◌+◌, ◌*◌, ◌^◌, ◌≤◌, ℤ, pos, ◌+ℤ◌, ◌*ℤ◌, ◌<ℤ◌, nat_abs, arith, ap, sym, ◌∙◌, subst, to_z, of_z, lit≤}
+use Rattle.std.proofs.Common.{◌≡◌, ◌≢◌, ℕ, ◌+◌, ◌*◌, ◌^◌, ◌≤◌, ℤ, pos, ◌+ℤ◌, ◌*ℤ◌, ◌<ℤ◌, nat_abs, Option, Some, arith, ap, sym, ◌∙◌, subst, to_z, of_z, lit≤}
+use Rattle.std.specs.Prelude.{IfSome}
 use Rattle.std.proofs.lemmas.Int.{ints}
 use mir.Syntax.{w128}
 use Rattle.nef_space.specs.Limits.{normal_limit, point_limit, weight_limit}
@@ -16,6 +17,10 @@ use Rattle.nef_geo.proofs.Crossings.{form_at-reached}
 use Rattle.nef_geo.proofs.Places.{pos_size}
 use Rattle.nef_geo.proofs.Products.{kept_wide}
 use Rattle.nef_geo.proofs.Sizes.{weaken_place, slope_size, reach_size, point_form_size, point_within, upright_sum, upright_sized}
+
+-- the step that was found
+pub step_is : (o : Option (ℤ × ℤ)) (v g n m : ℤ) → o ≡ Some (n, m) → IfSome o (λ s. IsZeroStep v g s.0 s.1) → IsZeroStep v g n m
+step_is o v g n m e h = subst (λ (p : Option (ℤ × ℤ)). IfSome p (λ s. IsZeroStep v g s.0 s.1)) e h
 
 -- the step for numbers that passed through the machine's type
 pub step_meant : (v g v' g' n m n' m' : ℤ) → nat_abs v ≤ 2 ^ 126 → nat_abs g ≤ 2 ^ 126 → v ≡ v' → g ≡ g' → n' ≡ n → m' ≡ m → IsZeroStep (to_z w128 (of_z w128 v)) (to_z w128 (of_z w128 g)) n m → IsZeroStep v' g' n' m'

@@ -1,8 +1,13 @@
 -- Normal forms are unique.
-use Rattle.std.proofs.Common.{◌≡◌, zero, suc, ◌≤◌, ℤ, pos, negsuc, ◌-ℤ◌, ◌*ℤ◌, ◌<ℤ◌, ◌≤ℤ◌, nat_abs, List, [], ◌∷◌, inl, inr, ◌⊎◌, arith, refl, sym, ap, ◌∙◌, subst}
+use Rattle.std.proofs.Common.{◌≡◌, zero, suc, ◌≤◌, ℤ, pos, negsuc, ◌-ℤ◌, ◌*ℤ◌, ◌<ℤ◌, ◌≤ℤ◌, nat_abs, Bool, true, false, List, [], ◌∷◌, inl, inr, ◌⊎◌, arith, refl, sym, ap, ◌∙◌, subst}
+use Rattle.std.specs.Bool.{IsTrue}
 use Rattle.std.specs.Int.{◌∣◌}
+use Rattle.std.specs.Ordering.{int_eq}
+use Rattle.std.specs.Prelude.{◌&&◌}
 use Rattle.std.proofs.Props.{props}
+use Rattle.std.proofs.lemmas.Bool.Decides.{Decides-int_eq}
 use Rattle.std.proofs.lemmas.Int.{ints}
+use lib.Dec.{T}
 use Rattle.std.proofs.lemmas.Nat.Gcd.{dvd_antisymm}
 use Rattle.nef_space.specs.Limits.{normal_limit, offset_limit, point_limit, weight_limit, direction_limit}
 use Rattle.nef_space.specs.Numbers.{IsLowest}
@@ -18,7 +23,7 @@ use Rattle.nef_geo.specs.declared.dir.Dir.{Dir}
 use Rattle.nef_geo.specs.declared.plane.Plane.{Plane}
 use Rattle.nef_geo.specs.declared.point.Point.{Point}
 use Rattle.nef_geo.proofs.Cramer.{IsSameRatios-from_place, difference}
-use Rattle.nef_geo.proofs.Directions.{dot-itself}
+use Rattle.nef_geo.proofs.Directions.{dot-itself, SameDirection-itself}
 use Rattle.nef_geo.proofs.Euclid.{divides_same}
 
 turn_left : (a b c d : ℤ) → a *ℤ b ≡ c *ℤ d → b *ℤ a ≡ c *ℤ d
@@ -271,3 +276,27 @@ same_planes_equal g h same =
     let e = cross_equal g h same in
     let s = same_four g.a g.b g.c g.d h.a h.b h.c h.d g.normal h.normal (same_sizes g.a g.b g.c g.d h.a h.b h.c h.d g.lowest h.lowest e) e in
     plane_equal g.a g.b g.c g.d (g.a_small, g.b_small, g.c_small, g.d_small, g.lowest, g.normal) h.a h.b h.c h.d (h.a_small, h.b_small, h.c_small, h.d_small, h.lowest, h.normal) s.of_x s.of_y s.of_z s.of_w
+
+-- ---- the program's test of equality
+abbrev pub equal_test : Dir → Dir → Bool
+equal_test d e = int_eq d.x e.x && (int_eq d.y e.y && int_eq d.z e.z)
+
+all_three : (p q r : Bool) → true ≡ (p && (q && r)) → IsTrue p × IsTrue q × IsTrue r
+all_three true true true h = (refl, refl, refl)
+all_three true true false h = absurd (subst T h tt)
+all_three true false r h = absurd (subst T h tt)
+all_three false q r h = absurd (subst T h tt)
+
+pub same_if_equal : (d e : Dir) → true ≡ equal_test d e → SameDirection (vector_of d) (vector_of e)
+same_if_equal d e h =
+    let tests = all_three (int_eq d.x e.x) (int_eq d.y e.y) (int_eq d.z e.z) h in
+    subst (SameDirection (vector_of d)) (same_vector d.x d.y d.z e.x e.y e.z ((Decides-int_eq d.x e.x).0 tests.0) ((Decides-int_eq d.y e.y).0 tests.1) ((Decides-int_eq d.z e.z).0 tests.2)) (SameDirection-itself (vector_of d) d.some)
+  where
+    same_vector : (x y z x' y' z' : ℤ) → x ≡ x' → y ≡ y' → z ≡ z' → vector x y z ≡ vector x' y' z'
+    same_vector x y z x' y' z' p q r = rw (p, q, r) refl
+
+itself : (x : ℤ) → int_eq x x ≡ true
+itself x = (Decides-int_eq x x).1 refl
+
+pub equal_to_itself : (d : Dir) → equal_test d d ≡ true
+equal_to_itself d = rw (itself d.x, itself d.y, itself d.z) refl

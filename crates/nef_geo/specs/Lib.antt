@@ -9,3 +9,4 @@ pub mod Laws
 pub mod Hits
 pub mod Steps
 pub mod Ways
+pub mod Prelude

@@ -1,14 +1,10 @@
 //! Directions in normal form.
 
-ghost use Rattle.std.specs.Prelude.{◌≡◌, ◌≤◌, ◌↔◌, nat_abs, [], ◌∷◌, IsTrue};
-ghost use Rattle.nef_space.specs.Limits.{direction_limit};
-ghost use Rattle.nef_space.specs.Numbers.{IsLowest};
-ghost use Rattle.nef_space.specs.Vectors.{vector, IsDirection};
+ghost use Rattle.std.specs.Prelude.{◌≡◌, ◌≤◌, ◌↔◌, ◌∷◌};
+ghost use Rattle.nef_space.specs.Prelude.{nat_abs, [], IsTrue, direction_limit, IsLowest, vector, IsDirection};
 
 use crate::gcd::lowest_terms;
-use crate::product::dot;
-use crate::sign::Sign;
-use crate::vectors::is_normal;
+use crate::sign::{Sign, dot, is_normal};
 
 /// The direction `(x, y, z)`. The three numbers aren't all zero, have no common divisor but 1, and are
 /// at most `2^37` in size.
@@ -22,12 +18,6 @@ pub struct Dir {
     pub ghost z_small: { nat_abs z ≤ direction_limit },
     pub ghost some: { IsDirection (vector x y z) },
     pub ghost lowest: { IsLowest (x ∷ y ∷ z ∷ []) },
-}
-
-fn are_equal(a: &Dir, b: &Dir) -> bool
-    ensures equal { IsTrue result ↔ (a.now ≡ b.now) }
-{
-    a == b
 }
 
 impl Dir {
@@ -45,12 +35,8 @@ impl Dir {
         ensures same { SameDirection (vector x y z) (vector_of result) }
         ensures size { (k : ℕ) → IsAtMost k (vector x y z) → IsAtMost k (vector_of result) }
     {
-        let lowest = lowest_terms(x, y, z, 0);
-        Dir {
-            x: lowest.x,
-            y: lowest.y,
-            z: lowest.z,
-        }
+        let (x, y, z, _) = lowest_terms(x, y, z, 0);
+        Dir { x, y, z }
     }
 
     /// The direction `(x, y, z)`, for numbers of at most `2^37` in size. `None` comes exactly where all
@@ -83,7 +69,7 @@ impl Dir {
         ensures same { IsTrue result ↔ (self.now ≡ other.now) }
         ensures direction { IsTrue result ↔ SameDirection (vector_of self.now) (vector_of other.now) }
     {
-        are_equal(self, other)
+        self == other
     }
 
     /// Whether the first of its numbers that isn't zero is positive: along it lie later points.

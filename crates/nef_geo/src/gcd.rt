@@ -1,18 +1,8 @@
 //! Greatest common divisors, and numbers in lowest terms.
 
-ghost use Rattle.std.specs.Prelude.{◌≡◌, pos, ◌<ℤ◌, ◌*ℤ◌, nat_abs};
-ghost use Rattle.std.specs.Int.{◌∣◌, IsGcd};
-ghost use Rattle.nef_space.specs.Limits.{point_limit};
+ghost use Rattle.std.specs.Prelude.{◌≡◌, ◌<ℤ◌, ◌*ℤ◌};
+ghost use Rattle.nef_space.specs.Prelude.{pos, nat_abs, ◌∣◌, IsGcd, point_limit};
 ghost use Rattle.nef_geo.specs.Numbers.{IsAtMostFour, IsSomeOfFour, IsGcdOfFour, IsReduced};
-
-// Four numbers, of which three may be a direction's.
-#[derive(Clone, Copy)]
-pub(crate) struct Four {
-    pub(crate) x: i64,
-    pub(crate) y: i64,
-    pub(crate) z: i64,
-    pub(crate) w: i64,
-}
 
 // Euclid's algorithm.
 fn gcd(a: u64, b: u64) -> u64
@@ -52,17 +42,17 @@ fn part(x: i64, divisor: i64) -> i64
     x / divisor
 }
 
-// The four numbers divided by their greatest common divisor.
-pub(crate) fn lowest_terms(x: i64, y: i64, z: i64, w: i64) -> Four
+// The four numbers, of which three may be a direction's, divided by their greatest common divisor.
+pub(crate) fn lowest_terms(x: i64, y: i64, z: i64, w: i64) -> (i64, i64, i64, i64)
     requires small { IsAtMostFour point_limit x y z w }
     requires some { IsSomeOfFour x y z w }
-    ensures reduced { IsReduced x y z w result.x result.y result.z result.w }
+    ensures reduced { IsReduced x y z w result.0 result.1 result.2 result.3 }
 {
     let divisor = gcd_of_four(x, y, z, w);
-    Four {
-        x: part(x, divisor),
-        y: part(y, divisor),
-        z: part(z, divisor),
-        w: part(w, divisor),
-    }
+    (
+        part(x, divisor),
+        part(y, divisor),
+        part(z, divisor),
+        part(w, divisor),
+    )
 }

@@ -1,6 +1,7 @@
 //! Points on rays, with the steps at which they lie.
 
-ghost use Rattle.std.specs.Prelude.{◌≡◌, ◌≤◌, pos, ◌≤ℤ◌, ◌<ℤ◌, nat_abs};
+ghost use Rattle.std.specs.Prelude.{◌≡◌, ◌≤◌, ◌≤ℤ◌, ◌<ℤ◌};
+ghost use Rattle.nef_space.specs.Prelude.{pos, nat_abs};
 ghost use Rattle.nef_geo.specs.Widths.{point_form_limit, ray_slope_limit, hit_limit, hit_weight_limit, far_limit, far_weight_limit, far_num_limit, far_den_limit};
 
 /// A point on a ray from a point. Its numbers are `(x/w, y/w, z/w)`, and its step is `num/den`: the

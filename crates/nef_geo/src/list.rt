@@ -1,6 +1,7 @@
 //! Lists that contracts see as lists.
 
-ghost use Rattle.std.specs.Prelude.{◌≡◌, ◌<◌, ◌↔◌, [], ◌∷◌, ◌++◌, length, slice_get, Some, OnOk, OnErr, IsTrue, None};
+ghost use Rattle.std.specs.Prelude.{◌≡◌, ◌<◌, ◌↔◌, ◌∷◌, ◌++◌};
+ghost use Rattle.nef_space.specs.Prelude.{[], length, slice_get, Some, OnOk, OnErr, IsTrue, None};
 
 use std::alloc::{AllocError, Global};
 use std::marker::Model;

@@ -1,20 +1,19 @@
-//! The orders of points, of directions and of hits.
+//! The orders of points, of directions and of hits, and what normal forms are good for.
 
-ghost use Rattle.std.specs.Prelude.{◌≡◌, ◌≤◌, ◌*ℤ◌, ◌<ℤ◌, nat_abs};
-ghost use Rattle.std.specs.Ordering.{int_cmp, MatchOrdering};
-ghost use Rattle.nef_space.specs.Numbers.{IsBelow};
-ghost use Rattle.nef_space.specs.Place.{Place, IsAhead, form_numbers, SamePlace, IsPlaceBelow};
-ghost use Rattle.nef_space.specs.Vectors.{Vector, IsDirection, triple_of};
+ghost use Rattle.std.specs.Prelude.{◌≡◌, ◌≤◌, ◌*ℤ◌, ◌<ℤ◌};
+ghost use Rattle.nef_space.specs.Prelude.{nat_abs, int_cmp, MatchOrdering, IsBelow, Place, IsAhead, form_numbers, SamePlace, IsPlaceBelow, Vector, IsDirection, triple_of};
 ghost use Rattle.nef_geo.specs.Shapes.{form_of, place_of, vector_of, hit_place, far_place};
 ghost use Rattle.nef_geo.specs.Hits.{IsReached};
 ghost use Rattle.nef_geo.specs.Widths.{far_product_limit};
+ghost use Rattle.nef_geo.specs.Laws.{SamePlacesAreEqual, SameDirectionsAreEqual, SamePlanesAreEqual};
 
 use crate::dir::Dir;
 use crate::hit::{FarHit, Hit};
 use crate::point::Point;
 use std::cmp::Ordering;
 
-fn product(a: i64, b: i64) -> i128
+/// The product of the two.
+pub fn wide_product(a: i64, b: i64) -> i128
     ensures product { result ≡ a *ℤ b }
 {
     a as i128 * b as i128
@@ -23,22 +22,16 @@ fn product(a: i64, b: i64) -> i128
 fn ratio_cmp(x: i64, w: i64, other_x: i64, other_w: i64) -> Ordering
     ensures order { result ≡ int_cmp (x *ℤ other_w) (other_x *ℤ w) }
 {
-    product(x, other_w).cmp(&product(other_x, w))
+    wide_product(x, other_w).cmp(&wide_product(other_x, w))
 }
 
 /// Compares x/w, then y/w, then z/w.
 pub fn lex_cmp(p: &Point, q: &Point) -> Ordering
     ensures order { MatchOrdering result (IsPlaceBelow (place_of p.now) (place_of q.now)) (SamePlace (place_of p.now) (place_of q.now)) (IsPlaceBelow (place_of q.now) (place_of p.now)) }
 {
-    match ratio_cmp(p.x, p.w, q.x, q.w) {
-        Ordering::Equal => match ratio_cmp(p.y, p.w, q.y, q.w) {
-            Ordering::Equal => ratio_cmp(p.z, p.w, q.z, q.w),
-            Ordering::Less => Ordering::Less,
-            Ordering::Greater => Ordering::Greater,
-        },
-        Ordering::Less => Ordering::Less,
-        Ordering::Greater => Ordering::Greater,
-    }
+    ratio_cmp(p.x, p.w, q.x, q.w)
+        .then_with(|| ratio_cmp(p.y, p.w, q.y, q.w))
+        .then_with(|| ratio_cmp(p.z, p.w, q.z, q.w))
 }
 
 /// Compares two directions as triples of numbers.
@@ -64,3 +57,11 @@ pub fn far_order(p: &FarHit, q: &FarHit) -> Ordering
 {
     (p.num * q.den).cmp(&(q.num * p.den))
 }
+
+/// Normal forms are unique: points of one place, directions that are the same and forms of one plane
+/// are equal.
+pub fn normal_form_laws()
+    ensures places { SamePlacesAreEqual }
+    ensures directions { SameDirectionsAreEqual }
+    ensures planes { SamePlanesAreEqual }
+{}

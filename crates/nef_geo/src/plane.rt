@@ -1,9 +1,12 @@
-//! Planes in normal form.
+//! Planes in normal form, planes read from four numbers, and the planes of the frame.
 
-ghost use Rattle.std.specs.Prelude.{◌≡◌, ◌≤◌, nat_abs, [], ◌∷◌};
-ghost use Rattle.nef_space.specs.Limits.{normal_limit, offset_limit};
-ghost use Rattle.nef_space.specs.Numbers.{IsLowest};
-ghost use Rattle.nef_space.specs.Vectors.{vector, IsNormal};
+ghost use Rattle.std.specs.Prelude.{◌≡◌, ◌<◌, ◌≤◌, ◌↔◌, ◌∷◌};
+ghost use Rattle.nef_space.specs.Prelude.{nat_abs, [], IfOk, IsTrue, normal_limit, offset_limit, IsLowest, Place, form, form_at, vector, opposite, IsZero, IsDirection, IsNormal};
+ghost use Rattle.nef_geo.specs.Reading.{IsInRange, IsPositiveMultiple, side_forms};
+
+use crate::gcd::lowest_terms;
+use crate::sign::is_normal;
+use nef_space::{HALF_SIDE, NORMAL_LIMIT, OFFSET_LIMIT};
 
 /// The plane where `a x + b y + c z + d = 0`. The four numbers have no common divisor but 1, the
 /// first nonzero one of a, b and c is positive, and `|a|, |b|, |c| <= 2048`, `|d| <= 4194304`.
@@ -29,7 +32,77 @@ pub struct Oriented {
     pub(crate) flipped: bool,
 }
 
+/// Why four numbers are no plane.
+#[derive(Debug, Clone, Copy, PartialEq, Eq)]
+pub enum PlaneFault {
+    /// One of a, b and c is more than 2048 in size, or d is more than 4194304 in size.
+    OutOfRange,
+    /// No number is past its limit, and a, b and c are zero.
+    ZeroNormal,
+}
+
+fn is_at_most(n: i64, limit: u64) -> bool
+    ensures small { IsTrue result ↔ (nat_abs n ≤ limit) }
+{
+    n.unsigned_abs() <= limit
+}
+
+fn is_in_range(a: i64, b: i64, c: i64, d: i64) -> bool
+    ensures in_range { IsTrue result ↔ IsInRange (form a b c d) }
+{
+    is_at_most(a, NORMAL_LIMIT)
+        && is_at_most(b, NORMAL_LIMIT)
+        && is_at_most(c, NORMAL_LIMIT)
+        && is_at_most(d, OFFSET_LIMIT)
+}
+
 impl Plane {
+    ghost use Rattle.nef_space.specs.Lists.{IsAt};
+    ghost use Rattle.nef_geo.specs.Shapes.{form_of, given_form};
+    ghost use Rattle.nef_geo.specs.Signs.{sign_of};
+
+    /// The plane where `a x + b y + c z + d = 0`, with the side on which the given numbers are
+    /// positive. `OutOfRange` comes exactly where a number is past its limit, and `ZeroNormal` exactly
+    /// where none is and a, b and c are zero.
+    pub fn read(a: i64, b: i64, c: i64, d: i64) -> Result<Oriented, PlaneFault>
+        ensures out_of_range { (result ≡ Err PlaneFault.OutOfRange) ↔ (¬ IsInRange (form a b c d)) }
+        ensures zero_normal { (result ≡ Err PlaneFault.ZeroNormal) ↔ (IsInRange (form a b c d) × IsZero (vector a b c)) }
+        ensures multiple { IfOk result (λ o. IsPositiveMultiple (form a b c d) (given_form o)) }
+        ensures sides { IfOk result (λ o. (p : Place) → sign_of (form_at (form a b c d) p) ≡ sign_of (form_at (given_form o) p)) }
+        ensures flipped { IfOk result (λ o. IsTrue o.flipped ↔ IsNormal (opposite (vector a b c))) }
+    {
+        if !is_in_range(a, b, c, d) {
+            return Err(PlaneFault::OutOfRange);
+        }
+        if a == 0 && b == 0 && c == 0 {
+            return Err(PlaneFault::ZeroNormal);
+        }
+        Ok(Oriented::of(a, b, c, d))
+    }
+
+    /// The k-th plane of the frame, for k below 6: x = -2048, x = 2048, and the same for y and z.
+    pub fn frame(k: usize) -> Plane
+        requires side { k < 6 }
+        ensures frame { IsAt side_forms k (form_of result) }
+    {
+        let d = if k % 2 == 0 { HALF_SIDE } else { -HALF_SIDE };
+        match k / 2 {
+            0 => Plane::reduced(1, 0, 0, d),
+            1 => Plane::reduced(0, 1, 0, d),
+            _ => Plane::reduced(0, 0, 1, d),
+        }
+    }
+
+    // The plane of numbers whose first nonzero one is positive.
+    fn reduced(a: i64, b: i64, c: i64, d: i64) -> Plane
+        requires in_range { IsInRange (form a b c d) }
+        requires normal { IsNormal (vector a b c) }
+        ensures multiple { IsPositiveMultiple (form a b c d) (form_of result) }
+    {
+        let (a, b, c, d) = lowest_terms(a, b, c, d);
+        Plane { a, b, c, d }
+    }
+
     /// The coefficient of x.
     pub fn a(&self) -> i64
         ensures a { result ≡ self.now.a }
@@ -60,6 +133,29 @@ impl Plane {
 }
 
 impl Oriented {
+    ghost use Rattle.nef_geo.specs.Shapes.{given_form};
+
+    /// The plane where `a x + b y + c z + d = 0`, with the side on which the given numbers are positive. No number is past
+    /// its limit, and a, b and c aren't all zero.
+    pub fn of(a: i64, b: i64, c: i64, d: i64) -> Oriented
+        requires in_range { IsInRange (form a b c d) }
+        requires some { IsDirection (vector a b c) }
+        ensures multiple { IsPositiveMultiple (form a b c d) (given_form result) }
+        ensures flipped { IsTrue result.flipped ↔ IsNormal (opposite (vector a b c)) }
+    {
+        if is_normal(a, b, c) {
+            Oriented {
+                plane: Plane::reduced(a, b, c, d),
+                flipped: false,
+            }
+        } else {
+            Oriented {
+                plane: Plane::reduced(-a, -b, -c, -d),
+                flipped: true,
+            }
+        }
+    }
+
     /// The plane in normal form.
     pub fn plane(&self) -> Plane
         ensures plane { result ≡ self.now.plane }

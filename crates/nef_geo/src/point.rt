@@ -1,8 +1,7 @@
 //! Points in normal form.
 
-ghost use Rattle.std.specs.Prelude.{◌≡◌, ◌↔◌, ◌<◌, ◌≤◌, pos, ◌<ℤ◌, nat_abs, IsTrue, [], ◌∷◌};
-ghost use Rattle.nef_space.specs.Limits.{point_limit, weight_limit};
-ghost use Rattle.nef_space.specs.Numbers.{IsLowest};
+ghost use Rattle.std.specs.Prelude.{◌≡◌, ◌↔◌, ◌<◌, ◌≤◌, ◌<ℤ◌, ◌∷◌};
+ghost use Rattle.nef_space.specs.Prelude.{pos, nat_abs, IsTrue, [], point_limit, weight_limit, IsLowest};
 
 use crate::gcd::lowest_terms;
 use nef_space::HALF_SIDE;
@@ -29,14 +28,8 @@ fn is_below(n: i64, limit: u64) -> bool
     n.unsigned_abs() < limit
 }
 
-pub(crate) fn is_at_most(n: i64, limit: u64) -> bool
-    ensures small { IsTrue result ↔ (nat_abs n ≤ limit) }
-{
-    n.unsigned_abs() <= limit
-}
-
 impl Point {
-    ghost use Rattle.nef_space.specs.Place.{SamePlace, InFrame, InClosedFrame};
+    ghost use Rattle.nef_space.specs.Place.{SamePlace, InFrame};
     ghost use Rattle.nef_geo.specs.Shapes.{place_at, place_of};
 
     /// The point `(x/w, y/w, z/w)`.
@@ -48,13 +41,8 @@ impl Point {
         requires positive { pos 0 <ℤ w }
         ensures same { (positive : pos 0 <ℤ w) → SamePlace (place_at x y z w positive) (place_of result) }
     {
-        let lowest = lowest_terms(x, y, z, w);
-        Point {
-            x: lowest.x,
-            y: lowest.y,
-            z: lowest.z,
-            w: lowest.w,
-        }
+        let (x, y, z, w) = lowest_terms(x, y, z, w);
+        Point { x, y, z, w }
     }
 
     /// Whether the point lies in the frame, the open cube `|x|, |y|, |z| < 2048`.
@@ -63,14 +51,6 @@ impl Point {
     {
         let limit = HALF_SIDE.unsigned_abs() * self.w.unsigned_abs();
         is_below(self.x, limit) && is_below(self.y, limit) && is_below(self.z, limit)
-    }
-
-    /// Whether the point lies in the closed frame, `|x|, |y|, |z| <= 2048`.
-    pub fn in_closed_frame(&self) -> bool
-        ensures in_closed_frame { IsTrue result ↔ InClosedFrame (place_of self.now) }
-    {
-        let limit = HALF_SIDE.unsigned_abs() * self.w.unsigned_abs();
-        is_at_most(self.x, limit) && is_at_most(self.y, limit) && is_at_most(self.z, limit)
     }
 
     /// The first number.

@@ -1,21 +1,36 @@
 //! Where rays cross planes.
 
-ghost use Rattle.std.specs.Prelude.{◌≡◌, ◌↔◌, ◌≤◌, pos, ◌<ℤ◌, nat_abs, IsNone, IfSome};
-ghost use Rattle.nef_space.specs.Limits.{normal_limit};
-ghost use Rattle.nef_space.specs.Place.{Place, form_at, slope, SamePlace};
-ghost use Rattle.nef_space.specs.Vectors.{Vector, vector, IsAtMost};
+ghost use Rattle.std.specs.Prelude.{◌≡◌, ◌↔◌, ◌≤◌, ◌^◌, ◌<ℤ◌};
+ghost use Rattle.nef_space.specs.Prelude.{pos, nat_abs, IsNone, IfSome, normal_limit, Place, form_at, slope, SamePlace, Vector, vector, IsAtMost};
 ghost use Rattle.nef_geo.specs.Hits.{IsCrossing, IsReached, IsReachedBy, IsUpright, IsPlaneDirSized, IsPlaceAtMost};
 ghost use Rattle.nef_geo.specs.Shapes.{form_of, vector_of, place_of, hit_place, far_place};
 ghost use Rattle.nef_geo.specs.declared.plane.Plane.{Plane};
+ghost use Rattle.nef_geo.specs.Steps.{HasOppositeSigns, IsZeroStep};
 ghost use Rattle.nef_geo.specs.Widths.{point_form_limit, ray_limit, ray_slope_limit, upright_limit, upright_weight_limit, plane_dir_hit_limit, plane_dir_form_limit, far_limit, far_weight_limit, far_num_limit, far_den_limit};
 
 use crate::dir::Dir;
 use crate::hit::{FarHit, Hit};
 use crate::plane::Plane;
 use crate::point::Point;
-use crate::product::slope;
 use crate::sides::{form, hit_form};
-use crate::step::zero_step;
+use crate::sign::slope;
+
+// The positive step at which a form that has this value and grows by `growth` a step is zero: the two numbers of its
+// fraction, both positive.
+fn zero_step(value: i128, growth: i128) -> Option<(i128, i128)>
+    requires value_small { nat_abs value ≤ 2 ^ 126 }
+    requires growth_small { nat_abs growth ≤ 2 ^ 126 }
+    ensures none { IsNone result ↔ (¬ HasOppositeSigns value growth) }
+    ensures some { IfSome result (λ s. IsZeroStep value growth s.0 s.1) }
+{
+    if value < 0 && growth > 0 {
+        Some((-value, growth))
+    } else if value > 0 && growth < 0 {
+        Some((value, -growth))
+    } else {
+        None
+    }
+}
 
 // The point at the step num/den from p.
 fn reached(p: &Point, d: &Dir, num: i128, den: i128) -> Hit
@@ -72,8 +87,8 @@ pub fn ray_hit(p: &Point, d: &Dir, h: &Plane) -> Option<Hit>
     ensures plane_dir_width { IsPlaneDirSized (vector_of d.now) → IfSome result (λ q. IsAtMost plane_dir_hit_limit (vector q.x q.y q.z)) }
     ensures plane_dir_form_width { IsPlaneDirSized (vector_of d.now) → IfSome result (λ q. (g : Plane) → nat_abs (form_at (form_of g) (hit_place q)) ≤ plane_dir_form_limit) }
 {
-    let step = zero_step(form(h, p), slope(h, d))?;
-    Some(reached(p, d, step.num, step.den))
+    let (num, den) = zero_step(form(h, p), slope(h, d))?;
+    Some(reached(p, d, num, den))
 }
 
 /// Where the ray from the hit p along d crosses the plane strictly ahead of p. The first three numbers
@@ -87,8 +102,8 @@ pub fn far_hit(p: &Hit, d: &Dir, h: &Plane) -> Option<FarHit>
     ensures step { IfSome result (λ q. IsReached (hit_place p.now) (vector_of d.now) q.num q.den q.den_sign (far_place q)) }
     ensures width { IfSome result (λ q. IsPlaceAtMost far_limit far_weight_limit (far_place q)) }
 {
-    let step = zero_step(hit_form(h, p), slope(h, d))?;
-    Some(reached_far(p, d, step.num, step.den))
+    let (num, den) = zero_step(hit_form(h, p), slope(h, d))?;
+    Some(reached_far(p, d, num, den))
 }
 
 /// The point itself, as a hit at the step 0.

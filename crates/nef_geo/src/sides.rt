@@ -1,16 +1,19 @@
-//! On which side of a plane a point lies.
+//! On which side of a plane a point lies, and the common point of three planes.
 
-ghost use Rattle.std.specs.Prelude.{◌≡◌, ◌≤◌, ◌+ℤ◌, ◌*ℤ◌, nat_abs};
-ghost use Rattle.nef_space.specs.Place.{form_at};
+ghost use Rattle.std.specs.Prelude.{◌≡◌, ◌≢◌, ◌≤◌, ◌↔◌, ◌+ℤ◌, ◌*ℤ◌};
+ghost use Rattle.nef_space.specs.Prelude.{pos, nat_abs, IsNone, IfSome, form_at, normal_of, normal_limit, point_limit, weight_limit, vector, IsAtMost};
 ghost use Rattle.nef_geo.specs.Shapes.{form_of, given_form, place_of, hit_place, far_place};
 ghost use Rattle.nef_geo.specs.Hits.{IsPlaceAtMost};
 ghost use Rattle.nef_geo.specs.Signs.{sign_of};
 ghost use Rattle.nef_geo.specs.Widths.{point_form_limit, hit_form_limit, upright_limit, upright_weight_limit, upright_form_limit, far_limit, far_weight_limit, far_form_limit};
+ghost use Rattle.nef_geo.specs.Meet.{HasDependentNormals, IsOnlyCommon};
+ghost use Rattle.nef_geo.specs.Numbers.{IsSameRatios};
+ghost use Rattle.nef_geo.specs.Triples.{triple_vector};
 
 use crate::hit::{FarHit, Hit};
 use crate::plane::{Oriented, Plane};
 use crate::point::Point;
-use crate::sign::Sign;
+use crate::sign::{Sign, cross_narrow, dot_narrow};
 
 // The plane's form at the point.
 pub(crate) fn form(h: &Plane, p: &Point) -> i128
@@ -38,12 +41,6 @@ pub(crate) fn hit_form(h: &Plane, p: &Hit) -> i128
     wide_form(h, p.x, p.y, p.z, p.w)
 }
 
-fn far_form(h: &Plane, p: &FarHit) -> i128
-    ensures value { result ≡ form_at (form_of h.now) (far_place p.now) }
-{
-    wide_form(h, p.x, p.y, p.z, p.w)
-}
-
 /// The sign of the plane's form at the hit.
 pub fn hit_side(h: &Plane, p: &Hit) -> Sign
     ensures side { result ≡ sign_of (form_at (form_of h.now) (hit_place p.now)) }
@@ -58,7 +55,7 @@ pub fn far_side(h: &Plane, p: &FarHit) -> Sign
     ensures side { result ≡ sign_of (form_at (form_of h.now) (far_place p.now)) }
     ensures width { nat_abs (form_at (form_of h.now) (far_place p.now)) ≤ far_form_limit }
 {
-    Sign::of(far_form(h, p))
+    Sign::of(wide_form(h, p.x, p.y, p.z, p.w))
 }
 
 /// The sign of the plane's form at the point.
@@ -78,4 +75,48 @@ impl Oriented {
         let sign = Sign::of(form(&self.plane, p));
         if self.flipped { sign.opposite() } else { sign }
     }
+}
+
+fn normal(h: &Plane) -> (i64, i64, i64)
+    ensures normal { triple_vector result ≡ normal_of (form_of h.now) }
+    ensures small { IsAtMost normal_limit (triple_vector result) }
+{
+    (h.a, h.b, h.c)
+}
+
+// The point with these numbers, of which the last may be negative.
+fn turned(x: i64, y: i64, z: i64, w: i64) -> Point
+    requires small { IsAtMost point_limit (vector x y z) }
+    requires w_small { nat_abs w ≤ weight_limit }
+    requires some { w ≢ pos 0 }
+    ensures same { IsSameRatios x y z w result.x result.y result.z result.w }
+{
+    if w > 0 {
+        Point::of(x, y, z, w)
+    } else {
+        Point::of(-x, -y, -z, -w)
+    }
+}
+
+/// The one common point of three planes. `None` comes exactly where the three normals are dependent.
+pub fn meet(p: &Plane, q: &Plane, r: &Plane) -> Option<Point>
+    ensures none { IsNone result ↔ HasDependentNormals (form_of p.now) (form_of q.now) (form_of r.now) }
+    ensures met { IfSome result (λ m. IsOnlyCommon (form_of p.now) (form_of q.now) (form_of r.now) (place_of m)) }
+    ensures width { IfSome result (λ m. IsAtMost point_limit (vector m.x m.y m.z) × (nat_abs m.w ≤ weight_limit)) }
+{
+    let np = normal(p);
+    let nq = normal(q);
+    let nr = normal(r);
+    let w = dot_narrow(&np, &cross_narrow(&nq, &nr));
+    if w == 0 {
+        return None;
+    }
+    let rq = cross_narrow(&nr, &nq);
+    let pr = cross_narrow(&np, &nr);
+    let qp = cross_narrow(&nq, &np);
+    let d = (p.d, q.d, r.d);
+    let x = dot_narrow(&d, &(rq.0, pr.0, qp.0));
+    let y = dot_narrow(&d, &(rq.1, pr.1, qp.1));
+    let z = dot_narrow(&d, &(rq.2, pr.2, qp.2));
+    Some(turned(x, y, z, w))
 }

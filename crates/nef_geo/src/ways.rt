@@ -1,18 +1,17 @@
-//! The stated directions: upward, along the coordinate axes, and for each plane its normal and two in it.
+//! The stated directions: upward, along the coordinate axes, and for each plane its normal and two in it; and the numbers
+//! of a direction as wide ones.
 
-ghost use Rattle.std.specs.Prelude.{◌≡◌, ℕ, ◌≤◌, pos, ◌<ℤ◌};
-ghost use Rattle.nef_space.specs.Limits.{normal_limit};
-ghost use Rattle.nef_space.specs.Place.{normal_of, slope};
-ghost use Rattle.nef_space.specs.Vectors.{vector, up, plane_axis, plane_dir, IsAtMost, IsDirection, IsParallel, SameDirection, IsNormal};
+ghost use Rattle.std.specs.Prelude.{◌≡◌, ◌≤◌, ◌<ℤ◌};
+ghost use Rattle.nef_space.specs.Prelude.{ℕ, pos, normal_limit, normal_of, slope, vector, up, plane_axis, plane_dir, IsAtMost, IsDirection, IsParallel, SameDirection, IsNormal};
 ghost use Rattle.nef_geo.specs.Hits.{IsPlaneDirSized};
 ghost use Rattle.nef_geo.specs.Shapes.{form_of, vector_of};
-ghost use Rattle.nef_geo.specs.Triples.{triple_vector};
+ghost use Rattle.nef_geo.specs.Triples.{triple_vector, wide_vector};
 ghost use Rattle.nef_geo.specs.Ways.{second_beside};
 ghost use Rattle.nef_geo.specs.declared.plane.Plane.{Plane};
 
 use crate::dir::Dir;
 use crate::plane::Plane;
-use crate::vectors::Triple;
+use crate::sign::Wide;
 use nef_space::{AXIS_FACTOR, UP_X, UP_Y};
 
 /// The upward direction `(2^26, 2^13, 1)`, which lies on the positive side of every normal form and so
@@ -52,41 +51,36 @@ pub fn axis_z() -> Dir
     Dir { x: 0, y: 0, z: 1 }
 }
 
+/// The direction's numbers.
+pub fn wide(d: &Dir) -> Wide
+    ensures wide { wide_vector result ≡ vector_of d.now }
+{
+    Wide {
+        x: d.x as i128,
+        y: d.y as i128,
+        z: d.z as i128,
+    }
+}
+
 // The axis of the plane before it is divided.
-fn axis(h: &Plane) -> Triple
+fn axis(h: &Plane) -> (i64, i64, i64)
     ensures axis { triple_vector result ≡ plane_axis (normal_of (form_of h.now)) }
 {
     if h.c == 0 && h.b == 0 {
-        Triple {
-            x: -h.c,
-            y: 0,
-            z: h.a,
-        }
+        (-h.c, 0, h.a)
     } else {
-        Triple {
-            x: 0,
-            y: h.c,
-            z: -h.b,
-        }
+        (0, h.c, -h.b)
     }
 }
 
 // Another direction in the plane.
-fn beside(h: &Plane) -> Triple
+fn beside(h: &Plane) -> (i64, i64, i64)
     ensures beside { triple_vector result ≡ second_beside (normal_of (form_of h.now)) }
 {
     if h.c == 0 {
-        Triple {
-            x: h.b,
-            y: -h.a,
-            z: 0,
-        }
+        (h.b, -h.a, 0)
     } else {
-        Triple {
-            x: -h.c,
-            y: 0,
-            z: h.a,
-        }
+        (-h.c, 0, h.a)
     }
 }
 
@@ -107,7 +101,7 @@ pub fn plane_axis(h: &Plane) -> Dir
     ensures small { IsAtMost normal_limit (vector_of result) }
 {
     let numbers = axis(h);
-    Dir::reduced(numbers.x, numbers.y, numbers.z)
+    Dir::reduced(numbers.0, numbers.1, numbers.2)
 }
 
 /// Another direction in the plane, parallel to no plane but those parallel to it: `2^24` times the
@@ -118,10 +112,11 @@ pub fn plane_dir(h: &Plane) -> Dir
     ensures alone { (g : Plane) → slope (form_of g) (vector_of result) ≡ pos 0 → IsParallel (normal_of (form_of g)) (normal_of (form_of h.now)) }
     ensures small { IsPlaneDirSized (vector_of result) }
 {
-    let (first, second) = (axis(h), beside(h));
+    let first = axis(h);
+    let second = beside(h);
     Dir::reduced(
-        AXIS_FACTOR * first.x + second.x,
-        AXIS_FACTOR * first.y + second.y,
-        AXIS_FACTOR * first.z + second.z,
+        AXIS_FACTOR * first.0 + second.0,
+        AXIS_FACTOR * first.1 + second.1,
+        AXIS_FACTOR * first.2 + second.2,
     )
 }

@@ -3,7 +3,7 @@ use Rattle.std.proofs.Common.{◌≡◌, ℕ, ◌-◌, ◌≤◌, ◌<◌, Bool,
 use Rattle.std.specs.Prelude.{if◌then◌else◌}
 use Rattle.std.proofs.lemmas.Bool.{cases_lt}
 use Rattle.nef_io.specs.Bytes.{Grows}
-use Rattle.nef_io.specs.Kept.{Kept, written_of}
+use Rattle.nef_io.specs.Memory.{Kept, written_of}
 
 -- xs is written, and then ys
 pub Grows-trans : (a b c : Option (List ℕ)) (xs ys : List ℕ) → Grows a b xs → Grows b c ys → Grows a c (xs ++ ys)

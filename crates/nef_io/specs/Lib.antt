@@ -1,4 +1,3 @@
 pub mod Bytes
-pub mod Kept
 pub mod Memory
 pub mod Telling

@@ -1,5 +1,15 @@
--- What a source and a sink in memory have left, and which of their calls fail.
-use Rattle.std.specs.Prelude.{ℕ, ◌+◌, ◌-◌, ◌^◌, List, min}
+-- What sources and sinks in memory have left and have kept, and which of their calls fail.
+use Rattle.std.specs.Prelude.{ℕ, ◌+◌, ◌-◌, ◌^◌, List, min, Bool, Option, Some, None, if◌then◌else◌}
+
+-- the bytes that it kept, the number of bytes that still fit, and whether a piece did not fit
+pub record Kept : Type 0 where
+  pub bytes : List ℕ
+  pub free : ℕ
+  pub lost : Bool
+
+-- what it tells of what was written: the bytes kept, as long as no piece was lost
+abbrev pub written_of : Kept → Option (List ℕ)
+written_of kept = if kept.lost then None else Some kept.bytes
 
 -- the last value of a counter
 abbrev pub last_count : ℕ

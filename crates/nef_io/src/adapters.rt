@@ -1,14 +1,15 @@
 //! Std's readers and writers as a source and a sink. What standard input gave is told by nobody, and
 //! what standard output took by its own answers alone, so these few lines are trusted for it.
-ghost use Rattle.std.specs.Prelude.{◌≡◌, ◌<◌, ◌≤◌, ◌++◌, Some, IfOk, OnOk, OnErr, length, take};
+ghost use Rattle.std.specs.Prelude.{◌≡◌, ℕ, List, ◌<◌, ◌≤◌, ◌++◌, Some, IfOk, OnOk, OnErr, length, take};
+ghost use Rattle.std.specs.Borrow.{ftrue};
 ghost use Rattle.std.specs.Io.KnownBytes.{Appends, Keeps};
 ghost use Rattle.std.proofs.Props.{props};
 ghost use Rattle.nef_io.specs.Bytes.{Rose};
 ghost use Rattle.nef_io.specs.Telling.{AlwaysTells, told_bytes};
 
-use crate::taken::Taken;
 use crate::traits::{Failed, Sink, Source};
 use std::io::{Read, Write};
+use std::marker::Model;
 
 /// A reader as a source. It tells what the reader tells, and counts each error of it.
 #[derive(Drop)]
@@ -41,6 +42,31 @@ impl<R: Read> Source for FromReader<R> {
             }
         }
     }
+}
+
+// The bytes that a writer took so far, which only clauses read. They take no memory.
+#[derive(Drop)]
+struct Taken {
+    ghost bytes: { List ℕ },
+}
+
+impl Model for Taken {
+    ghost also_owns = { λ _. ftrue };
+}
+
+impl Taken {
+    // These bytes to begin with. What they are may be told of the writer.
+    fn new<W>(_writer: &W) -> Taken
+        ghost bytes: { List ℕ }
+        ensures { result.bytes ≡ bytes }
+    {
+        Taken {}
+    }
+
+    // The piece comes behind what was taken.
+    fn note(&mut self, _piece: &[u8])
+        ensures { self.new.bytes ≡ self.old.bytes ++ _piece.now }
+    {}
 }
 
 /// A writer as a sink. It tells the bytes that the writer held and told when the sink was made, and
@@ -78,8 +104,6 @@ impl<W: Write> IntoWriter<W> {
 }
 
 impl<W: Write> Sink for IntoWriter<W> {
-    ghost use Rattle.std.specs.Prelude.{Some};
-
     ghost written = { λ s. Some s.taken.bytes };
 
     ghost faults = { λ s. s.faults };

@@ -5,19 +5,10 @@
 #![tactic(auto)]
 
 mod adapters;
-mod gate;
 mod memory;
-mod reading;
-mod sure;
-mod taken;
 mod traits;
-mod writing;
 
 pub use adapters::{FromReader, IntoWriter};
-pub use gate::OpenGate;
-pub use memory::{MemSink, MemSource};
-pub use reading::{INPUT_LIMIT, ReadAll, read_all};
+pub use memory::{MemSink, MemSource, SureSink, SureSource, sure_counts};
 pub use std::alloc::AllocError as OutOfMemory;
-pub use sure::{SureSink, SureSource, sure_counts};
-pub use traits::{Failed, Gate, Sink, Source};
-pub use writing::put_all;
+pub use traits::{Failed, Gate, INPUT_LIMIT, OpenGate, ReadAll, Sink, Source, put_all, read_all};

@@ -1,11 +1,125 @@
-//! A source and a sink in memory, whose calls fail where they are told to.
-ghost use Rattle.std.specs.Prelude.{◌≡◌, ◌-◌, ◌<◌, ◌≤◌, ◌⊎◌, ◌++◌, [], IfOk, IsErr, MatchResult, length, min, take, drop, ◌↔◌, Contains, ◌+◌};
-ghost use Rattle.nef_io.specs.Memory.{counted};
+//! Sources and sinks in memory: a source and a sink that never fail, and such whose calls fail where they are told to.
+ghost use Rattle.std.specs.Prelude.{◌≡◌, ◌-◌, ◌<◌, ◌≤◌, ◌⊎◌, ◌++◌, [], Some, IfOk, IsErr, MatchResult, length, vec_len, min, take, drop, ◌↔◌, Contains, ◌+◌, ℕ, List, true, false};
+ghost use Rattle.nef_io.specs.Memory.{last_count, counted, SourceState, SinkState, Kept, written_of};
+ghost use Rattle.nef_io.specs.Bytes.{Rose};
 
 use crate::OutOfMemory;
 use crate::traits::{Failed, Sink, Source};
 use std::alloc::Global;
 use std::marker::Model;
+
+/// Gives its bytes, and never fails. Clauses see the list of the bytes that are left.
+#[derive(Drop)]
+pub struct SureSource {
+    bytes: Vec<u8>,
+    at: usize,
+}
+
+impl Model for SureSource {
+    ghost Value = { List ℕ };
+
+    ghost view = { λ s. drop s.at s.bytes.items };
+
+    ghost invariant = { λ s. s.at ≤ vec_len s.bytes };
+}
+
+impl SureSource {
+    /// A source of a copy of `bytes`.
+    pub fn new(alloc: Global, bytes: &[u8]) -> Result<SureSource, OutOfMemory>
+        ensures { IfOk result (λ s. s ≡ bytes.now) }
+    {
+        let bytes = Vec::from_slice(alloc, bytes)?;
+        Ok(SureSource { bytes, at: 0 })
+    }
+}
+
+impl Source for SureSource {
+    ghost rest = { λ s. Some s };
+
+    ghost faults = { λ s. 0 };
+
+    /// Gives all the bytes that are left, or as many as `buf` holds.
+    fn read(&mut self, buf: &mut [u8]) -> Result<usize, Failed>
+        ensures gives { result ≡ Ok (min (length self.old) (length buf.old)) }
+        ensures buffer { buf.new ≡ take (length buf.old) self.old ++ drop (length self.old) buf.old }
+        ensures rest { self.new ≡ drop (length buf.old) self.old }
+    {
+        let left = self.bytes.len() - self.at;
+        let count = left.min(buf.len());
+        let end = self.at + count;
+        buf[..count].copy_from_slice(&self.bytes[self.at..end]);
+        self.at = end;
+        Ok(count)
+    }
+}
+
+/// Writes from the front of a buffer, takes each piece whole, and never fails.
+///
+/// A piece that fits into the rest of the buffer is kept. Another is taken and not kept, and from then
+/// on the sink doesn't tell what was written.
+#[derive(Drop)]
+pub struct SureSink<'a> {
+    buffer: &'a mut [u8],
+    at: usize,
+    lost: bool,
+}
+
+impl<'a> Model for SureSink<'a> {
+    ghost Value = { Kept };
+
+    ghost view = { λ s. record { bytes = take s.at s.buffer.now; free = length s.buffer.now - s.at; lost = s.lost } };
+
+    ghost invariant = { λ s. s.at ≤ length s.buffer.now };
+}
+
+impl<'a> SureSink<'a> {
+    /// A sink that has kept nothing, over the whole of `buffer`.
+    pub fn new(buffer: &'a mut [u8]) -> SureSink<'a>
+        ensures { result ≡ record { bytes = []; free = length buffer.old; lost = false } }
+    {
+        SureSink {
+            buffer,
+            at: 0,
+            lost: false,
+        }
+    }
+
+    /// The bytes that were kept, which are all that was written where the sink tells that.
+    pub fn kept(&self) -> &[u8]
+        ensures { result.now ≡ self.now.bytes }
+    {
+        &self.buffer[..self.at]
+    }
+}
+
+impl Sink for SureSink<'_> {
+    ghost written = { written_of };
+
+    ghost faults = { λ s. 0 };
+
+    /// Takes the whole piece.
+    fn write(&mut self, piece: &[u8]) -> Result<usize, Failed>
+        ensures takes { result ≡ Ok (length piece.now) }
+        ensures kept { length piece.now ≤ self.old.free → self.new ≡ record { bytes = self.old.bytes ++ piece.now; free = self.old.free - length piece.now; lost = self.old.lost } }
+        ensures lost { self.old.free < length piece.now → self.new ≡ record self.old { lost = true } }
+    {
+        let end = self.at + piece.len();
+        if end <= self.buffer.len() {
+            self.buffer[self.at..end].copy_from_slice(piece);
+            self.at = end;
+        } else {
+            self.lost = true;
+        }
+        Ok(piece.len())
+    }
+}
+
+/// The counts of a [`SureSource`] and of a [`SureSink`] never rise. So where a fault comes only with a
+/// count that rose, it comes of neither.
+pub fn sure_counts()
+    ensures source { (old new : List ℕ) → ¬ (Rose (⟦<SureSource as Source>⟧.faults old) (⟦<SureSource as Source>⟧.faults new)) }
+    ensures sink { (old new : Kept) → ¬ (Rose (⟦<SureSink<'static> as Sink>⟧.faults old) (⟦<SureSink<'static> as Sink>⟧.faults new)) }
+{}
 
 /// How many calls were made and how many of them failed, and which are to fail.
 #[derive(Drop)]
@@ -63,9 +177,6 @@ pub struct MemSource {
 }
 
 impl Model for MemSource {
-    ghost use Rattle.std.specs.Prelude.{◌<◌, ◌≤◌, drop, vec_len};
-    ghost use Rattle.nef_io.specs.Memory.{SourceState};
-
     ghost Value = { SourceState };
 
     ghost view = { λ s. record { rest = drop s.at s.bytes.items; most = s.most; fails = s.calls.fails.items; calls = s.calls.made; faults = s.calls.faults } };
@@ -97,9 +208,6 @@ impl MemSource {
 }
 
 impl Source for MemSource {
-    ghost use Rattle.std.specs.Prelude.{Some, min};
-    ghost use Rattle.nef_io.specs.Memory.{last_count};
-
     ghost rest = { λ s. Some s.rest };
 
     ghost faults = { λ s. min s.faults last_count };
@@ -136,9 +244,6 @@ pub struct MemSink {
 }
 
 impl Model for MemSink {
-    ghost use Rattle.std.specs.Prelude.{◌-◌, ◌<◌, ◌≤◌, take, vec_len};
-    ghost use Rattle.nef_io.specs.Memory.{SinkState};
-
     ghost Value = { SinkState };
 
     ghost view = { λ s. record { taken = take s.at s.room.items; free = vec_len s.room - s.at; most = s.most; fails = s.calls.fails.items; calls = s.calls.made; faults = s.calls.faults } };
@@ -177,9 +282,6 @@ impl MemSink {
 }
 
 impl Sink for MemSink {
-    ghost use Rattle.std.specs.Prelude.{Some, min};
-    ghost use Rattle.nef_io.specs.Memory.{last_count};
-
     ghost written = { λ s. Some s.taken };
 
     ghost faults = { λ s. min s.faults last_count };

@@ -1,10 +1,9 @@
 //! The lines of a script.
 
-ghost use Rattle.std.specs.Prelude.{◌≡◌, List, []};
-ghost use Rattle.std.specs.List.{before_first, after_first};
-ghost use Rattle.nef_lex.specs.Lines.{is_line_feed, without_return, numbered_lines};
+ghost use Rattle.std.specs.Prelude.{◌≡◌, ◌==◌};
+ghost use Rattle.nef_space.specs.Prelude.{List, [], position, before_first, after_first};
+ghost use Rattle.nef_lex.specs.Lines.{is_line_feed, without_return};
 
-use crate::search::index_of;
 use std::marker::Model;
 
 /// A line of a script.
@@ -19,8 +18,8 @@ pub struct Line<'a> {
 /// The lines of a script that are still to come.
 #[derive(Debug, Drop)]
 pub struct Lines<'a> {
-    given: u64,
-    rest: &'a [u8],
+    pub(crate) given: u64,
+    pub(crate) rest: &'a [u8],
 }
 
 impl<'a> Model for Lines<'a> {
@@ -32,18 +31,6 @@ impl<'a> Model for Lines<'a> {
     ghost view = { λ l. numbered_lines (l.given + 1) l.rest.now };
 
     ghost invariant = { λ l. l.given + length l.rest.now < 2 ^ 64 };
-}
-
-impl<'a> Lines<'a> {
-    // All lines of the script, numbered from 1.
-    pub(crate) fn new(script: &'a [u8]) -> Lines<'a>
-        ensures lines { result ≡ numbered_lines 1 script.now }
-    {
-        Lines {
-            given: 0,
-            rest: script,
-        }
-    }
 }
 
 impl<'a> Iterator for Lines<'a> {
@@ -68,6 +55,13 @@ impl<'a> Iterator for Lines<'a> {
             text: strip_return(piece),
         })
     }
+}
+
+/// The place of the first such byte.
+pub(crate) fn index_of(bytes: &[u8], byte: u8) -> Option<usize>
+    ensures place { result ≡ position (λ b. b == byte) bytes.now }
+{
+    bytes.iter().position(|b| *b == byte)
 }
 
 // What stands before the first line feed, and what stands after it.

@@ -26,7 +26,7 @@ use Rattle.nef_complex.specs.declared.complex.Complex.{Complex}
 use Rattle.nef_complex.specs.Complexes.{vertex_of, complex_of}
 use Rattle.nef_complex.specs.Index.{LiesOn, AreNumbersWith}
 use Rattle.nef_plane.proofs.Sweep.{exact-of, exact-weight}
-use Rattle.nef_locate.specs.Orders.{AreBefore, AreAfter, PartsOn}
+use Rattle.nef_locate.specs.Orders.{PartsOn}
 
 -- ---- one coordinate of a point and of a hit, by the products of numbers that are read
 exact-hit : (x y : ℤ) → x ≡ y → nat_abs y ≤ hit_limit → to_z w128 (of_z w128 x) ≡ y
@@ -62,6 +62,14 @@ order-from_last p q Equal a b r = record { along_x = a; along_y = b; along_z = r
 order-from_last p q Greater a b r = inr (sym a, inr (sym b, inl r))
 
 -- ---- the vertices of a plane
+-- the vertices with the first n of the numbers come before the point
+abbrev pub AreBefore : List Vertex → List ℕ → Place → ℕ → Type 0
+AreBefore vs ns y n = (i j : ℕ) (v : Vertex) → i < n → IsAt ns i j → IsAt vs j v → IsPlaceBelow (place_of v.point) y
+
+-- those with the other numbers come after it
+abbrev pub AreAfter : List Vertex → List ℕ → Place → ℕ → Type 0
+AreAfter vs ns y n = (i j : ℕ) (v : Vertex) → n ≤ i → IsAt ns i j → IsAt vs j v → IsPlaceBelow y (place_of v.point)
+
 module _ (s : Set) (c : Complex) (S : Shows s (complex_of c)) (h : Form) (ns : List ℕ) (N : AreNumbersWith (LiesOn c.vertices h) ns) (y : Place) where
   rise : (i m n j : ℕ) (u v : Vertex) → i < m → IsAt ns i n → IsAt ns m j → IsAt c.vertices n u → IsAt c.vertices j v → IsPlaceBelow (place_of u.point) (place_of v.point)
   rise i m n j u v l a b e f = S.ordered n j (vertex_of u) (vertex_of v) (N.ordered i m n j l a b) (map-at vertex_of c.vertices n u (at-from_get c.vertices n u e)) (map-at vertex_of c.vertices j v (at-from_get c.vertices j v f))

@@ -12,7 +12,6 @@ pub mod RayMeets
 pub mod LastArcs
 pub mod NearSides
 pub mod Located
-pub mod Reading
 pub mod UpwardSides
 pub mod SamePlanes
 pub mod Behind

@@ -27,8 +27,8 @@ use Rattle.nef_complex.specs.declared.complex.Corner.{Corner}
 use Rattle.nef_complex.specs.declared.complex.Edge.{Edge}
 use Rattle.nef_complex.specs.declared.complex.Vertex.{Vertex}
 use Rattle.nef_complex.specs.Complexes.{vertex_of, edge_of, complex_of, corner_of, AreSorted, ShowsSet}
-use Rattle.nef_locate.specs.declared.place.Place.{Place}
-use Rattle.nef_locate.specs.declared.place.Place.TheVariants as place
+use Rattle.nef_locate.specs.declared.point.Place.{Place}
+use Rattle.nef_locate.specs.declared.point.Place.TheVariants as place
 use Rattle.nef_locate.specs.Places.{IsPlaceIn, IsPlaceAt, IsFirstHit, place_dimension}
 use Rattle.nef_locate.specs.Rays.{IsSkeletonAt, IsSideAbove}
 use Rattle.nef_locate.proofs.CarrierPoints.{closed-inside}

@@ -16,8 +16,8 @@ use Rattle.law_complex.proofs.Skeletons.{spot-mark}
 use Rattle.nef_complex.specs.declared.complex.Vertex.{Vertex}
 use Rattle.nef_complex.specs.declared.complex.Complex.{Complex}
 use Rattle.nef_complex.specs.Complexes.{vertex_of, complex_of, corner_of, ShowsSet}
-use Rattle.nef_locate.specs.declared.place.Place.{Place}
-use Rattle.nef_locate.specs.declared.place.Place.TheVariants as place
+use Rattle.nef_locate.specs.declared.point.Place.{Place}
+use Rattle.nef_locate.specs.declared.point.Place.TheVariants as place
 use Rattle.nef_locate.specs.Places.{IsPlaceAt, IsPlaceLabel}
 use Rattle.nef_locate.proofs.Cones.{corner-labels}
 use Rattle.nef_locate.proofs.VolumeLabels.{side-label}

@@ -1,48 +1,23 @@
--- Points of the frame ahead of a point lie within its window, and vertices, edges and facets of a plane within its span.
-use Rattle.std.proofs.Common.{◌≡◌, ℕ, ◌+◌, ◌*◌, ◌≤◌, ℤ, pos, neg_ℤ, ◌+ℤ◌, ◌-ℤ◌, ◌*ℤ◌, ◌<ℤ◌, ◌≤ℤ◌, nat_abs, List, [], ◌∷◌, arith, ap, sym, inl, inr, subst}
+-- Points of the frame ahead of a point lie within its window.
+use Rattle.std.proofs.Common.{◌≡◌, ℕ, ◌+◌, ◌*◌, ◌≤◌, ℤ, pos, neg_ℤ, ◌+ℤ◌, ◌-ℤ◌, ◌*ℤ◌, ◌<ℤ◌, ◌≤ℤ◌, nat_abs, [], ◌∷◌, arith, ap, sym, inl, inr, subst}
 use Rattle.std.proofs.lemmas.Int.{ints}
 use Rattle.nef_space.proofs.Order.{mul_nonneg, mul_le_right, cancel_le}
 use Rattle.nef_space.proofs.Ring.{ring, at, num, ◌⊕◌, ◌⊖◌, ◌⊗◌}
 use Rattle.nef_space.specs.Limits.{half_side}
-use Rattle.nef_space.specs.Lists.{IsAt}
-use Rattle.nef_space.specs.Place.{Place, Form, form_at, SamePlace, InClosedFrame, IsAhead}
+use Rattle.nef_space.specs.Place.{Place, InClosedFrame, IsAhead}
 use Rattle.nef_space.specs.Vectors.{Vector, opposite, up}
 use Rattle.nef_geo.specs.Hits.{IsUpright}
-use Rattle.nef_space.specs.Sets.{Set}
-use Rattle.nef_geo.specs.Shapes.{form_of, place_of}
-use Rattle.nef_geo.specs.declared.plane.Plane.{Plane}
-use Rattle.nef_smap.proofs.Lists.{at-map}
-use Rattle.nef_smap.proofs.SideLists.{get-from_at}
-use Rattle.law_complex.specs.Complexes.{Vertex as PlainVertex}
-use Rattle.law_complex.specs.Skeleton.{meets_vertex, meets_edge}
-use Rattle.law_complex.specs.Spans.{Coordinate, coordinate_of, coordinate_x, coordinate_y, coordinate_z, EachVertexOn, EachPointOn, IsWithin, IsJustAbove, IsCloseAbove}
+use Rattle.law_complex.specs.Spans.{Coordinate, coordinate_of, coordinate_x, coordinate_y, coordinate_z, IsWithin, IsJustAbove, IsCloseAbove}
 use Rattle.law_complex.proofs.FacetEdges.{ahead-back}
-use Rattle.law_complex.proofs.Spans.{plane-within, stays-close}
-use Rattle.nef_complex.specs.declared.complex.Complex.{Complex}
+use Rattle.law_complex.proofs.Spans.{stays-close}
 use Rattle.nef_complex.specs.declared.spans.Bounds.{Bounds}
 use Rattle.nef_complex.specs.declared.spans.Span.{Span}
-use Rattle.nef_complex.specs.Complexes.{vertex_of, complex_of, ShowsSet}
-use Rattle.nef_complex.specs.Index.{IsSpanOn, AreSpans, AreSpanned}
 use Rattle.nef_complex.specs.Spans.{IsInSpan}
-use Rattle.nef_plane.proofs.Framed.{dim-framed, vertex-framed, edge-framed}
-use Rattle.law_complex.specs.Laws.{IsSkeletonIn}
-use Rattle.nef_locate.specs.Rays.{LiesOutside}
 
 weight : (p : Place) → pos 0 <ℤ pos p.w
 weight p = let m = p.proper in omega (arith, ints)
 
--- ---- bounds that hold a coordinate in common
-pub within-both : (c : Coordinate) (a b : Bounds) (q : Place) → IsWithin c a.low a.high q → IsWithin c b.low b.high q → (a.low ≤ℤ b.high) × (b.low ≤ℤ a.high)
-within-both c a b q i j = (below a.low b.high i.0 j.1, below b.low a.high j.0 i.1)
-  where
-    below : (l h : ℤ) → (l *ℤ pos q.w) ≤ℤ coordinate_of c q → coordinate_of c q ≤ℤ (h *ℤ pos q.w) → l ≤ℤ h
-    below l h u v = cancel_le l h (pos q.w) (weight q) (omega (arith, ints))
-
--- what is read of a list of spans where it ends
-abbrev pub no_span : Span
-no_span = record { x = record { low = pos 0; high = pos 0 }; y = record { low = pos 0; high = pos 0 }; z = record { low = pos 0; high = pos 0 } }
-
--- ---- of equal points, and of one point above another
+-- ---- of one point above another
 exchange : (a v w : ℤ) → a *ℤ v *ℤ w ≡ a *ℤ w *ℤ v
 exchange a v w = ring (a ∷ v ∷ w ∷ []) (at 0 ⊗ at 1 ⊗ at 2) (at 0 ⊗ at 2 ⊗ at 1) tt
 
@@ -60,15 +35,6 @@ high-falls c high p q e l =
     let m = mul_le_right (coordinate_of c p) (high *ℤ pos p.w) (pos q.w) (some q) l in
     let f = exchange high (pos p.w) (pos q.w) in
     cancel_le (coordinate_of c q) (high *ℤ pos q.w) (pos p.w) (weight p) (omega (arith, ints, e))
-
-at-most-same : (a b : ℤ) → a ≡ b → a ≤ℤ b
-at-most-same a b e = omega (arith, ints, e)
-
-within-same : (c : Coordinate) (b : Bounds) (p q : Place) → coordinate_of c q *ℤ pos p.w ≡ coordinate_of c p *ℤ pos q.w → IsWithin c b.low b.high p → IsWithin c b.low b.high q
-within-same c b p q e i = (low-rises c b.low p q (at-most-same _ _ (sym e)) i.0, high-falls c b.high p q (at-most-same _ _ e) i.1)
-
-pub span-same : (s : Span) (p q : Place) → SamePlace q p → IsInSpan s p → IsInSpan s q
-span-same s p q e i = (within-same coordinate_x s.x p q e.along_x i.0, within-same coordinate_y s.y p q e.along_y i.1, within-same coordinate_z s.z p q e.along_z i.2)
 
 -- ---- of points of the frame
 at-most-side : (c : Coordinate) (high : ℤ) (q : Place) → high ≡ pos half_side → nat_abs (coordinate_of c q) ≤ half_side * q.w → coordinate_of c q ≤ℤ (high *ℤ pos q.w)
@@ -144,39 +110,3 @@ up-positive d e = let f : d.x ≡ pos 67108864 = ap (λ (v : Vector). v.x) e in 
 pub points-down : (d : Vector) → IsUpright d → (d ≡ up → ⊥) → d ≡ opposite up
 points-down d (inl e) n = absurd (n e)
 points-down d (inr e) n = e
-
--- ---- what a plane holds of the skeleton lies within its span
-module _ (s : Set) (c : Complex) (S : ShowsSet s c) (h : Form) (span : Span) (B : IsSpanOn c.vertices h span) where
-  each : (d : Coordinate) (low high : ℤ) → ((p : Place) → IsInSpan span p → IsWithin d low high p) → EachVertexOn (complex_of c) h (IsWithin d low high)
-  each d low high part k v a e =
-      let w = at-map vertex_of c.vertices k v a in
-      subst (λ (r : PlainVertex). IsWithin d low high r.point) w.2
-      (part (place_of w.0.point) (B k w.0 (get-from_at c.vertices k w.0 w.1) (subst (λ (r : PlainVertex). form_at h r.point ≡ pos 0) (sym w.2) e)))
-
-  spanned-along : (d : Coordinate) (b : Bounds) → ((p : Place) → IsInSpan span p → IsWithin d b.low b.high p) → (y : Place) → form_at h y ≡ pos 0 → IsSkeletonIn s (complex_of c) h y → IsWithin d b.low b.high y
-  spanned-along d b part y on = by (plane-within s (complex_of c) S.shows h d b.low b.high (each d b.low b.high part))
-    where
-      by : EachPointOn s (complex_of c) h (IsWithin d b.low b.high) → IsSkeletonIn s (complex_of c) h y → IsWithin d b.low b.high y
-      by w (inl (meets_vertex k, x)) = w.0 k y x on
-      by w (inl (meets_edge k, x)) = w.1 k y x.0 x.1
-      by w (inr f) = w.2 y on f
-
-  pub spanned : (y : Place) → form_at h y ≡ pos 0 → IsSkeletonIn s (complex_of c) h y → IsInSpan span y
-  spanned y on i = (spanned-along coordinate_x span.x (λ p j. j.0) y on i, spanned-along coordinate_y span.y (λ p j. j.1) y on i, spanned-along coordinate_z span.z (λ p j. j.2) y on i)
-
--- ---- a point of the skeleton lies in the closed frame
-pub skeleton-framed : (s : Set) (c : Complex) → ShowsSet s c → (h : Form) (y : Place) → IsSkeletonIn s (complex_of c) h y → InClosedFrame y
-skeleton-framed s c S h y (inl (meets_vertex k, x)) = vertex-framed s (complex_of c) S.shows k y x
-skeleton-framed s c S h y (inl (meets_edge k, x)) = edge-framed s (complex_of c) S.shows k y x.0
-skeleton-framed s c S h y (inr f) = dim-framed s y 2 (omega arith) f.0
-
--- ---- carriers whose span doesn't meet the window
-module _ (c : Complex) (span window : Span) (off : (y : Place) → IsInSpan span y → IsInSpan window y → ⊥) where
-  outside : (h : Plane) → IsSpanOn c.vertices (form_of h) span → (s : Set) (y : Place) → ShowsSet s c → form_at (form_of h) y ≡ pos 0 → IsSkeletonIn s (complex_of c) (form_of h) y → InClosedFrame y × (IsInSpan window y → ⊥)
-  outside h B s y S on i = (skeleton-framed s c S (form_of h) y i, off y (spanned s c S (form_of h) span B y on i))
-
-  pub carrier-outside : (spans : List Span) → AreSpans c.carriers c.vertices spans → (k : ℕ) → IsAt spans k span → LiesOutside c window k
-  carrier-outside spans A k b h a = outside h (A.each k h span a b)
-
-  pub all-outside : (has : ℕ → Type 0) → AreSpanned c.carriers c.vertices has span → (k : ℕ) → has k → LiesOutside c window k
-  all-outside has A k o h a = outside h (A.each k h o a)

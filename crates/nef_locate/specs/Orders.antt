@@ -5,14 +5,6 @@ use Rattle.nef_space.specs.Place.{Place, Form, form_at, IsPlaceBelow}
 use Rattle.nef_geo.specs.Shapes.{place_of}
 use Rattle.nef_complex.specs.declared.complex.Vertex.{Vertex}
 
--- the vertices with the first n of the numbers come before the point
-abbrev pub AreBefore : List Vertex → List ℕ → Place → ℕ → Type 0
-AreBefore vs ns y n = (i j : ℕ) (v : Vertex) → i < n → IsAt ns i j → IsAt vs j v → IsPlaceBelow (place_of v.point) y
-
--- those with the other numbers come after it
-abbrev pub AreAfter : List Vertex → List ℕ → Place → ℕ → Type 0
-AreAfter vs ns y n = (i j : ℕ) (v : Vertex) → n ≤ i → IsAt ns i j → IsAt vs j v → IsPlaceBelow y (place_of v.point)
-
 -- the vertices on the plane with numbers below n come before the point, and the others on the plane after it
 pub record PartsOn (vs : List Vertex) (h : Form) (y : Place) (n : ℕ) : Type 0 where
   pub before : (j : ℕ) (v : Vertex) → j < n → IsAt vs j v → form_at h (place_of v.point) ≡ pos 0 → IsPlaceBelow (place_of v.point) y

@@ -10,8 +10,8 @@ use Rattle.law_complex.specs.Skeleton.{IsVertexPoint, IsEdgePoint, at_vertex, on
 use Rattle.law_complex.specs.Belongs.{SpotMark}
 use Rattle.law_complex.specs.Rays.{HasVolumeSide}
 use Rattle.nef_complex.specs.Complexes.{corner_of}
-use Rattle.nef_locate.specs.declared.place.Place.{Place}
-use Rattle.nef_locate.specs.declared.place.Place.TheVariants as place
+use Rattle.nef_locate.specs.declared.point.Place.{Place}
+use Rattle.nef_locate.specs.declared.point.Place.TheVariants as place
 
 -- side number j of vertex i is this side, with this label
 abbrev pub IsSideOf : Complex → ℕ → ℕ → Side → Label → Type 0

@@ -1,7 +1,7 @@
 -- What a ray meets of the skeleton, carrier by carrier.
 use Rattle.std.specs.Prelude.{◌≡◌, ℕ, pos, Option, Some, None}
 use Rattle.nef_space.specs.Lists.{IsAt}
-use Rattle.nef_space.specs.Place.{Place as PlainPlace, form_at, InClosedFrame, IsAhead, IsBetween}
+use Rattle.nef_space.specs.Place.{Place as PlainPlace, form_at, IsAhead, IsBetween}
 use Rattle.nef_space.specs.Sets.{Set}
 use Rattle.nef_space.specs.Vectors.{Vector}
 use Rattle.nef_space.specs.declared.label.Label.{Label}
@@ -15,10 +15,8 @@ use Rattle.law_complex.specs.Laws.{IsSkeletonIn}
 use Rattle.law_complex.specs.Rays.{IsAbove}
 use Rattle.law_complex.specs.Skeleton.{Spot, IsSpot, IsSkeletonPoint}
 use Rattle.nef_complex.specs.declared.complex.Complex.{Complex as ProgramComplex}
-use Rattle.nef_complex.specs.declared.spans.Span.{Span}
 use Rattle.nef_complex.specs.Complexes.{complex_of, ShowsSet}
-use Rattle.nef_complex.specs.Spans.{IsInSpan}
-use Rattle.nef_locate.specs.declared.place.Place.{Place}
+use Rattle.nef_locate.specs.declared.point.Place.{Place}
 use Rattle.nef_locate.specs.declared.beam.Met.{Met}
 use Rattle.nef_locate.specs.Places.{IsPlaceIn, IsPlaceAt, IsSideOf}
 
@@ -58,10 +56,6 @@ HasNotAt c y h = (s : Set) → ShowsSet s c → form_at (form_of h) y ≡ pos 0 
 -- the same of the carrier with this number
 abbrev pub HasNotAtCarrier : ProgramComplex → PlainPlace → ℕ → Type 0
 HasNotAtCarrier c y k = (h : Plane) → IsAt c.carriers k h → HasNotAt c y h
-
--- what the carrier with this number holds of the skeleton lies in the closed frame, and not within the window
-abbrev pub LiesOutside : ProgramComplex → Span → ℕ → Type 0
-LiesOutside c w k = (h : Plane) → IsAt c.carriers k h → (s : Set) (y : PlainPlace) → ShowsSet s c → form_at (form_of h) y ≡ pos 0 → IsSkeletonIn s (complex_of c) (form_of h) y → InClosedFrame y × (IsInSpan w y → ⊥)
 
 -- the hit lies before what is met, if something is
 abbrev pub IsSooner : Vector → Hit → Option Met → Type 0

@@ -1,19 +1,14 @@
 //! The side of a vertex above a point of the skeleton.
 
-ghost use Rattle.std.specs.Prelude.{◌≡◌, ◌+◌, ◌<◌, length};
-ghost use Rattle.nef_space.specs.Sets.{Set};
-ghost use Rattle.nef_space.specs.Vectors.{up};
-ghost use Rattle.nef_space.specs.declared.label.Label.{Label};
-ghost use Rattle.law_sphere.specs.Maps.{Side, dir_of};
-ghost use Rattle.law_sphere.specs.Sectors.{BoundsSector};
+ghost use Rattle.std.specs.Prelude.{◌≡◌, ◌+◌, ◌<◌};
+ghost use Rattle.nef_complex.specs.Prelude.{length, Set, up, Label, Side, dir_of, BoundsSector, complex_of, ShowsSet};
 ghost use Rattle.nef_smap.specs.Maps.{map_of, arc_of, IsSphereMap};
 ghost use Rattle.nef_smap.specs.Sides.{IsSide};
-ghost use Rattle.nef_complex.specs.Complexes.{complex_of, ShowsSet};
 ghost use Rattle.nef_locate.specs.Places.{IsPlaceIn};
 ghost use Rattle.nef_locate.specs.Ends.{end_of, IsLast};
 ghost use Rattle.nef_locate.specs.Rays.{IsSideAbove};
 
-use crate::place::{Place, VertexSide};
+use crate::point::Place;
 use nef_complex::Complex;
 use nef_geo::{Sign, triple, up};
 use nef_smap::{SArc, SphereMap};
@@ -89,34 +84,25 @@ fn side_near(map: &SphereMap, svertex: usize) -> usize
     }
 }
 
-/// The side of a vertex above the points that lie at this place: at a vertex one that sees the upward direction, on an edge
-/// that of the lower end which bounds the sector in which this direction lies, in a facet the upper one of its corner's
-/// item, and in a volume the side that names it.
-pub fn side_above(c: &Complex, floor: &Place) -> VertexSide
+/// The side of a vertex above the points that lie at this place, both by number: at a vertex one that sees the upward
+/// direction, on an edge that of the lower end which bounds the sector in which this direction lies, in a facet the upper one
+/// of its corner's item, and in a volume the side that names it.
+pub fn side_above(c: &Complex, floor: &Place) -> (usize, usize)
     requires shows { (s : Set) × ShowsSet s c.now }
     requires place { IsPlaceIn (complex_of c.now) floor.now }
-    ensures above { IsSideAbove (complex_of c.now) floor.now result.vertex result.side }
+    ensures above { IsSideAbove (complex_of c.now) floor.now result.0 result.1 }
 {
     match *floor {
-        Place::Vertex(number) => VertexSide {
-            vertex: number,
-            side: c.vertices.at(number).map.face_toward(&up()),
-        },
+        Place::Vertex(number) => (number, c.vertices.at(number).map.face_toward(&up())),
         Place::OnEdge(number) => {
             let edge = c.edges.at(number);
-            VertexSide {
-                vertex: edge.low,
-                side: side_near(&c.vertices.at(edge.low).map, edge.low_svertex),
-            }
+            let map = &c.vertices.at(edge.low).map;
+            (edge.low, side_near(map, edge.low_svertex))
         }
-        Place::InFacet(corner) => VertexSide {
-            vertex: corner.vertex,
-            side: c
-                .vertices
-                .at(corner.vertex)
-                .map
-                .item_side(corner.item, true),
-        },
-        Place::InVolume { vertex, side } => VertexSide { vertex, side },
+        Place::InFacet(corner) => {
+            let map = &c.vertices.at(corner.vertex).map;
+            (corner.vertex, map.item_side(corner.item, true))
+        }
+        Place::InVolume { vertex, side } => (vertex, side),
     }
 }

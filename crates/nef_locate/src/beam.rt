@@ -1,24 +1,74 @@
-//! What a ray up or down first meets.
+//! What a ray up or down first meets. Where it can't lead within the frame is passed over.
 
-ghost use Rattle.std.specs.Prelude.{◌≡◌, ◌⊎◌, ◌↔◌, IsTrue, IsNone, IfSome};
-ghost use Rattle.nef_space.specs.Place.{Place as PlainPlace, InClosedFrame, IsAhead};
-ghost use Rattle.nef_space.specs.Sets.{Set};
-ghost use Rattle.nef_space.specs.Vectors.{Vector, IsDirection, opposite, up};
-ghost use Rattle.nef_geo.specs.Hits.{IsReached, IsUpright};
-ghost use Rattle.nef_geo.specs.Shapes.{vector_of, place_of, hit_place};
-ghost use Rattle.law_complex.specs.Skeleton.{IsSkeletonPoint};
-ghost use Rattle.nef_complex.specs.Complexes.{complex_of, ShowsSet};
-ghost use Rattle.nef_complex.specs.Spans.{IsInSpan};
+ghost use Rattle.std.specs.Prelude.{◌≡◌, ◌⊎◌, ◌↔◌, ◌+ℤ◌, ◌-ℤ◌};
+ghost use Rattle.nef_complex.specs.Prelude.{IsTrue, IsNone, IfSome, pos, Place as PlainPlace, InClosedFrame, IsAhead, Set, Vector, IsDirection, opposite, up, IsReached, IsUpright, vector_of, place_of, hit_place, IsSkeletonPoint, complex_of, ShowsSet, IsInSpan, AreSmall};
 ghost use Rattle.nef_locate.specs.Places.{IsPlaceIn, IsFirstHit};
 ghost use Rattle.nef_locate.specs.Rays.{IsReachedMet, IsMet, IsSooner, HasNoneOnCarrier};
 
 use crate::carrier::place_on;
-use crate::place::Place;
-use crate::walk::{Search, search_carriers};
-use crate::window::ray_window;
-use nef_complex::{Complex, Span};
-use nef_geo::{Dir, Hit, Point, hit_order, ray_hit};
-use std::cmp::Ordering;
+use crate::point::Place;
+use nef_complex::{Bounds, Complex, Search, Span, search_carriers};
+use nef_geo::{Dir, HALF_SIDE, Hit, Point, hit_order, ray_hit};
+
+// The bounds of what lies at most one above the numbers within these.
+fn above(bounds: &Bounds) -> Bounds
+    requires small { AreSmall bounds.now }
+    ensures low { result.low ≡ bounds.now.low }
+    ensures high { result.high ≡ bounds.now.high +ℤ pos 1 }
+{
+    Bounds {
+        low: bounds.low,
+        high: bounds.high + 1,
+    }
+}
+
+// And of what lies at most one below them.
+fn below(bounds: &Bounds) -> Bounds
+    requires small { AreSmall bounds.now }
+    ensures low { result.low ≡ bounds.now.low -ℤ pos 1 }
+    ensures high { result.high ≡ bounds.now.high }
+{
+    Bounds {
+        low: bounds.low - 1,
+        high: bounds.high,
+    }
+}
+
+// Whether the direction is the upward one.
+fn is_up(d: &Dir) -> bool
+    requires upright { IsUpright (vector_of d.now) }
+    ensures upward { IsTrue result ↔ (vector_of d.now ≡ up) }
+{
+    d.x() > 0
+}
+
+// A span of all points of the frame that the ray from the point leads to along the upward direction or the downward one. From
+// point to point of the frame y and z change by less than one, and all three coordinates rise along the upward direction.
+fn ray_window(p: &Point, d: &Dir) -> Span
+    requires upright { IsUpright (vector_of d.now) }
+    ensures ahead { (q : PlainPlace) → InClosedFrame (place_of p.now) → InClosedFrame q → IsAhead (place_of p.now) (vector_of d.now) q → IsInSpan result q }
+{
+    let here = Span::of(p);
+    if is_up(d) {
+        Span {
+            x: Bounds {
+                low: here.x.low,
+                high: HALF_SIDE,
+            },
+            y: above(&here.y),
+            z: above(&here.z),
+        }
+    } else {
+        Span {
+            x: Bounds {
+                low: -HALF_SIDE,
+                high: here.x.high,
+            },
+            y: below(&here.y),
+            z: below(&here.z),
+        }
+    }
+}
 
 // What a ray meets, and the hit there.
 #[derive(Debug, Clone, Copy)]
@@ -42,11 +92,7 @@ fn is_sooner(hit: &Hit, best: &Option<Met>) -> bool
     ensures sooner { (p : PlainPlace) (d : Vector) → IsDirection d → IsReached p d hit.now.num hit.now.den hit.now.den_sign (hit_place hit.now) → IfSome best.now (IsReachedMet p d) → (IsTrue result ↔ IsSooner d hit.now best.now) }
 {
     match best {
-        Some(met) => match hit_order(hit, &met.at) {
-            Ordering::Less => true,
-            Ordering::Equal => false,
-            Ordering::Greater => false,
-        },
+        Some(met) => hit_order(hit, &met.at).is_lt(),
         None => true,
     }
 }

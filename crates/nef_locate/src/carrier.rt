@@ -1,27 +1,128 @@
-//! What of the skeleton stands at a point of a carrier.
+//! What of the skeleton stands at a point of a carrier. Vertices have numbers in the order of points, so the numbers alone tell
+//! of most vertices and edges that a hit isn't there.
 
-ghost use Rattle.std.specs.Prelude.{◌≡◌, ℕ, pos, IsNone, IfSome};
-ghost use Rattle.std.specs.Option.{MatchOption};
-ghost use Rattle.nef_space.specs.Lists.{IsAt};
-ghost use Rattle.nef_space.specs.Place.{Form, InClosedFrame, form_at};
-ghost use Rattle.nef_space.specs.Sets.{Set};
-ghost use Rattle.nef_geo.specs.Hits.{IsPlaceAtMost};
-ghost use Rattle.nef_geo.specs.Shapes.{form_of, hit_place};
-ghost use Rattle.nef_geo.specs.Widths.{upright_limit, upright_weight_limit};
-ghost use Rattle.law_complex.specs.Skeleton.{IsEdgePoint};
-ghost use Rattle.nef_complex.specs.Complexes.{complex_of, ShowsSet};
-ghost use Rattle.nef_complex.specs.Index.{AreNumbersWith, EdgeLiesIn};
+ghost use Rattle.std.specs.Prelude.{◌≡◌, ◌≤◌, ◌*ℤ◌, ◌<ℤ◌, ◌*◌, ◌≤ℤ◌, ◌↔◌};
+ghost use Rattle.nef_complex.specs.Prelude.{ℕ, pos, IsNone, IfSome, nat_abs, IfOk, IfErr, IsTrue, MatchOption, IsAt, Form, InClosedFrame, form_at, SamePlace, IsPlaceBelow, Set, IsPlaceAtMost, form_of, hit_place, place_of, upright_limit, upright_weight_limit, IsEdgePoint, IsVertexPoint, complex_of, ShowsSet, AreNumbersWith, EdgeLiesIn, LiesOn, IsSkeletonIn, MatchOrdering, point_limit, weight_limit, half_side, IsInSpan};
 ghost use Rattle.nef_locate.specs.Orders.{PartsOn};
-ghost use Rattle.law_complex.specs.Laws.{IsSkeletonIn};
 ghost use Rattle.nef_locate.specs.Rays.{IsSkeletonAt};
 
 use crate::facet::in_facet;
-use crate::hit::{is_framed, is_in_span};
-use crate::order::find_among;
-use crate::place::Place;
-use nef_complex::{Complex, carrier_items, carrier_spans};
-use nef_geo::{Hit, Plane};
+use crate::point::Place;
+use nef_complex::{Bounds, Complex, Span, carrier_items, carrier_spans};
+use nef_geo::{HALF_SIDE, Hit, Plane, Point};
 use nef_plane::is_in_line;
+use std::cmp::Ordering;
+
+// Whether n/w is at most half the length of the frame's sides in size.
+fn is_within(n: i128, w: i128) -> bool
+    requires w_small { nat_abs w ≤ upright_weight_limit }
+    requires positive { pos 0 <ℤ w }
+    ensures within { IsTrue result ↔ (nat_abs n ≤ half_side * nat_abs w) }
+{
+    let end = i128::from(HALF_SIDE) * w;
+    -end <= n && n <= end
+}
+
+// Whether the hit lies in the closed frame.
+fn is_framed(q: &Hit) -> bool
+    requires numbers { IsPlaceAtMost upright_limit upright_weight_limit (hit_place q.now) }
+    ensures framed { IsTrue result ↔ InClosedFrame (hit_place q.now) }
+{
+    is_within(q.x(), q.w()) && is_within(q.y(), q.w()) && is_within(q.z(), q.w())
+}
+
+// Whether n/w is at least the whole number. A number of the frame takes a product, which is cheaper than the quotient.
+fn is_at_least(n: i128, w: i128, low: i128) -> bool
+    requires small { nat_abs n ≤ upright_limit }
+    requires w_small { nat_abs w ≤ upright_weight_limit }
+    requires positive { pos 0 <ℤ w }
+    ensures least { IsTrue result ↔ ((low *ℤ w) ≤ℤ n) }
+{
+    if is_within(low, 1) {
+        low * w <= n
+    } else {
+        low <= n.div_euclid(w)
+    }
+}
+
+// Whether n/w lies within the bounds.
+fn lies_between(n: i128, w: i128, bounds: &Bounds) -> bool
+    requires small { nat_abs n ≤ upright_limit }
+    requires w_small { nat_abs w ≤ upright_weight_limit }
+    requires positive { pos 0 <ℤ w }
+    ensures between { IsTrue result ↔ (((bounds.now.low *ℤ w) ≤ℤ n) × (n ≤ℤ (bounds.now.high *ℤ w))) }
+{
+    is_at_least(n, w, i128::from(bounds.low)) && is_at_least(-n, w, -i128::from(bounds.high))
+}
+
+// Whether the hit lies within the span.
+fn is_in_span(q: &Hit, span: &Span) -> bool
+    requires numbers { IsPlaceAtMost upright_limit upright_weight_limit (hit_place q.now) }
+    ensures spanned { IsTrue result ↔ IsInSpan span.now (hit_place q.now) }
+{
+    if !lies_between(q.x(), q.w(), &span.x) {
+        return false;
+    }
+    if !lies_between(q.y(), q.w(), &span.y) {
+        return false;
+    }
+    lies_between(q.z(), q.w(), &span.z)
+}
+
+// Compares x/w and y/v.
+fn ratio_cmp(x: i64, w: i64, y: i128, v: i128) -> Ordering
+    requires x_small { nat_abs x ≤ point_limit }
+    requires w_small { nat_abs w ≤ weight_limit }
+    requires y_small { nat_abs y ≤ upright_limit }
+    requires v_small { nat_abs v ≤ upright_weight_limit }
+    ensures order { MatchOrdering result ((x *ℤ v) <ℤ (y *ℤ w)) (x *ℤ v ≡ y *ℤ w) ((y *ℤ w) <ℤ (x *ℤ v)) }
+{
+    (x as i128 * v).cmp(&(y * w as i128))
+}
+
+// Compares a point and a hit by their first numbers, then by the second, then by the third.
+fn hit_cmp(p: &Point, q: &Hit) -> Ordering
+    requires numbers { IsPlaceAtMost upright_limit upright_weight_limit (hit_place q.now) }
+    ensures order { MatchOrdering result (IsPlaceBelow (place_of p.now) (hit_place q.now)) (SamePlace (place_of p.now) (hit_place q.now)) (IsPlaceBelow (hit_place q.now) (place_of p.now)) }
+{
+    match ratio_cmp(p.x(), p.w(), q.x(), q.w()) {
+        Ordering::Equal => match ratio_cmp(p.y(), p.w(), q.y(), q.w()) {
+            Ordering::Equal => ratio_cmp(p.z(), p.w(), q.z(), q.w()),
+            Ordering::Less => Ordering::Less,
+            Ordering::Greater => Ordering::Greater,
+        },
+        Ordering::Less => Ordering::Less,
+        Ordering::Greater => Ordering::Greater,
+    }
+}
+
+// Of the vertices of a plane, which have these numbers, the number of that which the hit is, by halving. Where it is none of
+// them, `Err` has the number of the first that comes after it, or that of all vertices: those of the plane with smaller numbers
+// come before the hit, and the others after it.
+fn find_among(c: &Complex, numbers: &[usize], q: &Hit) -> Result<usize, usize>
+    requires shows { (s : Set) × ShowsSet s c.now }
+    requires listed { (h : Form) × AreNumbersWith (LiesOn c.now.vertices h) numbers.now }
+    requires numbers { IsPlaceAtMost upright_limit upright_weight_limit (hit_place q.now) }
+    ensures found { IfOk result (λ k. IsVertexPoint (complex_of c.now) k (hit_place q.now)) }
+    ensures parts { IfErr result (λ n. (h : Form) → AreNumbersWith (LiesOn c.now.vertices h) numbers.now → PartsOn c.now.vertices h (hit_place q.now) n) }
+{
+    let mut low = 0;
+    let mut high = numbers.len();
+    while low < high {
+        let middle = low + (high - low) / 2;
+        let number = numbers[middle];
+        match hit_cmp(&c.vertices.at(number).point, q) {
+            Ordering::Less => low = middle + 1,
+            Ordering::Equal => return Ok(number),
+            Ordering::Greater => high = middle,
+        }
+    }
+    if low < numbers.len() {
+        Err(numbers[low])
+    } else {
+        Err(c.vertices.len())
+    }
+}
 
 // Of the edges in a plane with these numbers that on which the hit lies. The vertices of the plane with numbers below the
 // next come before the hit, and the others after it. An edge on which the hit lies has its lower end among the former and

@@ -1,22 +1,13 @@
 //! The facet of a plane in which a point lies.
 
-ghost use Rattle.std.specs.Prelude.{◌≡◌, ℕ, ◌<◌, length, pos, Some, ◌⊎◌, ◌↔◌, IsTrue, IsNone, IfSome, MatchOption};
-ghost use Rattle.nef_space.specs.Place.{form_at, normal_of, InClosedFrame};
-ghost use Rattle.nef_space.specs.Sets.{Set};
-ghost use Rattle.nef_space.specs.Vectors.{SameDirection, dot};
-ghost use Rattle.law_sphere.specs.Maps.{Item, item_normal};
-ghost use Rattle.nef_geo.specs.Hits.{IsPlaceAtMost};
-ghost use Rattle.nef_geo.specs.Shapes.{form_of, vector_of, hit_place};
-ghost use Rattle.nef_geo.specs.Widths.{upright_limit, upright_weight_limit};
-ghost use Rattle.law_complex.specs.Complexes.{Vertex as PlainVertex, Corner as PlainCorner, IsCorner};
-ghost use Rattle.law_complex.specs.Laws.{IsFlatIn};
-ghost use Rattle.law_complex.specs.Skeleton.{PlaneMeet as PlainMeet, Meets, IsCornerAt, HasCorner};
-ghost use Rattle.nef_complex.specs.Complexes.{complex_of, corner_of, meet_of, vertex_of, ShowsSet};
+ghost use Rattle.nef_complex.specs.Prelude.{ℕ, length, pos, Some, IsTrue, IsNone, IfSome, form_at, normal_of, InClosedFrame, Set, SameDirection, dot, Item, item_normal, IsPlaceAtMost, form_of, vector_of, hit_place, upright_limit, upright_weight_limit, Corner as PlainCorner, IsCorner, IsFlatIn, PlaneMeet as PlainMeet, Meets, IsCornerAt, HasCorner, complex_of, corner_of, meet_of, vertex_of, ShowsSet};
+ghost use Rattle.std.specs.Prelude.{MatchOption, ◌≡◌, ◌<◌, ◌⊎◌, ◌↔◌};
+ghost use Rattle.law_complex.specs.Complexes.{Vertex as PlainVertex};
 ghost use Rattle.nef_locate.specs.Facets.{IsArcBeside, HasMet};
 
-use nef_complex::{Complex, Corner, PlaneMeet, Vertex, plane_items, plane_normal};
-use nef_geo::{Dir, Hit, Plane, Sign, plane_axis, triple};
-use nef_plane::first_in_plane;
+use nef_complex::{Complex, Corner, PlaneMeet, Vertex, plane_items};
+use nef_geo::{Dir, Hit, Plane, Sign, plane_axis, plane_normal, triple};
+use nef_plane::first_along_axis;
 use nef_smap::SArc;
 
 // Whether the arc has the normal and leaves the svertex on the side that the turn from the svertex to a direction tells.
@@ -87,10 +78,10 @@ pub fn in_facet(c: &Complex, h: &Plane, p: &Hit) -> Option<Corner>
     ensures none { IsNone result → (s : Set) → ShowsSet s c.now → IsFlatIn s (form_of h.now) (hit_place p.now) → ⊥ }
 {
     // a facet has items in its plane
-    plane_items(c, h)?;
+    let items = plane_items(c, h)?;
     // the ray from a point of a facet stays in it up to the first vertex or edge of the plane, which has an item on this
     // side; and from such an item the facet reaches back to the point
     let axis = plane_axis(h);
-    let met = first_in_plane(c, h, p, &axis)?;
+    let met = first_along_axis(c, h, Some(items), p, &axis)?;
     corner_toward(c, h, &axis.back(), met)
 }

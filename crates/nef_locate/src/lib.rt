@@ -7,25 +7,13 @@
 mod above;
 mod beam;
 mod carrier;
-mod edge;
 mod facet;
-mod hit;
-mod label;
-mod local;
 mod maps;
-mod order;
-mod place;
-mod plane;
 mod point;
-mod walk;
-mod window;
 
 pub use above::side_above;
 pub use beam::first_hit;
 pub use facet::{corner_toward, in_facet};
-pub use label::place_label;
-pub use local::local_map;
-pub use maps::place_map;
-pub use place::{Place, VertexSide};
-pub use point::locate;
+pub use maps::{local_map, place_map};
+pub use point::{Place, locate, place_label};
 pub use std::alloc::AllocError as OutOfMemory;

@@ -1,31 +1,85 @@
-//! The least map of the set at a place.
+//! The least map of the set at a place, and at a point.
 
-ghost use Rattle.std.specs.Prelude.{IfOk};
-ghost use Rattle.nef_space.specs.Place.{Place as PlainPlace};
-ghost use Rattle.nef_space.specs.Sets.{Set};
-ghost use Rattle.law_sphere.specs.Least.{Cone};
-ghost use Rattle.nef_smap.specs.Maps.{map_of, IsLeastMap};
-ghost use Rattle.nef_complex.specs.Complexes.{complex_of, ShowsSet};
-ghost use Rattle.nef_locate.specs.declared.place.Place.TheVariants as place;
+ghost use Rattle.std.specs.Prelude.{◌≡◌, ◌<◌, ◌*◌};
+ghost use Rattle.nef_complex.specs.Prelude.{IfOk, length, map, Place as PlainPlace, InClosedFrame, Set, place_of, Cone, complex_of, ShowsSet, At, MapVertex};
+ghost use Rattle.nef_smap.specs.Maps.{map_of, IsLeastMap, svertex_of, IsSphereMap};
 ghost use Rattle.nef_locate.specs.Places.{IsPlaceIn, IsPlaceAt};
+ghost use Rattle.nef_locate.specs.Halves.{two_ends, IsHalf, AreHalves};
+ghost use Rattle.nef_locate.specs.declared.point.Place.TheVariants as place;
 
 use crate::OutOfMemory;
-use crate::edge::edge_map;
-use crate::label::place_label;
-use crate::place::Place;
-use crate::plane::plane_of;
+use crate::point::{Place, locate, place_label};
 use nef_complex::{Complex, Corner};
-use nef_smap::{SphereMap, copy, face_map, plane_map};
+use nef_geo::{List, Point};
+use nef_smap::{SArc, SLoop, SVertex, SphereMap, copy, face_map, plane_map};
+use nef_spair::sort_arcs;
 use std::alloc::Global;
 
-// The least map of the set at the vertex with this number.
-fn vertex_map(alloc: Global, c: &Complex, number: usize) -> Result<SphereMap, OutOfMemory>
-    requires shows { (s : Set) × ShowsSet s c.now }
-    requires place { IsPlaceIn (complex_of c.now) (place.Vertex number) }
-    ensures least { IfOk result (λ m. IsLeastMap m) }
-    ensures cone { IfOk result (λ m. (s : Set) (y : PlainPlace) → ShowsSet s c.now → IsPlaceAt (complex_of c.now) y (place.Vertex number) → Cone (map_of m) s y) }
+// The svertices at the points of an edge that leaves a vertex at this svertex: the opposite direction is the lesser one.
+fn ends_of(alloc: Global, end: &SVertex) -> Result<Vec<SVertex>, OutOfMemory>
+    ensures ends { IfOk result (λ v. map svertex_of v.items ≡ two_ends (svertex_of end.now)) }
 {
-    copy(alloc, &c.vertices.at(number).map)
+    let opposite = SVertex {
+        dir: end.dir.back(),
+        mark: end.mark,
+        around: end.around,
+    };
+    Vec::from_slice(alloc, &[opposite, *end])
+}
+
+// The half of the arc's circle from svertex number `source` of two opposite ones to the other.
+fn half_circle(arc: &SArc, source: usize) -> SArc
+    requires source { source < 2 }
+    ensures half { IsHalf arc.now source result }
+{
+    SArc {
+        source,
+        target: 1 - source,
+        normal: arc.normal,
+        mark: arc.mark,
+        pos: arc.pos,
+        neg: arc.neg,
+    }
+}
+
+// The half circles along the arcs that begin or end at the svertex: a whole circle gives both.
+fn half_circles(alloc: Global, map: &SphereMap, svertex: usize) -> Result<Vec<SArc>, OutOfMemory>
+    requires map { IsSphereMap map.now }
+    requires svertex { (u : MapVertex) × At (map_of map.now).svertices svertex u }
+    ensures halves { IfOk result (λ v. AreHalves map.now.arcs svertex (2 * length map.now.arcs) v.items) }
+{
+    let mut halves = Vec::with_capacity(alloc, map.arcs.len())?;
+    for arc in map.arcs.as_slice() {
+        if arc.target == svertex {
+            halves.push(half_circle(arc, 0))?;
+        }
+        if arc.source == svertex {
+            halves.push(half_circle(arc, 1))?;
+        }
+    }
+    Ok(halves)
+}
+
+// The least map of the set at the points strictly inside the edge with this number.
+fn edge_map(alloc: Global, c: &Complex, number: usize) -> Result<SphereMap, OutOfMemory>
+    requires shows { (s : Set) × ShowsSet s c.now }
+    requires place { IsPlaceIn (complex_of c.now) (place.OnEdge number) }
+    ensures least { IfOk result (λ m. IsLeastMap m) }
+    ensures cone { IfOk result (λ m. (s : Set) (y : PlainPlace) → ShowsSet s c.now → IsPlaceAt (complex_of c.now) y (place.OnEdge number) → Cone (map_of m) s y) }
+{
+    let edge = *c.edges.at(number);
+    let low = &c.vertices.at(edge.low).map;
+    let svertices = ends_of(alloc, low.svertices.at(edge.low_svertex))?;
+    // the labels don't change along the edge, so each arc there gives half a great circle
+    let mut arcs = half_circles(alloc, low, edge.low_svertex)?;
+    sort_arcs(&mut arcs);
+    Ok(SphereMap {
+        mark: edge.mark,
+        svertices: List::from_vec(svertices),
+        arcs: List::from_vec(arcs),
+        sloop: None,
+        ground: None,
+    })
 }
 
 // The least map of the set at the points that have this corner.
@@ -35,18 +89,14 @@ fn facet_map(alloc: Global, c: &Complex, corner: &Corner) -> SphereMap
     ensures least { IsLeastMap result }
     ensures cone { (s : Set) (y : PlainPlace) → ShowsSet s c.now → IsPlaceAt (complex_of c.now) y (place.InFacet corner.now) → Cone (map_of result) s y }
 {
-    let plane = plane_of(&c.vertices.at(corner.vertex).map, corner.item);
+    let item = c.vertices.at(corner.vertex).map.item_at(corner.item);
+    let plane = SLoop {
+        normal: *item.normal(),
+        mark: item.mark(),
+        pos: item.label(true),
+        neg: item.label(false),
+    };
     plane_map(alloc, plane)
-}
-
-// The least map of the set at the points of a volume that have this side of the vertex.
-fn volume_map(alloc: Global, c: &Complex, vertex: usize, side: usize) -> SphereMap
-    requires place { IsPlaceIn (complex_of c.now) (place.InVolume vertex side) }
-    ensures least { IsLeastMap result }
-    ensures cone { (s : Set) (y : PlainPlace) → ShowsSet s c.now → IsPlaceAt (complex_of c.now) y (place.InVolume vertex side) → Cone (map_of result) s y }
-{
-    let label = place_label(c, &Place::InVolume { vertex, side });
-    face_map(alloc, label, label)
 }
 
 /// The least map of the set at the points that lie at this place. `OutOfMemory` comes where no memory is left; in a facet or
@@ -58,9 +108,23 @@ pub fn place_map(alloc: Global, c: &Complex, at: &Place) -> Result<SphereMap, Ou
     ensures cone { IfOk result (λ m. (s : Set) (y : PlainPlace) → ShowsSet s c.now → IsPlaceAt (complex_of c.now) y at.now → Cone (map_of m) s y) }
 {
     match *at {
-        Place::Vertex(number) => vertex_map(alloc, c, number),
+        Place::Vertex(number) => copy(alloc, &c.vertices.at(number).map),
         Place::OnEdge(number) => edge_map(alloc, c, number),
         Place::InFacet(corner) => Ok(facet_map(alloc, c, &corner)),
-        Place::InVolume { vertex, side } => Ok(volume_map(alloc, c, vertex, side)),
+        Place::InVolume { .. } => {
+            let label = place_label(c, at);
+            Ok(face_map(alloc, label, label))
+        }
     }
+}
+
+/// The least map of the set at the point, which lies in the closed frame. `OutOfMemory` says that memory was wanted and not
+/// found; off the vertices and edges none is wanted.
+pub fn local_map(alloc: Global, c: &Complex, p: &Point) -> Result<SphereMap, OutOfMemory>
+    requires shows { (s : Set) × ShowsSet s c.now }
+    requires framed { InClosedFrame (place_of p.now) }
+    ensures least { IfOk result (λ m. IsLeastMap m) }
+    ensures cone { IfOk result (λ m. (s : Set) → ShowsSet s c.now → Cone (map_of m) s (place_of p.now)) }
+{
+    place_map(alloc, c, &locate(c, p))
 }

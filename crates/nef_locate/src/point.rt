@@ -1,26 +1,43 @@
-//! Where a point lies in a complex.
+//! Where a point lies in a complex, and its label there.
 
-ghost use Rattle.std.specs.Prelude.{◌≡◌, IsNone, IfSome};
-ghost use Rattle.nef_space.specs.Local.{FlatDim};
-ghost use Rattle.nef_space.specs.Place.{Form, InClosedFrame};
-ghost use Rattle.nef_space.specs.Sets.{Set};
-ghost use Rattle.nef_geo.specs.Hits.{IsPlaceAtMost};
-ghost use Rattle.nef_geo.specs.Shapes.{place_of, hit_place};
-ghost use Rattle.nef_geo.specs.Widths.{upright_limit, upright_weight_limit};
-ghost use Rattle.law_complex.specs.Skeleton.{IsSkeletonPoint};
-ghost use Rattle.nef_complex.specs.Complexes.{complex_of, ShowsSet, AreBelow, AreAbove};
-ghost use Rattle.nef_complex.specs.Spans.{IsInSpan};
+ghost use Rattle.nef_complex.specs.Prelude.{IsNone, IfSome, FlatDim, HasLabel, Form, InClosedFrame, Place as PlainPlace, Set, IsPlaceAtMost, place_of, hit_place, upright_limit, upright_weight_limit, IsSkeletonPoint, complex_of, ShowsSet, IsInSpan};
 ghost use Rattle.nef_locate.specs.Orders.{PartsOn};
-ghost use Rattle.nef_locate.specs.Places.{IsPlaceIn, IsPlaceAt, place_dimension};
+ghost use Rattle.nef_locate.specs.Places.{IsPlaceIn, IsPlaceAt, place_dimension, IsPlaceLabel};
 ghost use Rattle.nef_locate.specs.Rays.{IsSkeletonAt, HasNotAtCarrier};
 
 use crate::above::side_above;
 use crate::beam::first_hit;
 use crate::carrier::place_beside_vertices;
-use crate::place::Place;
-use crate::walk::{Search, search_carriers};
-use nef_complex::{Complex, Span, find_vertex};
-use nef_geo::{Hit, Point, Sign, hit_at, hit_side, up};
+use nef_complex::{Complex, Corner, Search, Span, find_vertex, search_carriers};
+use nef_geo::{Hit, Label, Point, Sign, hit_at, hit_side, up};
+use nef_smap::side_label;
+
+/// Where a point lies in a complex: it is a vertex, lies on an edge, in a facet, which an item of a vertex names, or in
+/// a volume, which a side of a vertex names. Numbers count from 0.
+#[derive(Debug, Clone, Copy, PartialEq, Eq)]
+pub enum Place {
+    Vertex(usize),
+    OnEdge(usize),
+    InFacet(Corner),
+    InVolume { vertex: usize, side: usize },
+}
+
+/// The label of the points that lie at this place of the complex. It takes no memory.
+pub fn place_label(c: &Complex, at: &Place) -> Label
+    requires place { IsPlaceIn (complex_of c.now) at.now }
+    ensures label { IsPlaceLabel (complex_of c.now) at.now result }
+    ensures set { (s : Set) (y : PlainPlace) → ShowsSet s c.now → IsPlaceAt (complex_of c.now) y at.now → HasLabel s y result }
+{
+    match *at {
+        Place::Vertex(number) => c.vertices.at(number).map.mark,
+        Place::OnEdge(number) => c.edges.at(number).mark,
+        Place::InFacet(corner) => {
+            let map = &c.vertices.at(corner.vertex).map;
+            map.item_at(corner.item).mark()
+        }
+        Place::InVolume { vertex, side } => side_label(&c.vertices.at(vertex).map, side),
+    }
+}
 
 // A point of the closed frame that is asked where it lies, and a window within which it lies. It is no vertex: so many
 // vertices come before it, and the others after it.
@@ -64,24 +81,7 @@ impl Search for Probe {
     ghost apart = { λ x c f k o e h a s S on i. (o h a s (hit_place x.at) S on i).1 x.inside };
 }
 
-// Where a point of the skeleton lies that is no vertex. So many vertices come before it, and the others after it.
-fn off_vertices(c: &Complex, p: &Point, before: usize) -> Option<Place>
-    requires shows { (s : Set) × ShowsSet s c.now }
-    requires framed { InClosedFrame (place_of p.now) }
-    requires before { AreBelow c.now.vertices before p.now }
-    requires after { AreAbove c.now.vertices before p.now }
-    ensures at { IfSome result (IsSkeletonAt (complex_of c.now) (place_of p.now)) }
-    ensures none { IsNone result → IsSkeletonPoint (complex_of c.now) (place_of p.now) → ⊥ }
-{
-    let probe = Probe {
-        at: hit_at(p),
-        before,
-        window: Span::of(p),
-    };
-    search_carriers(&probe, c)
-}
-
-// Where a point of the skeleton lies.
+// Where a point of the skeleton lies: it is a vertex, or is looked for on the carriers.
 fn on_skeleton(c: &Complex, p: &Point) -> Option<Place>
     requires shows { (s : Set) × ShowsSet s c.now }
     requires framed { InClosedFrame (place_of p.now) }
@@ -90,7 +90,14 @@ fn on_skeleton(c: &Complex, p: &Point) -> Option<Place>
 {
     match find_vertex(c, p) {
         Ok(number) => Some(Place::Vertex(number)),
-        Err(before) => off_vertices(c, p, before),
+        Err(before) => {
+            let probe = Probe {
+                at: hit_at(p),
+                before,
+                window: Span::of(p),
+            };
+            search_carriers(&probe, c)
+        }
     }
 }
 
@@ -101,15 +108,11 @@ fn in_volume(c: &Complex, p: &Point) -> Place
     requires off { IsSkeletonPoint (complex_of c.now) (place_of p.now) → ⊥ }
     ensures place { IsPlaceIn (complex_of c.now) result }
     ensures at { IsPlaceAt (complex_of c.now) (place_of p.now) result }
-    ensures volume { place_dimension result ≡ 3 }
 {
     match first_hit(c, p, &up().back()) {
         Some(floor) => {
-            let above = side_above(c, &floor);
-            Place::InVolume {
-                vertex: above.vertex,
-                side: above.side,
-            }
+            let (vertex, side) = side_above(c, &floor);
+            Place::InVolume { vertex, side }
         }
         None => unreachable!(),
     }

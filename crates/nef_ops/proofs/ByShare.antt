@@ -16,15 +16,14 @@ use Rattle.law_sphere.specs.Least.{Cone}
 use Rattle.law_sphere.proofs.Labels.{label-unique}
 use Rattle.nef_smap.specs.declared.map.SphereMap.{SphereMap}
 use Rattle.nef_smap.specs.Maps.{map_of, IsLeastMap}
-use Rattle.nef_star.specs.declared.op.Op.{Op}
+use Rattle.nef_star.specs.declared.star.Op.{Op}
 use Rattle.nef_star.specs.Ops.{op_label}
 use Rattle.nef_stopo.specs.Sets.{op_set}
 use Rattle.nef_stopo.proofs.Cones.{label-by_op, germ-by_op}
 use Rattle.nef_ops.specs.declared.share.Share.{Share}
 use Rattle.nef_ops.specs.declared.share.Share.TheVariants.{Part}
-use Rattle.nef_ops.specs.declared.choice.Choice.TheVariants.{First, Second, NotFirst, NotSecond}
-use Rattle.nef_ops.specs.Combined.{IsCombined}
-use Rattle.nef_ops.specs.Shares.{AreAlike, InShare, HasShare, Leads}
+use Rattle.nef_ops.specs.declared.local.Choice.TheVariants.{First, Second, NotFirst, NotSecond}
+use Rattle.nef_ops.specs.Shares.{IsCombined, AreAlike, InShare, HasShare, Leads}
 
 -- ---- labels at one point
 pub alike-labels : (s t : Set) (p : Place) (k l : Label) → HasLabel s p k → HasLabel t p l → AreAlike k l

@@ -1,7 +1,7 @@
 -- No more workers share work than there may be.
 use Rattle.std.proofs.Common.{ℕ, ◌≤◌, Bool, true, false, ◌&&◌, arith}
 use Rattle.std.specs.Prelude.{nat_le, if◌then◌else◌}
-use Rattle.nef_core.specs.declared.how.BoardKind.TheVariants.{Lock, Free}
+use Rattle.nef_core.specs.declared.work.BoardKind.TheVariants.{Lock, Free}
 use Rattle.nef_core.specs.declared.work.Work.{Work}
 use Rattle.nef_core.specs.declared.work.Work.TheVariants.{LightJobs, HeavyJobs, Listing, Parts, Release, Round}
 use Rattle.nef_core.specs.Work.{crew_of}

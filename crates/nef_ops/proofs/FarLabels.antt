@@ -22,15 +22,15 @@ use Rattle.nef_complex.specs.Index.{IsSpanOn}
 use Rattle.nef_complex.specs.Spans.{IsInSpan, IsNarrower}
 use Rattle.nef_complex.specs.declared.complex.Complex.{Complex}
 use Rattle.nef_complex.specs.declared.spans.Span.{Span}
+use Rattle.nef_complex.proofs.Spanned.{spanned}
 use Rattle.nef_complex.proofs.Spanning.{span-wider}
 use Rattle.nef_locate.proofs.CarrierPoints.{skeleton-carrier}
 use Rattle.nef_locate.proofs.VolumeLabels.{volume-flat}
-use Rattle.nef_locate.proofs.Windows.{spanned}
-use Rattle.nef_ops.specs.declared.side.Axis.{Axis}
-use Rattle.nef_ops.specs.declared.side.Axis.TheVariants.{X, Y, Z}
-use Rattle.nef_ops.specs.declared.side.Way.{Way}
-use Rattle.nef_ops.specs.declared.side.Way.TheVariants.{Below, Above}
-use Rattle.nef_ops.specs.declared.side.Side.{Side}
+use Rattle.nef_ops.specs.declared.regions.Axis.{Axis}
+use Rattle.nef_ops.specs.declared.regions.Axis.TheVariants.{X, Y, Z}
+use Rattle.nef_ops.specs.declared.regions.Way.{Way}
+use Rattle.nef_ops.specs.declared.regions.Way.TheVariants.{Below, Above}
+use Rattle.nef_ops.specs.declared.regions.Side.{Side}
 use Rattle.nef_ops.specs.Far.{MeetsFrame, HoldsSkeleton, axis_coordinate, IsPastEnd, IsPast, IsFar, IsClear, IsUniform}
 use Rattle.nef_ops.proofs.Convex.{below-mixed, above-mixed, frame-between}
 

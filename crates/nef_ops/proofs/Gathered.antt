@@ -12,8 +12,8 @@ use Rattle.nef_geo.specs.declared.point.Point.{Point}
 use Rattle.law_sphere.specs.Least.{InOrder, Cone}
 use Rattle.law_sphere.specs.Maps.{At}
 use Rattle.law_sphere.proofs.Lists.{at-one}
-use Rattle.nef_star.specs.declared.op.Op.{Op}
-use Rattle.nef_star.specs.declared.op.Op.TheVariants.{And, Or, Diff, Xor}
+use Rattle.nef_star.specs.declared.star.Op.{Op}
+use Rattle.nef_star.specs.declared.star.Op.TheVariants.{And, Or, Diff, Xor}
 use Rattle.nef_stopo.specs.Sets.{op_set}
 use Rattle.nef_smap.specs.declared.map.SphereMap.{SphereMap}
 use Rattle.nef_smap.specs.Maps.{map_of, IsLeastMap}
@@ -31,7 +31,7 @@ use Rattle.nef_cand.specs.Near.{ListsNear}
 use Rattle.nef_cand.specs.Points.{points_of}
 use Rattle.nef_result.specs.declared.candidate_map.CandidateMap.{CandidateMap}
 use Rattle.nef_result.specs.Results.{AreMapsOf, maps_at}
-use Rattle.nef_ops.specs.declared.op.UnaryOp.{UnaryOp}
+use Rattle.nef_ops.specs.declared.operations.UnaryOp.{UnaryOp}
 use Rattle.nef_ops.specs.Nodes.{unary_set}
 use Rattle.nef_ops.specs.Rights.{IsRight, IsWorkedBy}
 use Rattle.nef_ops.proofs.OneSet.{unary-carriers, unary-vertex}

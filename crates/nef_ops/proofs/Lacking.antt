@@ -1,4 +1,4 @@
--- Labels that a map doesn't have, from what its lists and its sloop don't have.
+-- Labels that a map doesn't have, from what its svertices and its items don't have.
 use Rattle.std.proofs.Common.{◌≡◌, ℕ, ◌+◌, ◌<◌, List, get_or, ap, ◌∙◌, subst, Some}
 use borrow.Author.Count.{below_more}
 use Rattle.nef_space.specs.Place.{Place}
@@ -7,22 +7,17 @@ use Rattle.nef_space.specs.Vectors.{Vector}
 use Rattle.nef_space.specs.declared.label.Label.{Label}
 use Rattle.nef_space.specs.declared.label.Label.TheVariants.{Not, In}
 use Rattle.nef_smap.specs.declared.map.SVertex.{SVertex}
-use Rattle.nef_smap.specs.declared.map.SArc.{SArc}
-use Rattle.nef_smap.specs.declared.map.SLoop.{SLoop}
 use Rattle.nef_smap.specs.declared.map.SphereMap.{SphereMap}
-use Rattle.nef_smap.specs.Maps.{svertex_of, arc_of, sloop_of, map_of}
+use Rattle.nef_smap.specs.Maps.{svertex_of, map_of}
 use Rattle.nef_smap.proofs.Lists.{at-map, at-get}
-use Rattle.law_sphere.specs.Maps.{At, Map, MapVertex, Arc, MapSloop, Item, arc_item, sloop_item, items, item_pos, item_mark, item_neg}
+use Rattle.law_sphere.specs.Maps.{At, Map, MapVertex, Item, items}
 use Rattle.law_sphere.specs.Maps.{Side, around_svertex, pos_item, neg_item, whole, HasSide, MapLabel, at_svertex, on_item, seen}
-use Rattle.law_sphere.proofs.Shot.{arc-at}
-use Rattle.law_sphere.proofs.Arcs.{sloop-at}
 use Rattle.law_sphere.specs.Least.{Cone}
 use Rattle.law_near.proofs.Germs.{label-one}
-use Rattle.law_border.proofs.Listed.{option-was}
 use Rattle.law_complex.proofs.Cones.{germ-label}
 use Rattle.nef_ops.specs.declared.share.Share.{Share}
 use Rattle.nef_ops.specs.declared.share.Share.TheVariants.{Nothing, Everything}
-use Rattle.nef_ops.specs.Shares.{Lacks, SvertexLacks, ArcLacks, SloopLacks, InShare, HasShare}
+use Rattle.nef_ops.specs.Shares.{Lacks, SvertexLacks, ItemLacks, InShare, HasShare}
 
 -- what holds of the elements so far, and of one more
 pub all-more : {A : Type 0} (P : A → Type 0) (xs : List A) (i : ℕ) (x : A) → x ≡ get_or xs i x → P x
@@ -33,37 +28,25 @@ all-more {A} P xs i x is here before k y l h =
 -- ---- a map
 module _ (l : Label) (m : SphereMap)
     (V : (k : ℕ) (v : SVertex) → At m.svertices k v → SvertexLacks l v)
-    (A : (k : ℕ) (a : SArc) → At m.arcs k a → ArcLacks l a)
-    (C : (c : SLoop) → m.sloop ≡ Some c → SloopLacks l c) where
+    (I : (k : ℕ) (x : Item) → At (items (map_of m)) k x → ItemLacks l x) where
   svertex-lacks : (k : ℕ) (v : MapVertex) → At (map_of m).svertices k v → (v.mark ≡ l → ⊥) × (v.around ≡ Some l → ⊥)
   svertex-lacks k v h =
       let u = at-map svertex_of m.svertices k v h in
       let L = V k u.0 u.1 in
       (λ e. L.mark (ap (λ (r : MapVertex). r.mark) u.2 ∙ e), λ e. L.around (ap (λ (r : MapVertex). r.around) u.2 ∙ e))
 
-  -- above, on and below an item
-  item-lacks : (k : ℕ) (x : Item) → At (items (map_of m)) k x → (item_pos x ≡ l → ⊥) × (item_mark x ≡ l → ⊥) × (item_neg x ≡ l → ⊥)
-  item-lacks k (arc_item a) h =
-      let b = at-map arc_of m.arcs k a (arc-at (map_of m).arcs (map_of m).sloop k a h) in
-      let L = A k b.0 b.1 in
-      (λ e. L.pos (ap (λ (r : Arc). r.pos) b.2 ∙ e), λ e. L.mark (ap (λ (r : Arc). r.mark) b.2 ∙ e), λ e. L.neg (ap (λ (r : Arc). r.neg) b.2 ∙ e))
-  item-lacks k (sloop_item c) h =
-      let b = option-was sloop_of m.sloop c (sloop-at (map_of m).arcs (map_of m).sloop k c h) in
-      let L = C b.0 b.1 in
-      (λ e. L.pos (ap (λ (r : MapSloop). r.pos) b.2 ∙ e), λ e. L.mark (ap (λ (r : MapSloop). r.mark) b.2 ∙ e), λ e. L.neg (ap (λ (r : MapSloop). r.neg) b.2 ∙ e))
-
   pub map-lacks : (m.mark ≡ l → ⊥) → (m.ground ≡ Some l → ⊥) → Lacks l (map_of m)
   map-lacks own ground = record { mark = own; directions = by }
     where
       side : (o : Side) → HasSide (map_of m) o l → ⊥
       side (around_svertex k) (v, a, e) = (svertex-lacks k v a).1 e
-      side (pos_item k) (x, a, e) = (item-lacks k x a).0 e
-      side (neg_item k) (x, a, e) = (item-lacks k x a).2 e
+      side (pos_item k) (x, a, e) = (I k x a).pos e
+      side (neg_item k) (x, a, e) = (I k x a).neg e
       side whole e = ground e
 
       by : (d : Vector) → MapLabel (map_of m) d l → ⊥
       by d (at_svertex k v a w e) = (svertex-lacks k v a).0 e
-      by d (on_item k x a o e) = (item-lacks k x a).1 e
+      by d (on_item k x a o e) = (I k x a).mark e
       by d (seen s) = side s.side s.has
 
 -- ---- shares

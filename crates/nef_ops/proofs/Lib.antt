@@ -6,5 +6,4 @@ pub mod ByShare
 pub mod PlaceShares
 pub mod Lacking
 pub mod Convex
-pub mod MissedFrame
 pub mod FarLabels

@@ -13,8 +13,8 @@ use Rattle.law_complex.specs.Shows.{Carriers}
 use Rattle.nef_smap.specs.declared.map.SphereMap.{SphereMap}
 use Rattle.nef_smap.specs.Maps.{map_of, IsLeastMap}
 use Rattle.nef_stopo.specs.Made.{IsMadeBy}
-use Rattle.nef_ops.specs.declared.op.UnaryOp.{UnaryOp}
-use Rattle.nef_ops.specs.declared.op.UnaryOp.TheVariants.{Not, Int, Cl, Bd, Reg}
+use Rattle.nef_ops.specs.declared.operations.UnaryOp.{UnaryOp}
+use Rattle.nef_ops.specs.declared.operations.UnaryOp.TheVariants.{Not, Int, Cl, Bd, Reg}
 use Rattle.nef_ops.specs.Nodes.{unary_set}
 
 pub unary-carriers : (op : UnaryOp) (s : Set) (hs : List Form) → Carriers s hs → Carriers (unary_set op s) hs

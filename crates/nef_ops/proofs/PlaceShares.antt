@@ -1,5 +1,5 @@
--- What a set has of the frame close to the points of an edge, of a facet and of a volume.
-use Rattle.std.proofs.Common.{ℕ, arith, refl, subst}
+-- What a set has of the frame close to a vertex, and to the points of an edge, of a facet and of a volume.
+use Rattle.std.proofs.Common.{◌≡◌, ℕ, Some, arith, refl, slice_get, subst}
 use Rattle.nef_space.specs.Signs.{Sign, minus, nought, plus, sign}
 use Rattle.nef_space.specs.Local.{HasLabel, Germ, FlatDim}
 use Rattle.nef_space.specs.Place.{Place, IsBetween}
@@ -11,18 +11,34 @@ use Rattle.law_near.proofs.Alike.{flat-germ}
 use Rattle.law_near.proofs.Even.{span-3}
 use Rattle.law_near.proofs.Germs.{label-one, Germ-unique}
 use Rattle.law_near.proofs.Rays.{Germ-zero}
-use Rattle.law_sphere.specs.Least.{by_side}
+use Rattle.law_sphere.specs.Least.{Cone, by_side}
 use Rattle.law_sphere.specs.Maps.{At, Item, item_normal, item_pos, item_mark, item_neg, dir_of}
 use Rattle.law_sphere.proofs.Labels.{label-direction}
+use Rattle.law_sphere.proofs.Lists.{at-one}
 use Rattle.law_complex.specs.Complexes.{Vertex, Edge, Complex, Corner, HasEnds, IsCorner}
 use Rattle.law_complex.specs.Shows.{Shows}
 use Rattle.law_complex.specs.Skeleton.{HasCorner}
 use Rattle.law_complex.proofs.Cones.{label-germ}
 use Rattle.law_complex.proofs.Edges.{edge-points}
-use Rattle.nef_locate.proofs.Cones.{corner-labels}
+use Rattle.nef_smap.specs.Maps.{map_of}
+use Rattle.nef_complex.specs.Complexes.{vertex_of, complex_of, ShowsSet}
+use Rattle.nef_complex.specs.declared.complex.Complex.{Complex as ShownComplex}
+use Rattle.nef_complex.specs.declared.complex.Vertex.{Vertex as ShownVertex}
+use Rattle.nef_locate.specs.Places.{IsPlaceAt}
+use Rattle.nef_locate.specs.declared.point.Place.TheVariants as place
+use Rattle.nef_locate.proofs.Cones.{corner-labels, cone-same}
+use Rattle.nef_locate.proofs.Marks.{image-read}
 use Rattle.nef_ops.specs.declared.share.Share.{Share}
 use Rattle.nef_ops.specs.declared.share.Share.TheVariants.{Nothing, Everything}
 use Rattle.nef_ops.specs.Shares.{InShare, HasShare, ItemLacks}
+
+-- the labels close to a vertex are those of its map
+pub vertex-share : (c : ShownComplex) (k : ℕ) (u : ShownVertex) (f : Share) → slice_get c.vertices k ≡ Some u → ((s : Set) (p : Place) → Cone (map_of u.map) s p → HasShare f s p)
+    → (s : Set) (y : Place) → ShowsSet s c → IsPlaceAt (complex_of c) y (place.Vertex k) → HasShare f s y
+vertex-share c k u f here by s y S p =
+    let e = at-one (complex_of c).vertices k p.0 (vertex_of u) p.1 (image-read vertex_of c.vertices k u here) in
+    let K = subst (λ (v : Vertex). Cone v.map s p.0.point) e (S.shows.cones k p.0 p.1) in
+    by s y (cone-same (map_of u.map) s p.0.point y p.2 K)
 
 -- the labels close to a point of an edge are labels close to its lower end
 pub edge-share : (f : Share) (s : Set) (C : Complex) → Shows s C → (k : ℕ) (e : Edge) (v w : Vertex) (y : Place) → At C.edges k e → HasEnds C e v w → IsBetween v.point y w.point

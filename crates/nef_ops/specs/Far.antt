@@ -1,5 +1,5 @@
 -- Past the sides of a span of its skeleton a set has one label in each region of the open frame.
-use Rattle.std.specs.Prelude.{◌≡◌, ℕ, ℤ, pos, ◌*ℤ◌, ◌<ℤ◌, IfSome}
+use Rattle.std.specs.Prelude.{◌≡◌, ℕ, ℤ, pos, ◌*ℤ◌, ◌<ℤ◌, IfSome, List}
 use Rattle.nef_space.specs.Local.{HasLabel, FlatDim}
 use Rattle.nef_space.specs.Place.{Place, Form, form_at, InFrame}
 use Rattle.nef_space.specs.Sets.{Set}
@@ -11,13 +11,12 @@ use Rattle.nef_complex.specs.declared.complex.Complex.{Complex}
 use Rattle.nef_complex.specs.declared.spans.Span.{Span}
 use Rattle.nef_complex.specs.Complexes.{complex_of, ShowsSet}
 use Rattle.nef_complex.specs.Spans.{IsInSpan}
-use Rattle.nef_ops.specs.declared.side.Axis.{Axis}
-use Rattle.nef_ops.specs.declared.side.Axis.TheVariants.{X, Y, Z}
-use Rattle.nef_ops.specs.declared.side.Way.{Way}
-use Rattle.nef_ops.specs.declared.side.Way.TheVariants.{Below, Above}
-use Rattle.nef_ops.specs.declared.side.Side.{Side}
+use Rattle.nef_ops.specs.declared.regions.Axis.{Axis}
+use Rattle.nef_ops.specs.declared.regions.Axis.TheVariants.{X, Y, Z}
+use Rattle.nef_ops.specs.declared.regions.Way.{Way}
+use Rattle.nef_ops.specs.declared.regions.Way.TheVariants.{Below, Above}
+use Rattle.nef_ops.specs.declared.regions.Side.{Side}
 use Rattle.nef_ops.specs.declared.regions.Region.{Region}
-use Rattle.nef_ops.specs.declared.regions.Regions.{Regions}
 
 -- ---- the skeleton
 -- the plane holds a point of the open frame
@@ -62,5 +61,5 @@ IsUniformIn c p l = (s : Set) → ShowsSet s c → IsUniform s p l
 abbrev pub IsTold : Complex → Region → Type 0
 IsTold c r = IfSome r.label (λ (l : Label). (p : Place) → IsFar r.side p → IsUniformIn c p l)
 
-abbrev pub AreTold : Complex → Regions → Type 0
-AreTold c x = (k : ℕ) (r : Region) → At x.all k r → IsTold c r
+abbrev pub AreTold : Complex → List Region → Type 0
+AreTold c regions = (k : ℕ) (r : Region) → At regions k r → IsTold c r

@@ -1,8 +1,8 @@
 -- The sets of constants and of the operations on one set.
 use Rattle.std.specs.Prelude.{Bool, true, false}
 use Rattle.nef_space.specs.Sets.{Set}
-use Rattle.nef_ops.specs.declared.op.UnaryOp.{UnaryOp}
-use Rattle.nef_ops.specs.declared.op.UnaryOp.TheVariants.{Not, Int, Cl, Bd, Reg}
+use Rattle.nef_ops.specs.declared.operations.UnaryOp.{UnaryOp}
+use Rattle.nef_ops.specs.declared.operations.UnaryOp.TheVariants.{Not, Int, Cl, Bd, Reg}
 
 -- the whole frame or the empty set
 abbrev pub constant_set : Bool → Set

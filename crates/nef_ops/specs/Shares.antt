@@ -1,4 +1,5 @@
--- What of the frame close to a point a set holds, and which map is that of a combination there.
+-- What of the frame close to a point a set holds, what is found of points in a complex, and which map is that of a combination
+-- there.
 use Rattle.std.specs.Prelude.{◌≡◌, Some}
 use Rattle.nef_space.specs.Local.{HasLabel, Germ}
 use Rattle.nef_space.specs.Place.{Place}
@@ -8,15 +9,23 @@ use Rattle.nef_space.specs.declared.label.Label.{Label}
 use Rattle.nef_space.specs.declared.label.Label.TheVariants.{Out, Not, In}
 use Rattle.law_near.specs.Cones.{label_not}
 use Rattle.nef_smap.specs.declared.map.SVertex.{SVertex}
-use Rattle.nef_smap.specs.declared.map.SArc.{SArc}
-use Rattle.nef_smap.specs.declared.map.SLoop.{SLoop}
 use Rattle.law_sphere.specs.Maps.{Map, MapLabel, Item, item_pos, item_mark, item_neg}
-use Rattle.nef_star.specs.declared.op.Op.{Op}
+use Rattle.nef_star.specs.declared.star.Op.{Op}
 use Rattle.nef_star.specs.Ops.{op_label}
 use Rattle.nef_ops.specs.declared.share.Share.{Share}
 use Rattle.nef_ops.specs.declared.share.Share.TheVariants.{Nothing, Everything, Part}
-use Rattle.nef_ops.specs.declared.choice.Choice.{Choice}
-use Rattle.nef_ops.specs.declared.choice.Choice.TheVariants.{First, Second, NotFirst, NotSecond, Both}
+use Rattle.nef_ops.specs.declared.local.Choice.{Choice}
+use Rattle.nef_ops.specs.declared.local.Choice.TheVariants.{First, Second, NotFirst, NotSecond, Both}
+use Rattle.law_sphere.specs.Least.{Cone}
+use Rattle.nef_smap.specs.declared.map.SphereMap.{SphereMap}
+use Rattle.nef_smap.specs.Maps.{map_of, IsLeastMap}
+use Rattle.nef_stopo.specs.Sets.{op_set}
+use Rattle.nef_complex.specs.declared.complex.Complex.{Complex}
+use Rattle.nef_complex.specs.Complexes.{complex_of}
+use Rattle.nef_locate.specs.Places.{IsPlaceIn, IsPlaceAt}
+use Rattle.nef_ops.specs.declared.local.Finding.{Finding}
+use Rattle.nef_ops.specs.declared.local.Finding.TheVariants.{At, Far}
+use Rattle.nef_ops.specs.Far.{IsUniformIn}
 
 -- ---- labels that a map doesn't have
 -- neither the point nor a direction has the label
@@ -27,16 +36,6 @@ pub record Lacks (l : Label) (M : Map) : Type 0 where
 pub record SvertexLacks (l : Label) (v : SVertex) : Type 0 where
   pub mark : v.mark ≡ l → ⊥
   pub around : v.around ≡ Some l → ⊥
-
-pub record ArcLacks (l : Label) (a : SArc) : Type 0 where
-  pub mark : a.mark ≡ l → ⊥
-  pub pos : a.pos ≡ l → ⊥
-  pub neg : a.neg ≡ l → ⊥
-
-pub record SloopLacks (l : Label) (c : SLoop) : Type 0 where
-  pub mark : c.mark ≡ l → ⊥
-  pub pos : c.pos ≡ l → ⊥
-  pub neg : c.neg ≡ l → ⊥
 
 -- neither the item nor a face beside it has the label
 pub record ItemLacks (l : Label) (x : Item) : Type 0 where
@@ -80,3 +79,18 @@ Makes Both op k l = Unit {0}
 -- the way leads to the operation's labels wherever the sets have these shares
 abbrev pub Leads : Choice → Op → Share → Share → Type 0
 Leads w op f g = (k l : Label) → AreAlike k l → InShare f k → InShare g l → Makes w op k l
+
+-- m is the least map of the combination of each two sets that the first two maps show
+pub record IsCombined (op : Op) (first second m : SphereMap) : Type 0 where
+  pub least : IsLeastMap m
+  pub cone : (s t : Set) (p : Place) → Cone (map_of first) s p → Cone (map_of second) t p → Cone (map_of m) (op_set op s t) p
+
+-- the complex has the place, if it is one
+abbrev pub IsFindingIn : Complex → Finding → Type 0
+IsFindingIn c (At place) = IsPlaceIn (complex_of c) place
+IsFindingIn c (Far label) = Unit {0}
+
+-- the point lies there, or has the label with all points close by
+abbrev pub IsFoundAt : Complex → Place → Finding → Type 0
+IsFoundAt c y (At place) = IsPlaceAt (complex_of c) y place
+IsFoundAt c y (Far label) = IsUniformIn c y label

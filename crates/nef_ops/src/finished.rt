@@ -1,8 +1,7 @@
 //! All jobs of an operation, worked over the board that was chosen, and the complex that their results make.
 
-ghost use Rattle.std.specs.Prelude.{◌≡◌, ℕ, ◌≤◌, true, false, length, IfOk, Some, slice_get, vec_len};
-ghost use Rattle.nef_space.specs.Sets.{Set};
-ghost use Rattle.nef_complex.specs.Complexes.{ShowsSet};
+ghost use Rattle.std.specs.Prelude.{◌≡◌, ◌≤◌};
+ghost use Rattle.nef_complex.specs.Prelude.{ℕ, true, false, length, IfOk, Some, slice_get, vec_len, Set, ShowsSet};
 ghost use Rattle.nef_core.specs.Work.{crew_of};
 ghost use Rattle.nef_ops.specs.Rights.{IsWorkedBy};
 

@@ -6,27 +6,12 @@
 //! on 3D Selective Nef Complexes", ESA 2003.
 #![tactic(auto)]
 
-mod choice;
-mod combination;
-mod comparison;
-mod core_span;
-mod finding;
 mod finished;
-mod half_space;
 mod local;
-mod merged;
-mod op;
-mod place_share;
+mod operations;
 mod regions;
 mod share;
-mod side;
-mod topology;
-mod whole;
 
-pub use combination::binary;
-pub use comparison::same;
-pub use half_space::{half, half_within};
-pub use op::UnaryOp;
+pub use nef_unique::compare as same;
+pub use operations::{UnaryOp, binary, constant, half, half_within, unary};
 pub use std::alloc::AllocError as OutOfMemory;
-pub use topology::unary;
-pub use whole::constant;

@@ -1,32 +1,67 @@
 //! The map of a combination at a point, of two complexes.
 
-ghost use Rattle.std.specs.Prelude.{IfOk};
-ghost use Rattle.nef_space.specs.Place.{Place as PlainPlace, InClosedFrame};
-ghost use Rattle.nef_space.specs.Sets.{Set};
-ghost use Rattle.nef_geo.specs.Shapes.{place_of};
-ghost use Rattle.law_sphere.specs.Least.{Cone};
+ghost use Rattle.std.specs.Prelude.{◌≡◌};
+ghost use Rattle.nef_complex.specs.Prelude.{length, map, IfOk, IsTrue, Place as PlainPlace, InClosedFrame, Set, Label as PlainLabel, place_of, Cone, complex_of, ShowsSet};
+ghost use Rattle.nef_star.specs.Ops.{op_label};
 ghost use Rattle.nef_smap.specs.Maps.{map_of, IsLeastMap};
 ghost use Rattle.nef_stopo.specs.Sets.{op_set};
-ghost use Rattle.nef_complex.specs.Complexes.{complex_of, ShowsSet};
 ghost use Rattle.law_complex.specs.Complexes.{Complex as PlainComplex};
-ghost use Rattle.nef_cand.specs.Names.{operand_of, IsNameAt, IsNamed};
+ghost use Rattle.nef_cand.specs.Candidates.{AreFramed};
+ghost use Rattle.nef_cand.specs.Names.{operand_of, named_point, IsNameAt, IsNamed, AreNamed};
 ghost use Rattle.nef_locate.specs.Places.{IsPlaceIn, IsPlaceAt};
+ghost use Rattle.nef_ops.specs.Shares.{IsCombined, HasShare, Leads, IsFindingIn, IsFoundAt};
 ghost use Rattle.nef_ops.specs.Far.{AreTold};
-ghost use Rattle.nef_ops.specs.Findings.{IsFindingIn, IsFoundAt};
+ghost use Rattle.nef_ops.specs.Rights.{IsRight};
 
 use crate::OutOfMemory;
-use crate::choice::{Choice, choice_of};
-use crate::finding::{Finding, found, found_map, found_share};
-use crate::merged::merged;
-use crate::regions::Regions;
-use crate::share::Share;
+use crate::regions::{Regions, label_among};
+use crate::share::{Share, face_share, share_at, share_of};
 use nef_cand::{Name, Named, Operand};
 use nef_complex::Complex;
-use nef_locate::Place;
-use nef_smap::SphereMap;
+use nef_core::Job;
+use nef_geo::Label;
+use nef_locate::{Place, locate, place_map};
+use nef_result::CandidateMap;
+use nef_smap::{SphereMap, face_map};
 use nef_star::Op;
-use nef_stopo::exchanged;
+use nef_stopo::{combine, exchanged};
+use nef_unique::same_map;
 use std::alloc::Global;
+
+// What is found of a point in a complex: its place there, or, far from the skeleton, the one label.
+#[derive(Debug, Clone, Copy, PartialEq, Eq)]
+enum Finding {
+    /// The point lies at this place.
+    At(Place),
+    /// The point has this label, and so have all points close to it.
+    Far(Label),
+}
+
+// What the set holds of the frame close to the points of which this is found.
+fn found_share(c: &Complex, found: &Finding) -> Share
+    requires shows { (s : Set) × ShowsSet s c.now }
+    requires has { IsFindingIn c.now found.now }
+    ensures share { (s : Set) (y : PlainPlace) → ShowsSet s c.now → IsFoundAt c.now y found.now → HasShare result s y }
+{
+    match *found {
+        Finding::At(place) => share_at(c, &place),
+        Finding::Far(label) => face_share(label),
+    }
+}
+
+// The least map of the set at the points of which this is found. `OutOfMemory` comes where no memory is left; off the
+// vertices and edges no memory is taken.
+fn found_map(alloc: Global, c: &Complex, found: &Finding) -> Result<SphereMap, OutOfMemory>
+    requires shows { (s : Set) × ShowsSet s c.now }
+    requires has { IsFindingIn c.now found.now }
+    ensures least { IfOk result IsLeastMap }
+    ensures cone { IfOk result (λ m. (s : Set) (y : PlainPlace) → ShowsSet s c.now → IsFoundAt c.now y found.now → Cone (map_of m) s y) }
+{
+    match *found {
+        Finding::At(place) => place_map(alloc, c, &place),
+        Finding::Far(label) => Ok(face_map(alloc, label, label)),
+    }
+}
 
 // The vertex or the edge that the name tells, and of which set.
 fn told_place(name: &Name) -> (Operand, Place)
@@ -39,104 +74,172 @@ fn told_place(name: &Name) -> (Operand, Place)
     }
 }
 
-// What is found of the candidate in the first complex. It is looked for only where its name tells of the second, and no
-// region its label.
-fn first_finding(a: &Complex, far: &Regions, candidate: &Named) -> Finding
-    requires first { (s : Set) × ShowsSet s a.now }
-    requires told { AreTold a.now far.now }
+// What is found of the candidate in one of the two complexes that its name speaks of. It is looked for only where its name
+// tells of the other one, and no region its label.
+fn finding_in(c: &Complex, own: Operand, far: &Regions, candidate: &Named) -> Finding
+    requires shows { (s : Set) × ShowsSet s c.now }
+    requires told { AreTold c.now far.now }
     requires framed { InClosedFrame (place_of candidate.now.point) }
-    requires named { (D : PlainComplex) × IsNamed (complex_of a.now) D candidate.now }
-    ensures has { IsFindingIn a.now result }
-    ensures found { IsFoundAt a.now (place_of candidate.now.point) result }
+    requires named { (C D : PlainComplex) × (operand_of own C D ≡ complex_of c.now) × IsNamed C D candidate.now }
+    ensures has { IsFindingIn c.now result }
+    ensures found { IsFoundAt c.now (place_of candidate.now.point) result }
 {
     let (operand, place) = told_place(&candidate.name);
-    match operand {
-        Operand::First => Finding::At(place),
-        Operand::Second => found(a, far, &candidate.point),
+    if operand == own {
+        return Finding::At(place);
+    }
+    match label_among(far, &candidate.point) {
+        Some(label) => Finding::Far(label),
+        None => Finding::At(locate(c, &candidate.point)),
     }
 }
 
-// What is found of it in the second complex. It is looked for only where its name tells of the first, and no region its
-// label.
-fn second_finding(b: &Complex, far: &Regions, candidate: &Named) -> Finding
-    requires second { (t : Set) × ShowsSet t b.now }
-    requires told { AreTold b.now far.now }
-    requires framed { InClosedFrame (place_of candidate.now.point) }
-    requires named { (C : PlainComplex) × IsNamed C (complex_of b.now) candidate.now }
-    ensures has { IsFindingIn b.now result }
-    ensures found { IsFoundAt b.now (place_of candidate.now.point) result }
+// Which map is that of a combination at a point.
+#[derive(Debug, Clone, Copy, PartialEq, Eq)]
+enum Choice {
+    /// That of the first set.
+    First,
+    /// That of the second set.
+    Second,
+    /// That of the first set's complement.
+    NotFirst,
+    /// That of the second set's complement.
+    NotSecond,
+    /// One with parts of both.
+    Both,
+}
+
+// Which map is that of the operation's combination of two sets with these shares of the frame.
+fn choice_of(op: Op, first: Share, second: Share) -> Choice
+    ensures leads { Leads result op first second }
 {
-    let (operand, place) = told_place(&candidate.name);
-    match operand {
-        Operand::First => found(b, far, &candidate.point),
-        Operand::Second => Finding::At(place),
+    match (op, first, second) {
+        (Op::And, Share::Nothing, _) => Choice::First,
+        (Op::And, _, Share::Nothing) => Choice::Second,
+        (Op::And, Share::Everything, _) => Choice::Second,
+        (Op::And, _, Share::Everything) => Choice::First,
+        (Op::Or, Share::Nothing, _) => Choice::Second,
+        (Op::Or, _, Share::Nothing) => Choice::First,
+        (Op::Or, Share::Everything, _) => Choice::First,
+        (Op::Or, _, Share::Everything) => Choice::Second,
+        (Op::Diff, Share::Nothing, _) => Choice::First,
+        (Op::Diff, _, Share::Nothing) => Choice::First,
+        (Op::Diff, Share::Everything, _) => Choice::NotSecond,
+        (Op::Diff, _, Share::Everything) => Choice::NotSecond,
+        (Op::Xor, Share::Nothing, _) => Choice::Second,
+        (Op::Xor, _, Share::Nothing) => Choice::First,
+        (Op::Xor, Share::Everything, _) => Choice::NotSecond,
+        (Op::Xor, _, Share::Everything) => Choice::NotFirst,
+        (_, Share::Part, Share::Part) => Choice::Both,
     }
 }
 
-// As `combined_map`, where this was found of the candidate in the first complex.
-fn with_second(
+// Whether a set combined with itself is the set.
+fn keeps_equals(op: Op) -> bool
+    ensures keeps { IsTrue result → (l : PlainLabel) → op_label op l l ≡ l }
+{
+    match op {
+        Op::And | Op::Or => true,
+        Op::Diff | Op::Xor => false,
+    }
+}
+
+// The least map of the combination of two sets at a point, from their least maps there. Where one set holds all of the
+// frame close to the point, or nothing, it is the other's map, that of its complement, or the set's own.
+fn merged(
     alloc: Global,
+    first: SphereMap,
+    second: SphereMap,
     op: Op,
-    a: &Complex,
-    b: &Complex,
-    far: &Regions,
-    candidate: &Named,
-    first: &Finding,
 ) -> Result<SphereMap, OutOfMemory>
-    requires first { (s : Set) × ShowsSet s a.now }
-    requires second { (t : Set) × ShowsSet t b.now }
-    requires framed { InClosedFrame (place_of candidate.now.point) }
-    requires named { IsNamed (complex_of a.now) (complex_of b.now) candidate.now }
-    requires told { AreTold b.now far.now }
-    requires has { IsFindingIn a.now first.now }
-    requires found { IsFoundAt a.now (place_of candidate.now.point) first.now }
-    ensures least { IfOk result IsLeastMap }
-    ensures cone { IfOk result (λ m. (s t : Set) → ShowsSet s a.now → ShowsSet t b.now → Cone (map_of m) (op_set op s t) (place_of candidate.now.point)) }
+    requires first { IsLeastMap first }
+    requires second { IsLeastMap second }
+    ensures combined { IfOk result (IsCombined op first second) }
 {
-    let second = second_finding(b, far, candidate);
-    match choice_of(op, found_share(a, first), found_share(b, &second)) {
-        Choice::First => found_map(alloc, a, first),
-        Choice::Second => found_map(alloc, b, &second),
-        Choice::NotFirst => {
-            let map = found_map(alloc, a, first)?;
-            Ok(exchanged(map))
-        }
-        Choice::NotSecond => {
-            let map = found_map(alloc, b, &second)?;
-            Ok(exchanged(map))
-        }
+    match choice_of(op, share_of(&first), share_of(&second)) {
+        Choice::First => Ok(first),
+        Choice::Second => Ok(second),
+        Choice::NotFirst => Ok(exchanged(first)),
+        Choice::NotSecond => Ok(exchanged(second)),
         Choice::Both => {
-            let map = found_map(alloc, a, first)?;
-            let other = found_map(alloc, b, &second)?;
-            merged(alloc, map, other, op)
+            if keeps_equals(op) && same_map(&first, &second) {
+                Ok(first)
+            } else {
+                combine(alloc, &first, &second, op)
+            }
         }
     }
 }
 
-/// The least map of the combination of the sets of two complexes at a candidate. Where what is found of it says that one set
-/// holds all of the frame close to it, or nothing, no more than one map is made; and where the first set alone tells that its
-/// map is the answer, the candidate isn't looked for in the second. Nor is it in a set of which a region tells its label.
-pub(crate) fn combined_map(
-    alloc: Global,
-    op: Op,
-    a: &Complex,
-    b: &Complex,
-    far_first: &Regions,
-    far_second: &Regions,
-    candidate: &Named,
-) -> Result<SphereMap, OutOfMemory>
-    requires first { (s : Set) × ShowsSet s a.now }
-    requires second { (t : Set) × ShowsSet t b.now }
-    requires first_told { AreTold a.now far_first.now }
-    requires second_told { AreTold b.now far_second.now }
-    requires framed { InClosedFrame (place_of candidate.now.point) }
-    requires named { IsNamed (complex_of a.now) (complex_of b.now) candidate.now }
-    ensures least { IfOk result IsLeastMap }
-    ensures cone { IfOk result (λ m. (s t : Set) → ShowsSet s a.now → ShowsSet t b.now → Cone (map_of m) (op_set op s t) (place_of candidate.now.point)) }
-{
-    let first = first_finding(a, far_first, candidate);
-    match choice_of(op, found_share(a, &first), Share::Part) {
-        Choice::First => found_map(alloc, a, &first),
-        _ => with_second(alloc, op, a, b, far_second, candidate, &first),
+/// The least map of the combination of the sets of two complexes at each candidate.
+#[derive(Drop)]
+pub(crate) struct BinaryJob<'a> {
+    pub(crate) op: Op,
+    pub(crate) first: &'a Complex,
+    pub(crate) second: &'a Complex,
+    pub(crate) far_first: &'a Regions,
+    pub(crate) far_second: &'a Regions,
+    pub(crate) listed: &'a [Named],
+}
+
+impl<'a> BinaryJob<'a> {
+    // The map at a candidate. Where what is found of it says that one set holds all of the frame close to it, or nothing,
+    // no more than one map is made; and where the first set alone tells that its map is the answer, the candidate isn't
+    // looked for in the second. Nor is it in a set of which a region tells its label.
+    fn combined_map(&self, alloc: Global, candidate: &Named) -> Result<SphereMap, OutOfMemory>
+        requires first { (s : Set) × ShowsSet s self.now.first.now }
+        requires second { (t : Set) × ShowsSet t self.now.second.now }
+        requires first_told { AreTold self.now.first.now self.now.far_first.now }
+        requires second_told { AreTold self.now.second.now self.now.far_second.now }
+        requires framed { InClosedFrame (place_of candidate.now.point) }
+        requires named { IsNamed (complex_of self.now.first.now) (complex_of self.now.second.now) candidate.now }
+        ensures least { IfOk result IsLeastMap }
+        ensures cone { IfOk result (λ m. (s t : Set) → ShowsSet s self.now.first.now → ShowsSet t self.now.second.now → Cone (map_of m) (op_set self.now.op s t) (place_of candidate.now.point)) }
+    {
+        let first = finding_in(self.first, Operand::First, self.far_first, candidate);
+        let first_share = found_share(self.first, &first);
+        let alone = choice_of(self.op, first_share, Share::Part);
+        if alone == Choice::First {
+            return found_map(alloc, self.first, &first);
+        }
+        let second = finding_in(self.second, Operand::Second, self.far_second, candidate);
+        let second_share = found_share(self.second, &second);
+        match choice_of(self.op, first_share, second_share) {
+            Choice::First => found_map(alloc, self.first, &first),
+            Choice::Second => found_map(alloc, self.second, &second),
+            Choice::NotFirst => {
+                let map = found_map(alloc, self.first, &first)?;
+                Ok(exchanged(map))
+            }
+            Choice::NotSecond => {
+                let map = found_map(alloc, self.second, &second)?;
+                Ok(exchanged(map))
+            }
+            Choice::Both => {
+                let map = found_map(alloc, self.first, &first)?;
+                let other = found_map(alloc, self.second, &second)?;
+                merged(alloc, map, other, self.op)
+            }
+        }
+    }
+}
+
+impl<'a> Job for BinaryJob<'a> {
+    type Out = CandidateMap;
+
+    ghost count = { λ j. length j.listed.now };
+
+    ghost right = { λ j i m. (s t : Set) → ShowsSet s j.first.now → ShowsSet t j.second.now → IsRight (op_set j.op s t) (map named_point j.listed.now) i m.map };
+
+    ghost workable = { λ j. ((s : Set) × ShowsSet s j.first.now) × ((t : Set) × ShowsSet t j.second.now) × AreFramed (map named_point j.listed.now) × AreNamed (complex_of j.first.now) (complex_of j.second.now) j.listed.now × AreTold j.first.now j.far_first.now × AreTold j.second.now j.far_second.now };
+
+    fn jobs(&self) -> u64 {
+        self.listed.len() as u64
+    }
+
+    fn work(&self, alloc: Global, job: u64) -> Result<CandidateMap, OutOfMemory> {
+        let candidate = &self.listed[job as usize];
+        let map = self.combined_map(alloc, candidate)?;
+        Ok(CandidateMap::new(map))
     }
 }

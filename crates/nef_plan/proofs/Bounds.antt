@@ -1,19 +1,18 @@
 -- What is known of the nodes, while it's told of one and the plan grows.
-use Rattle.std.proofs.Common.{◌≡◌, ◌∙◌, ℕ, ◌<◌, ap, sym, subst, List, ◌++◌, length, Some, inl, inr}
-use Rattle.std.specs.Prelude.{slice_get, slice_set}
+use Rattle.std.proofs.Common.{◌≡◌, ◌∙◌, ℕ, ◌<◌, ap, refl, sym, subst, List, ◌++◌, length, Option, None, Some, inl, inr}
+use Rattle.std.specs.Prelude.{IfSome, slice_get, slice_set}
 use Rattle.std.proofs.lemmas.Bool.{cases_eq}
 use Rattle.std.proofs.lemmas.Option.{slice_get_within}
 use Rattle.nef_core.proofs.Places.{get_set_here, get_set_other}
 use Rattle.nef_space.specs.Sets.{Set}
 use Rattle.nef_expr.specs.Nodes.{node_set}
 use Rattle.nef_script.specs.declared.script.Command.{Command}
-use Rattle.nef_plan.specs.declared.step.Plan.{Plan}
+use Rattle.nef_plan.specs.declared.planner.Plan.{Plan}
 use Rattle.nef_plan.specs.declared.row.Row.{Row}
 use Rattle.nef_plan.specs.declared.row.RowKind.{RowKind}
 use Rattle.nef_plan.specs.declared.row.Bound.{Bound}
 use Rattle.nef_plan.specs.declared.row.Bound.TheVariants.{No, Made, Deferred}
 use Rattle.nef_plan.specs.Rows.{ArePlanned, GoesOn, HasGrown, IsBound, IsThere, Tells, combined, parts}
-use Rattle.nef_plan.specs.Steps.{AreSteps}
 use Rattle.nef_plan.proofs.Growth.{grown-trans, ready-grown}
 use Rattle.nef_plan.proofs.Rows.{row-grown}
 
@@ -23,9 +22,9 @@ tells-grown old new l k Made h tells = ready-grown old new l k h tells
 tells-grown old new l k (Deferred row) h tells = row-grown old new l row.kind (parts row) k h tells
 
 -- a plan that has grown, with something told of one node
-pub planned-set : (old new : Plan) (l : List Command) (bounds : List Bound) (n : ℕ) (b : Bound) → ArePlanned old bounds → AreSteps new.nodes new.steps.items → HasGrown old new l → n < length bounds → Tells new n b → ArePlanned new (slice_set bounds n b)
-planned-set old new l bounds n b are steps h within tells = record {
-  steps = steps;
+planned-set : (old new : Plan) (l : List Command) (bounds : List Bound) (n : ℕ) (b : Bound) → ArePlanned old bounds → HasGrown old new l → n < length bounds → Tells new n b → ArePlanned new (slice_set bounds n b)
+planned-set old new l bounds n b are h within tells = record {
+  steps = h.steps;
   told = λ k d at. elim (cases_eq k n) [
     | inl e ↦ (
         let there : slice_get (slice_set bounds n b) k ≡ Some b = subst (λ z. slice_get (slice_set bounds n b) z ≡ Some b) (sym e) (get_set_here bounds n b within) in
@@ -35,8 +34,8 @@ planned-set old new l bounds n b are steps h within tells = record {
   ];
 }
 
-pub planned-grown : (old new : Plan) (l : List Command) (bounds : List Bound) → ArePlanned old bounds → AreSteps new.nodes new.steps.items → HasGrown old new l → ArePlanned new bounds
-planned-grown old new l bounds are steps h = record { steps = steps; told = λ k d at. tells-grown old new l k d h (are.told k d at) }
+planned-grown : (old new : Plan) (l : List Command) (bounds : List Bound) → ArePlanned old bounds → HasGrown old new l → ArePlanned new bounds
+planned-grown old new l bounds are h = record { steps = h.steps; told = λ k d at. tells-grown old new l k d h (are.told k d at) }
 
 pub bound-here : (bounds : List Bound) (n : ℕ) (b : Bound) → n < length bounds → IsThere b → IsBound (slice_set bounds n b) n
 bound-here bounds n b within there = (b, get_set_here bounds n b within, there)
@@ -47,14 +46,19 @@ bound-still bounds n b within there k (d, at, is) = elim (cases_eq k n) [
   | inr other ↦ (d, get_set_other bounds n k b other ∙ at, is)
 ]
 
-pub on-set : (old new : Plan) (l : List Command) (bounds : List Bound) (n : ℕ) (b : Bound) → HasGrown old new l → n < length bounds → IsThere b → GoesOn old bounds new (slice_set bounds n b) l
-on-set old new l bounds n b h within there = record { grown = h; still = bound-still bounds n b within there }
+pub on-set : (old new : Plan) (l : List Command) (bounds : List Bound) (n : ℕ) (b : Bound) → ArePlanned old bounds → HasGrown old new l → n < length bounds → IsThere b → Tells new n b → GoesOn old bounds new (slice_set bounds n b) l
+on-set old new l bounds n b are h within there tells = record { grown = h; still = bound-still bounds n b within there; planned = planned-set old new l bounds n b are h within tells }
 
-pub on-grown : (old new : Plan) (l : List Command) (bounds : List Bound) → HasGrown old new l → GoesOn old bounds new bounds l
-on-grown old new l bounds h = record { grown = h; still = λ k is. is }
+pub on-grown : (old new : Plan) (l : List Command) (bounds : List Bound) → ArePlanned old bounds → HasGrown old new l → GoesOn old bounds new bounds l
+on-grown old new l bounds are h = record { grown = h; still = λ k is. is; planned = planned-grown old new l bounds are h }
 
 pub on-trans : (a b c : Plan) (k l m : List Bound) (qs rs : List Command) → GoesOn a k b l qs → GoesOn b l c m rs → GoesOn a k c m (qs ++ rs)
-on-trans a b c k l m qs rs f g = record { grown = grown-trans a b c qs rs f.grown g.grown; still = λ n is. g.still n (f.still n is) }
+on-trans a b c k l m qs rs f g = record { grown = grown-trans a b c qs rs f.grown g.grown; still = λ n is. g.still n (f.still n is); planned = g.planned }
+
+-- what holds of each node that there is
+pub some-all : (o : Option ℕ) (P : ℕ → Type 0) → ((k : ℕ) → o ≡ Some k → P k) → IfSome o P
+some-all None P all = tt
+some-all (Some k) P all = all k refl
 
 -- a node that is bound is there
 pub bound-node : (plan : Plan) (bounds : List Bound) (k : ℕ) → ArePlanned plan bounds → IsBound bounds k → k < length plan.nodes

@@ -4,17 +4,16 @@ use Rattle.std.proofs.lemmas.Option.{slice_get_within}
 use Rattle.nef_space.specs.Sets.{Set}
 use Rattle.law_turns.specs.Turned.{turned_set}
 use Rattle.nef_expr.specs.declared.nodes.Node.{Node}
-use Rattle.nef_expr.specs.declared.nodes.Node.TheVariants as node
 use Rattle.nef_expr.specs.Nodes.{node_set, set_of, sets_after, NamesBelow}
 use Rattle.nef_expr.proofs.Operands.{names-wider}
 use Rattle.nef_expr.proofs.Places.{slice_get-left, slice_get-seam, place-push}
-use Rattle.nef_expr.proofs.Sets.{earlier-sets_stay, new-set}
+use Rattle.nef_expr.proofs.Sets.{earlier-sets_stay, new-set, set_of-same}
 use Rattle.nef_script.specs.declared.script.Command.{Command}
 use Rattle.nef_script.specs.declared.script.Command.TheVariants as command
 use Rattle.nef_script.specs.Meaning.{IsWithin}
-use Rattle.nef_plan.specs.declared.step.Step.{Step}
-use Rattle.nef_plan.specs.declared.step.Step.TheVariants.{Make, Turn, Ask}
-use Rattle.nef_plan.specs.declared.step.Plan.{Plan}
+use Rattle.nef_plan.specs.declared.planner.Step.{Step}
+use Rattle.nef_plan.specs.declared.planner.Step.TheVariants.{Make, Turn, Ask}
+use Rattle.nef_plan.specs.declared.planner.Plan.{Plan}
 use Rattle.nef_plan.specs.Alike.{AreAlike}
 use Rattle.nef_plan.proofs.Alike.{alike-refl}
 use Rattle.nef_plan.specs.Rows.{IsReady, HasGrown}
@@ -32,23 +31,12 @@ more-push ns n = record { as_many = omega (arith, length-append {A = Node}); set
 
 -- a node makes the same set of the operands
 pub set-more : (old new : List Node) (m : Node) → HasMore old new → NamesBelow (length old) m → set_of (sets_after [] new) m ≡ set_of (sets_after [] old) m
-set-more old new (node.Half o c) h below = refl
-set-more old new node.Empty h below = refl
-set-more old new node.Full h below = refl
-set-more old new (node.And i j) h below = let e = h.sets i below.0 in let f = h.sets j below.1 in cc
-set-more old new (node.Or i j) h below = let e = h.sets i below.0 in let f = h.sets j below.1 in cc
-set-more old new (node.Diff i j) h below = let e = h.sets i below.0 in let f = h.sets j below.1 in cc
-set-more old new (node.Xor i j) h below = let e = h.sets i below.0 in let f = h.sets j below.1 in cc
-set-more old new (node.Not i) h below = ap Set.other (h.sets i below)
-set-more old new (node.Int i) h below = ap Set.inside (h.sets i below)
-set-more old new (node.Cl i) h below = ap Set.closed (h.sets i below)
-set-more old new (node.Bd i) h below = ap Set.border (h.sets i below)
-set-more old new (node.Reg i) h below = ap Set.regular (h.sets i below)
+set-more old new m h below = set_of-same (length old) (sets_after [] new) (sets_after [] old) m h.sets below
 
 pub alike-along : (s s' t t' : Set) → s' ≡ s → t' ≡ t → AreAlike s t → AreAlike s' t'
 alike-along s s' t t' e f h = subst (λ (z : Set). AreAlike z t') (sym e) (subst (AreAlike s) (sym f) h)
 
-within-wider : (m n : ℕ) (c : Command) → m ≤ n → IsWithin m c → IsWithin n c
+pub within-wider : (m n : ℕ) (c : Command) → m ≤ n → IsWithin m c → IsWithin n c
 within-wider m n (command.Bind line k) l h = omega (arith, l, h)
 within-wider m n (command.Turn line k j t) l h = (omega (arith, l, h.0), omega (arith, l, h.1), h.2)
 within-wider m n (command.Has line k p) l h = omega (arith, l, h)
@@ -58,7 +46,7 @@ within-wider m n (command.Same line i j) l h = (omega (arith, l, h.0), omega (ar
 within-wider m n (command.Count line k) l h = omega (arith, l, h)
 within-wider m n (command.Print line k name) l h = omega (arith, l, h)
 
-right-more : (old new : List Node) (s : Step) → HasMore old new → IsRight old s → IsRight new s
+pub right-more : (old new : List Node) (s : Step) → HasMore old new → IsRight old s → IsRight new s
 right-more old new (Make n m) h r = record {
   within = omega (arith, r.within, h.as_many);
   operands = names-wider (length old) (length new) m h.as_many r.operands;
@@ -71,6 +59,17 @@ right-more old new (Turn n j t) h r = record {
   set = h.sets n r.within ∙ r.set ∙ ap (turned_set t) (sym (h.sets j r.operand));
 }
 right-more old new (Ask c) h r = (r.0, within-wider (length old) (length new) c.now h.as_many r.1)
+
+-- the node whose set a step makes is there, and the step asks nothing
+pub makes-within : (nodes : List Node) (s : Step) (k : ℕ) → IsRight nodes s → Makes s k → k < length nodes
+makes-within nodes (Make n m) k right is = subst (λ z. z < length nodes) (sym is) right.within
+makes-within nodes (Turn n j t) k right is = subst (λ z. z < length nodes) (sym is) right.within
+makes-within nodes (Ask c) k right is = absurd is
+
+pub asked-none : (s : Step) (k : ℕ) → Makes s k → asked (s ∷ []) ≡ []
+asked-none (Make n m) k is = refl
+asked-none (Turn n j t) k is = refl
+asked-none (Ask c) k is = absurd is
 
 pub steps-more : (old new : List Node) (steps : List Step) → HasMore old new → AreSteps old steps → AreSteps new steps
 steps-more old new steps h are = record { right = λ i s at. right-more old new s h (are.right i s at); made_before = are.made_before }
@@ -122,12 +121,13 @@ asked-push (Turn n j t ∷ steps) s = asked-push steps s
 asked-push (Ask c ∷ steps) s = ap (λ (z : List Command). c.now ∷ z) (asked-push steps s)
 
 -- ---- both
-pub grown-refl : (plan : Plan) → HasGrown plan plan []
-grown-refl plan = record { nodes = more-same plan.nodes plan.nodes refl; made = λ k made. made; asked = sym (append-nil (asked plan.steps.items)) }
+pub grown-refl : (plan : Plan) → AreSteps plan.nodes plan.steps.items → HasGrown plan plan []
+grown-refl plan steps = record { nodes = more-same plan.nodes plan.nodes refl; steps = steps; made = λ k made. made; asked = sym (append-nil (asked plan.steps.items)) }
 
 pub grown-trans : (a b c : Plan) (l m : List Command) → HasGrown a b l → HasGrown b c m → HasGrown a c (l ++ m)
 grown-trans a b c l m f g = record {
   nodes = more-trans a.nodes b.nodes c.nodes f.nodes g.nodes;
+  steps = g.steps;
   made = λ k made. g.made k (f.made k made);
   asked = g.asked ∙ ap (λ (z : List Command). z ++ m) f.asked ∙ append_assoc (asked a.steps.items) l m;
 }

@@ -7,7 +7,7 @@ use Rattle.nef_expr.specs.declared.nodes.Node.{Node}
 use Rattle.nef_expr.specs.declared.nodes.Node.TheVariants as node
 use Rattle.nef_expr.specs.Nodes.{node_set, set_of, sets_after, NamesBelow}
 use Rattle.nef_script.specs.declared.script.Command.{Command}
-use Rattle.nef_plan.specs.declared.step.Plan.{Plan}
+use Rattle.nef_plan.specs.declared.planner.Plan.{Plan}
 use Rattle.nef_plan.specs.declared.row.Part.{Part}
 use Rattle.nef_plan.specs.declared.row.RowKind.{RowKind}
 use Rattle.nef_plan.specs.declared.row.Row.{Row}

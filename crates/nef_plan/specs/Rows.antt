@@ -4,7 +4,7 @@ use Rattle.nef_space.specs.Sets.{Set}
 use Rattle.nef_expr.specs.declared.nodes.Node.{Node}
 use Rattle.nef_expr.specs.Nodes.{node_set}
 use Rattle.nef_script.specs.declared.script.Command.{Command}
-use Rattle.nef_plan.specs.declared.step.Plan.{Plan}
+use Rattle.nef_plan.specs.declared.planner.Plan.{Plan}
 use Rattle.nef_plan.specs.declared.row.Part.{Part}
 use Rattle.nef_plan.specs.declared.row.RowKind.{RowKind}
 use Rattle.nef_plan.specs.declared.row.RowKind.TheVariants.{Union, Exclusive, Difference}
@@ -102,13 +102,15 @@ IsThere (Deferred row) = Unit {0}
 abbrev pub IsBound : List Bound → ℕ → Type 0
 IsBound bounds k = (b : Bound) × (slice_get bounds k ≡ Some b) × IsThere b
 
--- the later plan has nodes and steps more, of which these are questions
+-- the later plan has nodes and steps more, which are right, and of which these are questions
 pub record HasGrown (old new : Plan) (questions : List Command) : Type 0 where
   pub nodes : HasMore old.nodes new.nodes
+  pub steps : AreSteps new.nodes new.steps.items
   pub made : (k : ℕ) → IsMade old.steps.items k → IsMade new.steps.items k
   pub asked : asked new.steps.items ≡ asked old.steps.items ++ questions
 
--- and what was bound is bound
+-- and what was bound is bound, and what is told of each node is right
 pub record GoesOn (old : Plan) (bounds : List Bound) (new : Plan) (later : List Bound) (questions : List Command) : Type 0 where
   pub grown : HasGrown old new questions
   pub still : (k : ℕ) → IsBound bounds k → IsBound later k
+  pub planned : ArePlanned new later

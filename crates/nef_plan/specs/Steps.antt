@@ -7,8 +7,8 @@ use Rattle.nef_script.specs.declared.script.Command.{Command}
 use Rattle.nef_script.specs.declared.script.Command.TheVariants as command
 use Rattle.nef_script.specs.Commands.{TurnsRight, AreBoundBefore}
 use Rattle.nef_script.specs.Meaning.{IsWithin}
-use Rattle.nef_plan.specs.declared.step.Step.{Step}
-use Rattle.nef_plan.specs.declared.step.Step.TheVariants.{Make, Turn, Ask}
+use Rattle.nef_plan.specs.declared.planner.Step.{Step}
+use Rattle.nef_plan.specs.declared.planner.Step.TheVariants.{Make, Turn, Ask}
 use Rattle.nef_plan.specs.Alike.{AreAlike}
 
 -- what is known of the commands of a script that isn't refused: each is within the nodes, turns what it says, and looks at nodes that earlier ones bind

@@ -1,11 +1,14 @@
 //! Which nodes needn't be made for themselves, since the one operation that looks at them goes on with their row. No clause
 //! says so, and none has to: a row that isn't ended is ended when its set is wanted.
 
-ghost use Rattle.std.specs.Prelude.{◌≡◌, ◌<◌, All, IfOk, OnOk, length, vec_len};
+ghost use Rattle.std.specs.Prelude.{◌≡◌, ◌<◌};
+ghost use Rattle.nef_space.specs.Prelude.{All, IfOk, IfSome, OnOk, length, vec_len};
 ghost use Rattle.nef_expr.specs.Nodes.{NamesBelow};
 ghost use Rattle.nef_script.specs.Meaning.{IsWithin};
 
 use crate::OutOfMemory;
+use crate::planning::asked_nodes;
+use crate::row::RowKind;
 use nef_expr::{Node, Nodes};
 use nef_script::{Command, Script};
 use std::alloc::Global;
@@ -14,37 +17,22 @@ use std::alloc::Global;
 // that are taken away, outside of what they are taken from.
 const LEAST_TAKEN: u64 = 3;
 
-/// An operation of a row.
-#[derive(Clone, Copy, PartialEq, Eq)]
-enum Link {
-    Union,
-    Exclusive,
-    Difference,
-}
-
-/// How a node is looked at.
-#[derive(Clone, Copy)]
-enum Looks {
-    Never,
-    /// Once, as the first operand of a node with this link.
-    First(Option<Link>),
-    Otherwise,
-}
-
 /// What is guessed of a node.
 #[derive(Clone, Copy)]
 pub(crate) struct Hint {
     /// Of how many half-spaces its set is made.
     pub(crate) weight: u64,
-    link: Option<Link>,
-    looks: Looks,
+    /// The operation of a row that it is, if it's one.
+    link: Option<RowKind>,
+    /// The link of the one node that looks at it, as its first operand. `Some(None)` where it's looked at otherwise.
+    looks: Option<Option<RowKind>>,
 }
 
 impl Hint {
     /// Whether the node's row goes on.
     pub(crate) fn is_deferred(&self) -> bool {
         match (self.link, self.looks) {
-            (Some(link), Looks::First(Some(next))) => link == next,
+            (Some(link), Some(Some(next))) => link.is_like(next),
             _ => false,
         }
     }
@@ -64,13 +52,15 @@ fn weight_of(node: &Node, hints: &[Hint]) -> u64
 }
 
 // The operation of a row that the node is, if it's one. Its operands have these hints.
-fn link_of(node: &Node, hints: &[Hint]) -> Option<Link>
+fn link_of(node: &Node, hints: &[Hint]) -> Option<RowKind>
     requires operands { NamesBelow (length hints.now) node.now }
 {
     match *node {
-        Node::Or(..) => Some(Link::Union),
-        Node::Xor(..) => Some(Link::Exclusive),
-        Node::Diff(_, taken) => (hints[taken].weight >= LEAST_TAKEN).then_some(Link::Difference),
+        Node::Or(..) => Some(RowKind::Union),
+        Node::Xor(..) => Some(RowKind::Exclusive),
+        Node::Diff(from, taken) => {
+            (hints[taken].weight >= LEAST_TAKEN).then_some(RowKind::Difference { from })
+        }
         _ => None,
     }
 }
@@ -87,37 +77,32 @@ fn first_hints(alloc: Global, nodes: &Nodes) -> Result<Vec<Hint>, OutOfMemory>
         hints.push(Hint {
             weight,
             link,
-            looks: Looks::Never,
+            looks: None,
         })?;
     }
     Ok(hints)
 }
 
-// Notes one look more at the node.
-fn note(hints: &mut [Hint], node: usize, look: Looks)
-    requires within { node < length hints.old }
+// Notes one look more at the node, if there is one, by a node with this link of which it's the first operand, or otherwise.
+fn note(hints: &mut [Hint], node: Option<usize>, link: Option<RowKind>)
+    requires within { IfSome node (λ k. k < length hints.old) }
 {
-    let hint = &mut hints[node];
-    hint.looks = match hint.looks {
-        Looks::Never => look,
-        _ => Looks::Otherwise,
-    };
+    if let Some(node) = node {
+        let hint = &mut hints[node];
+        hint.looks = match hint.looks {
+            None => Some(link),
+            Some(_) => Some(None),
+        };
+    }
 }
 
-// Notes the looks of a node that is bound.
-fn note_operands(hints: &mut [Hint], node: &Node, link: Option<Link>)
-    requires operands { NamesBelow (length hints.old) node.now }
+// Notes the looks at both nodes, by a node with this link whose operands they are, or otherwise.
+fn note_both(hints: &mut [Hint], nodes: (Option<usize>, Option<usize>), link: Option<RowKind>)
+    requires first { IfSome nodes.0 (λ k. k < length hints.old) }
+    requires second { IfSome nodes.1 (λ k. k < length hints.old) }
 {
-    match *node {
-        Node::Half { .. } | Node::Empty | Node::Full => (),
-        Node::And(i, j) | Node::Or(i, j) | Node::Diff(i, j) | Node::Xor(i, j) => {
-            note(hints, i, Looks::First(link));
-            note(hints, j, Looks::Otherwise);
-        }
-        Node::Not(i) | Node::Int(i) | Node::Cl(i) | Node::Bd(i) | Node::Reg(i) => {
-            note(hints, i, Looks::Otherwise);
-        }
-    }
+    note(hints, nodes.0, link);
+    note(hints, nodes.1, None);
 }
 
 // Notes the looks of a command.
@@ -128,18 +113,10 @@ fn note_command(hints: &mut [Hint], nodes: &Nodes, command: &Command)
     match command {
         Command::Bind { node, .. } => {
             let link = hints[*node].link;
-            note_operands(hints, nodes.get(*node), link);
+            note_both(hints, nodes.get(*node).operands(), link);
         }
-        Command::Turn { from, .. } => note(hints, *from, Looks::Otherwise),
-        Command::Same { left, right, .. } => {
-            note(hints, *left, Looks::Otherwise);
-            note(hints, *right, Looks::Otherwise);
-        }
-        Command::Has { node, .. }
-        | Command::Joined { node, .. }
-        | Command::Ray { node, .. }
-        | Command::Count { node, .. }
-        | Command::Print { node, .. } => note(hints, *node, Looks::Otherwise),
+        Command::Turn { from, .. } => note(hints, Some(*from), None),
+        _ => note_both(hints, asked_nodes(command), None),
     }
 }
 
@@ -148,7 +125,7 @@ pub(crate) fn hints_of(alloc: Global, script: &Script) -> Result<Vec<Hint>, OutO
     requires within { All (IsWithin (length script.now.nodes)) script.now.commands }
     ensures count { IfOk result (λ v. vec_len v ≡ length script.now.nodes) }
 {
-    let nodes = script.nodes();
+    let nodes = &script.nodes;
     let mut hints = first_hints(alloc, nodes)?;
     let places = hints.as_mut_slice();
     for command in script.commands() {

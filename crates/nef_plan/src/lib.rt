@@ -10,8 +10,7 @@ mod hints;
 mod planner;
 mod planning;
 mod row;
-mod step;
 
-pub use planning::plan;
+pub use planner::{Plan, Step};
+pub use planning::{asked_nodes, looked_at, plan};
 pub use std::alloc::AllocError as OutOfMemory;
-pub use step::{Plan, Step};

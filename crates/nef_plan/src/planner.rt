@@ -1,44 +1,51 @@
-//! Steps that make the sets of nodes.
+//! Steps, and those that make the sets of nodes.
 
-ghost use Rattle.std.specs.Prelude.{◌≡◌, ◌⊎◌, ◌<◌, ◌≤◌, ℕ, true, false, IfOk, OnOk, length, slice_get, Some, [], ◌∷◌, ◌++◌};
+ghost use Rattle.std.specs.Prelude.{◌≡◌, ◌<◌, ◌∷◌};
+ghost use Rattle.nef_space.specs.Prelude.{ℕ, IfOk, IfSome, OnOk, length, Some, []};
 ghost use Rattle.nef_expr.specs.Nodes.{node_set, set_of, sets_after, IsOperand};
 ghost use Rattle.nef_plan.specs.Rows.{AreReady, ArePlanned, GoesOn, HasGrown, IsBound, IsReady, IsRowOf, AreOfOneKind, BeginsWith, combined, joined, parts, spare};
-ghost use Rattle.nef_plan.specs.Steps.{AreSteps, IsMadeAs, IsMade, IsRight, LooksAt, Makes, asked};
-ghost use Rattle.nef_plan.specs.declared.step.Plan.{Plan as State};
+ghost use Rattle.nef_plan.specs.Steps.{AreSteps, IsMade, IsRight, LooksAt, Makes, asked};
+ghost use Rattle.nef_plan.specs.declared.planner.Plan.{Plan as State};
 
 use crate::OutOfMemory;
 use crate::hints::Hint;
-use crate::row::{Bound, Operation, Part, Row, RowKind};
-use crate::step::{Plan, Step};
-use nef_expr::Node;
+use crate::planning::looked_at;
+use crate::row::{Bound, Part, Row, RowKind};
+use nef_expr::{Node, Nodes};
+use nef_script::Command;
 use std::alloc::Global;
 use std::mem;
 
-/// Adds a step behind those that make what it looks at.
-pub(crate) fn add_step<'a>(plan: &mut Plan<'a>, step: Step<'a>) -> Result<(), OutOfMemory>
+/// A step of a script's work.
+#[derive(Clone, Copy)]
+pub enum Step<'a> {
+    /// The set of the node is made, of the sets of other nodes. Where it is one of a row that is joined as a tree, it isn't
+    /// made as its line says.
+    Make { node: usize, made: Node },
+    /// The set of the node is the turned set of the node `from` under the turn `turn`, from 0 to 47.
+    Turn { node: usize, from: usize, turn: u8 },
+    /// The question is answered.
+    Ask(&'a Command),
+}
+
+/// What is worked of a script: its nodes, with more behind them for sets that no name is bound to, and the steps in order.
+#[derive(Drop)]
+pub struct Plan<'a> {
+    pub nodes: Nodes,
+    pub steps: Vec<Step<'a>>,
+}
+
+// Adds a step behind those that make what it looks at.
+fn add_step<'a>(plan: &mut Plan<'a>, step: Step<'a>) -> Result<(), OutOfMemory>
     requires steps { AreSteps plan.old.nodes plan.old.steps.items }
     requires right { IsRight plan.old.nodes step }
     requires made { (k : ℕ) → LooksAt step k → IsMade plan.old.steps.items k }
-    ensures steps { OnOk result (AreSteps plan.new.nodes plan.new.steps.items) }
     ensures grown { OnOk result (HasGrown plan.old plan.new (asked (step.entry ∷ []))) }
     ensures nodes { plan.new.nodes ≡ plan.old.nodes }
     ensures made { OnOk result ((k : ℕ) → Makes step.entry k → IsMade plan.new.steps.items k) }
 {
     plan.steps.push(step)?;
     Ok(())
-}
-
-// Makes the set of the node as the operation does.
-fn make(plan: &mut Plan, node: usize, made: Node) -> Result<(), OutOfMemory>
-    requires steps { AreSteps plan.old.nodes plan.old.steps.items }
-    requires right { IsMadeAs plan.old.nodes node made }
-    requires operands { (k : ℕ) → IsOperand k made → IsMade plan.old.steps.items k }
-    ensures steps { OnOk result (AreSteps plan.new.nodes plan.new.steps.items) }
-    ensures grown { OnOk result (HasGrown plan.old plan.new []) }
-    ensures nodes { plan.new.nodes ≡ plan.old.nodes }
-    ensures made { OnOk result (IsReady plan.new node) }
-{
-    add_step(plan, Step::Make { node, made })
 }
 
 // Makes one part of two.
@@ -51,14 +58,13 @@ fn joined_part(
     requires steps { AreSteps plan.old.nodes plan.old.steps.items }
     requires first { IsReady plan.old first.node }
     requires second { IsReady plan.old second.node }
-    ensures steps { IfOk result (λ p. AreSteps plan.new.nodes plan.new.steps.items) }
     ensures grown { IfOk result (λ p. HasGrown plan.old plan.new []) }
     ensures ready { IfOk result (λ p. IsReady plan.new p.node) }
     ensures set { IfOk result (λ p. node_set plan.new.nodes p.node ≡ joined kind (node_set plan.old.nodes first.node) (node_set plan.old.nodes second.node)) }
 {
     let made = kind.join(first.node, second.node);
     let node = plan.nodes.push(made)?;
-    make(plan, node, made)?;
+    add_step(plan, Step::Make { node, made })?;
     Ok(Part {
         node,
         weight: first.weight.saturating_add(second.weight),
@@ -69,7 +75,6 @@ fn joined_part(
 fn join_last(plan: &mut Plan, row: &mut Row) -> Result<(), OutOfMemory>
     requires steps { AreSteps plan.old.nodes plan.old.steps.items }
     requires ready { AreReady plan.old row.old.kind (parts row.old) }
-    ensures steps { OnOk result (AreSteps plan.new.nodes plan.new.steps.items) }
     ensures grown { OnOk result (HasGrown plan.old plan.new []) }
     ensures ready { OnOk result (AreReady plan.new row.new.kind (parts row.new)) }
     ensures row { OnOk result ((k : ℕ) → IsRowOf plan.old row.old k → IsRowOf plan.new row.new k) }
@@ -85,7 +90,6 @@ fn join_last(plan: &mut Plan, row: &mut Row) -> Result<(), OutOfMemory>
 fn settle(plan: &mut Plan, row: &mut Row) -> Result<(), OutOfMemory>
     requires steps { AreSteps plan.old.nodes plan.old.steps.items }
     requires ready { AreReady plan.old row.old.kind (parts row.old) }
-    ensures steps { OnOk result (AreSteps plan.new.nodes plan.new.steps.items) }
     ensures grown { OnOk result (HasGrown plan.old plan.new []) }
     ensures row { OnOk result ((k : ℕ) → IsRowOf plan.old row.old k → IsRowOf plan.new row.new k) }
 {
@@ -99,28 +103,48 @@ fn settle(plan: &mut Plan, row: &mut Row) -> Result<(), OutOfMemory>
 fn finish(plan: &mut Plan, row: &mut Row, node: usize) -> Result<(), OutOfMemory>
     requires steps { AreSteps plan.old.nodes plan.old.steps.items }
     requires row { IsRowOf plan.old row.old node }
-    ensures steps { OnOk result (AreSteps plan.new.nodes plan.new.steps.items) }
     ensures grown { OnOk result (HasGrown plan.old plan.new []) }
     ensures ready { OnOk result (IsReady plan.new node) }
 {
     while row.others.len() > row.spare() {
         join_last(plan, row)?;
     }
-    make(plan, node, row.ending())
+    let made = row.ending();
+    add_step(plan, Step::Make { node, made })
 }
 
-/// Makes the set of a node that is bound, if it isn't made yet.
-pub(crate) fn demand(plan: &mut Plan, bounds: &mut [Bound], node: usize) -> Result<(), OutOfMemory>
+// Makes the set of the node, if there is one, which is bound then, unless it is made.
+fn demand(plan: &mut Plan, bounds: &mut [Bound], wanted: Option<usize>) -> Result<(), OutOfMemory>
     requires planned { ArePlanned plan.old bounds.old }
-    requires bound { IsBound bounds.old node }
-    ensures planned { OnOk result (ArePlanned plan.new bounds.new) }
+    requires bound { IfSome wanted (IsBound bounds.old) }
     ensures goes_on { OnOk result (GoesOn plan.old bounds.old plan.new bounds.new []) }
-    ensures ready { OnOk result (IsReady plan.new node) }
+    ensures ready { OnOk result (IfSome wanted (IsReady plan.new)) }
 {
+    let Some(node) = wanted else {
+        return Ok(());
+    };
     if let Bound::Deferred(mut row) = mem::replace(&mut bounds[node], Bound::Made) {
         finish(plan, &mut row, node)?;
     }
     Ok(())
+}
+
+/// Adds a step behind those that make what it looks at, which is bound.
+pub(crate) fn add_bound<'a>(
+    plan: &mut Plan<'a>,
+    bounds: &mut [Bound],
+    step: Step<'a>,
+) -> Result<(), OutOfMemory>
+    requires planned { ArePlanned plan.old bounds.old }
+    requires looks { (k : ℕ) → LooksAt step k → IsBound bounds.old k }
+    requires right { IsRight plan.old.nodes step }
+    ensures goes_on { OnOk result (GoesOn plan.old bounds.old plan.new bounds.new (asked (step.entry ∷ []))) }
+    ensures made { OnOk result ((k : ℕ) → Makes step.entry k → IsMade plan.new.steps.items k) }
+{
+    let (first, second) = looked_at(&step);
+    demand(plan, bounds, first)?;
+    demand(plan, bounds, second)?;
+    add_step(plan, step)
 }
 
 // A copy of the node's row, if it has one of the kind.
@@ -146,23 +170,19 @@ fn row_of(
     plan: &mut Plan,
     bounds: &mut [Bound],
     hints: &[Hint],
-    operation: Operation,
+    kind: RowKind,
+    first: usize,
+    second: usize,
 ) -> Result<Row, OutOfMemory>
     requires planned { ArePlanned plan.old bounds.old }
     requires hints { length hints.now ≡ length bounds.old }
-    requires begins { BeginsWith operation.kind operation.first }
-    requires first { IsBound bounds.old operation.first }
-    requires second { IsBound bounds.old operation.second }
-    ensures planned { IfOk result (λ r. ArePlanned plan.new bounds.new) }
+    requires begins { BeginsWith kind first }
+    requires first { IsBound bounds.old first }
+    requires second { IsBound bounds.old second }
     ensures goes_on { IfOk result (λ r. GoesOn plan.old bounds.old plan.new bounds.new []) }
-    ensures row { IfOk result (λ r. (k : ℕ) → k < length plan.new.nodes → node_set plan.new.nodes k ≡ combined operation.kind (node_set plan.new.nodes operation.first) (node_set plan.new.nodes operation.second) → IsRowOf plan.new r k) }
+    ensures row { IfOk result (λ r. (k : ℕ) → k < length plan.new.nodes → node_set plan.new.nodes k ≡ combined kind (node_set plan.new.nodes first) (node_set plan.new.nodes second) → IsRowOf plan.new r k) }
 {
-    let Operation {
-        kind,
-        first,
-        second,
-    } = operation;
-    demand(plan, bounds, second)?;
+    demand(plan, bounds, Some(second))?;
     let last = Part {
         node: second,
         weight: hints[second].weight,
@@ -171,7 +191,7 @@ fn row_of(
         row.add(last)?;
         return Ok(row);
     }
-    demand(plan, bounds, first)?;
+    demand(plan, bounds, Some(first))?;
     let first = Part {
         node: first,
         weight: hints[first].weight,
@@ -186,21 +206,22 @@ fn bind_row(
     bounds: &mut [Bound],
     hints: &[Hint],
     node: usize,
-    operation: Operation,
+    kind: RowKind,
+    first: usize,
+    second: usize,
 ) -> Result<(), OutOfMemory>
     requires planned { ArePlanned plan.old bounds.old }
     requires hints { length hints.now ≡ length bounds.old }
-    requires begins { BeginsWith operation.kind operation.first }
-    requires first { IsBound bounds.old operation.first }
-    requires second { IsBound bounds.old operation.second }
+    requires begins { BeginsWith kind first }
+    requires first { IsBound bounds.old first }
+    requires second { IsBound bounds.old second }
     requires node { node < length bounds.old }
     requires within { node < length plan.old.nodes }
-    requires set { node_set plan.old.nodes node ≡ combined operation.kind (node_set plan.old.nodes operation.first) (node_set plan.old.nodes operation.second) }
-    ensures planned { OnOk result (ArePlanned plan.new bounds.new) }
+    requires set { node_set plan.old.nodes node ≡ combined kind (node_set plan.old.nodes first) (node_set plan.old.nodes second) }
     ensures goes_on { OnOk result (GoesOn plan.old bounds.old plan.new bounds.new []) }
     ensures bound { OnOk result (IsBound bounds.new node) }
 {
-    let mut row = row_of(alloc, plan, bounds, hints, operation)?;
+    let mut row = row_of(alloc, plan, bounds, hints, kind, first, second)?;
     if hints[node].is_deferred() {
         settle(plan, &mut row)?;
         bounds[node] = Bound::Deferred(row);
@@ -211,44 +232,22 @@ fn bind_row(
     Ok(())
 }
 
-// Makes the sets of the operands.
-fn demand_operands(plan: &mut Plan, bounds: &mut [Bound], made: Node) -> Result<(), OutOfMemory>
-    requires planned { ArePlanned plan.old bounds.old }
-    requires operands { (k : ℕ) → IsOperand k made → IsBound bounds.old k }
-    ensures planned { OnOk result (ArePlanned plan.new bounds.new) }
-    ensures goes_on { OnOk result (GoesOn plan.old bounds.old plan.new bounds.new []) }
-    ensures ready { OnOk result ((k : ℕ) → IsOperand k made → IsReady plan.new k) }
-{
-    match made {
-        Node::Half { .. } | Node::Empty | Node::Full => Ok(()),
-        Node::And(i, j) | Node::Or(i, j) | Node::Diff(i, j) | Node::Xor(i, j) => {
-            demand(plan, bounds, i)?;
-            demand(plan, bounds, j)
-        }
-        Node::Not(i) | Node::Int(i) | Node::Cl(i) | Node::Bd(i) | Node::Reg(i) => {
-            demand(plan, bounds, i)
-        }
-    }
-}
-
-// Binds the node, whose set is made as its line says.
-fn bind_made(
-    plan: &mut Plan,
+/// Binds the node, whose set the step makes.
+pub(crate) fn bind_made<'a>(
+    plan: &mut Plan<'a>,
     bounds: &mut [Bound],
     node: usize,
-    made: Node,
+    step: Step<'a>,
 ) -> Result<(), OutOfMemory>
     requires planned { ArePlanned plan.old bounds.old }
-    requires operands { (k : ℕ) → IsOperand k made → IsBound bounds.old k }
+    requires looks { (k : ℕ) → LooksAt step k → IsBound bounds.old k }
+    requires right { IsRight plan.old.nodes step }
+    requires makes { Makes step node }
     requires node { node < length bounds.old }
-    requires within { node < length plan.old.nodes }
-    requires set { node_set plan.old.nodes node ≡ set_of (sets_after [] plan.old.nodes) made }
-    ensures planned { OnOk result (ArePlanned plan.new bounds.new) }
     ensures goes_on { OnOk result (GoesOn plan.old bounds.old plan.new bounds.new []) }
     ensures bound { OnOk result (IsBound bounds.new node) }
 {
-    demand_operands(plan, bounds, made)?;
-    make(plan, node, made)?;
+    add_bound(plan, bounds, step)?;
     bounds[node] = Bound::Made;
     Ok(())
 }
@@ -268,7 +267,6 @@ pub(crate) fn bind(
     requires node { node < length bounds.old }
     requires within { node < length plan.old.nodes }
     requires set { node_set plan.old.nodes node ≡ set_of (sets_after [] plan.old.nodes) made }
-    ensures planned { OnOk result (ArePlanned plan.new bounds.new) }
     ensures goes_on { OnOk result (GoesOn plan.old bounds.old plan.new bounds.new []) }
     ensures bound { OnOk result (IsBound bounds.new node) }
 {
@@ -276,12 +274,7 @@ pub(crate) fn bind(
         Node::Or(i, j) => (RowKind::Union, i, j),
         Node::Xor(i, j) => (RowKind::Exclusive, i, j),
         Node::Diff(i, j) => (RowKind::Difference { from: i }, i, j),
-        _ => return bind_made(plan, bounds, node, made),
+        _ => return bind_made(plan, bounds, node, Step::Make { node, made }),
     };
-    let operation = Operation {
-        kind,
-        first,
-        second,
-    };
-    bind_row(alloc, plan, bounds, hints, node, operation)
+    bind_row(alloc, plan, bounds, hints, node, kind, first, second)
 }

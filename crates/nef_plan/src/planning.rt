@@ -1,17 +1,18 @@
 //! The steps of a script.
 
-ghost use Rattle.std.specs.Prelude.{◌≡◌, ◌⊎◌, ◌<◌, ℕ, true, false, None, Some, IfOk, IfSome, OnOk, filter, length, vec_len, slice_get, [], ◌∷◌, ◌++◌};
+ghost use Rattle.std.specs.Prelude.{◌≡◌, ◌↔◌, ◌⊎◌, ◌<◌, ◌∷◌};
+ghost use Rattle.nef_space.specs.Prelude.{ℕ, List, true, Some, IfOk, IfSome, OnOk, filter, length, vec_len, slice_get, []};
+ghost use Rattle.nef_expr.specs.declared.nodes.Node.{Node};
 ghost use Rattle.nef_script.specs.Commands.{LooksAt, Binds, TurnsRight};
 ghost use Rattle.nef_script.specs.Meaning.{IsWithin};
 ghost use Rattle.nef_plan.specs.Rows.{ArePlanned, GoesOn, IsBound};
-ghost use Rattle.nef_plan.specs.Steps.{AreWorkable, AreSteps, AsksAbout, HasMore, IsTurnedFrom, asked, is_question};
+ghost use Rattle.nef_plan.specs.Steps.{AreWorkable, AreSteps, AsksAbout, HasMore, IsRight, LooksAt as StepLooksAt, asked, is_question};
 ghost use Rattle.nef_plan.specs.declared.row.Bound.TheVariants as bound;
 
 use crate::OutOfMemory;
 use crate::hints::{Hint, hints_of};
-use crate::planner::{add_step, bind, demand};
+use crate::planner::{Plan, Step, add_bound, bind, bind_made};
 use crate::row::Bound;
-use crate::step::{Plan, Step};
 use nef_expr::Nodes;
 use nef_script::{Command, Script};
 use std::alloc::Global;
@@ -47,69 +48,35 @@ fn is_bound(bounds: &[Bound], node: usize) -> bool
     !matches!(bounds[node], Bound::No)
 }
 
-// Binds the node to the turned set, which is made.
-fn bind_turned(
-    plan: &mut Plan,
-    bounds: &mut [Bound],
-    node: usize,
-    from: usize,
-    turn: u8,
-) -> Result<(), OutOfMemory>
-    requires planned { ArePlanned plan.old bounds.old }
-    requires from { IsBound bounds.old from }
-    requires node { node < length bounds.old }
-    requires turned { IsTurnedFrom plan.old.nodes node from turn }
-    ensures planned { OnOk result (ArePlanned plan.new bounds.new) }
-    ensures goes_on { OnOk result (GoesOn plan.old bounds.old plan.new bounds.new []) }
-    ensures bound { OnOk result (IsBound bounds.new node) }
-{
-    demand(plan, bounds, from)?;
-    add_step(plan, Step::Turn { node, from, turn })?;
-    bounds[node] = Bound::Made;
-    Ok(())
-}
-
-// The nodes that the command asks about, if it's a question.
-fn asked_about(command: &Command) -> Option<(usize, usize)>
-    ensures question { result ≡ None → is_question command.now ≡ false }
-    ensures asks { IfSome result (λ p. is_question command.now ≡ true) }
-    ensures nodes { IfSome result (λ p. (k : ℕ) → AsksAbout command.now k → (k ≡ p.0) ⊎ (k ≡ p.1)) }
-    ensures both { IfSome result (λ p. AsksAbout command.now p.0 × AsksAbout command.now p.1) }
+/// The nodes whose sets the command asks about: none, where it binds one.
+pub fn asked_nodes(command: &Command) -> (Option<usize>, Option<usize>)
+    ensures asked { (k : ℕ) → AsksAbout command.now k ↔ ((result.0 ≡ Some k) ⊎ (result.1 ≡ Some k)) }
+    ensures within { (n : ℕ) → IsWithin n command.now → IfSome result.0 (λ k. k < n) × IfSome result.1 (λ k. k < n) }
 {
     match command {
-        Command::Bind { .. } | Command::Turn { .. } => None,
-        Command::Same { left, right, .. } => Some((*left, *right)),
+        Command::Bind { .. } | Command::Turn { .. } => (None, None),
+        Command::Same { left, right, .. } => (Some(*left), Some(*right)),
         Command::Has { node, .. }
         | Command::Joined { node, .. }
         | Command::Ray { node, .. }
         | Command::Count { node, .. }
-        | Command::Print { node, .. } => Some((*node, *node)),
+        | Command::Print { node, .. } => (Some(*node), None),
     }
 }
 
-// Adds the question, behind the steps that make the sets that it asks about.
-fn ask<'a>(
-    plan: &mut Plan<'a>,
-    bounds: &mut [Bound],
-    question: &'a Command,
-    first: usize,
-    second: usize,
-) -> Result<(), OutOfMemory>
-    requires planned { ArePlanned plan.old bounds.old }
-    requires first { IsBound bounds.old first }
-    requires second { IsBound bounds.old second }
-    requires question { is_question question.now ≡ true }
-    requires within { IsWithin (length plan.old.nodes) question.now }
-    requires nodes { (k : ℕ) → AsksAbout question.now k → (k ≡ first) ⊎ (k ≡ second) }
-    ensures planned { OnOk result (ArePlanned plan.new bounds.new) }
-    ensures goes_on { OnOk result (GoesOn plan.old bounds.old plan.new bounds.new (question.entry.now ∷ [])) }
+/// The nodes whose sets the step looks at: those of which it makes another, or those that it asks about.
+pub fn looked_at(step: &Step) -> (Option<usize>, Option<usize>)
+    ensures looked_at { (k : ℕ) → StepLooksAt step.now k ↔ ((result.0 ≡ Some k) ⊎ (result.1 ≡ Some k)) }
+    ensures within { (nodes : List Node) → IsRight nodes step.now → IfSome result.0 (λ k. k < length nodes) × IfSome result.1 (λ k. k < length nodes) }
 {
-    demand(plan, bounds, first)?;
-    demand(plan, bounds, second)?;
-    add_step(plan, Step::Ask(question))
+    match step {
+        Step::Make { made, .. } => made.operands(),
+        Step::Turn { from, .. } => (Some(*from), None),
+        Step::Ask(command) => asked_nodes(command),
+    }
 }
 
-// Adds the steps of the command.
+// Adds the steps of the command. A line that binds a name to a node of its own is the first that binds the node.
 fn add_command<'a>(
     alloc: Global,
     plan: &mut Plan<'a>,
@@ -125,18 +92,11 @@ fn add_command<'a>(
     requires count { length bounds.old ≡ length nodes.now }
     requires hints { length hints.now ≡ length bounds.old }
     requires more { HasMore nodes.now plan.old.nodes }
-    ensures planned { OnOk result (ArePlanned plan.new bounds.new) }
     ensures goes_on { OnOk result (GoesOn plan.old bounds.old plan.new bounds.new (filter is_question (command.entry.now ∷ []))) }
     ensures bound { OnOk result ((k : ℕ) → Binds command.entry.now k → IsBound bounds.new k) }
 {
     match command {
-        Command::Bind { node, .. } => {
-            if is_bound(bounds, *node) {
-                Ok(())
-            } else {
-                bind(alloc, plan, bounds, hints, *node, *nodes.get(*node))
-            }
-        }
+        Command::Bind { node, .. } => bind(alloc, plan, bounds, hints, *node, *nodes.get(*node)),
         Command::Turn {
             node,
             from,
@@ -148,13 +108,11 @@ fn add_command<'a>(
             } else {
                 // Each node names earlier ones, so the image of a node has the turned set.
                 let _count = nodes.len();
-                bind_turned(plan, bounds, *node, *from, *turn)
+                let (node, from, turn) = (*node, *from, *turn);
+                bind_made(plan, bounds, node, Step::Turn { node, from, turn })
             }
         }
-        _ => match asked_about(command) {
-            Some((first, second)) => ask(plan, bounds, command, first, second),
-            None => Ok(()),
-        },
+        _ => add_bound(plan, bounds, Step::Ask(command)),
     }
 }
 
@@ -176,7 +134,7 @@ fn add_commands<'a>(
     ensures nodes { OnOk result (HasMore script.entry.now.nodes plan.new.nodes) }
     ensures asked { OnOk result (asked plan.new.steps.items ≡ filter is_question script.entry.now.commands) }
 {
-    let nodes = script.nodes();
+    let nodes = &script.nodes;
     for command in script.commands() {
         add_command(alloc, plan, bounds, hints, nodes, command)?;
     }
@@ -191,7 +149,7 @@ pub fn plan<'a>(alloc: Global, script: &'a Script) -> Result<Plan<'a>, OutOfMemo
     ensures nodes { IfOk result (λ p. HasMore script.entry.now.nodes p.nodes) }
     ensures asked { IfOk result (λ p. asked p.steps.items ≡ filter is_question script.entry.now.commands) }
 {
-    let nodes = script.nodes();
+    let nodes = &script.nodes;
     let hints = hints_of(alloc, script)?;
     let mut bounds = unbound(alloc, nodes.len())?;
     let mut plan = Plan {

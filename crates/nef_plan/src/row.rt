@@ -1,11 +1,11 @@
 //! Rows of operations of one kind, of which each has the set of the one before as its first operand.
 
-ghost use Rattle.std.specs.Prelude.{◌≡◌, ◌⊎◌, ◌<◌, ◌≤◌, ℕ, true, IfOk, OnOk, List, length, ◌∷◌, ◌++◌, []};
-ghost use Rattle.nef_space.specs.Sets.{Set};
+ghost use Rattle.std.specs.Prelude.{◌≡◌, ◌⊎◌, ◌<◌, ◌≤◌, ◌∷◌, ◌++◌};
+ghost use Rattle.nef_space.specs.Prelude.{ℕ, true, IfOk, OnOk, List, length, [], Set};
 ghost use Rattle.nef_expr.specs.Nodes.{node_set, set_of, operand, IsOperand, NamesBelow};
 ghost use Rattle.nef_plan.specs.Rows.{AreOfOneKind, BeginsWith, AreReady, IsReady, IsRowOf, combined, joined, parts, spare};
 ghost use Rattle.nef_plan.specs.Steps.{IsMadeAs, IsMade};
-ghost use Rattle.nef_plan.specs.declared.step.Plan.{Plan as State};
+ghost use Rattle.nef_plan.specs.declared.planner.Plan.{Plan as State};
 
 use crate::OutOfMemory;
 use nef_expr::Node;
@@ -29,14 +29,6 @@ pub(crate) enum RowKind {
     Exclusive,
     /// The node `from` without the union of the parts.
     Difference { from: usize },
-}
-
-/// An operation of a row, on two nodes. Where it's a difference, it's one from the first.
-#[derive(Clone, Copy)]
-pub(crate) struct Operation {
-    pub(crate) kind: RowKind,
-    pub(crate) first: usize,
-    pub(crate) second: usize,
 }
 
 /// A row that isn't worked yet. Its parts are the others, in order, and the last.

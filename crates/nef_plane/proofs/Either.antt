@@ -36,6 +36,11 @@ module _ (c : Complex) where
   ends-held h = by-ends (λ m u v. MeetLiesIn c h m → HoldsBoth h (place_of u.point) (place_of v.point))
       (λ k v l o. let e = held-vertex c.vertices h k v l o in (e, e)) (λ k e u v l i j. held-edge c.vertices c.edges h k e u v l i j)
 
+  -- where both ends lie on the plane, it lies there
+  pub ends-lie : (h : Form) (m : PlaneMeet) (u v : Vertex) → HasEndsAt c m u v → HoldsBoth h (place_of u.point) (place_of v.point) → MeetLiesIn c h m
+  ends-lie h = by-ends (λ m u v. HoldsBoth h (place_of u.point) (place_of v.point) → MeetLiesIn c h m)
+      (λ k v l o. (v, l, o.0)) (λ k e u v l i j o. (e, l, (u, i, o.0), (v, j, o.1)))
+
   -- there are ends, and the carriers listed are those that hold both
   module _ (s : Set) (S : Shows s (complex_of c)) where
     has-ends : (m : PlaneMeet) → HasMeet c m → (u : Vertex) × (v : Vertex) × HasEndsAt c m u v

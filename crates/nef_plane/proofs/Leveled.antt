@@ -27,10 +27,10 @@ use Rattle.nef_complex.specs.Complexes.{edge_of, complex_of}
 use Rattle.nef_complex.specs.Index.{LiesOn, EdgeLiesIn, AreNumbersWith}
 use Rattle.nef_complex.proofs.Reading.{got-at}
 use Rattle.nef_smap.proofs.Lists.{map-at}
-use Rattle.nef_plane.specs.Levels.{IsShort, AreShort, AreFar, AreShortBelow, AreFarFrom, IsLevel, IsUnparted, IsSwept}
+use Rattle.nef_plane.specs.Levels.{IsShort, AreShortBelow, AreFarFrom, IsLevel, IsUnparted, IsSwept}
 use Rattle.nef_plane.specs.Ends.{MeetLiesIn, AreEnds}
 use Rattle.nef_plane.specs.Meets.{IsParallelToAxis, AtVertexNumber, AtEdgeNumber, AtMeet, sweep_form, IsMissed}
-use Rattle.nef_plane.specs.declared.level.Level.{Level}
+use Rattle.nef_plane.specs.declared.plane.Level.{Level}
 use Rattle.nef_plane.proofs.Axes.{axis-some}
 use Rattle.nef_plane.proofs.Either.{by-numbers}
 use Rattle.nef_plane.proofs.Found.{vertex-none, edge-none}
@@ -58,6 +58,14 @@ plus-short b (pos zero) e = cc
 plus-short b (negsuc n) e = cc
 
 -- ---- the vertices of the plane, in order
+-- the vertices with the first n of the numbers are short of the plane
+abbrev pub AreShort : List Vertex → List ℕ → Form → Bool → ℕ → Type 0
+AreShort vs ns k b n = (i j : ℕ) (v : Vertex) → i < n → IsAt ns i j → IsAt vs j v → IsShort b (form_at k (place_of v.point))
+
+-- those with the other numbers aren't
+abbrev pub AreFar : List Vertex → List ℕ → Form → Bool → ℕ → Type 0
+AreFar vs ns k b n = (i j : ℕ) (v : Vertex) → n ≤ i → IsAt ns i j → IsAt vs j v → IsShort b (form_at k (place_of v.point)) → ⊥
+
 module _ (s : Set) (c : Complex) (S : Shows s (complex_of c)) (h : Plane) (k : Form) (K : IsSwept (form_of h) k) (ns : List ℕ) (N : AreNumbersWith (LiesOn c.vertices (form_of h)) ns) (b : Bool) where
   earlier-short : (t : Bool) (i j : ℕ) (u v : Vertex) → IsAt c.vertices i u → IsAt c.vertices j v → form_at (form_of h) (place_of u.point) ≡ pos 0 → form_at (form_of h) (place_of v.point) ≡ pos 0 → i ≤ j
       → IsShort t (form_at k (place_of v.point)) → IsShort t (form_at k (place_of u.point))

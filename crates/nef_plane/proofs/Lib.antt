@@ -1,6 +1,5 @@
 pub mod Axes
 pub mod Meeting
-pub mod Asking
 pub mod Nearest
 pub mod Crossed
 pub mod Beside
@@ -18,7 +17,6 @@ pub mod Ordered
 pub mod Passed
 pub mod Leveled
 mod AxisSizes
-pub mod Framed
 pub mod Close
 pub mod Shifting
 pub mod Rising

@@ -1,5 +1,5 @@
 -- What a ray meets in a plane that holds it lies there.
-use Rattle.std.proofs.Common.{◌≡◌, ℕ, ◌<◌, Option, List, pos, sym, subst}
+use Rattle.std.proofs.Common.{◌≡◌, ℕ, ◌<◌, Option, Some, None, List, pos, sym, subst}
 use Rattle.std.specs.Prelude.{IfSome}
 use Rattle.nef_space.specs.Lists.{IsAt}
 use Rattle.nef_space.specs.Place.{Place, Form, form_at, IsAhead}
@@ -17,17 +17,16 @@ use Rattle.nef_complex.specs.declared.complex.Edge.{Edge}
 use Rattle.nef_complex.specs.declared.complex.Complex.{Complex}
 use Rattle.nef_complex.specs.declared.complex.PlaneMeet.{PlaneMeet as ProgramMeet}
 use Rattle.nef_complex.specs.declared.complex.PlaneMeet.TheVariants.{AtVertex, AtEdge}
+use Rattle.nef_complex.specs.declared.complex.PlaneItems.{PlaneItems}
 use Rattle.nef_complex.specs.Complexes.{vertex_of, edge_of, complex_of}
-use Rattle.nef_complex.specs.Index.{LiesOn, EdgeLiesIn}
+use Rattle.nef_complex.specs.Index.{LiesOn, EdgeLiesIn, AreNumbersWith}
 use Rattle.nef_complex.specs.Planes.{HoldsBoth}
 use Rattle.nef_complex.proofs.Ends.{vertex-same}
-use Rattle.nef_plane.specs.Asked.{IsNth, meet_at, count_in, AreAskedIn}
+use Rattle.nef_plane.specs.Asked.{meet_at, count_in, AreItems}
 use Rattle.nef_plane.specs.Ends.{HasMeet, MeetLiesIn, IsVertexOrLies}
 use Rattle.nef_plane.specs.Meets.{HoldsRay, AtMeet}
-use Rattle.nef_plane.specs.declared.numbers.Kind.{Kind}
-use Rattle.nef_plane.specs.declared.numbers.Kind.TheVariants.{Vertex as KindVertex, Edge as KindEdge}
-use Rattle.nef_plane.specs.declared.numbers.Numbers.{Numbers}
-use Rattle.nef_plane.proofs.Asking.{asked-held, asked-within}
+use Rattle.nef_plane.specs.declared.first.Kind.{Kind}
+use Rattle.nef_plane.specs.declared.first.Kind.TheVariants.{Vertex as KindVertex, Edge as KindEdge}
 use Rattle.nef_plane.proofs.Meeting.{level-same, ahead-level}
 
 -- the vertex with a number that lies on the plane is on it
@@ -68,6 +67,16 @@ module _ (c : Complex) (h : Form) where
   serves-has (AtVertex k) l = l
   serves-has (AtEdge k) (e, l, i, j) = is-at_within c.edges k e l
 
+  pub lies-has : (m : ProgramMeet) → MeetLiesIn c h m → HasMeet c m
+  lies-has m l = serves-has m (lies-serves m l)
+
+  -- each vertex that there is serves, and of edges those that lie in the plane
+  pub vertex-serves : (m : ProgramMeet) (k : ℕ) → m ≡ AtVertex k → HasMeet c m → IsVertexOrLies c h m
+  vertex-serves m k e l = subst (IsVertexOrLies c h) (sym e) (subst (HasMeet c) e l)
+
+  pub edge-serving : (m : ProgramMeet) (k : ℕ) → m ≡ AtEdge k → IsVertexOrLies c h m → MeetLiesIn c h m
+  edge-serving m k e l = subst (MeetLiesIn c h) (sym e) (subst (IsVertexOrLies c h) e l)
+
   -- what a ray meets in a plane that holds it lies there
   module _ (d : Vector) (n : PlaneMeet) (q : Place) where
     pub met-serves : (m : ProgramMeet) → AtMeet (complex_of c) h d m n q → IsVertexOrLies c h m
@@ -86,14 +95,19 @@ pub has-count : (c : Complex) (t : Kind) (k : ℕ) → HasMeet c (meet_at t k) �
 has-count c KindVertex k l = l
 has-count c KindEdge k l = l
 
-count-has : (c : Complex) (t : Kind) (k : ℕ) → k < count_in c t → HasMeet c (meet_at t k)
-count-has c KindVertex k l = l
-count-has c KindEdge k l = l
+pub count-has : (c : Complex) (t : Kind) (n k : ℕ) → n ≡ count_in c t → k < n → (m : ProgramMeet) → m ≡ meet_at t k → HasMeet c m
+count-has c t n k e l m f = subst (HasMeet c) (sym f) (by t (subst (λ (i : ℕ). k < i) e l))
+  where
+    by : (t : Kind) → k < count_in c t → HasMeet c (meet_at t k)
+    by KindVertex l = l
+    by KindEdge l = l
 
--- what is asked is there, and what a guide leads to lies in the plane
-module _ {X : Type 0} (c : Complex) (h : Form) (t : Kind) (g : Option X) (N : Numbers) (A : AreAskedIn c h g t N) (i k : ℕ) (l : IsNth N i k) (m : ProgramMeet) (e : m ≡ meet_at t k) where
-  pub asked-has : HasMeet c m
-  asked-has = subst (HasMeet c) (sym e) (count-has c t k (asked-within (λ k. MeetLiesIn c h (meet_at t k)) (count_in c t) g N A (λ k l. has-count c t k (serves-has c h (meet_at t k) (lies-serves c h (meet_at t k) l))) i k l))
+-- what is listed lies in the plane
+pub listed-lies : (c : Complex) (h : Form) (t : Kind) (ns : List ℕ) → AreNumbersWith (λ k. MeetLiesIn c h (meet_at t k)) ns → (i k : ℕ) → IsAt ns i k → (m : ProgramMeet) → m ≡ meet_at t k → MeetLiesIn c h m
+listed-lies c h t ns A i k a m e = subst (MeetLiesIn c h) (sym e) (A.each i k a)
 
-  pub asked-lies : IfSome g (λ x. MeetLiesIn c h m)
-  asked-lies = subst (λ (m : ProgramMeet). IfSome g (λ x. MeetLiesIn c h m)) (sym e) (asked-held (λ k. MeetLiesIn c h (meet_at t k)) (count_in c t) g N A i k l)
+-- what is listed for a plane, if anything is, are its edges and its vertices
+pub are-items : (c : Complex) (h : Form) (o : Option PlaneItems) → IfSome o (λ (r : PlaneItems). AreNumbersWith (EdgeLiesIn c.vertices c.edges h) r.edges.now) → IfSome o (λ (r : PlaneItems). AreNumbersWith (LiesOn c.vertices h) r.vertices.now)
+    → IfSome o (AreItems c h)
+are-items c h None e v = tt
+are-items c h (Some r) e v = record { edges = e; vertices = v }

@@ -1,7 +1,8 @@
 -- The nearest of what a ray meets.
-use Rattle.std.proofs.Common.{◌≡◌, ℕ, ◌<◌, ◌≤◌, ◌+◌, Option, Some, None, arith, refl, sym, ◌⊎◌, inl, inr, ⊎_elim, subst}
+use Rattle.std.proofs.Common.{◌≡◌, ℕ, ◌<◌, ◌≤◌, ◌+◌, List, Option, Some, None, arith, refl, sym, ◌⊎◌, inl, inr, ⊎_elim, subst}
 use Rattle.std.proofs.Math.Nat.{eq-or-lt_of_le}
 use Rattle.std.proofs.lemmas.Bool.{cases_lt}
+use Rattle.nef_space.specs.Lists.{IsAt}
 use Rattle.nef_space.specs.Place.{Place, toward, IsAhead, IsBetween}
 use Rattle.nef_space.specs.Vectors.{Vector}
 use Rattle.law_near.proofs.Mixed.{between-same}
@@ -10,10 +11,8 @@ use Rattle.law_sphere.proofs.Compare.{SameDirection-turned, SameDirection-trans}
 use Rattle.law_complex.proofs.Ways.{between-way, same-itself}
 use Rattle.law_complex.specs.Skeleton.{PlaneMeet}
 use Rattle.std.specs.Prelude.{IfSome}
-use Rattle.nef_plane.specs.Asked.{IsNth}
+use Rattle.nef_classes.proofs.ClassLists.{is-at_one}
 use Rattle.nef_plane.specs.Meets.{Encounter, IsReachedMet, IsMissed, IsNearest, IsNearestMet, IsNearer, IsNotPast}
-use Rattle.nef_plane.specs.declared.numbers.Numbers.{Numbers}
-use Rattle.nef_plane.proofs.Asking.{nth-one}
 use Rattle.nef_plane.proofs.Choosing.{keep-first}
 
 -- what lies between a point and one ahead of it is ahead
@@ -90,21 +89,33 @@ module _ {X : Type 0} (seen : X → Encounter) (p : Place) (d : Vector) where
         (λ m q w (k, l, x). ⊎_elim (λ o. inr (subst (λ j. R j m q) o x)) (λ o. inl (k, o, x)) (eq-or-lt_of_le {n = k} {m = i} (omega (arith, l))))
         (nearest-either (First i) (R i) a b r N A B)
 
-  -- ---- of those that are asked
-  module _ (N : Numbers) (R : ℕ → PlaneMeet → Place → Type 0) where
-    abbrev pub InPlace : ℕ → PlaneMeet → Place → Type 0
-    InPlace i m q = (k : ℕ) × IsNth N i k × R k m q
-
-    pub asked-more : (i k : ℕ) (a b r o : Option X) → o ≡ r → IsNth N i k → NearerOf a b r → IsNearest seen p d (First InPlace i) a → IsNearest seen p d (R k) b → IsNearest seen p d (First InPlace (i + 1)) o
-    asked-more i k a b r o e l M A B = subst (IsNearest seen p d (First InPlace (i + 1))) (sym e) (nearest-more InPlace i a b r M A
-        (nearest-as (R k) (InPlace i) b (λ m q x. (k, l, x)) (λ m q w (j, t, x). subst (λ (n : ℕ). R n m q) (nth-one N i j k t l) x) B))
+    -- with what is met of the next, the nearest of one more
+    pub all-more : (i : ℕ) (a b r o : Option X) → o ≡ r → NearerOf a b r → IsNearest seen p d (First i) a → IsNearest seen p d (R i) b → IsNearest seen p d (First (i + 1)) o
+    all-more i a b r o e M A B = subst (IsNearest seen p d (First (i + 1))) (sym e) (nearest-more i a b r M A B)
 
     -- one that isn't met is passed over
-    pub asked-past : (i k : ℕ) (a o : Option X) → o ≡ a → IsNth N i k → IsNearest seen p d (First InPlace i) a → IsMissed p d (R k) → IsNearest seen p d (First InPlace (i + 1)) o
+    pub all-past : (i : ℕ) (a o : Option X) → o ≡ a → IsNearest seen p d (First i) a → IsMissed p d (R i) → IsNearest seen p d (First (i + 1)) o
+    all-past i a o e A B = all-more i a None a o e (λ x y. keep-first seen d a None a refl refl) A B
+
+    -- where each that is met ahead has a number below the end, the nearest of those is the nearest of all
+    pub all-met : (n i : ℕ) (o : Option X) → n ≤ i → ((k : ℕ) (m : PlaneMeet) (q : Place) → IsAhead p d q → R k m q → k < n) → IsNearest seen p d (First i) o → IsNearest seen p d Any o
+    all-met n i o l f A = nearest-as (First i) Any o (λ m q (k, t, x). (k, x)) (λ m q w (k, x). let b = f k m q w x in (k, omega (arith, l, b), x)) A
+
+  -- ---- of those with the listed numbers
+  module _ (ns : List ℕ) (R : ℕ → PlaneMeet → Place → Type 0) where
+    abbrev pub InPlace : ℕ → PlaneMeet → Place → Type 0
+    InPlace i m q = (k : ℕ) × IsAt ns i k × R k m q
+
+    pub asked-more : (i k : ℕ) (a b r o : Option X) → o ≡ r → IsAt ns i k → NearerOf a b r → IsNearest seen p d (First InPlace i) a → IsNearest seen p d (R k) b → IsNearest seen p d (First InPlace (i + 1)) o
+    asked-more i k a b r o e l M A B = all-more InPlace i a b r o e M A
+        (nearest-as (R k) (InPlace i) b (λ m q x. (k, l, x)) (λ m q w (j, t, x). subst (λ (n : ℕ). R n m q) (is-at_one ns i j k t l) x) B)
+
+    -- one that isn't met is passed over
+    pub asked-past : (i k : ℕ) (a o : Option X) → o ≡ a → IsAt ns i k → IsNearest seen p d (First InPlace i) a → IsMissed p d (R k) → IsNearest seen p d (First InPlace (i + 1)) o
     asked-past i k a o e l A B = asked-more i k a None a o e l (λ x y. keep-first seen d a None a refl refl) A B
 
     -- where each that is met ahead is asked, and none is met from a place on, the nearest of those before it is the nearest of all
-    pub asked-all : (n i : ℕ) (o : Option X) → n ≤ i → ((j k : ℕ) → n ≤ j → IsNth N j k → IsMissed p d (R k)) → ((k : ℕ) (m : PlaneMeet) (q : Place) → IsAhead p d q → R k m q → (j : ℕ) × IsNth N j k)
+    pub asked-all : (n i : ℕ) (o : Option X) → n ≤ i → ((j k : ℕ) → n ≤ j → IsAt ns j k → IsMissed p d (R k)) → ((k : ℕ) (m : PlaneMeet) (q : Place) → IsAhead p d q → R k m q → (j : ℕ) × IsAt ns j k)
         → IsNearest seen p d (First InPlace i) o → IsNearest seen p d (Any R) o
     asked-all n i o l missed f A = nearest-as (First InPlace i) (Any R) o (λ m q (j, t, y). (y.0, y.2))
         (λ m q w (k, x).

@@ -1,5 +1,6 @@
 -- What the course of a ray within a plane passes over, the ray doesn't meet.
-use Rattle.std.proofs.Common.{◌≡◌, ℕ, zero, suc, ◌+◌, ◌≤◌, ℤ, pos, negsuc, ◌<ℤ◌, ◌≤ℤ◌, arith, inl, inr, ⊎_elim, sym, ◌∙◌, subst}
+use Rattle.std.proofs.Common.{◌≡◌, ℕ, zero, suc, ◌+◌, ◌≤◌, ℤ, pos, negsuc, ◌<ℤ◌, ◌≤ℤ◌, List, ◌⊎◌, arith, inl, inr, ⊎_elim, sym, ◌∙◌, subst}
+use Rattle.std.specs.Option.{MatchOption}
 use Rattle.std.proofs.lemmas.Int.{ints}
 use Rattle.nef_space.proofs.Order.{by_order, sign-plus, sign-minus, plus-is, minus-is}
 use Rattle.nef_space.specs.Lists.{IsAt}
@@ -25,14 +26,15 @@ use Rattle.nef_complex.specs.declared.complex.PlaneMeet.{PlaneMeet}
 use Rattle.nef_complex.specs.Complexes.{vertex_of, edge_of, complex_of}
 use Rattle.nef_complex.specs.Index.{LiesOn, EdgeLiesIn}
 use Rattle.nef_complex.proofs.Ends.{listed_edge, ends}
+use Rattle.nef_complex.proofs.Framed.{vertex-framed, edge-framed}
 use Rattle.nef_complex.proofs.Reading.{got-at}
-use Rattle.nef_plane.specs.Courses.{StartsAt, IsOffCourse, IsCourse, IsPassed, IsFirst, IsPast}
+use Rattle.nef_plane.specs.Courses.{StartsAt, IsCourse, IsPassed, IsFirst, IsPast}
 use Rattle.nef_plane.specs.Ends.{MeetLiesIn, AreEnds}
-use Rattle.nef_plane.specs.Meets.{AtVertexNumber, AtEdgeNumber, AtMeet, sweep_axis, sweep_form, IsMissed}
+use Rattle.nef_plane.specs.Meets.{AtVertexNumber, AtEdgeNumber, AtMeet, AreOpposite, sweep_axis, sweep_form, IsMissed}
+use Rattle.nef_plane.specs.Parting.{ray_form}
 use Rattle.nef_plane.specs.declared.course.Course.{Course}
 use Rattle.nef_plane.proofs.Either.{by-numbers}
 use Rattle.nef_plane.proofs.Found.{vertex-none, edge-none}
-use Rattle.nef_plane.proofs.Framed.{vertex-framed, edge-framed}
 use Rattle.nef_plane.proofs.Ordered.{start-level, swept, ahead-past, ahead-before, between-at_most, between-at_least, later-past, later-from}
 use Rattle.nef_plane.proofs.RayPlanes.{beside-vertex, beside-edge}
 
@@ -90,6 +92,11 @@ module _ (s : Set) (c : Complex) (S : Shows s (complex_of c)) (h : Plane) (P : P
   )
 
 -- ---- what the course passes over
+-- the course, or the plane with its normal, tells that the ray meets nothing between the vertices with these numbers
+abbrev pub IsOffCourse : List Vertex → Point → Course → ℕ → ℕ → Type 0
+IsOffCourse vs p x low high = IsPassed x low high
+    ⊎ ((u v : Vertex) → IsAt vs low u → IsAt vs high v → MatchOption x.normal ⊥ (λ n. AreOpposite (ray_form n p) (place_of u.point) (place_of v.point) → ⊥))
+
 module _ (s : Set) (c : Complex) (S : Shows s (complex_of c)) (h : Plane) (P : Point) (d : Vector) (some : IsDirection d) (x : Course) (K : IsCourse c.vertices (form_of h) P d x) where
   abbrev p : Place
   p = place_of P

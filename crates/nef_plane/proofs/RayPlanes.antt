@@ -2,7 +2,6 @@
 use Rattle.std.proofs.Common.{◌≡◌, ℕ, ℤ, pos, ◌+ℤ◌, ◌-ℤ◌, ◌*ℤ◌, ◌≤◌, nat_abs, w64, Option, Some, None, sym, ap, ◌∙◌, subst, [], ◌∷◌}
 use Rattle.std.specs.Prelude.{IfSome}
 use Rattle.std.specs.Option.{MatchOption}
-use mir.Syntax.{w128}
 use mir.Val.{to_z, of_z}
 use Rattle.nef_space.proofs.Machine.{load, const, wrap, ◌⊟◌, exact_of}
 use Rattle.nef_space.proofs.Ring.{ring, at, num, ◌⊕◌, ◌⊖◌, ◌⊗◌}
@@ -30,24 +29,18 @@ use Rattle.nef_complex.specs.declared.complex.Edge.{Edge}
 use Rattle.nef_complex.specs.declared.complex.Complex.{Complex}
 use Rattle.nef_complex.specs.Complexes.{complex_of}
 use Rattle.nef_plane.specs.Meets.{AreOpposite, HoldsRay, AtVertexNumber, AtEdgeNumber, IsMissed}
-use Rattle.nef_plane.specs.Parting.{product_limit, ray_form, IsAcrossRay}
+use Rattle.nef_plane.specs.Parting.{ray_form, IsAcrossRay}
 use Rattle.nef_plane.proofs.Found.{vertex-none, edge-none}
 use Rattle.nef_plane.proofs.Meeting.{level-same, level-opposite, ahead-level, between-opposite}
-use Rattle.nef_plane.proofs.Sweep.{exact-weight, numbers-same}
-
-exact-product : (x y : ℤ) → x ≡ y → nat_abs y ≤ product_limit → to_z w128 (of_z w128 x) ≡ y
-exact-product x y e l = exact_of (product_limit ∷ []) (x ∷ []) (wrap w128 (load 0)) (subst (λ r. nat_abs r ≤ product_limit) (sym e) l, tt) tt ∙ e
+use Rattle.nef_plane.proofs.Sweep.{numbers-same}
 
 abbrev product_of : Dir → Point → ℤ
 product_of n a = n.x *ℤ a.x +ℤ n.y *ℤ a.y +ℤ n.z *ℤ a.z
 
 -- the sign of the difference of two such products, each times the other point's weight, is the side
-pub side-is : (n : Dir) (p a : Point) (r : Sign) (m v k w : ℤ) → r ≡ sign_of (to_z w128 (of_z w128 m) *ℤ to_z w64 (of_z w64 v) -ℤ to_z w128 (of_z w128 k) *ℤ to_z w64 (of_z w64 w))
-    → m ≡ product_of n a → nat_abs m ≤ product_limit → v ≡ p.w → k ≡ product_of n p → nat_abs k ≤ product_limit → w ≡ a.w → r ≡ sign_of (form_at (ray_form n p) (place_of a))
-side-is n p a r m v k w e f i g h j l =
-    e ∙ ap sign_of (numbers-same _ _ _ _ (product_of n a) (pos (nat_abs p.w)) (product_of n p) (pos (nat_abs a.w))
-    (exact-product m (product_of n a) f (subst (λ z. nat_abs z ≤ product_limit) f i)) (exact-weight v p.w g p.w_small ∙ sym (pos_size p.w p.proper))
-    (exact-product k (product_of n p) h (subst (λ z. nat_abs z ≤ product_limit) h j)) (exact-weight w a.w l a.w_small ∙ sym (pos_size a.w a.proper))
+pub side-is : (n : Dir) (p a : Point) (r : Sign) (m v k w : ℤ) → r ≡ sign_of (m *ℤ v -ℤ k *ℤ w) → m ≡ product_of n a → v ≡ p.w → k ≡ product_of n p → w ≡ a.w → r ≡ sign_of (form_at (ray_form n p) (place_of a))
+side-is n p a r m v k w e f g h l =
+    e ∙ ap sign_of (numbers-same m v k w (product_of n a) (pos (nat_abs p.w)) (product_of n p) (pos (nat_abs a.w)) f (g ∙ sym (pos_size p.w p.proper)) h (l ∙ sym (pos_size a.w a.proper))
     ∙ ring (n.x ∷ n.y ∷ n.z ∷ a.x ∷ a.y ∷ a.z ∷ p.x ∷ p.y ∷ p.z ∷ pos (nat_abs p.w) ∷ pos (nat_abs a.w) ∷ [])
     ((at 0 ⊗ at 3 ⊕ at 1 ⊗ at 4 ⊕ at 2 ⊗ at 5) ⊗ at 9 ⊖ (at 0 ⊗ at 6 ⊕ at 1 ⊗ at 7 ⊕ at 2 ⊗ at 8) ⊗ at 10)
     (at 0 ⊗ (at 3 ⊗ at 9 ⊖ at 6 ⊗ at 10) ⊕ at 1 ⊗ (at 4 ⊗ at 9 ⊖ at 7 ⊗ at 10) ⊕ at 2 ⊗ (at 5 ⊗ at 9 ⊖ at 8 ⊗ at 10)) tt

@@ -1,7 +1,7 @@
 -- What a ray crosses of the planes that hold a vertex or an edge.
 use Rattle.std.proofs.Common.{◌≡◌, ℕ, pos, ⊎_elim, inl, inr, Option, Some, None, refl, ◌↔◌}
 use Rattle.std.specs.Prelude.{IsNone, IfSome}
-use Rattle.nef_space.specs.Place.{Place, SamePlace, IsAhead, IsBetween, form_at}
+use Rattle.nef_space.specs.Place.{Place, SamePlace, IsAhead, IsBetween, form_at, slope}
 use Rattle.nef_space.specs.Sets.{Set}
 use Rattle.nef_space.specs.Vectors.{Vector, IsDirection}
 use Rattle.nef_geo.specs.Hits.{IsCrossing, IsReached}
@@ -27,7 +27,7 @@ use Rattle.nef_complex.proofs.Lines.{one-crossing}
 use Rattle.nef_complex.proofs.Parted.{held-between}
 use Rattle.nef_complex.proofs.Reading.{got-at}
 use Rattle.nef_plane.specs.Ends.{IsVertexOrLies, HasEndsAt}
-use Rattle.nef_plane.specs.Meets.{Reach, reach_of, near_met_of, IsHitThrough, AllHold, IsAcross, IsWithin, AtVertexNumber, AtEdgeNumber, AtMeet, IsMeetPoint, IsNearestMet, IsMissed}
+use Rattle.nef_plane.specs.Meets.{Reach, reach_of, near_met_of, IsHitThrough, AllHold, IsWithin, AtVertexNumber, AtEdgeNumber, AtMeet, IsMeetPoint, IsNearestMet, IsMissed}
 use Rattle.nef_plane.proofs.Either.{by-ends}
 use Rattle.nef_plane.proofs.Found.{both-same, vertex-some, vertex-none, edge-some, edge-none}
 use Rattle.nef_plane.proofs.Listed.{held-edge}
@@ -37,7 +37,8 @@ use Rattle.nef_plane.proofs.Meeting.{level-same}
 pub within-level : (g : Plane) (a b y : Place) → HoldsBoth (form_of g) a b → IsWithin a b y → form_at (form_of g) y ≡ pos 0
 within-level g a b y H = ⊎_elim (λ (w : IsBetween a y b). held-between (form_of g) a b y w H) (λ (s : SamePlace a y × SamePlace b y). level-same (form_of g) a y s.0 H.0)
 
-module _ (o : Option Hit) (p : Place) (d : Vector) (g : Plane) (a b : Place) (A : IsAcross d a b g) where
+-- a plane that holds both points and isn't along the direction
+module _ (o : Option Hit) (p : Place) (d : Vector) (g : Plane) (a b : Place) (A : HoldsBoth (form_of g) a b × (slope (form_of g) d ≡ pos 0 → ⊥)) where
   pub across-through : IfSome o (λ q. IsCrossing p d (form_of g) (hit_place q)) → IfSome o (λ q. IsReached p d q.num q.den q.den_sign (hit_place q)) → IfSome o (λ q. IsHitThrough p d a b (reach_of q))
   across-through = by o
     where

@@ -1,5 +1,5 @@
 -- Vertices and edges stand in order of their first ends, so what is beyond a limit stays beyond it.
-use Rattle.std.proofs.Common.{◌≡◌, ℕ, ◌<◌, ◌≤◌, ◌+◌, arith, ap, refl, sym, ◌∙◌, ⊎_elim, subst, inl, inr}
+use Rattle.std.proofs.Common.{◌≡◌, ℕ, ◌<◌, ◌≤◌, ◌+◌, List, arith, ap, refl, sym, ◌∙◌, ⊎_elim, subst, inl, inr}
 use Rattle.std.proofs.Math.Nat.{eq-or-lt_of_le}
 use Rattle.std.proofs.lemmas.Int.{ints}
 use Rattle.nef_space.specs.Lists.{IsAt}
@@ -15,12 +15,10 @@ use Rattle.nef_complex.specs.declared.complex.Complex.{Complex}
 use Rattle.nef_complex.specs.declared.complex.PlaneMeet.{PlaneMeet}
 use Rattle.nef_complex.specs.declared.complex.PlaneMeet.TheVariants.{AtVertex, AtEdge}
 use Rattle.nef_complex.specs.Complexes.{edge_of, complex_of}
-use Rattle.nef_plane.specs.Asked.{IsNth, meet_at, IsBelow, IsBeyond}
+use Rattle.nef_plane.specs.Asked.{meet_at, IsBelow, IsBeyond}
 use Rattle.nef_plane.specs.Ends.{MeetLiesIn, AreEnds}
-use Rattle.nef_plane.specs.declared.numbers.Kind.{Kind}
-use Rattle.nef_plane.specs.declared.numbers.Kind.TheVariants.{Vertex as KindVertex, Edge as KindEdge}
-use Rattle.nef_plane.specs.declared.numbers.Numbers.{Numbers}
-use Rattle.nef_plane.proofs.Asking.{nth-one}
+use Rattle.nef_plane.specs.declared.first.Kind.{Kind}
+use Rattle.nef_plane.specs.declared.first.Kind.TheVariants.{Vertex as KindVertex, Edge as KindEdge}
 
 -- what lies in a plane has ends
 pub lying-numbers : (c : Complex) (h : Form) (m : PlaneMeet) → MeetLiesIn c h m → (i : ℕ) × (j : ℕ) × AreEnds c m i j
@@ -48,14 +46,14 @@ module _ (s : Set) (c : Complex) (S : Shows s (complex_of c)) where
   ends-rise KindVertex k l u v x y m (e, f) (g, h) = omega (arith, m, e, g)
   ends-rise KindEdge k l u v x y m (e, a, i, j) (f, b, g, h) = let r = low-rises k l e f m a b in omega (arith, r, i, g)
 
-  pub beyond-from : (t : Kind) (N : Numbers) → ((i j k l : ℕ) → i < j → IsNth N i k → IsNth N j l → k < l) → (limit m k u v : ℕ) → IsNth N m k → AreEnds c (meet_at t k) u v → limit ≤ u → IsBeyond c t N limit m
-  beyond-from t N ordered limit m k u v a E l i j x y o b F =
+  pub beyond-from : (t : Kind) (ns : List ℕ) → ((i j k l : ℕ) → i < j → IsAt ns i k → IsAt ns j l → k < l) → (limit m k u v : ℕ) → IsAt ns m k → AreEnds c (meet_at t k) u v → limit ≤ u → IsBeyond c t ns limit m
+  beyond-from t ns ordered limit m k u v a E l i j x y o b F =
       let r = ends-rise t k j u v x y
-      (⊎_elim (λ q. let f : k ≡ j = nth-one N i k j (subst (λ z. IsNth N z k) q a) b in omega (arith, f)) (λ q. let f = ordered m i k j q a b in omega (arith, f)) (eq-or-lt_of_le {n = m} {m = i} o)) E F in
+      (⊎_elim (λ q. let f : k ≡ j = is-at_one ns i k j (subst (λ z. IsAt ns z k) q a) b in omega (arith, f)) (λ q. let f = ordered m i k j q a b in omega (arith, f)) (eq-or-lt_of_le {n = m} {m = i} o)) E F in
       omega (arith, l, r)
 
-  pub below-to : (t : Kind) (N : Numbers) → ((i j k l : ℕ) → i < j → IsNth N i k → IsNth N j l → k < l) → (limit m k u v : ℕ) → IsNth N m k → AreEnds c (meet_at t k) u v → u < limit → IsBelow c t N limit (m + 1)
-  below-to t N ordered limit m k u v a E l i j x y o b F =
+  pub below-to : (t : Kind) (ns : List ℕ) → ((i j k l : ℕ) → i < j → IsAt ns i k → IsAt ns j l → k < l) → (limit m k u v : ℕ) → IsAt ns m k → AreEnds c (meet_at t k) u v → u < limit → IsBelow c t ns limit (m + 1)
+  below-to t ns ordered limit m k u v a E l i j x y o b F =
       let r = ends-rise t j k x y u v
-      (⊎_elim (λ q. let f : j ≡ k = nth-one N m j k (subst (λ z. IsNth N z j) q b) a in omega (arith, f)) (λ q. let f = ordered i m j k q b a in omega (arith, f)) (eq-or-lt_of_le {n = i} {m = m} (omega (arith, o)))) F E in
+      (⊎_elim (λ q. let f : j ≡ k = is-at_one ns m j k (subst (λ z. IsAt ns z j) q b) a in omega (arith, f)) (λ q. let f = ordered i m j k q b a in omega (arith, f)) (eq-or-lt_of_le {n = i} {m = m} (omega (arith, o)))) F E in
       omega (arith, l, r)

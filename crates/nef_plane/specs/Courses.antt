@@ -1,6 +1,5 @@
 -- Courses of rays within a plane from a vertex.
-use Rattle.std.specs.Prelude.{◌≡◌, ℕ, ◌*◌, ◌<◌, ◌≤◌, ℤ, pos, ◌-ℤ◌, ◌*ℤ◌, ◌<ℤ◌, nat_abs, true, false, List, IfSome, ◌⊎◌}
-use Rattle.std.specs.Option.{MatchOption}
+use Rattle.std.specs.Prelude.{◌≡◌, ℕ, ◌*◌, ◌<◌, ◌≤◌, ℤ, pos, ◌-ℤ◌, ◌*ℤ◌, ◌<ℤ◌, nat_abs, Bool, true, false, List, IfSome, ◌⊎◌}
 use Rattle.nef_space.specs.Lists.{IsAt}
 use Rattle.nef_space.specs.Place.{Place, Form, form, form_at, toward, InClosedFrame, IsAhead}
 use Rattle.nef_space.specs.Vectors.{Vector, dot}
@@ -9,8 +8,8 @@ use Rattle.nef_geo.specs.declared.point.Point.{Point}
 use Rattle.nef_complex.specs.declared.complex.Vertex.{Vertex}
 use Rattle.nef_plane.specs.declared.course.Course.{Course}
 use Rattle.nef_plane.specs.Levels.{AreShortBelow, AreFarFrom}
-use Rattle.nef_plane.specs.Meets.{sweep_form, AreOpposite, HoldsRay}
-use Rattle.nef_plane.specs.Parting.{ray_form, IsAcrossRay}
+use Rattle.nef_plane.specs.Meets.{sweep_axis, sweep_form, HoldsRay}
+use Rattle.nef_plane.specs.Parting.{IsAcrossRay}
 
 -- the point is that of the vertex with this number
 abbrev pub StartsAt : List Vertex → ℕ → Point → Type 0
@@ -23,6 +22,12 @@ StaysClose e d = (p q : Place) → InClosedFrame p → InClosedFrame q → IsAhe
 -- the plane on which the coordinate that the plane's axis keeps is by z greater than at p
 abbrev pub shifted_form : Form → Place → ℤ → Form
 shifted_form h p z = let k = sweep_form h p in form k.a k.b k.c (k.d -ℤ z *ℤ pos p.w)
+
+-- along d the coordinate stays close, and n numbers the first vertex on the plane past the line on which it is by z greater than at p
+pub record IsBeside (vs : List Vertex) (h : Form) (p : Place) (d : Vector) (z : ℤ) (on : Bool) (n : ℕ) : Type 0 where
+  pub close : StaysClose (sweep_axis h) d
+  pub short : AreShortBelow vs h (shifted_form h p z) on n
+  pub far : AreFarFrom vs h (shifted_form h p z) on n
 
 -- some form is positive at all that the ray meets in the closed frame, and at none of the vertices on the plane with smaller numbers
 abbrev pub IsFirst : List Vertex → Form → Place → Vector → ℕ → Type 0
@@ -42,8 +47,3 @@ pub record IsCourse (vs : List Vertex) (h : Form) (p : Point) (d : Vector) (x : 
 -- both numbers are below the first, or both are past
 abbrev pub IsPassed : Course → ℕ → ℕ → Type 0
 IsPassed x low high = (high < x.first) ⊎ (x.past ≤ low)
-
--- the course, or the plane with its normal, tells that the ray meets nothing between the vertices with these numbers
-abbrev pub IsOffCourse : List Vertex → Point → Course → ℕ → ℕ → Type 0
-IsOffCourse vs p x low high = IsPassed x low high
-    ⊎ ((u v : Vertex) → IsAt vs low u → IsAt vs high v → MatchOption x.normal ⊥ (λ n. AreOpposite (ray_form n p) (place_of u.point) (place_of v.point) → ⊥))

@@ -5,7 +5,7 @@ use Rattle.nef_space.specs.Place.{Place, Form, form_at, slope}
 use Rattle.nef_space.specs.Vectors.{Vector, dot}
 use Rattle.nef_geo.specs.Shapes.{place_of}
 use Rattle.nef_complex.specs.declared.complex.Vertex.{Vertex}
-use Rattle.nef_plane.specs.declared.level.Level.{Level}
+use Rattle.nef_plane.specs.declared.plane.Level.{Level}
 use Rattle.nef_plane.specs.Meets.{sweep_axis, sweep_form}
 
 -- the form changes as a positive multiple of the coordinate that the plane's axis keeps
@@ -16,14 +16,6 @@ IsSwept h k = (m : ℤ) × (pos 0 <ℤ m) × ((d : Vector) → slope k d ≡ m *
 abbrev pub IsShort : Bool → ℤ → Type 0
 IsShort true z = z ≤ℤ pos 0
 IsShort false z = z <ℤ pos 0
-
--- the vertices with the first n of the numbers are short of the plane
-abbrev pub AreShort : List Vertex → List ℕ → Form → Bool → ℕ → Type 0
-AreShort vs ns k b n = (i j : ℕ) (v : Vertex) → i < n → IsAt ns i j → IsAt vs j v → IsShort b (form_at k (place_of v.point))
-
--- those with the other numbers aren't
-abbrev pub AreFar : List Vertex → List ℕ → Form → Bool → ℕ → Type 0
-AreFar vs ns k b n = (i j : ℕ) (v : Vertex) → n ≤ i → IsAt ns i j → IsAt vs j v → IsShort b (form_at k (place_of v.point)) → ⊥
 
 -- the vertices on h with numbers below n are short of the plane k
 abbrev pub AreShortBelow : List Vertex → Form → Form → Bool → ℕ → Type 0

@@ -18,8 +18,8 @@ use Rattle.nef_complex.specs.declared.complex.PlaneMeet.TheVariants.{AtVertex, A
 use Rattle.nef_complex.specs.Complexes.{meet_of}
 use Rattle.nef_complex.specs.Planes.{HoldsBoth}
 use Rattle.nef_plane.specs.Asked.{meet_at}
-use Rattle.nef_plane.specs.declared.met.Met.{Met}
-use Rattle.nef_plane.specs.declared.numbers.Kind.{Kind}
+use Rattle.nef_plane.specs.declared.first.Met.{Met}
+use Rattle.nef_plane.specs.declared.first.Kind.{Kind}
 
 -- the direction is that of the plane's axis, or its opposite
 abbrev pub IsAlongAxis : Form → Vector → Type 0
@@ -102,10 +102,6 @@ AllHold gs d a b = (i : ℕ) (g : Plane) → At gs i g → HoldsBoth (form_of g)
 -- the plane holds the ray from p along d
 abbrev pub HoldsRay : Form → Place → Vector → Type 0
 HoldsRay h p d = (form_at h p ≡ pos 0) × (slope h d ≡ pos 0)
-
--- the plane holds both points and isn't along the direction
-abbrev pub IsAcross : Vector → Place → Place → Plane → Type 0
-IsAcross d a b g = HoldsBoth (form_of g) a b × (slope (form_of g) d ≡ pos 0 → ⊥)
 
 -- what the ray meets is at the vertex with this number
 abbrev pub AtVertexNumber : Complex → ℕ → PlaneMeet → Place → Type 0

@@ -1,30 +1,18 @@
-//! The first vertex, or edge in a plane, that a ray from a vertex meets.
+//! The first vertex, or edge in a plane, that a ray meets which lies in the plane or begins at a vertex.
 
-ghost use Rattle.std.specs.Prelude.{◌≡◌, ◌<◌, length, pos, ◌↔◌, IsTrue, IsNone, IfSome};
-ghost use Rattle.std.specs.Option.{MatchOption};
-ghost use Rattle.nef_space.specs.Place.{Place, slope, IsAhead};
-ghost use Rattle.nef_space.specs.Sets.{Set};
-ghost use Rattle.nef_space.specs.Vectors.{IsAtMost};
-ghost use Rattle.nef_geo.specs.Shapes.{form_of, vector_of, place_of};
-ghost use Rattle.nef_geo.specs.Widths.{ray_limit};
-ghost use Rattle.law_complex.specs.Skeleton.{PlaneMeet as PlainMeet, Meets, IsFirstInPlane};
-ghost use Rattle.nef_complex.specs.Complexes.{complex_of, meet_of, ShowsSet};
-ghost use Rattle.nef_complex.specs.Index.{LiesOn, EdgeLiesIn, AreNumbersWith, AreWithin, AreHolders};
-ghost use Rattle.nef_plane.specs.Courses.{StartsAt, IsCourse, IsOffCourse};
+ghost use Rattle.std.specs.Prelude.{◌≡◌, ◌<◌, ◌↔◌};
+ghost use Rattle.nef_complex.specs.Prelude.{length, pos, IsTrue, IsNone, IfSome, Place, slope, IsAhead, form_at, Set, IsAtMost, form_of, vector_of, place_of, hit_place, ray_limit, upright_limit, upright_weight_limit, PlaneMeet as PlainMeet, Meets, IsFirstInPlane, IsVertexPoint, complex_of, meet_of, ShowsSet, AreWithin, AreHolders, IsPlaceAtMost};
+ghost use Rattle.nef_plane.specs.Asked.{AreItems};
+ghost use Rattle.nef_plane.specs.Courses.{StartsAt, IsCourse};
 ghost use Rattle.nef_plane.specs.Ends.{IsVertexOrLies};
-ghost use Rattle.nef_plane.specs.Meets.{HasNoSvertex, FromVertex, HoldsRay, IsHitThrough, AllHold, IsAcross, IsWithin, AtVertexOrEdge, IsNearest, near_met_of, reach_of};
+ghost use Rattle.nef_plane.specs.Meets.{HasNoSvertex, FromVertex, HoldsRay, IsHitThrough, AllHold, IsWithin, AtVertexOrEdge, IsNearest, near_met_of, reach_of, IsWithinDirection, IsAlongAxis, IsOffEdges};
 
-use crate::course::Course;
-use crate::ends::{ends_of, holders_of};
-use crate::first::{PlaneRay, nearest_met};
-use crate::lying::is_vertex_or_lies_in;
-use crate::met::Met;
-use crate::numbers::Numbers;
-use crate::parting::may_pass;
-use crate::places::is_at;
-use crate::ray::VertexRay;
+use crate::course::{Course, VertexRay, may_pass};
+use crate::first::{Met, PlaneRay, met_of_all, nearest_met};
+use crate::places::{ends_of, holders_of, is_at, is_at_vertex, lies_in};
+use crate::plane::first_along_axis;
 use nef_complex::{Complex, PlaneItems, PlaneMeet, plane_items};
-use nef_geo::{Dir, Hit, Plane, Sign, dir_side, ray_hit, side};
+use nef_geo::{Dir, Hit, Plane, Sign, dir_side, plane_axis, ray_hit, side};
 
 fn is_along(g: &Plane, d: &Dir) -> bool
     ensures along { IsTrue result ↔ (slope (form_of g.now) (vector_of d.now) ≡ pos 0) }
@@ -39,43 +27,19 @@ fn is_held(ray: &VertexRay) -> bool
     side(ray.plane, ray.start) == Sign::Zero && is_along(ray.plane, ray.direction)
 }
 
-// The first of the carriers with these numbers that isn't along the direction. They are those that hold two points.
-fn plane_across(carriers: &[Plane], holders: &[usize], d: &Dir) -> Option<Plane>
-    requires within { AreWithin carriers.now holders.now }
-    ensures across { (a b : Place) → AreHolders carriers.now a b holders.now → MatchOption result (AllHold carriers.now (vector_of d.now) a b) (IsAcross (vector_of d.now) a b) }
-{
-    for number in holders {
-        let g = &carriers[*number];
-        if !is_along(g, d) {
-            return Some(*g);
-        }
-    }
-    None
-}
-
-// Where the ray crosses one of the carriers with these numbers, which are those that hold two points.
+// Where the ray crosses the first of the carriers with these numbers that isn't along it. They are those that hold two points.
 fn crossed_at(carriers: &[Plane], holders: &[usize], ray: &VertexRay) -> Option<Hit>
     requires within { AreWithin carriers.now holders.now }
     ensures through { (a b : Place) → AreHolders carriers.now a b holders.now → IfSome result (λ q. IsHitThrough (place_of ray.now.start.now) (vector_of ray.now.direction.now) a b (reach_of q)) }
     ensures none { (a b : Place) → AreHolders carriers.now a b holders.now → IsNone result → (y : Place) → IsAhead (place_of ray.now.start.now) (vector_of ray.now.direction.now) y → IsWithin a b y → AllHold carriers.now (vector_of ray.now.direction.now) a b }
 {
-    let g = plane_across(carriers, holders, ray.direction)?;
-    ray_hit(ray.start, ray.direction, &g)
-}
-
-// Whether the ray may meet something between the vertices with these numbers. The course tells so without a carrier of
-// most vertices and edges of the plane.
-fn may_meet_between(c: &Complex, ray: &VertexRay, course: &Course, low: usize, high: usize) -> bool
-    requires low { low < length c.now.vertices }
-    requires high { high < length c.now.vertices }
-    ensures off { (IsTrue result → ⊥) → IsOffCourse c.now.vertices ray.now.start.now course.now low high }
-{
-    if !course.may_reach(low, high) {
-        return false;
+    for number in holders {
+        let g = &carriers[*number];
+        if !is_along(g, ray.direction) {
+            return ray_hit(ray.start, ray.direction, g);
+        }
     }
-    let a = &c.vertices.at(low).point;
-    let b = &c.vertices.at(high).point;
-    may_pass(&course.normal, ray.start, a, b)
+    None
 }
 
 impl PlaneRay for VertexRay<'_> {
@@ -102,14 +66,23 @@ impl PlaneRay for VertexRay<'_> {
         }
     }
 
-    fn may_meet(&self, c: &Complex, course: &Option<Course>, meet: PlaneMeet) -> bool {
-        match course {
-            Some(course) => {
-                let (low, high) = ends_of(c, meet);
-                may_meet_between(c, self, course, low, high)
-            }
-            None => is_vertex_or_lies_in(c, self.plane, meet),
+    // Each vertex serves, though the plane may not hold it.
+    fn can_tell(&self, c: &Complex, meet: PlaneMeet) -> bool {
+        match meet {
+            PlaneMeet::AtVertex(_) => true,
+            PlaneMeet::AtEdge(_) => lies_in(c, self.plane, meet),
         }
+    }
+
+    // The course tells of most vertices and edges, by the numbers of their ends.
+    fn may_meet(&self, c: &Complex, course: &Course, meet: PlaneMeet) -> bool {
+        let (low, high) = ends_of(c, meet);
+        if !course.may_reach(low, high) {
+            return false;
+        }
+        let a = &c.vertices.at(low).point;
+        let b = &c.vertices.at(high).point;
+        may_pass(&course.normal, self.start, a, b)
     }
 
     fn first(&self, _c: &Complex, course: &Course) -> usize {
@@ -125,45 +98,41 @@ impl PlaneRay for VertexRay<'_> {
     ghost holds = { λ r c x y. y.holds };
 }
 
-// What lies in the plane, where that holds the ray and the index has it.
-fn items_along<'a>(c: &'a Complex, ray: &VertexRay) -> Option<PlaneItems<'a>>
-    requires shows { (s : Set) × ShowsSet s c.now }
-    ensures holds { IfSome result (λ r. HoldsRay (form_of ray.now.plane.now) (place_of ray.now.start.now) (vector_of ray.now.direction.now)) }
-    ensures vertices { IfSome result (λ r. AreNumbersWith (LiesOn c.now.vertices (form_of ray.now.plane.now)) r.vertices.now) }
-    ensures edges { IfSome result (λ r. AreNumbersWith (EdgeLiesIn c.now.vertices c.now.edges (form_of ray.now.plane.now)) r.edges.now) }
-{
-    if is_held(ray) {
-        plane_items(c, ray.plane)
-    } else {
-        None
-    }
-}
-
-// What the ray from the vertex with this number meets first. Where the plane holds the ray, and the index has the plane,
-// only what its lists name is asked; or else all vertices and edges.
-fn first_met(c: &Complex, ray: &VertexRay, start: usize) -> Option<Met<Hit>>
+// What the ray from the vertex with this number meets first. Where the plane holds the ray, and what lies there is listed,
+// that alone is asked; or else all vertices and edges.
+fn first_met(
+    c: &Complex,
+    ray: &VertexRay,
+    start: usize,
+    items: Option<PlaneItems>,
+) -> Option<Met<Hit>>
     requires shows { (s : Set) × ShowsSet s c.now }
     requires start { StartsAt c.now.vertices start ray.now.start.now }
+    requires items { IfSome items (AreItems c.now (form_of ray.now.plane.now)) }
     ensures nearest { IsNearest near_met_of (place_of ray.now.start.now) (vector_of ray.now.direction.now) (AtVertexOrEdge (complex_of c.now) (form_of ray.now.plane.now) (vector_of ray.now.direction.now)) result }
 {
-    match items_along(c, ray) {
-        Some(items) => {
-            let course = Some(Course::of(c, ray, start, items.vertices));
-            let vertices = Numbers::Listed(items.vertices);
-            nearest_met(ray, c, &course, &vertices, &Numbers::Listed(items.edges))
+    match items {
+        Some(listed) if is_held(ray) => {
+            let course = Course::of(c, ray, start, listed.vertices);
+            nearest_met(ray, c, &course, listed)
         }
-        None => {
-            let vertices = Numbers::All(c.vertices.len());
-            nearest_met(ray, c, &None, &vertices, &Numbers::All(c.edges.len()))
-        }
+        _ => met_of_all(ray, c),
     }
 }
 
 /// The first vertex, or edge in the plane `h`, that the ray from the vertex with this number along `d` meets strictly
-/// ahead. The entries of the direction are at most `2^36` in size, as those of `plane_dir` are, and no svertex of the
-/// vertex points along it. `None` comes exactly where nothing is met.
-pub fn first_along_dir(c: &Complex, h: &Plane, vertex: usize, d: &Dir) -> Option<PlaneMeet>
+/// ahead. The items are those of the plane; without them all vertices and edges are asked. The entries of the direction
+/// are at most `2^36` in size, as those of `plane_dir` are, and no svertex of the vertex points along it. `None` comes
+/// exactly where nothing is met.
+pub fn first_along_dir(
+    c: &Complex,
+    h: &Plane,
+    items: Option<PlaneItems>,
+    vertex: usize,
+    d: &Dir,
+) -> Option<PlaneMeet>
     requires shows { (s : Set) × ShowsSet s c.now }
+    requires items { IfSome items (AreItems c.now (form_of h.now)) }
     requires within { vertex < length c.now.vertices }
     requires small { IsAtMost ray_limit (vector_of d.now) }
     requires no_svertex { FromVertex (complex_of c.now) vertex (λ p. HasNoSvertex (complex_of c.now) p (vector_of d.now)) }
@@ -176,8 +145,54 @@ pub fn first_along_dir(c: &Complex, h: &Plane, vertex: usize, d: &Dir) -> Option
         start: p,
         direction: d,
     };
-    match first_met(c, &ray, vertex) {
-        Some(met) => Some(met.meet),
-        None => None,
+    let met = first_met(c, &ray, vertex, items)?;
+    Some(met.meet)
+}
+
+// Whether the direction is that of the plane's axis, or its opposite.
+fn is_along_axis(h: &Plane, d: &Dir) -> bool
+    ensures along { IsTrue result ↔ IsAlongAxis (form_of h.now) (vector_of d.now) }
+{
+    let axis = plane_axis(h);
+    d.is_same(&axis) || d.is_same(&axis.back())
+}
+
+// The number of the vertex at the point, where the direction isn't the axis or its opposite.
+fn vertex_off_axis(c: &Complex, h: &Plane, p: &Hit, d: &Dir) -> Option<usize>
+    requires shows { (s : Set) × ShowsSet s c.now }
+    requires direction { IsWithinDirection (complex_of c.now) (form_of h.now) (hit_place p.now) (vector_of d.now) }
+    ensures some { IfSome result (λ k. (k < length c.now.vertices) × IsVertexPoint (complex_of c.now) k (hit_place p.now)) }
+    ensures none { IsNone result → IsAlongAxis (form_of h.now) (vector_of d.now) }
+{
+    if is_along_axis(h, d) {
+        return None;
+    }
+    for number in 0..c.vertices.len() {
+        if is_at_vertex(c, number, p) {
+            return Some(number);
+        }
+    }
+    None
+}
+
+/// The first vertex or edge in the plane `h` that the ray from `p` along `d` meets strictly ahead. The point lies on the
+/// plane and is a vertex or lies strictly inside no edge in the plane; its first three numbers are at most `2^86` in
+/// size and its w at most `2^73`. The direction is the plane's axis or its opposite, or, where the point is a vertex,
+/// the plane's second direction or its opposite. No svertex of a vertex at the point points along it. `None` comes
+/// exactly where nothing is met. It takes no memory.
+pub fn first_in_plane(c: &Complex, h: &Plane, p: &Hit, d: &Dir) -> Option<PlaneMeet>
+    requires shows { (s : Set) × ShowsSet s c.now }
+    requires on { form_at (form_of h.now) (hit_place p.now) ≡ pos 0 }
+    requires off { IsOffEdges (complex_of c.now) (form_of h.now) (hit_place p.now) }
+    requires numbers { IsPlaceAtMost upright_limit upright_weight_limit (hit_place p.now) }
+    requires direction { IsWithinDirection (complex_of c.now) (form_of h.now) (hit_place p.now) (vector_of d.now) }
+    requires no_svertex { HasNoSvertex (complex_of c.now) (hit_place p.now) (vector_of d.now) }
+    ensures some { IfSome result (λ m. IsFirstInPlane (complex_of c.now) (form_of h.now) (hit_place p.now) (vector_of d.now) (meet_of m)) }
+    ensures none { IsNone result → (m : PlainMeet) (q : Place) → IsAhead (hit_place p.now) (vector_of d.now) q → Meets (complex_of c.now) (form_of h.now) m q → ⊥ }
+{
+    let items = plane_items(c, h);
+    match vertex_off_axis(c, h, p, d) {
+        Some(number) => first_along_dir(c, h, items, number, d),
+        None => first_along_axis(c, h, items, p, d),
     }
 }

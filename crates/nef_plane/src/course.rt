@@ -1,24 +1,77 @@
-//! Courses of rays within a plane from a vertex. They tell of most vertices and edges of the plane, by numbers alone,
-//! that the ray doesn't meet them.
+//! Courses of rays within a plane from a vertex, and planes that hold a ray. They tell of most vertices and edges of the plane,
+//! by numbers alone, that the ray doesn't meet them: it meets a vertex only where a plane along it holds that, and an edge only
+//! where the plane parts its ends or holds both.
 
-ghost use Rattle.std.specs.Prelude.{◌≡◌, ◌*◌, ◌<◌, ◌≤◌, ◌-ℤ◌, ◌*ℤ◌, nat_abs, ◌↔◌, IsTrue};
-ghost use Rattle.nef_space.specs.Limits.{half_side, point_limit, weight_limit};
-ghost use Rattle.nef_space.specs.Place.{InClosedFrame};
-ghost use Rattle.nef_space.specs.Sets.{Set};
-ghost use Rattle.nef_space.specs.Vectors.{dot, IsAtMost};
-ghost use Rattle.nef_geo.specs.Shapes.{form_of, vector_of, place_of};
-ghost use Rattle.nef_geo.specs.Signs.{sign_of};
-ghost use Rattle.nef_geo.specs.Widths.{ray_limit};
-ghost use Rattle.nef_complex.specs.Complexes.{ShowsSet};
-ghost use Rattle.nef_complex.specs.Index.{LiesOn, AreNumbersWith};
-ghost use Rattle.nef_plane.specs.Courses.{StartsAt, IsCourse, IsPassed, StaysClose, IsFirst, IsPast, shifted_form};
-ghost use Rattle.nef_plane.specs.Meets.{sweep_axis, HoldsRay};
+ghost use Rattle.std.specs.Prelude.{◌≡◌, ◌*◌, ◌<◌, ◌≤◌, ◌-ℤ◌, ◌*ℤ◌, ◌↔◌, ◌⊎◌, ◌+ℤ◌};
+ghost use Rattle.nef_complex.specs.Prelude.{nat_abs, IsTrue, IfSome, half_side, point_limit, weight_limit, Set, dot, IsAtMost, form_of, vector_of, place_of, sign_of, ray_limit, ShowsSet, LiesOn, AreNumbersWith, MatchOption, form_at};
+ghost use Rattle.nef_plane.specs.Courses.{StartsAt, IsCourse, IsPassed, StaysClose, IsBeside, shifted_form};
+ghost use Rattle.nef_plane.specs.Meets.{sweep_axis, HoldsRay, AreOpposite};
+ghost use Rattle.nef_plane.specs.Parting.{product_limit, ray_form, IsAcrossRay};
 
-use crate::line::{Line, first_far};
-use crate::parting::normal_beside;
-use crate::ray::VertexRay;
+use crate::plane::{Line, first_far};
 use nef_complex::Complex;
 use nef_geo::{Dir, HALF_SIDE, Plane, Point, Sign};
+
+// The product of the normal with the point's first three numbers.
+fn product_with(n: &Dir, a: &Point) -> i128
+    ensures product { result ≡ n.now.x *ℤ a.now.x +ℤ n.now.y *ℤ a.now.y +ℤ n.now.z *ℤ a.now.z }
+    ensures small { nat_abs result ≤ product_limit }
+{
+    n.x() as i128 * a.x() as i128 + n.y() as i128 * a.y() as i128 + n.z() as i128 * a.z() as i128
+}
+
+// The side of the plane through p with this normal on which the point lies. The base is the product of the normal with p.
+fn side_through(n: &Dir, p: &Point, base: i128, a: &Point) -> Sign
+    requires base { base ≡ n.now.x *ℤ p.now.x +ℤ n.now.y *ℤ p.now.y +ℤ n.now.z *ℤ p.now.z }
+    requires small { nat_abs base ≤ product_limit }
+    ensures side { result ≡ sign_of (form_at (ray_form n.now p.now) (place_of a.now)) }
+{
+    let here = product_with(n, a) * p.w() as i128;
+    let there = base * a.w() as i128;
+    Sign::of(here - there)
+}
+
+// Whether the plane through p with this normal parts the points or holds both.
+fn are_parted(n: &Dir, p: &Point, a: &Point, b: &Point) -> bool
+    ensures opposite { IsTrue result ↔ AreOpposite (ray_form n.now p.now) (place_of a.now) (place_of b.now) }
+{
+    let base = product_with(n, p);
+    side_through(n, p, base, a) == side_through(n, p, base, b).opposite()
+}
+
+// The normal of a plane that is along the direction and along an axis that isn't along the plane h. `None` comes where
+// the direction is along that axis.
+fn normal_beside(h: &Plane, d: &Dir) -> Option<Dir>
+    ensures across { IfSome result (IsAcrossRay (vector_of d.now)) }
+{
+    if h.c() != 0 {
+        Dir::of(-d.y(), d.x(), 0)
+    } else if h.b() != 0 {
+        Dir::of(-d.z(), 0, d.x())
+    } else {
+        Dir::of(0, -d.z(), d.y())
+    }
+}
+
+/// Whether a ray from p may pass between the points, or through both where they are one. It doesn't, where the plane
+/// through p with the normal, if there is one, holds the ray and has both points strictly on one side.
+pub(crate) fn may_pass(normal: &Option<Dir>, p: &Point, a: &Point, b: &Point) -> bool
+    ensures beside { (IsTrue result → ⊥) → MatchOption normal.now ⊥ (λ n. AreOpposite (ray_form n p.now) (place_of a.now) (place_of b.now) → ⊥) }
+{
+    match normal {
+        Some(n) => are_parted(n, p, a, b),
+        None => true,
+    }
+}
+
+// A ray from a vertex, and the plane in which edges are to be met. The plane need not hold the ray.
+#[derive(Debug, Clone, Copy)]
+pub(crate) struct VertexRay<'a> {
+    pub(crate) plane: &'a Plane,
+    pub(crate) start: &'a Point,
+    pub(crate) direction: &'a Dir,
+    pub(crate) ghost small: { IsAtMost ray_limit (vector_of direction.now) },
+}
 
 // Two numbers of vertices, and the normal of a plane along the ray, if there is one. The ray meets nothing between vertices
 // of the plane with numbers below the first, nor between vertices with numbers from the other on.
@@ -97,42 +150,30 @@ impl Line for Shifted<'_> {
     }
 }
 
-// The number of the first vertex of the plane that the ray may come to, going back in the coordinate.
-fn first_number(c: &Complex, ray: &VertexRay, numbers: &[usize]) -> usize
+// The number of the first vertex of the plane past the line on which the coordinate is by this much greater than at the ray's
+// start, where those on the line may count as before it; or the other number, where the ray may lead far in the coordinate.
+fn number_beside(
+    c: &Complex,
+    ray: &VertexRay,
+    by: i64,
+    on_counts: bool,
+    otherwise: usize,
+    numbers: &[usize],
+) -> usize
     requires shows { (s : Set) × ShowsSet s c.now }
-    requires start { InClosedFrame (place_of ray.now.start.now) }
+    requires small { nat_abs by ≤ 1 }
     requires listed { AreNumbersWith (LiesOn c.now.vertices (form_of ray.now.plane.now)) numbers.now }
-    ensures first { IsFirst c.now.vertices (form_of ray.now.plane.now) (place_of ray.now.start.now) (vector_of ray.now.direction.now) result }
+    ensures beside { IsBeside c.now.vertices (form_of ray.now.plane.now) (place_of ray.now.start.now) (vector_of ray.now.direction.now) by on_counts result ⊎ (result ≡ otherwise) }
 {
-    if stays_close(ray.plane, ray.direction) {
-        let line = Shifted {
-            plane: ray.plane,
-            point: ray.start,
-            by: -1,
-        };
-        first_far(c, ray.plane, &line, true, numbers)
-    } else {
-        0
+    if !stays_close(ray.plane, ray.direction) {
+        return otherwise;
     }
-}
-
-// The number of the first vertex of the plane beyond all that the ray may come to, going on in the coordinate.
-fn past_number(c: &Complex, ray: &VertexRay, numbers: &[usize]) -> usize
-    requires shows { (s : Set) × ShowsSet s c.now }
-    requires start { InClosedFrame (place_of ray.now.start.now) }
-    requires listed { AreNumbersWith (LiesOn c.now.vertices (form_of ray.now.plane.now)) numbers.now }
-    ensures past { IsPast c.now.vertices (form_of ray.now.plane.now) (place_of ray.now.start.now) (vector_of ray.now.direction.now) result }
-{
-    if stays_close(ray.plane, ray.direction) {
-        let line = Shifted {
-            plane: ray.plane,
-            point: ray.start,
-            by: 1,
-        };
-        first_far(c, ray.plane, &line, false, numbers)
-    } else {
-        c.vertices.len()
-    }
+    let line = Shifted {
+        plane: ray.plane,
+        point: ray.start,
+        by,
+    };
+    first_far(c, ray.plane, &line, on_counts, numbers)
 }
 
 impl Course {
@@ -151,11 +192,11 @@ impl Course {
         match sweep_sign(ray.plane, ray.direction) {
             Sign::Plus => Course {
                 first: start + 1,
-                past: past_number(c, ray, numbers),
+                past: number_beside(c, ray, 1, false, count, numbers),
                 normal,
             },
             Sign::Minus => Course {
-                first: first_number(c, ray, numbers),
+                first: number_beside(c, ray, -1, true, 0, numbers),
                 past: start,
                 normal,
             },

@@ -1,24 +1,68 @@
 //! What a ray meets first of the vertices and edges that it is asked about.
 
-ghost use Rattle.std.specs.Prelude.{ℕ, ◌<◌, ◌≤◌, length, IsTrue, IfSome};
-ghost use Rattle.nef_space.specs.Place.{Place, Form};
-ghost use Rattle.nef_space.specs.Sets.{Set};
-ghost use Rattle.nef_space.specs.Vectors.{Vector, IsDirection};
+ghost use Rattle.std.specs.Prelude.{◌≡◌, ◌<◌, ◌≤◌};
+ghost use Rattle.nef_complex.specs.Prelude.{ℕ, length, IsTrue, IfSome, Place, Form, SamePlace, IsAhead, Set, Vector, IsDirection, complex_of, ShowsSet, AreNumbersWith, MatchOrdering};
 ghost use Rattle.nef_complex.specs.declared.complex.Complex.{Complex as ComplexValue};
 ghost use Rattle.nef_complex.specs.declared.complex.PlaneMeet.{PlaneMeet as PlaneMeetValue};
-ghost use Rattle.nef_complex.specs.Complexes.{complex_of, ShowsSet};
-ghost use Rattle.nef_complex.specs.Index.{LiesOn, EdgeLiesIn};
-ghost use Rattle.nef_plane.specs.Asked.{count_of, IsNth, meet_at, AreAsked, AreAskedIn, IsBelow, IsBeyond};
+ghost use Rattle.nef_plane.specs.Asked.{meet_at, count_in, AreItems, IsBelow, IsBeyond};
 ghost use Rattle.nef_plane.specs.Ends.{HasMeet, MeetLiesIn, AreEnds};
-ghost use Rattle.nef_plane.specs.Meets.{HoldsRay, AtMeet, AtSome, AtVertexOrEdge, IsMissed, IsNearest, met_of};
+ghost use Rattle.nef_plane.specs.Meets.{HoldsRay, AtMeet, AtSome, AtVertexOrEdge, IsMissed, IsNearest, met_of, Reach, reach_of, far_reach_of, IsReachedAt, IsReachedMet, IsNearer};
 
-use crate::ends::ends_of;
-use crate::met::{Met, Stepped, nearer};
-use crate::numbers::{Kind, Numbers};
-use nef_complex::{Complex, PlaneMeet};
+use crate::places::ends_of;
+use nef_complex::{Complex, PlaneItems, PlaneMeet};
+use nef_geo::{FarHit, Hit, far_order, hit_order};
+use std::cmp::Ordering;
 
-// A ray that is asked about one vertex or edge at a time. Where the plane holds it there may be a guide, which tells most
-// of them off the ray without a carrier.
+// What a ray meets, and the hit there.
+#[derive(Debug, Clone, Copy, Drop)]
+pub(crate) struct Met<H> {
+    pub(crate) meet: PlaneMeet,
+    pub(crate) at: H,
+}
+
+// A hit of a ray, with the step at which it stands.
+pub(crate) trait Stepped: Copy + Drop {
+    ghost reach: { Self → Reach };
+
+    // Which of two hits of one ray is nearer to its start.
+    fn order(&self, other: &Self) -> Ordering
+        ensures along { (p : Place) (d : Vector) → IsDirection d → IsReachedAt p d (reach self.now) → IsReachedAt p d (reach other.now) → MatchOrdering result (IsAhead (reach self.now).place d (reach other.now).place) (SamePlace (reach self.now).place (reach other.now).place) (IsAhead (reach other.now).place d (reach self.now).place) };
+}
+
+impl Stepped for Hit {
+    ghost reach = { reach_of };
+
+    fn order(&self, other: &Hit) -> Ordering {
+        hit_order(self, other)
+    }
+}
+
+impl Stepped for FarHit {
+    ghost reach = { far_reach_of };
+
+    fn order(&self, other: &FarHit) -> Ordering {
+        far_order(self, other)
+    }
+}
+
+// What a ray meets first of two, each of which stands at its step along the ray: the first one where they stand at one
+// point. `None` comes exactly where both are `None`.
+fn nearer<H: Stepped>(one: Option<Met<H>>, other: Option<Met<H>>) -> Option<Met<H>>
+    ensures nearer { (p : Place) (d : Vector) → IsDirection d → IfSome one (λ x. IsReachedMet p d (met_of H.reach x)) → IfSome other (λ x. IsReachedMet p d (met_of H.reach x)) → IsNearer (met_of H.reach) d one other result }
+{
+    match (one, other) {
+        (Some(x), Some(y)) => match x.at.order(&y.at) {
+            Ordering::Less => Some(x),
+            Ordering::Equal => Some(x),
+            Ordering::Greater => Some(y),
+        },
+        (None, y) => y,
+        (x, None) => x,
+    }
+}
+
+// A ray that is asked about one vertex or edge at a time. Where its plane holds it and what lies there is listed, a guide
+// tells most of them off the ray without a carrier.
 pub(crate) trait PlaneRay {
     type At: Stepped;
 
@@ -42,13 +86,18 @@ pub(crate) trait PlaneRay {
         requires told { tells self.now c.now meet }
         ensures nearest { IsNearest (met_of Self.At.reach) (start self.now) (way self.now) (AtMeet (complex_of c.now) (plane self.now) (way self.now) meet) result };
 
-    // Whether the ray may meet this vertex or edge, which lies in the plane if there is a guide. It may meet no edge that
-    // doesn't lie in the plane.
-    fn may_meet(&self, c: &Complex, guide: &Option<Self::Guide>, meet: PlaneMeet) -> bool
+    // Whether the ray can tell where it meets this vertex or edge. It meets no other.
+    fn can_tell(&self, c: &Complex, meet: PlaneMeet) -> bool
         requires shows { (s : Set) × ShowsSet s c.now }
-        requires guide { IfSome guide.now (guided self.now c.now) }
         requires within { HasMeet c.now meet }
-        requires held { IfSome guide.now (λ x. MeetLiesIn c.now (plane self.now) meet) }
+        ensures told { IsTrue result → tells self.now c.now meet }
+        ensures off { (IsTrue result → ⊥) → IsMissed (start self.now) (way self.now) (AtMeet (complex_of c.now) (plane self.now) (way self.now) meet) };
+
+    // Whether the ray may meet this vertex or edge of the plane. If it may, it can tell where.
+    fn may_meet(&self, c: &Complex, guide: &Self::Guide, meet: PlaneMeet) -> bool
+        requires shows { (s : Set) × ShowsSet s c.now }
+        requires guide { guided self.now c.now guide.now }
+        requires lies { MeetLiesIn c.now (plane self.now) meet }
         ensures told { IsTrue result → tells self.now c.now meet }
         ensures off { (IsTrue result → ⊥) → IsMissed (start self.now) (way self.now) (AtMeet (complex_of c.now) (plane self.now) (way self.now) meet) };
 
@@ -71,20 +120,38 @@ pub(crate) trait PlaneRay {
     ghost holds: { (r : Self) (c : ComplexValue) (x : Self.Guide) → guided r c x → HoldsRay (plane r) (start r) (way r) };
 }
 
-// How many of those that are asked have their first end below the limit, by halving. They stand in order of it.
-fn count_before(c: &Complex, kind: Kind, asked: &Numbers, limit: usize) -> usize
+// Whether vertices or edges are asked.
+#[derive(Debug, Clone, Copy)]
+enum Kind {
+    Vertex,
+    Edge,
+}
+
+impl Kind {
+    // The one with this number.
+    fn at(self, number: usize) -> PlaneMeet
+        ensures at { result ≡ meet_at self number }
+    {
+        match self {
+            Kind::Vertex => PlaneMeet::AtVertex(number),
+            Kind::Edge => PlaneMeet::AtEdge(number),
+        }
+    }
+}
+
+// How many of the listed numbers have their first end below the limit, by halving. They stand in order of it.
+fn count_before(c: &Complex, kind: Kind, numbers: &[usize], limit: usize) -> usize
     requires shows { (s : Set) × ShowsSet s c.now }
-    requires has { (i k : ℕ) → IsNth asked.now i k → HasMeet c.now (meet_at kind k) }
-    requires ordered { (i j k l : ℕ) → i < j → IsNth asked.now i k → IsNth asked.now j l → k < l }
-    ensures within { result ≤ count_of asked.now }
-    ensures below { IsBelow c.now kind asked.now limit result }
-    ensures beyond { IsBeyond c.now kind asked.now limit result }
+    requires listed { (h : Form) × AreNumbersWith (λ k. MeetLiesIn c.now h (meet_at kind k)) numbers.now }
+    ensures within { result ≤ length numbers.now }
+    ensures below { IsBelow c.now kind numbers.now limit result }
+    ensures beyond { IsBeyond c.now kind numbers.now limit result }
 {
     let mut low = 0;
-    let mut high = asked.len();
+    let mut high = numbers.len();
     while low < high {
         let middle = low + (high - low) / 2;
-        let (end, _) = ends_of(c, kind.at(asked.at(middle)));
+        let (end, _) = ends_of(c, kind.at(numbers[middle]));
         if end < limit {
             low = middle + 1;
         } else {
@@ -94,67 +161,30 @@ fn count_before(c: &Complex, kind: Kind, asked: &Numbers, limit: usize) -> usize
     high
 }
 
-// How many of those that are asked the ray may meet. It meets none of the later ones.
-fn reach<R: PlaneRay>(
-    ray: &R,
-    c: &Complex,
-    guide: &Option<R::Guide>,
-    kind: Kind,
-    asked: &Numbers,
-) -> usize
-    requires shows { (s : Set) × ShowsSet s c.now }
-    requires guide { IfSome guide.now (R.guided ray.now c.now) }
-    requires asked { AreAskedIn c.now (R.plane ray.now) guide.now kind asked.now }
-    ensures within { result ≤ count_of asked.now }
-    ensures missed { (i k : ℕ) → result ≤ i → IsNth asked.now i k → IsMissed (R.start ray.now) (R.way ray.now) (AtMeet (complex_of c.now) (R.plane ray.now) (R.way ray.now) (meet_at kind k)) }
-{
-    match guide {
-        Some(found) => count_before(c, kind, asked, ray.past(c, found)),
-        None => asked.len(),
-    }
-}
-
-// How many of those that are asked come before all that the ray may meet. Only vertices are told so: their numbers are
-// those of both their ends, while the second ends of edges stand in no order.
-fn beginning<R: PlaneRay>(
-    ray: &R,
-    c: &Complex,
-    guide: &Option<R::Guide>,
-    kind: Kind,
-    asked: &Numbers,
-) -> usize
-    requires shows { (s : Set) × ShowsSet s c.now }
-    requires guide { IfSome guide.now (R.guided ray.now c.now) }
-    requires asked { AreAskedIn c.now (R.plane ray.now) guide.now kind asked.now }
-    ensures missed { (i k : ℕ) → i < result → IsNth asked.now i k → IsMissed (R.start ray.now) (R.way ray.now) (AtMeet (complex_of c.now) (R.plane ray.now) (R.way ray.now) (meet_at kind k)) }
-{
-    match guide {
-        Some(found) => match kind {
-            Kind::Vertex => count_before(c, kind, asked, ray.first(c, found)),
-            Kind::Edge => 0,
-        },
-        None => 0,
-    }
-}
-
-// The first that the ray meets of the vertices that are asked, or of the edges that are asked, if they lie in the plane
-// and not along the ray. Where the ray meets an edge along it, it meets an end of that edge sooner.
+// The first that the ray meets of the vertices of the plane, or of its edges that aren't along the ray. They have the listed
+// numbers. Where the ray meets an edge along it, it meets an end of that edge sooner.
 fn nearest<R: PlaneRay>(
     ray: &R,
     c: &Complex,
-    guide: &Option<R::Guide>,
+    guide: &R::Guide,
     kind: Kind,
-    asked: &Numbers,
+    numbers: &[usize],
 ) -> Option<Met<R::At>>
     requires shows { (s : Set) × ShowsSet s c.now }
-    requires guide { IfSome guide.now (R.guided ray.now c.now) }
-    requires asked { AreAskedIn c.now (R.plane ray.now) guide.now kind asked.now }
+    requires guide { R.guided ray.now c.now guide.now }
+    requires listed { AreNumbersWith (λ k. MeetLiesIn c.now (R.plane ray.now) (meet_at kind k)) numbers.now }
     ensures nearest { IsNearest (met_of R.At.reach) (R.start ray.now) (R.way ray.now) (AtSome (complex_of c.now) (R.plane ray.now) (R.way ray.now) kind) result }
 {
     let mut best = None;
-    let first = beginning(ray, c, guide, kind, asked);
-    for place in first..reach(ray, c, guide, kind, asked) {
-        let meet = kind.at(asked.at(place));
+    // only vertices are passed over at the beginning: their numbers are those of both their ends, while the second ends of
+    // edges stand in no order
+    let first = match kind {
+        Kind::Vertex => count_before(c, kind, numbers, ray.first(c, guide)),
+        Kind::Edge => 0,
+    };
+    let end = count_before(c, kind, numbers, ray.past(c, guide));
+    for place in first..end {
+        let meet = kind.at(numbers[place]);
         if ray.may_meet(c, guide, meet) {
             best = nearer(best, ray.met(c, meet));
         }
@@ -162,21 +192,45 @@ fn nearest<R: PlaneRay>(
     best
 }
 
-// The first that the ray meets of the vertices and edges that are asked.
+// The first that the ray meets of the listed vertices and edges, which are those of the plane.
 pub(crate) fn nearest_met<R: PlaneRay>(
     ray: &R,
     c: &Complex,
-    guide: &Option<R::Guide>,
-    vertices: &Numbers,
-    edges: &Numbers,
+    guide: &R::Guide,
+    items: PlaneItems,
 ) -> Option<Met<R::At>>
     requires shows { (s : Set) × ShowsSet s c.now }
-    requires guide { IfSome guide.now (R.guided ray.now c.now) }
-    requires vertices { AreAsked (LiesOn c.now.vertices (R.plane ray.now)) (length c.now.vertices) guide.now vertices.now }
-    requires edges { AreAsked (EdgeLiesIn c.now.vertices c.now.edges (R.plane ray.now)) (length c.now.edges) guide.now edges.now }
+    requires guide { R.guided ray.now c.now guide.now }
+    requires items { AreItems c.now (R.plane ray.now) items }
     ensures nearest { IsNearest (met_of R.At.reach) (R.start ray.now) (R.way ray.now) (AtVertexOrEdge (complex_of c.now) (R.plane ray.now) (R.way ray.now)) result }
 {
-    let vertex = nearest(ray, c, guide, Kind::Vertex, vertices);
-    let edge = nearest(ray, c, guide, Kind::Edge, edges);
+    let vertex = nearest(ray, c, guide, Kind::Vertex, items.vertices);
+    let edge = nearest(ray, c, guide, Kind::Edge, items.edges);
+    nearer(vertex, edge)
+}
+
+// As `nearest`, of all vertices or edges of the complex, which are so many, where no list names those in the plane.
+fn nearest_of_all<R: PlaneRay>(ray: &R, c: &Complex, kind: Kind, count: usize) -> Option<Met<R::At>>
+    requires shows { (s : Set) × ShowsSet s c.now }
+    requires count { count ≡ count_in c.now kind }
+    ensures nearest { IsNearest (met_of R.At.reach) (R.start ray.now) (R.way ray.now) (AtSome (complex_of c.now) (R.plane ray.now) (R.way ray.now) kind) result }
+{
+    let mut best = None;
+    for number in 0..count {
+        let meet = kind.at(number);
+        if ray.can_tell(c, meet) {
+            best = nearer(best, ray.met(c, meet));
+        }
+    }
+    best
+}
+
+// The first that the ray meets of all vertices and edges of the complex.
+pub(crate) fn met_of_all<R: PlaneRay>(ray: &R, c: &Complex) -> Option<Met<R::At>>
+    requires shows { (s : Set) × ShowsSet s c.now }
+    ensures nearest { IsNearest (met_of R.At.reach) (R.start ray.now) (R.way ray.now) (AtVertexOrEdge (complex_of c.now) (R.plane ray.now) (R.way ray.now)) result }
+{
+    let vertex = nearest_of_all(ray, c, Kind::Vertex, c.vertices.len());
+    let edge = nearest_of_all(ray, c, Kind::Edge, c.edges.len());
     nearer(vertex, edge)
 }

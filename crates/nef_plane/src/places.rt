@@ -1,40 +1,70 @@
-//! Whether a point of a ray is a vertex, or lies on an edge.
+//! The ends of a vertex or an edge that a ray may meet, the carriers that hold them, and whether a plane does; and whether a
+//! point of a ray is a vertex, or lies on an edge. A vertex is both of its ends.
 //!
 //! The numbers of a general hit are too large to be multiplied with those of a vertex. The carriers tell instead: at least
 //! three of those that hold a vertex meet there alone, and at least two of those that hold an edge meet in its line.
 
-ghost use Rattle.std.specs.Prelude.{◌≡◌, ◌<◌, length, ◌↔◌, IsTrue};
-ghost use Rattle.nef_space.specs.Lists.{IsAt};
-ghost use Rattle.nef_space.specs.Place.{Place, form_at};
-ghost use Rattle.nef_space.specs.Sets.{Set};
-ghost use Rattle.nef_geo.specs.Shapes.{form_of, place_of, hit_place};
-ghost use Rattle.nef_geo.specs.Signs.{sign_of};
-ghost use Rattle.law_complex.specs.Skeleton.{IsVertexPoint, IsEdgePoint};
-ghost use Rattle.nef_complex.specs.Complexes.{complex_of, ShowsSet};
+ghost use Rattle.std.specs.Prelude.{◌<◌, ◌↔◌};
+ghost use Rattle.nef_complex.specs.Prelude.{length, IsTrue, IsAt, Place, Set, form_of, place_of, hit_place, IsVertexPoint, IsEdgePoint, complex_of, ShowsSet, AreWithin, AreHolders};
 ghost use Rattle.nef_complex.specs.declared.complex.Edge.{Edge};
 ghost use Rattle.nef_complex.specs.declared.complex.Vertex.{Vertex};
-ghost use Rattle.nef_complex.specs.Index.{AreWithin, AreHolders};
 ghost use Rattle.nef_plane.specs.Amid.{AllSideWith, AllThrough};
-ghost use Rattle.nef_plane.specs.Ends.{HasMeet};
+ghost use Rattle.nef_plane.specs.Ends.{HasMeet, MeetLiesIn, AreEnds, HasEndsAt};
 ghost use Rattle.nef_plane.specs.Meets.{IsMeetPoint};
 
-use nef_complex::{Complex, PlaneMeet, edge_holders, vertex_holders};
+use nef_complex::{Complex, PlaneMeet, edge_holders, holds, vertex_holders};
 use nef_geo::{Hit, Plane, Point, Sign, hit_side, side};
 
-// Whether q lies on the side of b, or on the plane where b does.
-fn is_beside(h: &Plane, b: &Point, q: &Hit) -> bool
-    ensures beside { IsTrue result ↔ (sign_of (form_at (form_of h.now) (hit_place q.now)) ≡ sign_of (form_at (form_of h.now) (place_of b.now))) }
+// The numbers of the ends.
+pub(crate) fn ends_of(c: &Complex, meet: PlaneMeet) -> (usize, usize)
+    requires shows { (s : Set) × ShowsSet s c.now }
+    requires within { HasMeet c.now meet }
+    ensures ends { AreEnds c.now meet result.0 result.1 }
+    ensures low { result.0 < length c.now.vertices }
+    ensures high { result.1 < length c.now.vertices }
 {
-    hit_side(h, q) == side(h, b)
+    match meet {
+        PlaneMeet::AtVertex(number) => (number, number),
+        PlaneMeet::AtEdge(number) => {
+            let edge = c.edges.at(number);
+            (edge.low, edge.high)
+        }
+    }
 }
 
-// The same for all of the carriers with these numbers, which are those that hold some point.
+// The numbers of the carriers that hold both ends.
+pub(crate) fn holders_of(c: &Complex, meet: PlaneMeet) -> &[usize]
+    requires shows { (s : Set) × ShowsSet s c.now }
+    requires within { HasMeet c.now meet }
+    ensures holders { (u v : Vertex) → HasEndsAt c.now meet u v → AreHolders c.now.carriers (place_of u.point) (place_of v.point) result.now }
+{
+    match meet {
+        PlaneMeet::AtVertex(number) => vertex_holders(c, number),
+        PlaneMeet::AtEdge(number) => edge_holders(c, number),
+    }
+}
+
+// Whether this vertex or edge lies in the plane: both of its ends do.
+pub(crate) fn lies_in(c: &Complex, h: &Plane, meet: PlaneMeet) -> bool
+    requires shows { (s : Set) × ShowsSet s c.now }
+    requires within { HasMeet c.now meet }
+    ensures lies { IsTrue result ↔ MeetLiesIn c.now (form_of h.now) meet }
+{
+    let (low, high) = ends_of(c, meet);
+    let a = &c.vertices.at(low).point;
+    let b = &c.vertices.at(high).point;
+    holds(h, a) && holds(h, b)
+}
+
+// Whether q lies on the side of b of each of the carriers with these numbers, or on the carrier where b does. They are those that
+// hold some point.
 fn sides_with(carriers: &[Plane], holders: &[usize], b: &Point, q: &Hit) -> bool
     requires within { AreWithin carriers.now holders.now }
     ensures sides { (a : Place) → AreHolders carriers.now a a holders.now → (IsTrue result ↔ AllSideWith carriers.now a (place_of b.now) (hit_place q.now)) }
 {
     for number in holders {
-        if !is_beside(&carriers[*number], b, q) {
+        let h = &carriers[*number];
+        if hit_side(h, q) != side(h, b) {
             return false;
         }
     }

@@ -1,29 +1,129 @@
-//! The first vertex or edge in a plane that a ray along the plane's axis meets.
+//! The first vertex or edge in a plane that a ray along the plane's axis meets; lines of a plane along its axis, and the vertices
+//! of the plane beside them, which stand in order of the coordinate that the axis keeps.
 
-ghost use Rattle.std.specs.Prelude.{◌≡◌, ◌<◌, pos, IsNone, IfSome};
-ghost use Rattle.std.specs.Option.{MatchOption};
-ghost use Rattle.nef_space.specs.Place.{Place, form_at, IsAhead};
-ghost use Rattle.nef_space.specs.Sets.{Set};
-ghost use Rattle.nef_geo.specs.Hits.{IsPlaceAtMost};
-ghost use Rattle.nef_geo.specs.Shapes.{form_of, vector_of, place_of, hit_place, far_place};
-ghost use Rattle.nef_geo.specs.Widths.{upright_limit, upright_weight_limit};
-ghost use Rattle.law_complex.specs.Skeleton.{PlaneMeet as PlainMeet, Meets, IsFirstInPlane};
-ghost use Rattle.nef_complex.specs.Complexes.{complex_of, meet_of, ShowsSet};
-ghost use Rattle.nef_complex.specs.Index.{AreWithin, AreHolders};
-ghost use Rattle.nef_complex.specs.Planes.{HoldsBoth};
+ghost use Rattle.std.specs.Prelude.{◌≡◌, ◌<◌, ◌≤◌, ◌*ℤ◌, ◌-ℤ◌, ◌↔◌};
+ghost use Rattle.nef_complex.specs.Prelude.{pos, nat_abs, IsTrue, IsNone, IfSome, MatchOption, normal_limit, point_limit, weight_limit, Place, form_at, IsAhead, Form, Set, IsAtMost, IsPlaceAtMost, form_of, vector_of, place_of, hit_place, sign_of, upright_limit, upright_weight_limit, ratio_limit, PlaneMeet as PlainMeet, Meets, IsFirstInPlane, complex_of, meet_of, ShowsSet, LiesOn, AreNumbersWith, AreWithin, AreHolders};
+ghost use Rattle.nef_plane.specs.Asked.{AreItems};
 ghost use Rattle.nef_plane.specs.Ends.{MeetLiesIn};
-ghost use Rattle.nef_plane.specs.Levels.{IsLevel};
-ghost use Rattle.nef_plane.specs.Meets.{IsAlongAxis, HoldsRay, HasNoSvertex, IsOffEdges, IsHitThrough, NoneCrosses, IsMet, AllHold, AtVertexOrEdge, IsNearest, far_met_of, far_reach_of};
+ghost use Rattle.nef_plane.specs.Levels.{IsLevel, IsUnparted, IsShort, AreShortBelow, AreFarFrom, IsSwept};
+ghost use Rattle.nef_plane.specs.Meets.{IsAlongAxis, IsParallelToAxis, sweep_form, HoldsRay, HasNoSvertex, IsOffEdges, AreOpposite, IsHitThrough, NoneCrosses, far_reach_of};
 
-use crate::ends::{ends_of, holders_of};
-use crate::first::{PlaneRay, nearest_met};
-use crate::level::Level;
-use crate::lying::lies_in;
-use crate::met::Met;
-use crate::numbers::Numbers;
-use crate::ray::AxisRay;
-use nef_complex::{Complex, PlaneMeet, plane_items};
-use nef_geo::{Dir, FarHit, Hit, Plane, Point, far_hit};
+use crate::first::{Met, PlaneRay, met_of_all, nearest_met};
+use crate::places::{ends_of, holders_of, lies_in};
+use nef_complex::{Complex, PlaneItems, PlaneMeet};
+use nef_geo::{Dir, FarHit, Hit, Plane, Point, Sign, far_hit};
+
+// A line of a plane along its axis.
+pub(crate) trait Line {
+    // The form of a plane through the line whose sign tells the sides.
+    ghost form: { Self → Form };
+
+    // The side of the line on which a point of the plane lies.
+    fn across(&self, a: &Point) -> Sign
+        ensures across { result ≡ sign_of (form_at (form self.now) (place_of a.now)) };
+}
+
+// Whether a point of the plane lies before the line or, if that counts, on it.
+fn is_short<L: Line>(line: &L, on_counts: bool, a: &Point) -> bool
+    ensures short { IsTrue result ↔ IsShort on_counts (form_at (L.form line.now) (place_of a.now)) }
+{
+    match line.across(a) {
+        Sign::Minus => true,
+        Sign::Zero => on_counts,
+        Sign::Plus => false,
+    }
+}
+
+// The number of the first vertex of the plane that isn't short, by halving, or the number of all vertices if all of them are.
+pub(crate) fn first_far<L: Line>(
+    c: &Complex,
+    h: &Plane,
+    line: &L,
+    on_counts: bool,
+    numbers: &[usize],
+) -> usize
+    requires shows { (s : Set) × ShowsSet s c.now }
+    requires listed { AreNumbersWith (LiesOn c.now.vertices (form_of h.now)) numbers.now }
+    requires swept { IsSwept (form_of h.now) (L.form line.now) }
+    ensures short { AreShortBelow c.now.vertices (form_of h.now) (L.form line.now) on_counts result }
+    ensures far { AreFarFrom c.now.vertices (form_of h.now) (L.form line.now) on_counts result }
+{
+    let mut low = 0;
+    let mut high = numbers.len();
+    while low < high {
+        let middle = low + (high - low) / 2;
+        if is_short(line, on_counts, &c.vertices.at(numbers[middle]).point) {
+            low = middle + 1;
+        } else {
+            high = middle;
+        }
+    }
+    if low < numbers.len() {
+        numbers[low]
+    } else {
+        c.vertices.len()
+    }
+}
+
+// A ray within a plane, along the plane's axis.
+#[derive(Debug, Clone, Copy)]
+struct AxisRay<'a> {
+    plane: &'a Plane,
+    start: &'a Hit,
+    direction: &'a Dir,
+    ghost on: { form_at (form_of plane.now) (hit_place start.now) ≡ pos 0 },
+    ghost numbers: { IsPlaceAtMost upright_limit upright_weight_limit (hit_place start.now) },
+    ghost axis: { IsParallelToAxis (form_of plane.now) (vector_of direction.now) },
+    ghost small: { IsAtMost normal_limit (vector_of direction.now) },
+}
+
+// The sign of x/w - y/v.
+fn ratio_sign(x: i64, w: i64, y: i128, v: i128) -> Sign
+    requires x_small { nat_abs x ≤ point_limit }
+    requires w_small { nat_abs w ≤ weight_limit }
+    requires y_small { nat_abs y ≤ upright_limit }
+    requires v_small { nat_abs v ≤ upright_weight_limit }
+    ensures sign { result ≡ sign_of (x *ℤ v -ℤ y *ℤ w) }
+    ensures width { nat_abs (x *ℤ v -ℤ y *ℤ w) ≤ ratio_limit }
+{
+    Sign::of(x as i128 * v - y * w as i128)
+}
+
+impl Line for AxisRay<'_> {
+    ghost form = { λ r. sweep_form (form_of r.plane.now) (hit_place r.start.now) };
+
+    fn across(&self, a: &Point) -> Sign {
+        let p = self.start;
+        if self.plane.c() == 0 && self.plane.b() == 0 {
+            ratio_sign(a.y(), a.w(), p.y(), p.w())
+        } else {
+            ratio_sign(a.x(), a.w(), p.x(), p.w())
+        }
+    }
+}
+
+// The vertices of a plane stand in order of the coordinate that the plane's axis keeps, so that their numbers alone tell of
+// most vertices and edges of the plane that a line along the axis doesn't meet them. Those with numbers below the first lie
+// before the line, those from the second number on past it, and those between on it.
+#[derive(Debug, Clone, Copy)]
+pub(crate) struct Level {
+    pub(crate) first: usize,
+    pub(crate) past: usize,
+}
+
+impl Level {
+    // Whether the vertices of the plane with these numbers, of which the first is no greater, may lie on different sides
+    // of the line, or both on it.
+    fn may_part(&self, low: usize, high: usize) -> bool
+        ensures unparted { (IsTrue result → ⊥) → IsUnparted self.now low high }
+    {
+        if low < self.first {
+            self.past <= high
+        } else {
+            high < self.past
+        }
+    }
+}
 
 // Where the ray crosses the first of the carriers with these numbers that it crosses at all. They are those that hold two
 // points.
@@ -39,26 +139,11 @@ fn hit_through(carriers: &[Plane], holders: &[usize], ray: &AxisRay) -> Option<F
     None
 }
 
-// Where the ray meets the inside of the segment between two points of the plane, or the point that both are. The numbers are
-// those of the carriers that hold both.
-fn met_at(
-    carriers: &[Plane],
-    holders: &[usize],
-    ray: &AxisRay,
-    a: &Point,
-    b: &Point,
-) -> Option<FarHit>
-    requires held { HoldsBoth (form_of ray.now.plane.now) (place_of a.now) (place_of b.now) }
-    requires holders { AreHolders carriers.now (place_of a.now) (place_of b.now) holders.now }
-    ensures met { IfSome result (λ q. IsMet (form_of ray.now.plane.now) (hit_place ray.now.start.now) (vector_of ray.now.direction.now) (place_of a.now) (place_of b.now) (far_place q)) }
-    ensures through { IfSome result (λ q. IsHitThrough (hit_place ray.now.start.now) (vector_of ray.now.direction.now) (place_of a.now) (place_of b.now) (far_reach_of q)) }
-    ensures none { IsNone result → (y : Place) → IsMet (form_of ray.now.plane.now) (hit_place ray.now.start.now) (vector_of ray.now.direction.now) (place_of a.now) (place_of b.now) y → AllHold carriers.now (vector_of ray.now.direction.now) (place_of a.now) (place_of b.now) }
+// Whether the points lie on different sides of the ray's line, or both on it.
+fn are_parted(ray: &AxisRay, a: &Point, b: &Point) -> bool
+    ensures opposite { IsTrue result ↔ AreOpposite (sweep_form (form_of ray.now.plane.now) (hit_place ray.now.start.now)) (place_of a.now) (place_of b.now) }
 {
-    if ray.parts(a, b) {
-        hit_through(carriers, holders, ray)
-    } else {
-        None
-    }
+    ray.across(a) == ray.across(b).opposite()
 }
 
 impl PlaneRay for AxisRay<'_> {
@@ -81,21 +166,21 @@ impl PlaneRay for AxisRay<'_> {
         let (low, high) = ends_of(c, meet);
         let a = &c.vertices.at(low).point;
         let b = &c.vertices.at(high).point;
-        match met_at(c.carriers.as_slice(), holders_of(c, meet), self, a, b) {
-            Some(at) => Some(Met { meet, at }),
-            None => None,
+        if !are_parted(self, a, b) {
+            return None;
         }
+        let at = hit_through(c.carriers.as_slice(), holders_of(c, meet), self)?;
+        Some(Met { meet, at })
+    }
+
+    fn can_tell(&self, c: &Complex, meet: PlaneMeet) -> bool {
+        lies_in(c, self.plane, meet)
     }
 
     // The level tells of most vertices and edges, by the numbers of their ends.
-    fn may_meet(&self, c: &Complex, level: &Option<Level>, meet: PlaneMeet) -> bool {
-        match level {
-            Some(level) => {
-                let (low, high) = ends_of(c, meet);
-                level.may_part(low, high)
-            }
-            None => lies_in(c, self.plane, meet),
-        }
+    fn may_meet(&self, c: &Complex, level: &Level, meet: PlaneMeet) -> bool {
+        let (low, high) = ends_of(c, meet);
+        level.may_part(low, high)
     }
 
     fn first(&self, _c: &Complex, level: &Level) -> usize {
@@ -111,29 +196,19 @@ impl PlaneRay for AxisRay<'_> {
     ghost holds = { λ r c x y. y.1 };
 }
 
-// What the ray meets first, by the lists of the plane where the index has it. Where no vertex has an item in the plane,
-// all vertices and edges are asked: some may lie in it all the same.
-fn first_met(c: &Complex, ray: &AxisRay) -> Option<Met<FarHit>>
+/// The first vertex or edge in the plane `h` that the ray from `p` along `d` meets strictly ahead. The items are those of
+/// the plane; without them all vertices and edges are asked: some may lie in it though no vertex has an item there. The
+/// direction is the plane's axis or its opposite, and the point is as `first_in_plane` wants it. `None` comes exactly where
+/// nothing is met.
+pub fn first_along_axis(
+    c: &Complex,
+    h: &Plane,
+    items: Option<PlaneItems>,
+    p: &Hit,
+    d: &Dir,
+) -> Option<PlaneMeet>
     requires shows { (s : Set) × ShowsSet s c.now }
-    ensures nearest { IsNearest far_met_of (hit_place ray.now.start.now) (vector_of ray.now.direction.now) (AtVertexOrEdge (complex_of c.now) (form_of ray.now.plane.now) (vector_of ray.now.direction.now)) result }
-{
-    match plane_items(c, ray.plane) {
-        Some(items) => {
-            let level = Some(Level::of(c, ray, items.vertices));
-            let vertices = Numbers::Listed(items.vertices);
-            nearest_met(ray, c, &level, &vertices, &Numbers::Listed(items.edges))
-        }
-        None => {
-            let vertices = Numbers::All(c.vertices.len());
-            nearest_met(ray, c, &None, &vertices, &Numbers::All(c.edges.len()))
-        }
-    }
-}
-
-// The first vertex or edge in the plane `h` that the ray from `p` along `d` meets strictly ahead. The direction is the
-// plane's axis or its opposite. `None` comes exactly where nothing is met.
-pub(crate) fn first_along_axis(c: &Complex, h: &Plane, p: &Hit, d: &Dir) -> Option<PlaneMeet>
-    requires shows { (s : Set) × ShowsSet s c.now }
+    requires items { IfSome items (AreItems c.now (form_of h.now)) }
     requires on { form_at (form_of h.now) (hit_place p.now) ≡ pos 0 }
     requires off { IsOffEdges (complex_of c.now) (form_of h.now) (hit_place p.now) }
     requires numbers { IsPlaceAtMost upright_limit upright_weight_limit (hit_place p.now) }
@@ -147,8 +222,16 @@ pub(crate) fn first_along_axis(c: &Complex, h: &Plane, p: &Hit, d: &Dir) -> Opti
         start: p,
         direction: d,
     };
-    match first_met(c, &ray) {
-        Some(met) => Some(met.meet),
-        None => None,
-    }
+    let met = match items {
+        Some(listed) => {
+            let level = Level {
+                first: first_far(c, h, &ray, false, listed.vertices),
+                past: first_far(c, h, &ray, true, listed.vertices),
+            };
+            nearest_met(&ray, c, &level, listed)
+        }
+        None => met_of_all(&ray, c),
+    };
+    let first = met?;
+    Some(first.meet)
 }

@@ -106,7 +106,6 @@ fn result_of<J: Job>(
     requires workable { J.workable job.now }
     requires right { (out : _) → slot ≡ Some out → J.right job.now number out }
     ensures right { IfOk result (λ out. J.right job.now number out) }
-    ensures kept { (done : _) → slot ≡ Some done → IfOk result (λ out. out ≡ done) }
 {
     match slot {
         Some(out) => Ok(out),
@@ -125,7 +124,6 @@ fn filled<J: Job>(
     requires right { (i : ℕ) (out : _) → slice_get slots.items i ≡ Some (Some out) → J.right job.now i out }
     ensures len { IfOk result (λ v. vec_len v ≡ J.count job.now) }
     ensures right { IfOk result (λ v. (i : ℕ) (out : _) → slice_get v.items i ≡ Some out → J.right job.now i out) }
-    ensures kept { IfOk result (λ v. (i : ℕ) (out : _) → slice_get slots.items i ≡ Some (Some out) → slice_get v.items i ≡ Some out) }
 {
     let mut outs = Vec::with_capacity(alloc, slots.len())?;
     for slot in slots {

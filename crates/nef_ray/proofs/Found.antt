@@ -22,7 +22,7 @@ use Rattle.law_complex.proofs.Planes.{plane-turned, plane-point, plane-slope}
 use Rattle.law_complex.proofs.Ways.{same-itself}
 use Rattle.nef_complex.specs.declared.complex.Complex.{Complex}
 use Rattle.nef_complex.specs.Complexes.{ShowsSet}
-use Rattle.nef_ray.specs.declared.crossed.Crossed.{Crossed}
+use Rattle.nef_ray.specs.declared.ray.Crossed.{Crossed}
 use Rattle.nef_ray.specs.declared.ray.RayEnd.{RayEnd}
 use Rattle.nef_ray.specs.declared.ray.RayStart.{RayStart}
 use Rattle.nef_ray.specs.Changes.{IsHitOf, IsUnchanged, IsUnchangedOn, IsChangeOf, IsListed, AreAllCrossed, crossed_lt}

@@ -11,9 +11,8 @@ use Rattle.nef_geo.specs.declared.plane.Plane.{Plane}
 use Rattle.law_sphere.specs.Maps.{At}
 use Rattle.nef_smap.proofs.Lists.{contains-at, at-contains}
 use Rattle.nef_edges.proofs.Places.{at-some}
-use Rattle.nef_complex.proofs.Reading.{read-at}
-use Rattle.nef_locate.proofs.Reading.{next-all}
-use Rattle.nef_ray.specs.declared.crossed.Crossed.{Crossed}
+use Rattle.nef_complex.proofs.Reading.{read-at, next-all}
+use Rattle.nef_ray.specs.declared.ray.Crossed.{Crossed}
 use Rattle.nef_ray.specs.declared.ray.RayStart.{RayStart}
 use Rattle.nef_ray.specs.Changes.{IsListed, AreAllCrossed}
 

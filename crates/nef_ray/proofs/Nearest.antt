@@ -1,16 +1,12 @@
 -- What a ray meets in one plane.
-use Rattle.std.proofs.Common.{◌≡◌, Option, Some, None, Result, Ok, Err, IfOk, IfSome, IsNone, sym, subst}
 use Rattle.nef_space.specs.Place.{Place, SamePlace, toward, IsAhead, IsBetween}
 use Rattle.nef_space.specs.Sets.{Set}
 use Rattle.nef_space.specs.Vectors.{Vector}
 use Rattle.nef_space.specs.declared.label.Label.{Label}
 use Rattle.nef_geo.specs.Hits.{IsCrossing}
-use Rattle.nef_geo.specs.Shapes.{form_of, vector_of, place_of, hit_place}
+use Rattle.nef_geo.specs.Shapes.{form_of, hit_place}
 use Rattle.nef_geo.specs.declared.hit.Hit.{Hit}
 use Rattle.nef_geo.specs.declared.plane.Plane.{Plane}
-use Rattle.nef_geo.specs.declared.point.Point.{Point}
-use Rattle.nef_complex.specs.declared.complex.Complex.{Complex}
-use Rattle.nef_complex.specs.Complexes.{ShowsSet}
 use Rattle.law_near.specs.Cells.{carriers}
 use Rattle.law_near.proofs.Alike.{germs-by_cell}
 use Rattle.law_near.proofs.Germs.{Label-cells}
@@ -19,9 +15,7 @@ use Rattle.law_sphere.proofs.Compare.{SameDirection-turned, SameDirection-trans}
 use Rattle.nef_complex.proofs.Lines.{one-crossing}
 use Rattle.law_complex.proofs.EqualPoints.{ahead-from}
 use Rattle.nef_locate.proofs.RayMeets.{at-hit}
-use Rattle.nef_ray.specs.declared.ray.RayEnd.{RayEnd}
-use Rattle.nef_ray.specs.declared.ray.RayStart.{RayStart}
-use Rattle.nef_ray.specs.Changes.{IsUnchanged, IsUnchangedOn}
+use Rattle.nef_ray.specs.Changes.{IsUnchanged}
 
 -- the ray crosses a plane at one point
 pub crossings-same : (p : Place) (d : Vector) (h : Plane) (y q : Place) → IsCrossing p d (form_of h) y → IsCrossing p d (form_of h) q → SamePlace y q
@@ -34,14 +28,3 @@ unchanged-same s d m q y e (h, g) = (Label-cells s m q y (signs-same (carriers s
 -- where a hit doesn't lie before the point q, no crossing of its plane does
 pub stays : (p : Place) (d : Vector) (h : Plane) (hit : Hit) → IsCrossing p d (form_of h) (hit_place hit) → (q : Place) → (IsAhead (hit_place hit) d q → ⊥) → (y : Place) → IsCrossing p d (form_of h) y → IsBetween p y q → ⊥
 stays p d h hit X q n y Y b = n (ahead-from y (hit_place hit) q d (at-hit p d h hit X y Y) (SameDirection-trans (toward y q) (toward p y) d (SameDirection-turned (toward p y) (toward y q) b) Y.ahead))
-
--- ---- what is found where the ray crosses a plane
-pub change-same : {E : Type 0} (q : Place) (a : Point) → SamePlace q (place_of a) → (r : Result (Option RayEnd) E) → IfOk r (λ o. IfSome o (λ e. e.point ≡ a)) → IfOk r (λ o. IfSome o (λ e. SamePlace q (place_of e.point)))
-change-same q a same (Ok None) f = tt
-change-same q a same (Ok (Some e)) f = subst (λ (b : Point). SamePlace q (place_of b)) (sym f) same
-change-same q a same (Err e) f = tt
-
-pub none-on : {E : Type 0} (c : Complex) (ray : RayStart) (h : Plane) (q : Place) → IsCrossing (place_of ray.from) (vector_of ray.along) (form_of h) q → (r : Result (Option RayEnd) E)
-    → IfOk r (λ o. IsNone o → (s : Set) → ShowsSet s c → IsUnchanged s (vector_of ray.along) ray.before q) → IfOk r (λ o. IsNone o → (s : Set) → ShowsSet s c → IsUnchangedOn s ray h)
-none-on c ray h q X (Ok o) f = λ e s S y Y i. unchanged-same s (vector_of ray.along) ray.before q y (crossings-same (place_of ray.from) (vector_of ray.along) h q y X Y) (f e s S)
-none-on c ray h q X (Err e) f = tt

@@ -10,7 +10,7 @@ use Rattle.nef_geo.specs.Hits.{IsReached}
 use Rattle.nef_geo.specs.Shapes.{hit_place}
 use Rattle.nef_geo.proofs.Along.{along-ray}
 use Rattle.nef_locate.proofs.RayMeets.{never-same, never-both}
-use Rattle.nef_ray.specs.declared.crossed.Crossed.{Crossed}
+use Rattle.nef_ray.specs.declared.ray.Crossed.{Crossed}
 use Rattle.nef_ray.specs.Changes.{crossed_lt}
 
 -- ---- what an answer says

@@ -12,7 +12,7 @@ use Rattle.nef_geo.specs.Hits.{IsCrossing, IsReached, IsPlaceAtMost}
 use Rattle.nef_geo.specs.Shapes.{form_of, vector_of, place_of, hit_place}
 use Rattle.nef_geo.specs.declared.plane.Plane.{Plane}
 use Rattle.law_sphere.specs.Maps.{At}
-use Rattle.nef_ray.specs.declared.crossed.Crossed.{Crossed}
+use Rattle.nef_ray.specs.declared.ray.Crossed.{Crossed}
 use Rattle.nef_ray.specs.declared.ray.RayStart.{RayStart}
 use Rattle.nef_ray.specs.declared.ray.RayEnd.{RayEnd}
 use Rattle.nef_ray.specs.Ends.{Changes}

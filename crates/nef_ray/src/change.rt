@@ -1,31 +1,69 @@
-//! Whether the label changes at a point of a ray.
+//! Whether the label changes at a point of a ray, where it crosses a plane.
 
-ghost use Rattle.std.specs.Prelude.{◌≡◌, ◌*◌, ◌≤◌, ◌↔◌, nat_abs, IsTrue, IfOk, IfSome, IsNone};
-ghost use Rattle.nef_space.specs.Limits.{half_side};
-ghost use Rattle.nef_space.specs.Local.{HasLabel, Germ};
-ghost use Rattle.nef_space.specs.Place.{InClosedFrame, SamePlace};
-ghost use Rattle.nef_space.specs.Sets.{Set};
-ghost use Rattle.nef_geo.specs.Shapes.{vector_of, place_of, hit_place};
-ghost use Rattle.nef_complex.specs.Complexes.{ShowsSet};
-ghost use Rattle.nef_ray.specs.Changes.{IsSmall, IsHitOf, IsUnchanged, IsUnchangedOn, IsChangeOf};
+ghost use Rattle.std.specs.Prelude.{◌≡◌, ◌*◌, ◌≤◌, ◌↔◌, ◌+ℤ◌, ◌*ℤ◌, ◌<ℤ◌};
+ghost use Rattle.nef_complex.specs.Prelude.{nat_abs, IsTrue, IfOk, IfSome, IsNone, pos, Germ, InClosedFrame, SamePlace, Place, form_at, slope, Set, vector_of, place_of, hit_place, form_of, place_at, ShowsSet, ray_direction_limit, ray_point_limit, ray_weight_limit, IsAtMost, IsCrossing, IsPlaceAtMost};
+ghost use Rattle.nef_ray.specs.Changes.{IsSmall, IsHitOf, IsUnchangedOn, IsChangeOf};
+ghost use Rattle.nef_ray.specs.Widths.{start_form_limit, ray_slope_limit};
 
 use crate::OutOfMemory;
-use crate::crossed::Crossed;
-use crate::crossing::crossing;
-use crate::ray::{RayEnd, RayStart};
+use crate::ray::{Crossed, RayEnd, RayStart};
 use nef_complex::Complex;
-use nef_geo::{Dir, HALF_SIDE, Label, Point};
+use nef_geo::{Dir, HALF_SIDE, Label, Plane, Point};
 use nef_locate::{local_map, locate, place_label};
 use nef_smap::label_at;
 use std::alloc::Global;
 
-// The label of the point.
-fn label_on(c: &Complex, p: &Point) -> Label
-    requires shows { (s : Set) × ShowsSet s c.now }
-    requires framed { InClosedFrame (place_of p.now) }
-    ensures label { (s : Set) → ShowsSet s c.now → HasLabel s (place_of p.now) result }
+// The plane's form at the point.
+fn form(h: &Plane, p: &Point) -> i64
+    requires small { IsPlaceAtMost ray_point_limit ray_weight_limit (place_of p.now) }
+    ensures value { result ≡ form_at (form_of h.now) (place_of p.now) }
+    ensures width { nat_abs result ≤ start_form_limit }
 {
-    place_label(c, &locate(c, p))
+    h.a() * p.x() + h.b() * p.y() + h.c() * p.z() + h.d() * p.w()
+}
+
+// The product of the plane's normal with the direction.
+fn slope(h: &Plane, d: &Dir) -> i64
+    requires small { IsAtMost ray_direction_limit (vector_of d.now) }
+    ensures value { result ≡ slope (form_of h.now) (vector_of d.now) }
+    ensures width { nat_abs result ≤ ray_slope_limit }
+{
+    h.a() * d.x() + h.b() * d.y() + h.c() * d.z()
+}
+
+// The size of the number.
+fn size(n: i64) -> i64
+    requires small { nat_abs n ≤ start_form_limit }
+    ensures size { result ≡ pos (nat_abs n) }
+{
+    if n < 0 { -n } else { n }
+}
+
+// The point at the step num/den from p.
+fn reached(p: &Point, d: &Dir, num: i64, den: i64) -> Point
+    requires p_small { IsPlaceAtMost ray_point_limit ray_weight_limit (place_of p.now) }
+    requires d_small { IsAtMost ray_direction_limit (vector_of d.now) }
+    requires num_small { nat_abs num ≤ start_form_limit }
+    requires den_small { nat_abs den ≤ ray_slope_limit }
+    requires den_positive { pos 0 <ℤ den }
+    ensures reached { (positive : pos 0 <ℤ (p.now.w *ℤ den)) → SamePlace (place_at (p.now.x *ℤ den +ℤ num *ℤ d.now.x) (p.now.y *ℤ den +ℤ num *ℤ d.now.y) (p.now.z *ℤ den +ℤ num *ℤ d.now.z) (p.now.w *ℤ den) positive) (place_of result) }
+{
+    Point::of(
+        p.x() * den + num * d.x(),
+        p.y() * den + num * d.y(),
+        p.z() * den + num * d.z(),
+        p.w() * den,
+    )
+}
+
+// The point where the ray from p along d crosses the plane.
+fn crossing(p: &Point, d: &Dir, h: &Plane) -> Point
+    requires p_small { IsPlaceAtMost ray_point_limit ray_weight_limit (place_of p.now) }
+    requires d_small { IsAtMost ray_direction_limit (vector_of d.now) }
+    requires crosses { (q : Place) × IsCrossing (place_of p.now) (vector_of d.now) (form_of h.now) q }
+    ensures crossing { IsCrossing (place_of p.now) (vector_of d.now) (form_of h.now) (place_of result) }
+{
+    reached(p, d, size(form(h, p)), size(slope(h, d)))
 }
 
 // The label just after the point, along the direction.
@@ -43,38 +81,6 @@ pub(crate) fn label_after(
     Ok(label_at(&map, d))
 }
 
-// The change of the label at the point, if there is one: at the point itself, or else just after it.
-fn change_at(
-    alloc: Global,
-    c: &Complex,
-    ray: &RayStart,
-    q: &Point,
-) -> Result<Option<RayEnd>, OutOfMemory>
-    requires shows { (s : Set) × ShowsSet s c.now }
-    requires framed { InClosedFrame (place_of q.now) }
-    ensures point { IfOk result (λ o. IfSome o (λ e. e.point ≡ q.now)) }
-    ensures change { IfOk result (λ o. IfSome o (λ e. (s : Set) → ShowsSet s c.now → IsChangeOf s (vector_of ray.now.along) ray.now.before e)) }
-    ensures none { IfOk result (λ o. IsNone o → (s : Set) → ShowsSet s c.now → IsUnchanged s (vector_of ray.now.along) ray.now.before (place_of q.now)) }
-{
-    let label = label_on(c, q);
-    if label != ray.before {
-        return Ok(Some(RayEnd {
-            point: *q,
-            after: false,
-            label,
-        }));
-    }
-    let next = label_after(alloc, c, q, &ray.along)?;
-    if next != ray.before {
-        return Ok(Some(RayEnd {
-            point: *q,
-            after: true,
-            label: next,
-        }));
-    }
-    Ok(None)
-}
-
 // Whether the number is at most this large in size.
 fn is_within(number: i64, limit: u64) -> bool
     ensures within { IsTrue result ↔ (nat_abs number ≤ limit) }
@@ -90,8 +96,8 @@ fn is_framed(p: &Point) -> bool
     is_within(p.x(), limit) && is_within(p.y(), limit) && is_within(p.z(), limit)
 }
 
-// The change of the label where the ray crosses the plane, if there is one. Outside the closed frame there is none to look
-// for.
+// The change of the label where the ray crosses the plane, if there is one: at the crossing itself, or else just after it.
+// Outside the closed frame there is none to look for.
 pub(crate) fn change_on(
     alloc: Global,
     c: &Complex,
@@ -109,5 +115,21 @@ pub(crate) fn change_on(
     if !is_framed(&point) {
         return Ok(None);
     }
-    change_at(alloc, c, ray, &point)
+    let label = place_label(c, &locate(c, &point));
+    if label != ray.before {
+        return Ok(Some(RayEnd {
+            point,
+            after: false,
+            label,
+        }));
+    }
+    let next = label_after(alloc, c, &point, &ray.along)?;
+    if next != ray.before {
+        return Ok(Some(RayEnd {
+            point,
+            after: true,
+            label: next,
+        }));
+    }
+    Ok(None)
 }

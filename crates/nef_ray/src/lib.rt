@@ -6,11 +6,7 @@
 #![tactic(auto)]
 
 mod change;
-mod crossed;
-mod crossing;
-mod laws;
 mod ray;
 
-pub use laws::ray_end_laws;
-pub use ray::{RayEnd, ray_end};
+pub use ray::{RayEnd, ray_end, ray_end_laws};
 pub use std::alloc::AllocError as OutOfMemory;

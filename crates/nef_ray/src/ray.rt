@@ -1,20 +1,14 @@
-//! The end of a ray.
+//! The end of a ray, among the carriers that it crosses, in the order of the steps at which it does.
 
-ghost use Rattle.std.specs.Prelude.{IfOk};
-ghost use Rattle.nef_space.specs.Limits.{ray_direction_limit, ray_point_limit, ray_weight_limit};
-ghost use Rattle.nef_space.specs.Place.{InFrame};
-ghost use Rattle.nef_space.specs.Sets.{Set};
-ghost use Rattle.nef_space.specs.Vectors.{IsAtMost};
-ghost use Rattle.nef_geo.specs.Hits.{IsPlaceAtMost};
-ghost use Rattle.nef_geo.specs.Shapes.{vector_of, place_of};
-ghost use Rattle.nef_complex.specs.Complexes.{ShowsSet};
-ghost use Rattle.nef_ray.specs.Ends.{IsRayEnd};
+ghost use Rattle.nef_complex.specs.Prelude.{IfOk, All, ray_direction_limit, ray_point_limit, ray_weight_limit, InFrame, Set, IsAtMost, IsPlaceAtMost, vector_of, place_of, ShowsSet};
+ghost use Rattle.std.specs.Prelude.{IsSortedBy};
+ghost use Rattle.nef_ray.specs.Ends.{IsRayEnd, OneRayEnd, RayHasEnd};
+ghost use Rattle.nef_ray.specs.Changes.{IsSmall, IsHitOf, AreAllCrossed, crossed_lt};
 
 use crate::OutOfMemory;
 use crate::change::{change_on, label_after};
-use crate::crossed::sorted_crossed;
 use nef_complex::Complex;
-use nef_geo::{Dir, Label, Point};
+use nef_geo::{Dir, Hit, Label, Plane, Point, hit_order, ray_hit};
 use std::alloc::Global;
 
 /// Where the label along a ray first changes: the point, whether the point itself still has the label from before it, so that
@@ -56,4 +50,36 @@ pub fn ray_end(alloc: Global, c: &Complex, p: &Point, d: &Dir) -> Result<RayEnd,
         }
     }
     unreachable!()
+}
+
+/// The label along a ray from a point of the frame changes at some point, or just after it: by the time it leaves the frame.
+/// It first changes at one point alone, there or just after it, and to one label.
+pub fn ray_end_laws()
+    ensures some { RayHasEnd }
+    ensures one { OneRayEnd }
+{}
+
+// A plane that a ray crosses, and the hit there.
+#[derive(Debug, Clone, Copy)]
+pub(crate) struct Crossed {
+    pub(crate) plane: Plane,
+    pub(crate) at: Hit,
+}
+
+// The carriers that the ray crosses, the nearest first.
+fn sorted_crossed(alloc: Global, c: &Complex, ray: &RayStart) -> Result<Vec<Crossed>, OutOfMemory>
+    requires small { IsSmall ray.now }
+    ensures hits { IfOk result (λ v. All (IsHitOf ray.now) v.items) }
+    ensures all { IfOk result (λ v. AreAllCrossed c.now.carriers ray.now v.items) }
+    ensures sorted { IfOk result (λ v. IsSortedBy crossed_lt v.items) }
+{
+    let mut crossed = Vec::new(alloc);
+    for number in 0..c.carriers.len() {
+        let plane = *c.carriers.at(number);
+        if let Some(at) = ray_hit(&ray.from, &ray.along, &plane) {
+            crossed.push(Crossed { plane, at })?;
+        }
+    }
+    crossed.sort_unstable_by(|x, y| hit_order(&x.at, &y.at));
+    Ok(crossed)
 }

@@ -14,7 +14,7 @@ use Rattle.law_near.specs.Cells.{sign_at}
 use Rattle.law_near.proofs.Frames.{frame-minus}
 use Rattle.law_sphere.specs.Least.{Cone}
 use Rattle.nef_star.specs.Ops.{op_label}
-use Rattle.nef_star.specs.declared.op.Op.TheVariants.{And}
+use Rattle.nef_star.specs.declared.star.Op.TheVariants.{And}
 use Rattle.nef_smap.specs.Maps.{map_of}
 use Rattle.nef_complex.specs.declared.complex.Vertex.{Vertex}
 use Rattle.nef_result.specs.Ends.{Ends, IsCornerPlace, IsCornerOf, at_wall, corner_label, x_axis, y_axis, z_axis}

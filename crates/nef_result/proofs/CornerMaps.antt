@@ -1,5 +1,5 @@
 -- The maps at the sides and the corners of the frame, from what their makers promise.
-use Rattle.std.proofs.Common.{◌≡◌, ℕ, zero, suc, ◌+◌, ◌-◌, ◌<◌, ℤ, pos, ◌*ℤ◌, ◌<ℤ◌, arith, refl, sym, ◌∙◌, ap, ◌↔◌, Bool, true, false, List, [], ◌∷◌, ◌++◌, map, take, Some, w64, to_z, of_z}
+use Rattle.std.proofs.Common.{◌≡◌, ℕ, zero, suc, ◌+◌, ◌-◌, ◌<◌, ℤ, pos, ◌*ℤ◌, ◌<ℤ◌, arith, refl, sym, ◌∙◌, ap, ◌↔◌, Bool, true, false, cond, subst, List, [], ◌∷◌, ◌++◌, map, take, Some, w64, to_z, of_z}
 use Rattle.std.proofs.lemmas.Int.{ints}
 use Rattle.nef_space.specs.Signs.{sign}
 use Rattle.nef_space.specs.Lists.{IsAt}
@@ -15,18 +15,24 @@ use Rattle.law_sphere.specs.Labelling.{ByOp}
 use Rattle.law_sphere.specs.Least.{by_side}
 use Rattle.law_sphere.specs.Maps.{MapLabel}
 use Rattle.nef_star.specs.Ops.{op_label}
-use Rattle.nef_star.specs.declared.op.Op.TheVariants.{And}
+use Rattle.nef_star.specs.declared.star.Op.TheVariants.{And}
 use Rattle.nef_smap.specs.Maps.{map_of, IsSphereMap, IsLeastMap}
 use Rattle.nef_smap.specs.declared.map.SphereMap.{SphereMap}
 use Rattle.nef_result.specs.Ends.{x_axis, y_axis, z_axis, end_at, ends, IsCornerPlace, at_wall, IsWall, IsCornerOf}
 use Rattle.nef_result.specs.Planes.{sorted_sides}
 
 -- ---- a side
-pub wall-high : (n : Vector) (l : Label) (m : SphereMap) → IsSphereMap m → m.mark ≡ Out → ((d : Vector) → IsDirection d → MapLabel (map_of m) d (by_side Out Out l (sign (dot n d)))) → IsWall n true l m
-wall-high n l m h e f = record { map = h; mark = e; labels = f }
+-- the map of a plane with these labels on its two sides
+abbrev SidesOf : Vector → SphereMap → Label → Label → Type 0
+SidesOf n m over under = (d : Vector) → IsDirection d → MapLabel (map_of m) d (by_side over Out under (sign (dot n d)))
 
-pub wall-low : (n : Vector) (l : Label) (m : SphereMap) → IsSphereMap m → m.mark ≡ Out → ((d : Vector) → IsDirection d → MapLabel (map_of m) d (by_side l Out Out (sign (dot n d)))) → IsWall n false l m
-wall-low n l m h e f = record { map = h; mark = e; labels = f }
+-- is that of the side of the frame, if they are Out but on the inward side
+pub wall-of : (n : Vector) (b : Bool) (l over under : Label) (m : SphereMap) → over ≡ cond b Out l → under ≡ cond b l Out → IsSphereMap m → m.mark ≡ Out → SidesOf n m over under → IsWall n b l m
+wall-of n b l over under m e f h mark sides = by b (subst (λ (o : Label). SidesOf n m o (cond b l Out)) e (subst (λ (o : Label). SidesOf n m over o) f sides))
+  where
+    by : (b : Bool) → SidesOf n m (cond b Out l) (cond b l Out) → IsWall n b l m
+    by true g = record { map = h; mark = mark; labels = g }
+    by false g = record { map = h; mark = mark; labels = g }
 
 -- ---- a corner
 -- the map is that of both

@@ -1,22 +1,19 @@
 -- The germs of a half are those of the frame and of its plane.
-use Rattle.std.proofs.Common.{◌≡◌, ℕ, zero, suc, ◌+◌, ℤ, pos, negsuc, neg_ℤ, nat_abs, ◌<ℤ◌, ◌≤◌, arith, refl, sym, ◌∙◌, ap, ◌↔◌, Bool, true, false, cond, not, subst, [], ◌∷◌, w64, to_z, of_z}
+use Rattle.std.proofs.Common.{◌≡◌, zero, suc, ◌+◌, ℤ, pos, negsuc, neg_ℤ, ◌<ℤ◌, arith, refl, sym, ◌∙◌, ap, ◌↔◌, Bool, true, false, cond, not, subst, [], ◌∷◌}
 use Rattle.std.proofs.lemmas.Int.{ints}
 use Rattle.nef_space.specs.Signs.{Sign, minus, nought, plus, sign}
 use Rattle.nef_space.proofs.Order.{sign-neg, sign_turned, minus-is, nought-is, plus-is}
 use Rattle.nef_space.proofs.Ring.{ring, at, neg, ◌⊕◌, ◌⊗◌}
-use Rattle.nef_space.specs.Limits.{normal_limit}
 use Rattle.nef_space.specs.Local.{HasLabel, Germ, IsShort}
 use Rattle.nef_space.specs.Place.{Place, Form, Ratio, step, form_at, slope, normal_of}
 use Rattle.nef_space.specs.Sets.{Set, Holds, InHalf}
-use Rattle.nef_space.specs.Vectors.{Vector, vector, IsDirection, IsNormal, IsAtMost, SameDirection, dot}
+use Rattle.nef_space.specs.Vectors.{Vector, IsDirection, SameDirection, dot}
 use Rattle.nef_space.specs.declared.label.Label.{Label}
 use Rattle.nef_space.specs.declared.label.Label.TheVariants.{Out, Not, In}
 use Rattle.nef_geo.specs.Shapes.{turned_form, given_form, form_of}
 use Rattle.nef_geo.specs.Signs.{sign_of}
-use Rattle.nef_geo.specs.declared.plane.Plane.{Plane}
 use Rattle.nef_geo.specs.declared.plane.Oriented.{Oriented}
 use Rattle.nef_geo.specs.declared.sign.Sign.TheVariants.{Minus, Zero, Plus}
-use Rattle.nef_geo.proofs.Products.{kept}
 use Rattle.law_near.specs.Near.{span}
 use Rattle.law_near.proofs.Near.{ray-level, ray-keeps}
 use Rattle.law_near.specs.Cells.{sign_at}
@@ -26,10 +23,9 @@ use Rattle.law_sphere.specs.Labelling.{ByOp}
 use Rattle.law_sphere.specs.Least.{Cone, by_side}
 use Rattle.law_sphere.specs.Maps.{Map, MapLabel, Valid}
 use Rattle.nef_star.specs.Ops.{op_label}
-use Rattle.nef_star.specs.declared.op.Op.TheVariants.{And}
+use Rattle.nef_star.specs.declared.star.Op.TheVariants.{And}
 use Rattle.nef_smap.specs.Maps.{map_of, IsSphereMap}
 use Rattle.nef_smap.specs.declared.map.SphereMap.{SphereMap}
-use Rattle.nef_edges.proofs.Rays.{normal-kept}
 use Rattle.nef_result.specs.Halves.{inside_label, side_label, IsMapOfPlane}
 
 -- ---- the label of a half
@@ -211,24 +207,3 @@ plane-shown o closed turned n m a b M u same e f g valid mark labels = record {
       (same-sides a m b (inside_label o.flipped) (inside_label closed) (inside_label (not o.flipped)) (sign (dot n d)) (f ∙ ap inside_label u) e (g ∙ ap (λ k. inside_label (not k)) u)
       ∙ plane-label (form_of o.plane) n o.flipped closed d same) (labels d i);
 }
-
--- ---- the normal's direction
--- a number as the machine keeps it
-abbrev pub held : ℤ → ℤ
-held n = to_z w64 (of_z w64 n)
-
-module _ (h : Plane) (a b c : ℤ) (d : Vector) (e : a ≡ h.a) (f : b ≡ h.b) (g : c ≡ h.c) where
-  is-held : (n k : ℤ) → n ≡ k → nat_abs k ≤ normal_limit → held n ≡ k
-  is-held n k i l = ap held i ∙ kept k (omega (arith, l))
-
-  given : (P : Vector → Type 0) → P (vector h.a h.b h.c) → P (vector (held a) (held b) (held c))
-  given P q =
-      subst (λ (x : ℤ). P (vector x (held b) (held c))) (sym (is-held a h.a e h.a_small))
-      (subst (λ (y : ℤ). P (vector h.a y (held c))) (sym (is-held b h.b f h.b_small))
-      (subst (λ (z : ℤ). P (vector h.a h.b z)) (sym (is-held c h.c g h.c_small)) q))
-
-  pub normal-upward : SameDirection (vector (held a) (held b) (held c)) d → IsNormal d
-  normal-upward same = normal-kept (vector (held a) (held b) (held c)) d same (given IsNormal h.normal)
-
-  pub normal-small : ((k : ℕ) → IsAtMost k (vector (held a) (held b) (held c)) → IsAtMost k d) → IsAtMost normal_limit d
-  normal-small size = size normal_limit (given (IsAtMost normal_limit) (record { of_x = h.a_small; of_y = h.b_small; of_z = h.c_small }))

@@ -4,7 +4,6 @@ use Rattle.nef_space.specs.Local.{FlatDim, IsVertex}
 use Rattle.nef_space.specs.Place.{Place, IsPlaceBelow, SamePlace}
 use Rattle.nef_space.specs.Sets.{Set}
 use Rattle.nef_geo.specs.Shapes.{place_of}
-use Rattle.nef_geo.specs.declared.dir.Dir.{Dir}
 use Rattle.nef_geo.specs.declared.plane.Plane.{Plane}
 use Rattle.nef_geo.specs.declared.point.Point.{Point}
 use Rattle.law_near.specs.Cells.{carriers}
@@ -17,10 +16,10 @@ use Rattle.law_sphere.specs.Least.{Cone, Least, Ordered, InOrder}
 use Rattle.nef_smap.specs.Maps.{map_of, IsLeastMap}
 use Rattle.nef_smap.specs.declared.map.SphereMap.{SphereMap}
 use Rattle.nef_spair.specs.Kinds.{IsVertex as IsVertexMap}
-use Rattle.nef_spair.specs.declared.answer.Kind.TheVariants.{Vertex as vertex_kind, OnEdge, InFacet, InVolume}
+use Rattle.nef_spair.specs.declared.answer.Kind.TheVariants.{Vertex as vertex_kind}
 use Rattle.nef_spair.proofs.OneKind.{fits}
 use Rattle.nef_smap.proofs.Lists.{contains-at}
-use Rattle.nef_sover.proofs.Places.{some-at as element-at}
+use Rattle.nef_stopo.proofs.Places.{some-at as element-at}
 use Rattle.nef_edges.proofs.Places.{at-within, some-at, map-at, at-map, at-before, at-last, at-more}
 use Rattle.law_complex.specs.Complexes.{Vertex as PlainVertex}
 use Rattle.nef_complex.specs.Complexes.{vertex_of, AreVerticesOf}
@@ -72,16 +71,6 @@ module _ (ps : List Point) (ms : List SphereMap) (vs : List Vertex) (V : AreVert
       ordered j k u v l (inl a) (inr e) = let f = V.each j u a in subst (IsBefore u) e.1 (o f.0 (length ms) u.point p (at-within ms f.0 u.map f.2) f.1 here)
       ordered j k u v l (inr e) (inl b) = let h = at-within vs k v b in let d = e.0 in absurd (omega (arith, l, h, d))
       ordered j k u v l (inr e) (inr f) = let d = e.0 in let h = f.0 in absurd (omega (arith, l, d, h))
-
--- ---- kinds that aren't a vertex's
-pub edge-differs : (d : Dir) → OnEdge d ≡ vertex_kind → ⊥
-edge-differs d e = cc
-
-pub facet-differs : (d : Dir) → InFacet d ≡ vertex_kind → ⊥
-facet-differs d e = cc
-
-pub volume-differs : InVolume ≡ vertex_kind → ⊥
-volume-differs e = cc
 
 -- ---- a map by the flat directions of its set
 module _ (M : Map) (s : Set) (p : Place) (L : Least M) (C : Cone M s p) where

@@ -10,7 +10,7 @@ use Rattle.nef_geo.specs.Shapes.{place_of}
 use Rattle.law_sphere.specs.Least.{by_side}
 use Rattle.law_sphere.specs.Maps.{MapLabel}
 use Rattle.nef_star.specs.Ops.{op_label}
-use Rattle.nef_star.specs.declared.op.Op.TheVariants.{And}
+use Rattle.nef_star.specs.declared.star.Op.TheVariants.{And}
 use Rattle.nef_smap.specs.Maps.{map_of, IsSphereMap, IsLeastMap}
 use Rattle.nef_smap.specs.declared.map.SphereMap.{SphereMap}
 use Rattle.nef_complex.specs.declared.complex.Vertex.{Vertex}

@@ -1,6 +1,7 @@
 //! The map at a candidate.
 
-ghost use Rattle.std.specs.Prelude.{◌≡◌, ◌↔◌, IsTrue};
+ghost use Rattle.std.specs.Prelude.{◌≡◌, ◌↔◌};
+ghost use Rattle.nef_complex.specs.Prelude.{IsTrue};
 ghost use Rattle.nef_smap.specs.Maps.{map_of, IsLeastMap};
 ghost use Rattle.nef_spair.specs.Kinds.{IsVertex};
 
@@ -20,12 +21,7 @@ fn is_vertex(map: &SphereMap) -> bool
     requires least { IsLeastMap map.now }
     ensures vertex { IsTrue result ↔ IsVertex (map_of map.now) }
 {
-    match kind(map) {
-        Kind::Vertex => true,
-        Kind::OnEdge(_) => false,
-        Kind::InFacet(_) => false,
-        Kind::InVolume => false,
-    }
+    matches!(kind(map), Kind::Vertex)
 }
 
 impl CandidateMap {

@@ -5,18 +5,9 @@
 
 mod assembling;
 mod candidate_map;
-mod carriers;
-mod corner;
-mod halves;
-mod laws;
-mod parting;
-mod sides;
 mod whole;
 
-pub use assembling::assemble;
+pub use assembling::{add_carrier, assemble, copy_carriers, merge_carriers};
 pub use candidate_map::CandidateMap;
-pub use carriers::{add_carrier, copy_carriers, merge_carriers};
-pub use halves::half_map;
-pub use laws::corner_laws;
 pub use std::alloc::AllocError as OutOfMemory;
-pub use whole::frame;
+pub use whole::{corner_laws, frame, half_map};

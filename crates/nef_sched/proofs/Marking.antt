@@ -1,7 +1,6 @@
 -- Marks, and results that are let go.
 use Rattle.std.proofs.Common.{◌≡◌, ◌≢◌, ℕ, zero, suc, ◌<◌, List, [], ◌∷◌, length, refl, ap, sym, ◌∙◌, arith, ◌⊎◌, inl, inr, Option, Some, None, slice_set, Bool, true, false, subst}
-use Rattle.nef_sched.specs.Marks.{IsMarked, IsUnmarked}
-use Rattle.nef_sched.specs.Results.{kept}
+use Rattle.nef_sched.specs.Results.{IsMarked, IsUnmarked, kept}
 use Rattle.nef_sched.proofs.Totals.{same_or_not}
 
 pub on_or_off : (xs : List Bool) (k : ℕ) → k < length xs → IsMarked xs k ⊎ IsUnmarked xs k
@@ -15,6 +14,12 @@ off_not_on xs k on off = differ (sym on ∙ off)
   where
     differ : Some true ≡ Some false → ⊥
     differ e = cc
+
+pub off_if : (xs : List Bool) (k : ℕ) → k < length xs → (IsMarked xs k → ⊥) → IsUnmarked xs k
+off_if xs k low none = elim (on_or_off xs k low) [ inl on ↦ absurd (none on) | inr off ↦ off ]
+
+pub true_not_false : true ≡ false → ⊥
+true_not_false e = cc
 
 module _ {X : Type 0} where
   pub gone_here : (list : List (Option X)) (j : ℕ) → kept (slice_set list j None) j ≡ None

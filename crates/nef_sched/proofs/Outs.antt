@@ -1,15 +1,12 @@
 -- Lists of results that are there.
-use Rattle.std.proofs.Common.{◌≡◌, ◌≢◌, ℕ, zero, suc, ◌+◌, ◌<◌, List, [], ◌∷◌, ◌++◌, length, refl, ap, sym, ◌∙◌, arith, ◌⊎◌, inl, inr, Option, Some, None, slice_get, slice_set, slice_index_or, All, IfSome, IsSomeAnd, cond, Bool, true, false, subst, take}
+use Rattle.std.proofs.Common.{◌≡◌, ◌≢◌, ℕ, zero, suc, ◌+◌, ◌<◌, List, [], ◌∷◌, ◌++◌, length, refl, ap, sym, ◌∙◌, arith, ◌⊎◌, inl, inr, Option, Some, None, slice_get, slice_set, slice_index_or, All, IfSome, IsSomeAnd, cond, Bool, true, false, subst}
 use Rattle.std.specs.Prelude.{option_map, is_some, is_err, OnOk, Result, Ok, Err, ◌≤◌}
 use Rattle.std.proofs.lemmas.List.{length-append, length-set}
-use Rattle.std.proofs.Math.Seq.{take-append_seam}
 use Rattle.std.proofs.lemmas.Bool.{ne_eqb}
 use Rattle.nef_sched.specs.declared.pass.RoundPass.{RoundPass}
-use Rattle.nef_sched.specs.declared.worked.Worked.{Worked}
-use Rattle.nef_sched.specs.Counts.{one, times, Differ}
+use Rattle.nef_sched.specs.Counts.{one, times}
 use Rattle.nef_sched.specs.Results.{flat, kept, IsKept, IsReady, AreSound, AreReady, HasWorked}
-use Rattle.nef_sched.specs.Rounds.{parts, total_parts}
-use Rattle.nef_sched.specs.Workers.{total_worked}
+use Rattle.nef_sched.specs.Rounds.{parts, total_parts, total_worked}
 use Rattle.nef_sched.proofs.Totals.{counts, counts_itself, same_or_not}
 use Rattle.nef_sched.proofs.Marking.{set_other}
 
@@ -17,13 +14,6 @@ none_differs : {X : Type 0} (x : X) → None ≡ Some x → ⊥
 none_differs x e = cc
 
 module _ {X : Type 0} where
-  -- a place more, with nothing there
-  pub none_more : (list : List (Option X)) → ((k : ℕ) (x : X) → slice_get list k ≡ Some (Some x) → ⊥) → (k : ℕ) (x : X) → slice_get (list ++ None ∷ []) k ≡ Some (Some x) → ⊥
-  none_more [] none zero x e = cc
-  none_more [] none (suc k) x e = cc
-  none_more (y ∷ ys) none zero x e = none 0 x e
-  none_more (y ∷ ys) none (suc k) x e = none_more ys (λ j z h. none (suc j) z h) k x e
-
   -- where nothing is there no result is kept
   pub none_kept : (list : List (Option X)) → ((k : ℕ) (x : X) → slice_get list k ≡ Some (Some x) → ⊥) → (k : ℕ) → kept list k ≡ None
   none_kept list none k = of (slice_get list k) (none k)
@@ -105,14 +95,6 @@ module _ {X : Type 0} where
     only = λ k none. set_other list j (Some new) k (λ e. let same : times k numbers ≡ times j numbers = ap (λ z. times z numbers) e in omega arith);
   }
 
-  -- what was done of one number among others
-  pub worked_among : (size : ℕ) (fits : ℕ → X → Type 0) (numbers : List ℕ) (j : ℕ) (old new : List (Option X)) → 0 < times j numbers → HasWorked size fits (j ∷ []) old new → HasWorked size fits numbers old new
-  worked_among size fits numbers j old new some w = record {
-    sound = w.sound;
-    still = w.still;
-    only = λ k none. w.only k (elim (counts j k) [ inl e ↦ absurd (let same : times j numbers ≡ times k numbers = ap (λ z. times z numbers) e.0 in omega arith) | inr z ↦ omega arith ]);
-  }
-
   -- numbers that have what they need have it after work
   pub ready_after : (size : ℕ) (fits : ℕ → X → Type 0) (first second : ℕ → Option ℕ) (numbers more : List ℕ) (old new : List (Option X)) → AreReady size fits first second numbers old → HasWorked size fits more old new → AreReady size fits first second numbers new
   ready_after size fits first second numbers more old new r w = record { sound = w.sound; each = λ k d low. let e = r.each k d low in (e.0, ready_still size fits (first _) (second _) old new w.sound w.still e.1) }
@@ -147,19 +129,20 @@ module _ {X : Type 0} where
   pushed_fits P (x ∷ xs) new h f zero out e = h 0 out e
   pushed_fits P (x ∷ xs) new h f (suc i) out e = pushed_fits (λ k. P (suc k)) xs new (λ k o q. h (suc k) o q) f i out e
 
-  -- passes come back with the parts that they had
-  pub parts_same : (ps : List RoundPass) (ws : List (Worked X)) → length ws ≡ length ps → ((i : ℕ) (d : Worked X) (e : RoundPass) → i < length ps → parts (slice_index_or ws i d).pass ≡ parts (slice_index_or ps i e)) → total_worked ws ≡ total_parts ps
-  parts_same [] [] l h = refl
-  parts_same [] (w ∷ ws) l h = absurd (omega arith)
-  parts_same (p ∷ ps) [] l h = absurd (omega arith)
-  parts_same (p ∷ ps) (w ∷ ws) l h =
-      let a : parts w.pass ≡ parts p = h 0 w p (omega arith) in
-      let b = parts_same ps ws (omega arith) (λ i d e low. h (suc i) d e (omega arith)) in
-      omega arith
+-- passes come back with the parts that they had
+pub parts_same : {Y : Type 0} (ps : List RoundPass) (ws : List (RoundPass × Y)) → length ws ≡ length ps
+    → ((i : ℕ) (d : RoundPass × Y) (e : RoundPass) → i < length ps → parts (slice_index_or ws i d).0 ≡ parts (slice_index_or ps i e)) → total_worked ws ≡ total_parts ps
+parts_same [] [] l h = refl
+parts_same [] (w ∷ ws) l h = absurd (omega arith)
+parts_same (p ∷ ps) [] l h = absurd (omega arith)
+parts_same (p ∷ ps) (w ∷ ws) l h =
+    let a : parts w.0 ≡ parts p = h 0 w p (omega arith) in
+    let b = parts_same ps ws (omega arith) (λ i d e low. h (suc i) d e (omega arith)) in
+    omega arith
 
-  pub worked_snoc : (ws : List (Worked X)) (w : Worked X) → total_worked (ws ++ w ∷ []) ≡ total_worked ws + parts w.pass
-  worked_snoc [] w = omega arith
-  worked_snoc (v ∷ vs) w = let e = worked_snoc vs w in omega arith
+pub worked_snoc : {Y : Type 0} (ws : List (RoundPass × Y)) (w : RoundPass × Y) → total_worked (ws ++ w ∷ []) ≡ total_worked ws + parts w.0
+worked_snoc [] w = omega arith
+worked_snoc (v ∷ vs) w = let e = worked_snoc vs w in omega arith
 
 -- after a call that made room there is room for one more
 pub room_of : {A B : Type 0} (r : Result A B) (used room : ℕ) → is_err r ≡ false → OnOk r (used + 1 ≤ room) → used < room

@@ -5,9 +5,8 @@ use Rattle.std.proofs.Math.Nat.{le-max_left, le-max_right, max-le}
 use Rattle.std.proofs.lemmas.List.{length-append, get_or_append_left, get_or_at, get_or-set_same}
 use Rattle.std.proofs.lemmas.Option.{slice_get_within, slice_get_read, get_or_from_slice_get}
 use Rattle.nef_sched.specs.Counts.{one, times}
-use Rattle.nef_sched.specs.Marks.{IsMarked, IsUnmarked, NeedsOf}
+use Rattle.nef_sched.specs.Results.{IsMarked, IsUnmarked, NeedsOf, kept, IsKept, HasNeeds, AreSound}
 use Rattle.nef_sched.specs.Plans.{after, AreRounds, AreLasts, IsGroup}
-use Rattle.nef_sched.specs.Results.{kept, IsKept, HasNeeds, AreSound}
 use Rattle.nef_sched.proofs.Totals.{weigh_append, counts_itself, same_or_not}
 use Rattle.nef_sched.proofs.Outs.{all_in, all_next, ready_of, times_at}
 

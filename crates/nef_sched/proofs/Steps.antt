@@ -7,7 +7,7 @@ use mathlib.Core.Option.{some, some-injective, some-ne-none}
 use lib.ListN.{get_elem?}
 use Rattle.crossbeam_queue.specs.Fifo.{Pushes, Pops, Forks, Merges, Learns, Held}
 use Rattle.crossbeam_queue.proofs.Lists.{at_set, at_snoc}
-use Rattle.nef_sched.specs.declared.view.View.{View}
+use Rattle.nef_sched.specs.declared.pass.View.{View}
 use Rattle.nef_sched.specs.Counts.{weigh, one, times, Differ, IsDealt}
 use Rattle.nef_sched.specs.Line.{numbers_in, ends_in}
 use Rattle.nef_sched.specs.Views.{whole, first_view, put, took, at_end, cut, share, both, spent}

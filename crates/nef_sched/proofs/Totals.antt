@@ -2,7 +2,7 @@
 use Rattle.std.proofs.Common.{◌≡◌, ◌≢◌, ℕ, zero, suc, ◌+◌, ◌≤◌, cond, List, [], ◌∷◌, ◌++◌, length, set, refl, ap, sym, arith, ◌⊎◌, inl, inr, Bool, eq-eqb, ne_eqb}
 use mathlib.Core.Option.{some, some-injective, some-ne-none}
 use lib.ListN.{get_elem?}
-use Rattle.nef_sched.specs.declared.view.View.{View}
+use Rattle.nef_sched.specs.declared.pass.View.{View}
 use Rattle.nef_sched.specs.Counts.{weigh, one}
 use Rattle.nef_sched.specs.Views.{total}
 

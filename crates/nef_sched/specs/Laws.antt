@@ -3,7 +3,7 @@ use Rattle.std.specs.Prelude.{◌≡◌, ◌≢◌, ℕ, true, false, ◌+◌, �
 use mathlib.Core.Option.{some}
 use lib.ListN.{get_elem?}
 use Rattle.crossbeam_queue.specs.Fifo.{Pushes, Pops, Forks, Merges}
-use Rattle.nef_sched.specs.declared.view.View.{View}
+use Rattle.nef_sched.specs.declared.pass.View.{View}
 use Rattle.nef_sched.specs.Counts.{times}
 use Rattle.nef_sched.specs.Line.{numbers_in}
 use Rattle.nef_sched.specs.Views.{first_view, put, cut, share, both, spent, total}

@@ -5,6 +5,4 @@ pub mod Rule
 pub mod Rounds
 pub mod Laws
 pub mod Results
-pub mod Marks
 pub mod Plans
-pub mod Workers

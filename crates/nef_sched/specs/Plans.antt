@@ -2,8 +2,8 @@
 use Rattle.std.specs.Prelude.{◌≡◌, ℕ, ◌+◌, ◌<◌, ◌≤◌, ◌⊎◌, max, List, Option, Some, None, length, slice_get, slice_index}
 use Rattle.std.specs.declared.vec.Vec.{Vec}
 use Rattle.nef_sched.specs.Counts.{times}
-use Rattle.nef_sched.specs.Marks.{NeedsOf}
-use Rattle.nef_sched.specs.declared.plan.Plan.{Plan}
+use Rattle.nef_sched.specs.Results.{NeedsOf}
+use Rattle.nef_sched.specs.declared.stage.Plan.{Plan}
 
 -- the round after that of a number, or the first one where there is no number
 abbrev pub after : List ℕ → Option ℕ → ℕ
@@ -32,9 +32,11 @@ IsGroup count rounds r xs = ((k : ℕ) → k < count → slice_index rounds k �
 abbrev pub AreGroups : {Z : Type 0} → ℕ → List ℕ → List (Vec ℕ Z) → Type 0
 AreGroups {Z} count rounds groups = (length groups ≡ count) × ((r : ℕ) (group : Vec ℕ Z) → slice_get groups r ≡ Some group → IsGroup count rounds r group.items)
 
--- what a plan says of the numbers
+-- what a plan says of the numbers, each of which has its round and the last round in which its result is needed
 pub record IsPlan (size : ℕ) (first second : ℕ → Option ℕ) (plan : Plan) : Type 0 where
-  pub rounds : AreRounds size first second plan.rounds.items
-  pub lasts : AreLasts size first second plan.rounds.items plan.lasts.items
-  pub begins : AreGroups size plan.rounds.items plan.begins.items
-  pub ends : AreGroups size plan.lasts.items plan.ends.items
+  pub round_of : List ℕ
+  pub last_of : List ℕ
+  pub rounds : AreRounds size first second round_of
+  pub lasts : AreLasts size first second round_of last_of
+  pub begins : AreGroups size round_of plan.begins.items
+  pub ends : AreGroups size last_of plan.ends.items

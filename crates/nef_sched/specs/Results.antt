@@ -1,6 +1,18 @@
--- Results that are there.
-use Rattle.std.specs.Prelude.{◌≡◌, ℕ, List, Option, Some, None, slice_get, length, IfSome, IsSomeAnd, All, ◌<◌}
+-- Marks on numbers, which number needs which, and results that are there.
+use Rattle.std.specs.Prelude.{◌≡◌, ℕ, List, Option, Some, None, slice_get, length, IfSome, IsSomeAnd, All, ◌<◌, Bool, true, false, ◌⊎◌}
 use Rattle.nef_sched.specs.Counts.{times}
+
+-- k is marked
+abbrev pub IsMarked : List Bool → ℕ → Type 0
+IsMarked marks k = slice_get marks k ≡ Some true
+
+-- k is there, and isn't marked
+abbrev pub IsUnmarked : List Bool → ℕ → Type 0
+IsUnmarked marks k = slice_get marks k ≡ Some false
+
+-- j needs the result of k
+abbrev pub NeedsOf : (ℕ → Option ℕ) → (ℕ → Option ℕ) → ℕ → ℕ → Type 0
+NeedsOf first second j k = (first j ≡ Some k) ⊎ (second j ≡ Some k)
 
 abbrev pub flat : {X : Type 0} → Option (Option X) → Option X
 flat None = None

@@ -53,3 +53,8 @@ TookAll p = (x : ℕ) → times x (taken p) ≡ times x (known p)
 -- any two passes of the list know the same numbers
 abbrev pub AreAgreed : List RoundPass → Type 0
 AreAgreed ps = (i j : ℕ) (p q : RoundPass) → slice_get ps i ≡ Some p → slice_get ps j ≡ Some q → known p ≡ known q
+
+-- what threads hand back: each its pass, with something beside it
+abbrev pub total_worked : {Y : Type 0} → List (RoundPass × Y) → ℕ
+total_worked [] = 0
+total_worked (w ∷ ws) = parts w.0 + total_worked ws

@@ -2,7 +2,7 @@
 use Rattle.std.specs.Prelude.{◌≡◌, ℕ, true, false, ◌+◌, ◌^◌, ◌<◌, List, [], length, Option, Some, None}
 use mathlib.Core.Option.{some}
 use lib.ListN.{get_elem?}
-use Rattle.nef_sched.specs.declared.view.View.{View}
+use Rattle.nef_sched.specs.declared.pass.View.{View}
 use Rattle.nef_sched.specs.Counts.{weigh, times, Differ}
 use Rattle.nef_sched.specs.Line.{numbers_in, ends_in, EndsLast}
 use Rattle.nef_sched.specs.Views.{took, at_end, total}

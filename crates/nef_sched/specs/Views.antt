@@ -1,6 +1,6 @@
 -- The views of passes.
 use Rattle.std.specs.Prelude.{ℕ, Bool, true, false, ◌+◌, ◌-◌, ◌^◌, ◌||◌, List, [], ◌∷◌, ◌++◌, Option, Some, None}
-use Rattle.nef_sched.specs.declared.view.View.{View}
+use Rattle.nef_sched.specs.declared.pass.View.{View}
 
 abbrev pub seeing : ℕ → List ℕ → List ℕ → ℕ → Bool → View
 seeing parts known taken due ended = record { parts = parts; known = known; taken = taken; due = due; ended = ended }

@@ -1,22 +1,15 @@
 //! Works a stage round after round.
-ghost use Rattle.std.specs.Prelude.{◌≡◌, ℕ, ◌<◌, ◌≤◌, length, All, IfOk, OnOk, None, Some, [], ◌∷◌, slice_get, slice_index_or, vec_len};
+ghost use Rattle.std.specs.Prelude.{◌≡◌, ℕ, ◌<◌, ◌≤◌, length, All, IfOk, OnOk, None, Some, slice_get, slice_index_or, vec_len};
 ghost use Rattle.nef_sched.specs.declared.pass.RoundPass.{RoundPass};
-ghost use Rattle.nef_sched.specs.declared.worked.Worked.{Worked};
-ghost use Rattle.nef_sched.specs.Counts.{Differ};
-ghost use Rattle.nef_sched.specs.Marks.{IsMarked, IsUnmarked};
+ghost use Rattle.nef_sched.specs.Counts.{times, Differ};
+ghost use Rattle.nef_sched.specs.Results.{IsMarked, IsUnmarked, kept, IsKept, AreSound, AreFitting, AreReady, HasWorked};
 ghost use Rattle.nef_sched.specs.Plans.{IsPlan};
-ghost use Rattle.nef_sched.specs.Rounds.{Belongs, parts, known, total_parts};
-ghost use Rattle.nef_sched.specs.Results.{kept, IsKept, HasNeeds, AreSound, AreFitting, AreReady, HasWorked};
-ghost use Rattle.nef_sched.specs.Workers.{total_worked};
+ghost use Rattle.nef_sched.specs.Rounds.{Belongs, parts, known, total_parts, total_worked};
 
 use crate::OutOfMemory;
-use crate::lean::let_go;
 use crate::pass::{Round, RoundPass};
-use crate::places::empty_places;
-use crate::plan::{Plan, plan_of};
-use crate::stage::{Results, Stage};
-use crate::worked::Worked;
-use nef_core::Work;
+use crate::stage::{Plan, Results, Stage, plan_of};
+use nef_core::{Work, empty_places};
 use std::alloc::Global;
 use std::sync::Wait;
 use std::thread;
@@ -75,7 +68,26 @@ pub fn run_lean<R: Threads + Wait + Sync, T: Stage>(
     Ok(done.list)
 }
 
-// Works the rounds of the plan, and after each lets the results go that aren't wanted and that no later one needs.
+// Lets the result of each of these numbers go that isn't wanted, and keeps the others.
+fn let_go<X: Drop>(numbers: &[usize], wanted: &[bool], done: &mut Results<X>)
+    requires len { length wanted.now ≡ length done.old.list.items }
+    requires numbers { All (λ k. k < length done.old.list.items) numbers.now }
+    ensures len { length done.new.list.items ≡ length done.old.list.items }
+    ensures part { (k : ℕ) (out : X) → kept done.new.list.items k ≡ Some out → kept done.old.list.items k ≡ Some out }
+    ensures wanted { (k : ℕ) → IsMarked wanted.now k → kept done.new.list.items k ≡ kept done.old.list.items k }
+    ensures other { (k : ℕ) → times k numbers.now ≡ 0 → kept done.new.list.items k ≡ kept done.old.list.items k }
+    ensures gone { (k : ℕ) → 0 < times k numbers.now → IsUnmarked wanted.now k → kept done.new.list.items k ≡ None }
+{
+    for number in numbers {
+        if !wanted[*number] {
+            done.set(*number, None);
+        }
+    }
+}
+
+// Works the rounds of the plan: by workers, as far as its numbers pay for several, and then, by the caller, those that have
+// no result. A single number is told that it is alone. After each round the results go that aren't wanted and that no later
+// one needs.
 fn work_rounds<R: Threads + Wait + Sync, T: Stage>(
     rt: &R,
     alloc: Global,
@@ -85,7 +97,6 @@ fn work_rounds<R: Threads + Wait + Sync, T: Stage>(
     plan: &Plan,
     done: &mut Results<T::Out>,
 ) -> Result<(), OutOfMemory>
-    requires workers { 1 ≤ workers }
     requires workable { T.workable stage.now }
     requires wanted { length wanted.now ≡ T.size stage.now }
     requires plan { IsPlan (T.size stage.now) (T.first stage.now) (T.second stage.now) plan.now }
@@ -96,30 +107,12 @@ fn work_rounds<R: Threads + Wait + Sync, T: Stage>(
     ensures lean { OnOk result ((i : ℕ) → IsUnmarked wanted.now i → kept done.new.list.items i ≡ None) }
 {
     for round in 0..plan.begins.len() {
-        work_ready(rt, alloc, stage, workers, &plan.begins[round], done)?;
+        let numbers = plan.begins[round].as_slice();
+        work_by(rt, alloc, stage, workers, numbers, done)?;
+        work_rest(alloc, stage, numbers, numbers.len() == 1, done)?;
         let_go(&plan.ends[round], wanted, done);
     }
     Ok(())
-}
-
-// Works the numbers of a round: by workers, as far as they pay for several, and then, by the caller, those that have no
-// result. A single number is told that it is alone.
-fn work_ready<R: Threads + Wait + Sync, T: Stage>(
-    rt: &R,
-    alloc: Global,
-    stage: &T,
-    workers: u32,
-    numbers: &[usize],
-    done: &mut Results<T::Out>,
-) -> Result<(), OutOfMemory>
-    requires workable { T.workable stage.now }
-    requires differ { Differ numbers.now }
-    requires ready { AreReady (T.size stage.now) (T.fits stage.now) (T.first stage.now) (T.second stage.now) numbers.now done.old.list.items }
-    ensures worked { HasWorked (T.size stage.now) (T.fits stage.now) numbers.now done.old.list.items done.new.list.items }
-    ensures there { OnOk result (All (IsKept done.new.list.items) numbers.now) }
-{
-    work_by(rt, alloc, stage, workers, numbers, done)?;
-    work_rest(alloc, stage, numbers, numbers.len() == 1, done)
 }
 
 // What the numbers together are taken to cost.
@@ -161,8 +154,8 @@ fn work_by<R: Threads + Wait + Sync, T: Stage>(
     Ok(())
 }
 
-// What one thread does: it takes numbers until none is left or memory runs out. A pass takes no number
-// twice, so a turn for each number is enough.
+// What one thread does: it takes numbers until none is left or memory runs out, and hands its pass back beside the
+// results. A pass takes no number twice, so a turn for each number is enough.
 fn work_all<R: Wait, T: Stage>(
     rt: &R,
     alloc: Global,
@@ -171,14 +164,14 @@ fn work_all<R: Wait, T: Stage>(
     numbers: &[usize],
     round: &Round,
     mut pass: RoundPass,
-) -> Worked<T::Out>
+) -> (RoundPass, Vec<(usize, T::Out)>)
     requires workable { T.workable stage.now }
     requires of { Belongs round.now pass }
     requires knows { known pass ≡ numbers.now }
     requires ready { AreReady (T.size stage.now) (T.fits stage.now) (T.first stage.now) (T.second stage.now) numbers.now done.now.list.items }
-    ensures of { Belongs round.now result.pass }
-    ensures parts { parts result.pass ≡ parts pass }
-    ensures outs { AreFitting (T.size stage.now) (T.fits stage.now) numbers.now result.outs.items }
+    ensures of { Belongs round.now result.0 }
+    ensures parts { parts result.0 ≡ parts pass }
+    ensures outs { AreFitting (T.size stage.now) (T.fits stage.now) numbers.now result.1.items }
 {
     let mut outs = Vec::new(alloc);
     for _ in 0..numbers.len() {
@@ -194,7 +187,7 @@ fn work_all<R: Wait, T: Stage>(
             Err(OutOfMemory) => break,
         }
     }
-    Worked { pass, outs }
+    (pass, outs)
 }
 
 // Each pass but one is worked by a thread of its own, and that one by the caller.
@@ -206,22 +199,22 @@ fn work_apart<R: Threads + Wait + Sync, T: Stage>(
     numbers: &[usize],
     round: &Round,
     passes: Vec<RoundPass>,
-) -> Result<Vec<Worked<T::Out>>, OutOfMemory>
+) -> Result<Vec<(RoundPass, Vec<(usize, T::Out)>)>, OutOfMemory>
     requires workable { T.workable stage.now }
     requires of { All (λ p. Belongs round.now p) passes.items }
     requires knows { All (λ p. known p ≡ numbers.now) passes.items }
     requires ready { AreReady (T.size stage.now) (T.fits stage.now) (T.first stage.now) (T.second stage.now) numbers.now done.now.list.items }
-    ensures of { IfOk result (λ v. All (λ w. Belongs round.now w.pass) v.items) }
+    ensures of { IfOk result (λ v. All (λ w. Belongs round.now w.0) v.items) }
     ensures len { IfOk result (λ v. vec_len v ≡ vec_len passes) }
-    ensures parts { IfOk result (λ v. (i : ℕ) (d : Worked T.Out) (e : RoundPass) → i < length passes.items → parts (slice_index_or v.items i d).pass ≡ parts (slice_index_or passes.items i e)) }
-    ensures outs { IfOk result (λ v. All (λ w. AreFitting (T.size stage.now) (T.fits stage.now) numbers.now w.outs.items) v.items) }
+    ensures parts { IfOk result (λ v. (i : ℕ) (d : _) (e : RoundPass) → i < length passes.items → parts (slice_index_or v.items i d).0 ≡ parts (slice_index_or passes.items i e)) }
+    ensures outs { IfOk result (λ v. All (λ w. AreFitting (T.size stage.now) (T.fits stage.now) numbers.now w.1.items) v.items) }
 {
     thread::map_vec(
         rt,
         passes,
-        &|mine: RoundPass| -> Worked<T::Out>
+        &|mine: RoundPass| -> (RoundPass, Vec<(usize, T::Out)>)
             requires { T.workable stage.now × Belongs round.now mine × (known mine ≡ numbers.now) × AreReady (T.size stage.now) (T.fits stage.now) (T.first stage.now) (T.second stage.now) numbers.now done.now.list.items }
-            ensures { Belongs round.entry.now result.pass × (parts result.pass ≡ parts mine) × AreFitting (T.size stage.entry.now) (T.fits stage.entry.now) numbers.entry.now result.outs.items }
+            ensures { Belongs round.entry.now result.0 × (parts result.0 ≡ parts mine) × AreFitting (T.size stage.entry.now) (T.fits stage.entry.now) numbers.entry.now result.1.items }
         { work_all(rt, alloc, stage, done, numbers, round, mine) },
     )
 }
@@ -250,47 +243,25 @@ fn gathered<T: Stage>(
     numbers: &[usize],
     round: &Round,
     done: &mut Results<T::Out>,
-    mut worked: Vec<Worked<T::Out>>,
+    mut worked: Vec<(RoundPass, Vec<(usize, T::Out)>)>,
 ) -> Result<Vec<RoundPass>, OutOfMemory>
     requires sound { AreSound (T.size stage.now) (T.fits stage.now) done.old.list.items }
-    requires of { All (λ w. Belongs round.now w.pass) worked.items }
-    requires each { All (λ w. AreFitting (T.size stage.now) (T.fits stage.now) numbers.now w.outs.items) worked.items }
+    requires of { All (λ w. Belongs round.now w.0) worked.items }
+    requires each { All (λ w. AreFitting (T.size stage.now) (T.fits stage.now) numbers.now w.1.items) worked.items }
     ensures worked { HasWorked (T.size stage.now) (T.fits stage.now) numbers.now done.old.list.items done.new.list.items }
     ensures of { IfOk result (λ v. All (λ p. Belongs round.now p) v.items) }
     ensures parts { IfOk result (λ v. total_parts v.items ≡ total_worked worked.items) }
 {
     let _round = round;
     let mut passes = Vec::with_capacity(alloc, worked.len())?;
-    while let Some(Worked { pass, outs }) = worked.pop() {
+    while let Some((pass, outs)) = worked.pop() {
         keep_outs(stage, numbers, done, outs);
         passes.push_reserved(pass);
     }
     Ok(passes)
 }
 
-// Works a number where it has no result, and keeps its result.
-fn work_one<T: Stage>(
-    alloc: Global,
-    stage: &T,
-    number: usize,
-    alone: bool,
-    done: &mut Results<T::Out>,
-) -> Result<(), OutOfMemory>
-    requires workable { T.workable stage.now }
-    requires sound { AreSound (T.size stage.now) (T.fits stage.now) done.old.list.items }
-    requires needs { HasNeeds (T.size stage.now) (T.fits stage.now) (T.first stage.now) (T.second stage.now) done.old.list.items number }
-    ensures worked { HasWorked (T.size stage.now) (T.fits stage.now) (number ∷ []) done.old.list.items done.new.list.items }
-    ensures there { OnOk result (IsKept done.new.list.items number) }
-{
-    if done.get(number).is_some() {
-        return Ok(());
-    }
-    let out = stage.work(alloc, number, alone, done)?;
-    done.set(number, Some(out));
-    Ok(())
-}
-
-// Works each of the numbers that has no result.
+// Works each of the numbers that has no result, and keeps its result.
 fn work_rest<T: Stage>(
     alloc: Global,
     stage: &T,
@@ -304,7 +275,10 @@ fn work_rest<T: Stage>(
     ensures there { OnOk result (All (IsKept done.new.list.items) numbers.now) }
 {
     for number in numbers {
-        work_one(alloc, stage, *number, alone, done)?;
+        if done.get(*number).is_none() {
+            let out = stage.work(alloc, *number, alone, done)?;
+            done.set(*number, Some(out));
+        }
     }
     Ok(())
 }

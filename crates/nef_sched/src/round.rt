@@ -1,14 +1,13 @@
-//! Numbers are put into a round, taken by its passes, and accounted for at the end.
+//! Numbers are put into a round, taken by its passes, and accounted for at the end; what holds on every schedule.
 ghost use Rattle.std.specs.Prelude.{◌≡◌, ℕ, true, false, ◌+◌, ◌^◌, ◌<◌, ◌≤◌, ◌||◌, None, [], ◌∷◌, ◌++◌, length, All, IfOk, MatchOption, vec_len, vec_capacity};
-ghost use Rattle.crossbeam_queue.specs.Passes.{view, IsSamePass, IsPassOf, ruled_capacity};
+ghost use Rattle.crossbeam_queue.specs.Passes.{view, IsPassOf, ruled_capacity};
 ghost use Rattle.nef_sched.specs.Counts.{times, Differ, IsDealt};
 ghost use Rattle.nef_sched.specs.Rounds.{Belongs, parts, known, taken, ended, any_ended, total_parts, times_taken, numbers_of, TookAll, IsFresh};
 ghost use Rattle.nef_sched.specs.Views.{first_view, whole};
+ghost use Rattle.nef_sched.specs.Laws.{BeginKeeps, PutKeeps, EndKeeps, TakeKeeps, ForkKeeps, MergeKeeps, NoneTwice, NoneTakenIsLeft, PassesAgree, NoneIsLost, EndedIsEmpty, NumbersAreKnown};
 
 use crate::OutOfMemory;
-use crate::pass::{Round, RoundPass};
-use crate::rule::{Cut, Puts, RoundRule, Takes};
-use crate::view::View;
+use crate::pass::{Cut, Puts, Round, RoundPass, RoundRule, Takes, View};
 use crossbeam_queue::{Pass, RuledArrayQueue};
 use std::alloc::Global;
 use std::sync::Wait;
@@ -105,11 +104,7 @@ impl Round {
         while let Some(other) = passes.pop() {
             whole = joined(&queue, whole, other);
         }
-        let RoundPass {
-            pass,
-            taken,
-            ended: _,
-        } = whole;
+        let RoundPass { pass, taken, .. } = whole;
         let left = drained(rt, &queue, pass, left);
         Taken { taken, left }
     }
@@ -222,39 +217,25 @@ fn joined(queue: &Line, into: RoundPass, other: RoundPass) -> RoundPass
 {
     let RoundPass {
         mut pass,
-        taken: list,
+        taken: mut list,
         ended: one,
     } = into;
     let RoundPass {
         pass: spent,
-        taken: more,
+        taken: mut more,
         ended: two,
     } = other;
     queue.absorb::<Cut>(&mut pass, spent);
     queue.learn_as::<Takes>(&mut pass);
+    // There is room for all numbers.
+    let Ok(()) = list.append(&mut more) else {
+        unreachable!()
+    };
     RoundPass {
         pass,
-        taken: appended(list, more),
-        ended: either(one, two),
+        taken: list,
+        ended: one | two,
     }
-}
-
-fn either(one: bool, two: bool) -> bool
-    ensures { result ≡ (one || two) }
-{
-    one || two
-}
-
-// Both lists in one, which has room for them.
-fn appended(mut list: Vec<usize>, more: Vec<usize>) -> Vec<usize>
-    requires { vec_len list + vec_len more ≤ vec_capacity list }
-    ensures items { result.items ≡ list.items ++ more.items }
-    ensures capacity { vec_capacity result ≡ vec_capacity list }
-{
-    for number in more {
-        list.push_reserved(number);
-    }
-    list
 }
 
 // Takes out what is still in the queue.
@@ -278,3 +259,27 @@ fn drained<R: Wait>(
     }
     left
 }
+
+/// Each kind of step keeps the queue's rule: the first pass is made, the maker puts a number or an
+/// end, a pass takes one, a pass makes another, and a pass is taken in.
+pub fn steps_keep_the_rule()
+    ensures begin { BeginKeeps }
+    ensures put { PutKeeps }
+    ensures end { EndKeeps }
+    ensures take { TakeKeeps }
+    ensures fork { ForkKeeps }
+    ensures merge { MergeKeeps }
+{}
+
+/// Between any two steps all passes with a part know the same numbers, no number was taken twice,
+/// by one pass or by two, none that was taken is still in the queue, and none is lost. Where some
+/// pass has ended, the queue holds no number. The numbers that `close` accounts for are those that
+/// each pass of its list knows.
+pub fn passes_agree()
+    ensures known { PassesAgree }
+    ensures once { NoneTwice }
+    ensures apart { NoneTakenIsLeft }
+    ensures none_lost { NoneIsLost }
+    ensures ended { EndedIsEmpty }
+    ensures listed { NumbersAreKnown }
+{}

@@ -12,8 +12,8 @@ use Rattle.nef_lex.proofs.LineLaws.{pieces_of_ended}
 use Rattle.nef_script.specs.Tests.{line_limit, is_bad_byte}
 use Rattle.nef_script.specs.Refusal.{line_refusal, bound_name, names_of, Passes, IsAccepted}
 use Rattle.nef_script.specs.Laws.{script_of}
-use Rattle.nef_script.specs.declared.fault.ScriptKind.{ScriptKind}
-use Rattle.nef_script.specs.declared.fault.ScriptKind.TheVariants as kind
+use Rattle.nef_script.specs.declared.script.ScriptKind.{ScriptKind}
+use Rattle.nef_script.specs.declared.script.ScriptKind.TheVariants as kind
 use Rattle.nef_script.proofs.ByCommand.{refusal-by-words, first_none}
 use Rattle.nef_script.proofs.LineByLine.{names_of-push, here_at, passes_more}
 

@@ -1,7 +1,7 @@
 -- What one line adds.
 use Rattle.std.proofs.Common.{◌≡◌, ℕ, ◌+◌, ◌<◌, ◌≤◌, ◌⊎◌, pos, inl, inr, Bool, true, false, not, nat_eq, List, [], ◌∷◌, ◌++◌, length, take, get_or, Some, None, slice_get, if◌then◌else◌, refl, sym, ◌∙◌, ap, subst, arith, append-nil, length-append}
 use Rattle.std.proofs.Math.Dec.{eqb-suc-zero}
-use Rattle.std.proofs.lemmas.Option.{slice_get_within, get_or_from_slice_get}
+use Rattle.std.proofs.lemmas.Option.{get_or_from_slice_get}
 use Rattle.nef_lex.specs.Words.{words_of}
 use Rattle.nef_expr.specs.declared.nodes.Node.{Node}
 use Rattle.nef_expr.specs.declared.nodes.Node.TheVariants as node
@@ -10,7 +10,7 @@ use Rattle.nef_expr.specs.Turns.{TurnOf}
 use Rattle.nef_expr.specs.Table.{Table, origin, HasOrigin, IsCopyOf}
 use Rattle.nef_expr.specs.Copying.{Extends, Stays}
 use Rattle.nef_expr.proofs.Places.{slice_get-seam, place-push}
-use Rattle.nef_expr.proofs.Chains.{pair-of}
+use Rattle.nef_expr.proofs.Chains.{turn-within}
 use Rattle.nef_expr.proofs.Tables.{extends-length}
 use Rattle.nef_script.specs.Table.{verb_of, binds, is_own}
 use Rattle.nef_script.specs.Limits.{KeepsRayLimits}
@@ -19,8 +19,8 @@ use Rattle.nef_script.specs.Refusal.{line_refusal, bound_name}
 use Rattle.nef_script.specs.Meaning.{Names, IsNode, IsQuestion, IsTurn, MeansCommand, MeansWords, has_words, adds_base}
 use Rattle.nef_script.specs.Checks.{on_command}
 use Rattle.nef_script.specs.Reading.{State, sets_of, IsSound, AddsWords, AddsLine, AddsCommand, number_at}
-use Rattle.nef_script.specs.declared.table.Verb.{Verb}
-use Rattle.nef_script.specs.declared.table.Verb.TheVariants as verb
+use Rattle.nef_script.specs.declared.arguments.Verb.{Verb}
+use Rattle.nef_script.specs.declared.arguments.Verb.TheVariants as verb
 use Rattle.nef_script.specs.declared.script.Command.{Command}
 use Rattle.nef_script.specs.declared.script.Command.TheVariants.{Bind, Turn}
 use Rattle.nef_script.proofs.Looking.{node-operands, question-asks}
@@ -135,9 +135,7 @@ AddsWords-ask number v ws old new c sound e is rays names_are bound_are table_is
 pub AddsWords-turn : (number : ℕ) (ws : List (List ℕ)) (old new : State) (from t k : ℕ) → IsSound old → length ws ≡ 3 → Names old.names old.bound (get_or ws 1 []) from → number_at ws 2 ≡ pos t → t < 48 → TurnOf new.table.nodes t from k → IsCopyOf new.table.origins t from k → Stays old.table new.table → new.names ≡ old.names ++ get_or ws 0 [] ∷ [] → new.bound ≡ old.bound ++ k ∷ [] → new.commands ≡ old.commands ++ Turn number k from t ∷ [] → AddsWords number verb.Turn ws old new
 AddsWords-turn number ws old new from t k sound count named number_is below turn copy stay names_are bound_are commands_are =
     let stays = bound-stays old new sound (get_or ws 0 []) k names_are bound_are in
-    let p = pair-of new.table.nodes t from k turn in
-    let within_k = slice_get_within new.table.nodes k p.m p.m_is in
-    let within_from = slice_get_within new.table.nodes from p.n p.n_is in
+    let (within_from, within_k) = turn-within new.table.nodes t from k turn in
     let longer = extends-length old.table.nodes new.table.nodes stay.nodes in
     let bases = stay.bases in
     let some : 0 < length ws = omega (arith, count) in

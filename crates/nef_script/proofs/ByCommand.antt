@@ -9,9 +9,9 @@ use Rattle.nef_script.specs.Tests.{line_limit, is_bad_byte, command_tests, words
 use Rattle.nef_script.specs.Refusal.{line_refusal}
 use Rattle.nef_script.specs.Checks.{command_test, kinds}
 use Rattle.nef_script.specs.Outcome.{first_of}
-use Rattle.nef_script.specs.declared.table.Verb.{Verb}
-use Rattle.nef_script.specs.declared.fault.ScriptKind.{ScriptKind}
-use Rattle.nef_script.specs.declared.fault.ScriptKind.TheVariants as kind
+use Rattle.nef_script.specs.declared.arguments.Verb.{Verb}
+use Rattle.nef_script.specs.declared.script.ScriptKind.{ScriptKind}
+use Rattle.nef_script.specs.declared.script.ScriptKind.TheVariants as kind
 
 -- ---- the kinds one after the other
 

@@ -4,8 +4,8 @@ use Rattle.nef_space.specs.Limits.{normal_limit, offset_limit, query_limit, quer
 use Rattle.nef_script.specs.Tests.{word_test}
 use Rattle.nef_script.specs.Checks.{command_test}
 use Rattle.nef_script.specs.Outcome.{some_fails, no_room, roles_test, are_zero, is_normal, is_direction}
-use Rattle.nef_script.specs.declared.fault.ScriptKind.{ScriptKind}
-use Rattle.nef_script.specs.declared.table.Verb.TheVariants as verb
+use Rattle.nef_script.specs.declared.script.ScriptKind.{ScriptKind}
+use Rattle.nef_script.specs.declared.arguments.Verb.TheVariants as verb
 use Rattle.nef_script.specs.Table.{NewName, Operand, Coefficient, Mode, Weight, Index}
 use Rattle.nef_script.proofs.Firsts.{or_none, swap, plain-roles, command-roles}
 

@@ -20,7 +20,7 @@ use Rattle.nef_expr.proofs.Places.{slice_get-left, slice_get-seam, place-push}
 use Rattle.nef_expr.proofs.Tables.{extends-length}
 use Rattle.nef_script.specs.Progress.{HasRead}
 use Rattle.nef_script.specs.declared.script.Command.{Command}
-use Rattle.nef_script.specs.declared.fault.ScriptKind.{ScriptKind}
+use Rattle.nef_script.specs.declared.script.ScriptKind.{ScriptKind}
 
 -- ---- the names
 

@@ -12,8 +12,8 @@ use Rattle.nef_expr.proofs.Tables.{extends-turn}
 use Rattle.nef_script.specs.Limits.{KeepsRayLimits}
 use Rattle.nef_script.specs.Meaning.{Names, IsNode, IsQuestion, IsWithin}
 use Rattle.nef_script.specs.Commands.{LooksAt, TurnsRight}
-use Rattle.nef_script.specs.declared.table.Verb.{Verb}
-use Rattle.nef_script.specs.declared.table.Verb.TheVariants as verb
+use Rattle.nef_script.specs.declared.arguments.Verb.{Verb}
+use Rattle.nef_script.specs.declared.arguments.Verb.TheVariants as verb
 use Rattle.nef_script.specs.declared.script.Command.{Command}
 use Rattle.nef_script.specs.declared.script.Command.TheVariants.{Bind, Turn, Has, Joined, Ray, Same, Count, Print}
 

@@ -7,8 +7,8 @@ use Rattle.nef_expr.proofs.Places.{slice_get-left}
 use Rattle.nef_expr.proofs.Tables.{extends-turn}
 use Rattle.nef_script.specs.Table.{binds, is_own}
 use Rattle.nef_script.specs.Meaning.{Names, IsNode, IsQuestion, Sets, IsBind, IsTurn, IsBinding, MeansCommand, MeansWords}
-use Rattle.nef_script.specs.declared.table.Verb.{Verb}
-use Rattle.nef_script.specs.declared.table.Verb.TheVariants as verb
+use Rattle.nef_script.specs.declared.arguments.Verb.{Verb}
+use Rattle.nef_script.specs.declared.arguments.Verb.TheVariants as verb
 use Rattle.nef_script.specs.declared.script.Command.{Command}
 
 -- what is at a place stays there

@@ -3,7 +3,7 @@ use Rattle.std.proofs.Common.{◌≡◌, ℕ, List, [], ◌∷◌, length, refl,
 use Rattle.nef_expr.specs.declared.nodes.Node.TheVariants as node
 use Rattle.nef_script.specs.Meaning.{IsNode}
 use Rattle.nef_script.specs.Reading.{SecondIs, LastTwoAre}
-use Rattle.nef_script.specs.declared.table.Verb.TheVariants as verb
+use Rattle.nef_script.specs.declared.arguments.Verb.TheVariants as verb
 
 pub IsNode-Empty : (names : List (List ℕ)) (bound : List ℕ) (ws : List (List ℕ)) → length ws ≡ 1 → IsNode names bound verb.Empty ws node.Empty
 IsNode-Empty names bound [] one = absurd (omega arith)

@@ -3,7 +3,7 @@ use Rattle.std.proofs.Common.{ℕ, List, codes, refl, arith, lit≤, None}
 use Rattle.nef_script.specs.Refusal.{RefusalAt, Passes, FirstRefusal}
 use Rattle.nef_script.specs.Laws.{UnknownCommandExample, WordCountExample, BadNameExample, NameTakenExample, UnknownNameExample, OwnNameExample, NotANumberExample, ZeroNormalExample, BadModeExample, OutOfRangeExample, BadWeightExample, ZeroDirectionExample, LongDirectionExample, FarPointExample, FirstLineExample, AcceptedExample}
 use Rattle.nef_script.proofs.LineByLine.{passes_more}
-use Rattle.nef_script.specs.declared.fault.ScriptKind.TheVariants as kind
+use Rattle.nef_script.specs.declared.script.ScriptKind.TheVariants as kind
 
 none_before : (lines : List (List ℕ)) → Passes lines 0
 none_before lines m below = absurd (omega arith)

@@ -5,9 +5,9 @@ use Rattle.std.proofs.lemmas.Option.{slice_get_within, slice_get-get_or}
 use Rattle.nef_lex.specs.Lines.{lines_of}
 use Rattle.nef_script.specs.Refusal.{script_limit, line_refusal, names_of, RefusalAt, Passes, FirstRefusal, IsAccepted}
 use Rattle.nef_script.specs.Laws.{CommandsFound, OneRefusal, NeverBoth, Decided}
-use Rattle.nef_script.specs.declared.table.Verb.TheVariants as verb
-use Rattle.nef_script.specs.declared.fault.ScriptKind.{ScriptKind}
-use Rattle.nef_script.specs.declared.fault.ScriptKind.TheVariants as kind
+use Rattle.nef_script.specs.declared.arguments.Verb.TheVariants as verb
+use Rattle.nef_script.specs.declared.script.ScriptKind.{ScriptKind}
+use Rattle.nef_script.specs.declared.script.ScriptKind.TheVariants as kind
 use Rattle.nef_script.proofs.LineByLine.{passes_more}
 
 -- a line has one first kind, or none

@@ -3,9 +3,9 @@ use Rattle.std.specs.Prelude.{ℕ, Bool, false, not, ◌&&◌, nat_eq, nat_le, L
 use Rattle.std.specs.List.{list_any, zip}
 use Rattle.nef_script.specs.Table.{verb_of, roles, binds}
 use Rattle.nef_script.specs.Tests.{name_count_limit, on_verb, word_test, has_zero_normal, has_zero_direction}
-use Rattle.nef_script.specs.declared.table.Verb.{Verb}
-use Rattle.nef_script.specs.declared.fault.ScriptKind.{ScriptKind}
-use Rattle.nef_script.specs.declared.fault.ScriptKind.TheVariants as kind
+use Rattle.nef_script.specs.declared.arguments.Verb.{Verb}
+use Rattle.nef_script.specs.declared.script.ScriptKind.{ScriptKind}
+use Rattle.nef_script.specs.declared.script.ScriptKind.TheVariants as kind
 
 -- what a kind says of a command and the words after it
 abbrev pub command_test : ScriptKind → List (List ℕ) → Verb → List (List ℕ) → Bool

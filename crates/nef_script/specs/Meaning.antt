@@ -11,7 +11,7 @@ use Rattle.nef_geo.specs.declared.dir.Dir.{Dir}
 use Rattle.nef_geo.specs.declared.point.Point.{Point}
 use Rattle.nef_expr.specs.declared.nodes.Node.{Node}
 use Rattle.nef_expr.specs.declared.nodes.Node.TheVariants as node
-use Rattle.nef_expr.specs.declared.origin.Origin.{Origin}
+use Rattle.nef_expr.specs.declared.table.Origin.{Origin}
 use Rattle.nef_expr.specs.Nodes.{IsOrdered}
 use Rattle.nef_expr.specs.Turns.{TurnOf}
 use Rattle.nef_expr.specs.Table.{origin, HasOrigin, AreOrigins, IsCopyOf}
@@ -22,8 +22,8 @@ use Rattle.nef_script.specs.Table.{verb_of, binds, is_own}
 use Rattle.nef_script.specs.Tests.{number_or_zero}
 use Rattle.nef_script.specs.Checks.{on_command}
 use Rattle.nef_script.specs.Refusal.{names_of}
-use Rattle.nef_script.specs.declared.table.Verb.{Verb}
-use Rattle.nef_script.specs.declared.table.Verb.TheVariants as verb
+use Rattle.nef_script.specs.declared.arguments.Verb.{Verb}
+use Rattle.nef_script.specs.declared.arguments.Verb.TheVariants as verb
 use Rattle.nef_script.specs.declared.script.Command.{Command}
 use Rattle.nef_script.specs.declared.script.Command.TheVariants.{Bind, Turn, Has, Joined, Ray, Same, Count, Print}
 

@@ -9,7 +9,7 @@ use Rattle.nef_script.specs.Tests.{number_or_zero}
 use Rattle.nef_script.specs.Refusal.{line_refusal, bound_name}
 use Rattle.nef_script.specs.Meaning.{Names, Sets, MeansCommand, MeansWords, IsWithin, has_words, adds_base}
 use Rattle.nef_script.specs.Commands.{LooksAt, Binds, TurnsRight}
-use Rattle.nef_script.specs.declared.table.Verb.{Verb}
+use Rattle.nef_script.specs.declared.arguments.Verb.{Verb}
 use Rattle.nef_script.specs.declared.script.Command.{Command}
 
 -- the second word names the node i

@@ -4,8 +4,8 @@ use Rattle.nef_lex.specs.Lines.{lines_of}
 use Rattle.nef_lex.specs.Words.{words_of}
 use Rattle.nef_script.specs.Table.{verb_of, binds}
 use Rattle.nef_script.specs.Tests.{line_tests, on_verb}
-use Rattle.nef_script.specs.declared.fault.ScriptKind.{ScriptKind}
-use Rattle.nef_script.specs.declared.fault.ScriptKind.TheVariants as kind
+use Rattle.nef_script.specs.declared.script.ScriptKind.{ScriptKind}
+use Rattle.nef_script.specs.declared.script.ScriptKind.TheVariants as kind
 
 -- the most bytes of a script
 abbrev pub script_limit : ℕ

@@ -2,8 +2,8 @@
 use Rattle.std.specs.Prelude.{ℕ, Bool, true, false, List, [], ◌∷◌, Option, codes, find}
 use Rattle.std.specs.Str.{bytes_eq}
 use Rattle.nef_space.specs.Limits.{normal_limit, offset_limit, query_limit, query_weight_limit, ray_direction_limit, ray_point_limit, ray_weight_limit}
-use Rattle.nef_script.specs.declared.table.Verb.{Verb}
-use Rattle.nef_script.specs.declared.table.Verb.TheVariants as verb
+use Rattle.nef_script.specs.declared.arguments.Verb.{Verb}
+use Rattle.nef_script.specs.declared.arguments.Verb.TheVariants as verb
 
 -- what a word after the command is: the name to be bound, the name of a set that an earlier line bound, a whole number of at most this size, `open` or `closed`, a whole number from 1 to this one, or one from 0 to this one
 pub data Role : Type 0 where

@@ -6,11 +6,11 @@ use Rattle.nef_lex.specs.Words.{words_of}
 use Rattle.nef_lex.specs.Numbers.{number_of}
 use Rattle.nef_lex.specs.Names.{is_name}
 use Rattle.nef_script.specs.Table.{verb_of, roles, binds}
-use Rattle.nef_script.specs.declared.table.Verb.{Verb}
-use Rattle.nef_script.specs.declared.table.Verb.TheVariants as verb
+use Rattle.nef_script.specs.declared.arguments.Verb.{Verb}
+use Rattle.nef_script.specs.declared.arguments.Verb.TheVariants as verb
 use Rattle.nef_script.specs.Table.{Role, NewName, Operand, Coefficient, Mode, Weight, Index}
-use Rattle.nef_script.specs.declared.fault.ScriptKind.{ScriptKind}
-use Rattle.nef_script.specs.declared.fault.ScriptKind.TheVariants as kind
+use Rattle.nef_script.specs.declared.script.ScriptKind.{ScriptKind}
+use Rattle.nef_script.specs.declared.script.ScriptKind.TheVariants as kind
 
 -- the most bytes of a line without its end, and the most names that one script binds
 abbrev pub line_limit : ℕ

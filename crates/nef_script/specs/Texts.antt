@@ -1,7 +1,7 @@
 -- The texts of the refusals.
 use Rattle.std.specs.Prelude.{ℕ, List, codes}
-use Rattle.nef_script.specs.declared.fault.ScriptKind.{ScriptKind}
-use Rattle.nef_script.specs.declared.fault.ScriptKind.TheVariants as kind
+use Rattle.nef_script.specs.declared.script.ScriptKind.{ScriptKind}
+use Rattle.nef_script.specs.declared.script.ScriptKind.TheVariants as kind
 
 abbrev pub kind_text : ScriptKind → List ℕ
 kind_text kind.LineTooLong = codes "line too long"

@@ -1,22 +1,83 @@
-//! The words after a command, each read once: its value, or the first kind of refusal that holds for it.
+//! The words of a line, each read once: the command, and what the words after it give, or the first kind of refusal that holds
+//! for them.
 
-ghost use Rattle.std.specs.Prelude.{◌≡◌, ◌<◌, ◌≤◌, ◌<ℤ◌, ◌&&◌, ◌||◌, List, ℕ, [], ◌∷◌, codes, length, nat_abs, None, pos};
-ghost use Rattle.std.specs.List.{position};
-ghost use Rattle.std.specs.Str.{bytes_eq};
-ghost use Rattle.nef_space.specs.Limits.{normal_limit, number_limit, offset_limit, query_limit, query_weight_limit, ray_direction_limit};
-ghost use Rattle.nef_space.specs.Vectors.{IsAtMost};
-ghost use Rattle.nef_geo.specs.Hits.{IsPlaceAtMost};
-ghost use Rattle.nef_geo.specs.Shapes.{place_of, vector_of};
+ghost use Rattle.std.specs.Prelude.{◌≡◌, ◌<◌, ◌≤◌, ◌<ℤ◌, ◌&&◌, ◌||◌, ◌∷◌};
+ghost use Rattle.nef_geo.specs.Prelude.{List, ℕ, [], codes, length, nat_abs, None, pos, position, find, bytes_eq, normal_limit, number_limit, offset_limit, query_limit, query_weight_limit, ray_direction_limit, IsAtMost, IsPlaceAtMost, place_of, vector_of};
 ghost use Rattle.nef_script.specs.Meaning.{Names as IsNamed, IsGiven, IsQuotient, IsToward};
 ghost use Rattle.nef_script.specs.Tests.{name_count_limit, number_or_zero, word_test};
 ghost use Rattle.nef_script.specs.Outcome.{earlier, both, IsRead, is_normal, is_direction, are_zero, no_room, some_fails};
+ghost use Rattle.std.specs.Option.{option_map};
+ghost use Rattle.nef_script.specs.Table.{verb_of};
 ghost use Rattle.nef_script.specs.Table as role;
 
-use crate::fault::ScriptKind;
-use crate::names::Names;
+use crate::script::{Names, ScriptKind};
 use nef_geo::{Dir, Oriented, Plane, PlaneFault, Point};
 use nef_lex::{NumberWord, is_name, whole_number};
 use nef_space::{NORMAL_LIMIT, OFFSET_LIMIT, RAY_ENTRY_LIMIT};
+
+/// The first word of a line.
+#[derive(Clone, Copy)]
+pub enum Verb {
+    Half,
+    Empty,
+    Full,
+    And,
+    Or,
+    Diff,
+    Xor,
+    Not,
+    Int,
+    Cl,
+    Bd,
+    Reg,
+    Turn,
+    Has,
+    Joined,
+    Ray,
+    Same,
+    Count,
+    Print,
+}
+
+// Each command's word.
+const COMMANDS: [(&[u8], Verb); 19] = [
+    (b"half", Verb::Half),
+    (b"empty", Verb::Empty),
+    (b"full", Verb::Full),
+    (b"and", Verb::And),
+    (b"or", Verb::Or),
+    (b"diff", Verb::Diff),
+    (b"xor", Verb::Xor),
+    (b"not", Verb::Not),
+    (b"int", Verb::Int),
+    (b"cl", Verb::Cl),
+    (b"bd", Verb::Bd),
+    (b"reg", Verb::Reg),
+    (b"turn", Verb::Turn),
+    (b"has", Verb::Has),
+    (b"joined", Verb::Joined),
+    (b"ray", Verb::Ray),
+    (b"same", Verb::Same),
+    (b"count", Verb::Count),
+    (b"print", Verb::Print),
+];
+
+// The first command of the table that has this word.
+fn verb_in(table: &[(&[u8], Verb)], word: &[u8]) -> Option<Verb>
+    ensures found { result ≡ option_map (λ c. c.1) (find (λ c. bytes_eq word.now c.0.now) table.now) }
+{
+    let command = table.iter().find(|command| word == command.0)?;
+    Some(command.1)
+}
+
+impl Verb {
+    // The command that a word is.
+    pub(crate) fn of(word: &[u8]) -> Option<Verb>
+        ensures verb { result ≡ verb_of word.now }
+    {
+        verb_in(&COMMANDS, word)
+    }
+}
 
 // The most names that one script binds.
 const NAME_COUNT_LIMIT: usize = 4096;

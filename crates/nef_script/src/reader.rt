@@ -1,28 +1,30 @@
-//! Reads a script line by line.
+//! Reads a script line by line, and says what is true of every script.
 
-ghost use Rattle.std.specs.Prelude.{◌≡◌, ℕ, ◌*◌, ◌≤◌, ◌∷◌, ◌++◌, length, IfOk, OnOk, Some, None, []};
-ghost use Rattle.std.specs.List.{position};
-ghost use Rattle.std.specs.Str.{bytes_eq};
-ghost use Rattle.nef_expr.specs.Nodes.{IsOrdered};
-ghost use Rattle.nef_expr.specs.Table.{AreOrigins};
-ghost use Rattle.nef_script.specs.Refusal.{line_refusal};
+ghost use Rattle.std.specs.Prelude.{◌≡◌, ◌*◌, ◌≤◌, ◌∷◌, ◌++◌};
+ghost use Rattle.nef_geo.specs.Prelude.{ℕ, length, IfOk, OnOk, Some, None, [], All, position, bytes_eq};
+ghost use Rattle.nef_lex.specs.Lines.{lines_of};
+ghost use Rattle.nef_script.specs.Refusal.{FirstRefusal, IsAccepted, line_refusal};
+ghost use Rattle.nef_script.specs.Meaning.{MeansScript, IsWithin, bases_of};
+ghost use Rattle.nef_script.specs.Commands.{TurnsRight, AreBoundBefore};
 ghost use Rattle.nef_script.specs.Outcome.{IsStatement};
 ghost use Rattle.nef_script.specs.Reading.{IsSound, AddsLine, AddsWords, state};
-ghost use Rattle.nef_script.specs.declared.fault.ScriptKind.{ScriptKind as Kind};
-ghost use Rattle.nef_script.specs.declared.table.Verb.{Verb as Said};
+ghost use Rattle.nef_script.specs.declared.script.ScriptKind.{ScriptKind as Kind};
+ghost use Rattle.nef_script.specs.declared.arguments.Verb.{Verb as Said};
+ghost use Rattle.nef_script.specs.Laws.{CommandsFound, OneRefusal, NeverBoth, Decided, UnknownCommandExample, WordCountExample, BadNameExample, NameTakenExample, UnknownNameExample, OwnNameExample, NotANumberExample, ZeroNormalExample, BadModeExample, OutOfRangeExample, BadWeightExample, ZeroDirectionExample, LongDirectionExample, FarPointExample, FirstLineExample, AcceptedExample};
 
-use crate::fault::ScriptFault;
-use crate::names::Names;
-use crate::script::{Command, Name, Script};
+use crate::script::{Command, Name, Names, Script, ScriptFault, ScriptKind};
 use crate::statement::{Statement, read_statement};
 use nef_expr::TurnedNodes;
 use nef_geo::List;
-use nef_lex::{Line, words};
+use nef_lex::{Line, lines, words};
 use std::alloc::{AllocError, Global};
+
+// The most bytes of a script.
+const SCRIPT_LIMIT: usize = 1_048_576;
 
 /// What the lines so far bound, and what they mean.
 #[derive(Drop)]
-pub(crate) struct Reader<'a> {
+struct Reader<'a> {
     names: Names<'a>,
     /// The node of each name, in order.
     bound: Vec<usize>,
@@ -31,44 +33,8 @@ pub(crate) struct Reader<'a> {
 }
 
 impl<'a> Reader<'a> {
-    pub(crate) fn new(alloc: Global) -> Reader<'a>
-        ensures names { result.names ≡ [] }
-        ensures bound { result.bound.items ≡ [] }
-        ensures nodes { result.sets.nodes ≡ [] }
-        ensures origins { result.sets.origins ≡ [] }
-        ensures bases { result.sets.bases ≡ 0 }
-        ensures commands { result.commands ≡ [] }
-    {
-        Reader {
-            names: Names::new(alloc),
-            bound: Vec::new(alloc),
-            sets: TurnedNodes::new(alloc),
-            commands: List::new(alloc),
-        }
-    }
-
-    /// The script that the lines make.
-    pub(crate) fn finish(self) -> Script
-        ensures nodes { result.nodes ≡ self.entry.sets.nodes }
-        ensures few { length result.nodes ≤ 48 * self.entry.sets.bases }
-        ensures ordered { IsOrdered result.nodes }
-        ensures origins { AreOrigins result.nodes self.entry.sets.origins self.entry.sets.bases }
-        ensures commands { result.commands ≡ self.entry.commands }
-    {
-        let Reader {
-            names: _names,
-            bound: _bound,
-            sets,
-            commands,
-        } = self;
-        Script {
-            nodes: sets.into_nodes(),
-            commands,
-        }
-    }
-
-    /// Reads the next line.
-    pub(crate) fn read_line(&mut self, alloc: Global, line: Line<'a>) -> Result<(), ScriptFault>
+    // Reads the next line.
+    fn read_line(&mut self, alloc: Global, line: Line<'a>) -> Result<(), ScriptFault>
         requires sound { IsSound (state self.old.names self.old.bound.items self.old.sets self.old.commands) }
         ensures adds { IfOk result (λ _. AddsLine line.entry.number line.entry.text.now (state self.old.names self.old.bound.items self.old.sets self.old.commands) (state self.new.names self.new.bound.items self.new.sets self.new.commands)) }
         ensures refused { (n : ℕ) (kind : Kind) → result ≡ Err (ScriptFault.Refused n kind) → (n ≡ line.entry.number) × (line_refusal self.old.names line.entry.text.now ≡ Some kind) }
@@ -133,3 +99,74 @@ impl<'a> Reader<'a> {
         Ok(())
     }
 }
+
+/// The script that the bytes spell. Its commands name nodes that it has, each of which an earlier command binds, and its
+/// rays keep their limits. A node that a line turns to is the turned image of the node that it is turned from, and there
+/// are at most 48 nodes for each line that binds a name and turns nothing.
+///
+/// `Refused` says where the script is refused first, and for what: a script that is too long at
+/// line 0, and otherwise the first line for which some test holds, with the first such test in the
+/// order of `ScriptKind`. `OutOfMemory` says that memory was wanted and not found.
+pub fn parse(alloc: Global, bytes: &[u8]) -> Result<Script, ScriptFault>
+    ensures script { IfOk result (λ s. IsAccepted bytes.now × MeansScript bytes.now s.nodes s.commands) }
+    ensures in_range { IfOk result (λ s. All (IsWithin (length s.nodes)) s.commands) }
+    ensures turned { IfOk result (λ s. All (TurnsRight s.nodes) s.commands) }
+    ensures bound_before { IfOk result (λ s. AreBoundBefore s.nodes s.commands) }
+    ensures few { IfOk result (λ s. length s.nodes ≤ 48 * bases_of (lines_of bytes.now)) }
+    ensures refused { (line : ℕ) (kind : Kind) → result ≡ Err (ScriptFault.Refused line kind) → FirstRefusal bytes.now line kind }
+{
+    if bytes.len() > SCRIPT_LIMIT {
+        return Err(ScriptFault::Refused {
+            line: 0,
+            kind: ScriptKind::ScriptTooLong,
+        });
+    }
+    let mut reader = Reader {
+        names: Names::new(alloc),
+        bound: Vec::new(alloc),
+        sets: TurnedNodes::new(alloc),
+        commands: List::new(alloc),
+    };
+    for line in lines(bytes) {
+        reader.read_line(alloc, line)?;
+    }
+    let Reader {
+        names: _names,
+        bound: _bound,
+        sets,
+        commands,
+    } = reader;
+    Ok(Script {
+        nodes: sets.into_nodes(),
+        commands,
+    })
+}
+
+/// A script is accepted, or it is refused first at one line for one kind, and never both; and the word of each command
+/// is read as that command.
+pub fn refusal_laws()
+    ensures one { OneRefusal }
+    ensures never_both { NeverBoth }
+    ensures decided { Decided }
+    ensures commands { CommandsFound }
+{}
+
+/// Where some short scripts are refused first, and for what.
+pub fn refusal_examples()
+    ensures unknown_command { UnknownCommandExample }
+    ensures word_count { WordCountExample }
+    ensures bad_name { BadNameExample }
+    ensures name_taken { NameTakenExample }
+    ensures unknown_name { UnknownNameExample }
+    ensures own_name { OwnNameExample }
+    ensures not_a_number { NotANumberExample }
+    ensures zero_normal { ZeroNormalExample }
+    ensures bad_mode { BadModeExample }
+    ensures out_of_range { OutOfRangeExample }
+    ensures bad_weight { BadWeightExample }
+    ensures zero_direction { ZeroDirectionExample }
+    ensures long_direction { LongDirectionExample }
+    ensures far_point { FarPointExample }
+    ensures first_line { FirstLineExample }
+    ensures accepted { AcceptedExample }
+{}

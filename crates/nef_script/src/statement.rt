@@ -1,23 +1,20 @@
 //! What a line says: the command and the words after it, or the first kind of refusal that holds for the line.
 
-ghost use Rattle.std.specs.Prelude.{◌≡◌, ℕ, List, [], ◌∷◌, length, IfOk};
-ghost use Rattle.std.specs.List.{list_any};
-ghost use Rattle.nef_space.specs.Limits.{normal_limit, offset_limit};
+ghost use Rattle.std.specs.Prelude.{◌≡◌, ◌∷◌};
+ghost use Rattle.nef_geo.specs.Prelude.{ℕ, List, [], length, IfOk, list_any};
 ghost use Rattle.nef_lex.specs.Words.{words_of};
-ghost use Rattle.nef_script.specs.Table.{roles};
 ghost use Rattle.nef_script.specs.Tests.{is_bad_byte};
 ghost use Rattle.nef_script.specs.Refusal.{line_refusal};
 ghost use Rattle.nef_script.specs.Names.{pointed};
 ghost use Rattle.nef_script.specs.Reading.{SecondIs, LastTwoAre};
 ghost use Rattle.nef_script.specs.Outcome.{refused, IsRead, Reads, roles_test, BindsNew, LineSays};
 ghost use Rattle.nef_script.specs.Table as role;
-ghost use Rattle.nef_script.specs.declared.table.Verb.TheVariants as verb;
+ghost use Rattle.nef_script.specs.declared.arguments.Verb.TheVariants as verb;
 
-use crate::arguments::{both, direction, is_closed, new_name, operand, plane, point, turn_number};
-use crate::fault::ScriptKind;
-use crate::names::Names;
-use crate::script::Command;
-use crate::table::Verb;
+use crate::arguments::{
+    Verb, both, direction, is_closed, new_name, operand, plane, point, turn_number,
+};
+use crate::script::{Command, Names, ScriptKind};
 use nef_expr::Node;
 use nef_space::{QUERY_LIMIT, QUERY_WEIGHT_LIMIT, RAY_LIMIT, RAY_WEIGHT_LIMIT};
 

@@ -1,10 +1,10 @@
 //! The script of boxes that stand as stairs.
 
-ghost use Rattle.std.specs.Prelude.{◌≡◌, ◌<◌, ◌≤◌, [], ◌∷◌, ◌++◌, IfOk, OnOk};
-ghost use Rattle.nef_space.specs.Limits.{most_stairs};
+ghost use Rattle.std.specs.Prelude.{◌≡◌, ◌<◌, ◌≤◌, ◌∷◌, ◌++◌};
+ghost use Rattle.nef_geo.specs.Prelude.{[], IfOk, OnOk, most_stairs};
 ghost use Rattle.nef_script.specs.Laws.{script_of};
 ghost use Rattle.nef_script.specs.Refusal.{IsAccepted};
-ghost use Rattle.nef_script.specs.Stairs.{box_name, whole_name, step_lines, stairs_text};
+ghost use Rattle.nef_script.specs.Stairs.{box_name, whole_name, stairs_text};
 ghost use Rattle.nef_script.specs.Boxes.{bytes_of, filled, count_line, step_box, join_lines};
 
 use crate::OutOfMemory;
@@ -117,36 +117,12 @@ fn add_join(text: &mut Vec<u8>, i: u32) -> Result<(), OutOfMemory>
     add_filled(text, JOIN, box_name(i), whole_name(i), whole_name(i - 1))
 }
 
-// Adds the box i, and after it the line that joins it to those before it.
-fn add_step(text: &mut Vec<u8>, i: u32) -> Result<(), OutOfMemory>
-    requires small { i < most_stairs }
-    ensures added { OnOk result (text.new.items ≡ text.old.items ++ script_of (step_lines i)) }
-{
-    add_box(text, i)?;
-    add_join(text, i)?;
-    Ok(())
-}
-
 // Adds the question for the numbers of the first i + 1 boxes together.
 fn add_count(text: &mut Vec<u8>, i: u32) -> Result<(), OutOfMemory>
     ensures added { OnOk result (text.new.items ≡ text.old.items ++ script_of (count_line (whole_name i) ∷ [])) }
 {
     let whole = whole_name(i);
     add_filled(text, COUNT, whole, whole, whole)
-}
-
-// The script of n boxes.
-fn written(alloc: Global, n: u32) -> Result<Vec<u8>, OutOfMemory>
-    requires some { 1 ≤ n }
-    requires most { n ≤ most_stairs }
-    ensures script { IfOk result (λ v. v.items ≡ stairs_text n) }
-{
-    let mut text = Vec::new(alloc);
-    for i in 0..n {
-        add_step(&mut text, i)?;
-    }
-    add_count(&mut text, n - 1)?;
-    Ok(text)
 }
 
 /// The script of `n` boxes that stand as stairs, `n` from 1 to `MOST_STAIRS`: each box reaches into
@@ -158,5 +134,11 @@ pub fn stairs(alloc: Global, n: u32) -> Result<Vec<u8>, OutOfMemory>
     ensures script { IfOk result (λ v. v.items ≡ stairs_text n) }
     ensures accepted { IsAccepted (stairs_text n) }
 {
-    written(alloc, n)
+    let mut text = Vec::new(alloc);
+    for i in 0..n {
+        add_box(&mut text, i)?;
+        add_join(&mut text, i)?;
+    }
+    add_count(&mut text, n - 1)?;
+    Ok(text)
 }

@@ -8,10 +8,9 @@ use Rattle.nef_complex.specs.Complexes.{ShowsSet}
 use Rattle.nef_core.proofs.Places.{get_set_here, get_set_other}
 use Rattle.nef_expr.specs.declared.nodes.Node.{Node}
 use Rattle.nef_expr.specs.Nodes.{node_set}
-use Rattle.nef_sched.specs.Marks.{IsMarked, IsUnmarked}
-use Rattle.nef_sched.specs.Results.{flat, kept, IsKept as HasResult, AreSound}
-use Rattle.nef_plan.specs.declared.step.Step.{Step}
-use Rattle.nef_plan.specs.declared.step.Step.TheVariants.{Make, Turn, Ask}
+use Rattle.nef_sched.specs.Results.{IsMarked, IsUnmarked, flat, kept, IsKept as HasResult, AreSound}
+use Rattle.nef_plan.specs.declared.planner.Step.{Step}
+use Rattle.nef_plan.specs.declared.planner.Step.TheVariants.{Make, Turn, Ask}
 use Rattle.nef_plan.specs.Steps.{LooksAt, Makes, AreSteps}
 use Rattle.nef_shell.specs.declared.bindings.Binding.{Binding}
 use Rattle.nef_shell.specs.Bindings.{IsBoundAt, Asks, Needs, IsAskedAbout, AreMarkedAsked, AreAllBound, Fits, ArePlaced, AreFirst}
@@ -61,7 +60,13 @@ asks-looks (Make n m) k asks = absurd asks
 asks-looks (Turn n j t) k asks = absurd asks
 asks-looks (Ask c) k asks = asks
 
--- and needs it
+-- a step that is no question asks about nothing
+pub asks-none : (s : Step) (k : ℕ) → ((q : _) → s ≡ Ask q → ⊥) → Asks s k → ⊥
+asks-none (Make n m) k not asks = asks
+asks-none (Turn n j t) k not asks = asks
+asks-none (Ask q) k not asks = not q refl
+
+-- what a step asks about, it needs
 pub asks-needs : (ahead : Bool) (s : Step) (k : ℕ) → Asks s k → Needs ahead s k
 asks-needs true s k asks = asks
 asks-needs false s k asks = asks-looks s k asks

@@ -1,36 +1,36 @@
 -- Why there is no script to work.
-use Rattle.std.proofs.Common.{◌≡◌, ℕ, ◌+◌, List, length, arith, refl}
-use Rattle.nef_io.specs.declared.reading.ReadAll.{ReadAll}
-use Rattle.nef_io.specs.declared.reading.ReadAll.TheVariants as read
+use Rattle.std.proofs.Common.{◌≡◌, ℕ, ◌+◌, List, Option, None, Result, Err, length, arith, inr}
+use Rattle.std.specs.Io.KnownBytes.{Consumes}
+use Rattle.nef_io.specs.Bytes.{Rose}
+use Rattle.nef_io.specs.declared.traits.ReadAll.{ReadAll}
+use Rattle.nef_io.specs.declared.traits.ReadAll.TheVariants as read
 use Rattle.nef_script.specs.Refusal.{script_limit, FirstRefusal}
-use Rattle.nef_script.specs.declared.fault.ScriptFault.{ScriptFault}
-use Rattle.nef_script.specs.declared.fault.ScriptFault.TheVariants as fault
-use Rattle.nef_script.specs.declared.fault.ScriptKind.{ScriptKind}
-use Rattle.nef_script.specs.declared.fault.ScriptKind.TheVariants.{ScriptTooLong}
-use Rattle.nef_shell.specs.declared.script.NoScript.TheVariants.{ReadFault, Refused}
-use Rattle.nef_shell.specs.NoScripts.{unread, unaccepted}
-
--- reading refuses a script only where it has too many bytes
-pub too_long-alone : (e : ReadAll) (line : ℕ) (kind : ScriptKind) → unread e ≡ Refused line kind → (e ≡ read.TooLong) × (line ≡ 0) × (kind ≡ ScriptTooLong)
-too_long-alone read.ReadFault line kind is = cc
-too_long-alone read.TooLong line kind is = (refl, cc, cc)
-too_long-alone read.OutOfMemory line kind is = cc
-
-pub fault-alone : (e : ReadAll) → unread e ≡ ReadFault → e ≡ read.ReadFault
-fault-alone read.ReadFault is = refl
-fault-alone read.TooLong is = cc
-fault-alone read.OutOfMemory is = cc
-
--- checking refuses it as it says
-pub refused-alone : (e : ScriptFault) (line : ℕ) (kind : ScriptKind) → unaccepted e ≡ Refused line kind → e ≡ fault.Refused line kind
-refused-alone (fault.Refused l k) line kind is = cc
-refused-alone fault.OutOfMemory line kind is = cc
-
--- and reads nothing
-pub checking-reads_not : (e : ScriptFault) → unaccepted e ≡ ReadFault → ⊥
-checking-reads_not (fault.Refused l k) is = cc
-checking-reads_not fault.OutOfMemory is = cc
+use Rattle.nef_script.specs.declared.script.ScriptFault.{ScriptFault}
+use Rattle.nef_script.specs.declared.script.ScriptFault.TheVariants as fault
+use Rattle.nef_script.specs.declared.script.ScriptKind.{ScriptKind}
+use Rattle.nef_script.specs.declared.script.ScriptKind.TheVariants.{ScriptTooLong}
+use Rattle.nef_statement.specs.Answers.{IsRead}
+use Rattle.nef_statement.specs.Status.{unread, unaccepted}
+use Rattle.nef_shell.specs.Answers.{HasNoScript}
 
 -- more bytes were read than a script may have
-pub too-long : (bytes : List ℕ) → length bytes ≡ script_limit + 1 → FirstRefusal bytes 0 ScriptTooLong
+too-long : (bytes : List ℕ) → length bytes ≡ script_limit + 1 → FirstRefusal bytes 0 ScriptTooLong
 too-long bytes long = FirstRefusal.too_long (omega arith)
+
+-- it couldn't be read, or has too many bytes
+pub none-read : {X : Type 0} (stairs : Option ℕ) (old new : Option (List ℕ)) (faults faults' : ℕ) (r : Result X ReadAll) (e : ReadAll) → r ≡ Err e → stairs ≡ None → (r ≡ Err read.ReadFault → Rose faults faults')
+    → (r ≡ Err read.TooLong → (bytes : List ℕ) × Consumes old new bytes × (length bytes ≡ script_limit + 1)) → (r ≡ Err read.TooLong → faults' ≡ faults) → HasNoScript stairs old new faults faults' (unread e)
+none-read stairs old new faults faults' r read.ReadFault was none rose long quiet = record { said = (none, rose was) }
+none-read stairs old new faults faults' r read.TooLong was none rose long quiet =
+    let (bytes, taken, most) = long was in
+    record { said = (none, (bytes, record { taken = taken; whole = inr most }, too-long bytes most, quiet was)) }
+none-read stairs old new faults faults' r read.OutOfMemory was none rose long quiet = record { said = tt }
+
+-- its bytes are refused, which the source had
+pub none-accepted : {X : Type 0} (stairs : Option ℕ) (old new : Option (List ℕ)) (faults faults' : ℕ) (bytes : List ℕ) (r : Result X ScriptFault) (e : ScriptFault) → r ≡ Err e → ((line : ℕ) (kind : ScriptKind) → r ≡ Err (fault.Refused line kind) → FirstRefusal bytes line kind)
+    → ((line : ℕ) (kind : ScriptKind) → FirstRefusal bytes line kind → (stairs ≡ None) × IsRead old new bytes × (faults' ≡ faults)) → HasNoScript stairs old new faults faults' (unaccepted e)
+none-accepted stairs old new faults faults' bytes r (fault.Refused line kind) was refused had =
+    let first = refused line kind was in
+    let (none, taken, quiet) = had line kind first in
+    record { said = (none, (bytes, taken, first, quiet)) }
+none-accepted stairs old new faults faults' bytes r fault.OutOfMemory was refused had = record { said = tt }

@@ -1,5 +1,5 @@
 -- The complexes of nodes: each is made of those of its operands, and is kept as long as a step looks at it.
-use Rattle.std.proofs.Common.{◌≡◌, ◌↔◌, ℕ, Bool, true, false, ◌<◌, ◌≤◌, ap, arith, refl, sym, ◌∙◌, subst, List, length, Option, Some, None, IfSome, Result, Ok, Err, IfOk, inl, inr}
+use Rattle.std.proofs.Common.{◌≡◌, ◌↔◌, ℕ, Bool, true, false, ◌<◌, ◌≤◌, ap, arith, refl, sym, ◌∙◌, subst, List, length, Option, Some, None, Result, Ok, Err, IfOk, inl, inr}
 use Rattle.std.specs.Prelude.{slice_get, slice_set, slice_index, is_some}
 use Rattle.std.proofs.lemmas.Bool.{cases_eq}
 use Rattle.std.proofs.lemmas.List.{length-set}
@@ -11,11 +11,11 @@ use Rattle.nef_expr.specs.declared.nodes.Node.{Node}
 use Rattle.nef_expr.specs.declared.nodes.Node.TheVariants as node
 use Rattle.nef_stopo.specs.Sets.{op_set}
 use Rattle.law_turns.specs.Turned.{turned_set}
-use Rattle.nef_star.specs.declared.op.Op.{Op}
+use Rattle.nef_star.specs.declared.star.Op.{Op}
 use Rattle.nef_ops.specs.Nodes.{unary_set}
-use Rattle.nef_ops.specs.declared.op.UnaryOp.{UnaryOp}
-use Rattle.nef_expr.specs.Nodes.{operand, node_set, NamesBelow, IsOperand}
-use Rattle.nef_plan.specs.declared.step.Step.{Step}
+use Rattle.nef_ops.specs.declared.operations.UnaryOp.{UnaryOp}
+use Rattle.nef_expr.specs.Nodes.{operand, node_set}
+use Rattle.nef_plan.specs.declared.planner.Step.{Step}
 use Rattle.nef_plan.specs.Steps.{Makes}
 use Rattle.nef_shell.specs.Operations.{set_by, first_operand, second_operand, HasOperand, IsLent, AreLent, AreShown, IsKept, IsGone, AreBound}
 use Rattle.nef_shell.specs.declared.operation.Operation.{Operation}
@@ -24,10 +24,6 @@ use Rattle.nef_shell.specs.declared.operation.Operation.TheVariants.{Unary, Bina
 pub ok-then : {E : Type 0} (r : Result Complex E) (P Q : Complex → Type 0) → ((c : Complex) → P c → Q c) → IfOk r P → IfOk r Q
 ok-then (Ok c) P Q then p = then c p
 ok-then (Err e) P Q then p = tt
-
-pub some-then : (o : Option ℕ) (P : ℕ → Type 0) → ((k : ℕ) → o ≡ Some k → P k) → IfSome o P
-some-then None P p = tt
-some-then (Some k) P p = p k refl
 
 -- what an operation on one set makes of the complex that is lent
 pub unary-made : {E : Type 0} (r : Result Complex E) (operation : Operation) (op : UnaryOp) (i : ℕ) (first second : Option Complex) (a : Complex) → operation ≡ Unary op i → first ≡ Some a
@@ -90,21 +86,6 @@ binds-that nodes ahead s n old new binds off b = record {
 -- a complex that stays is kept
 pub stays-kept : (nodes : List Node) (InQuestion : ℕ → Type 0) (old new : List (Option Complex)) (k : ℕ) → AreBound nodes InQuestion old new → IsKept nodes old k → IsKept nodes new k
 stays-kept nodes InQuestion old new k b (c, at, shows) = (c, b.stays k c at, shows)
-
--- the operands of a node that names nodes below n are below n
-pub operand-below : (n k : ℕ) (m : Node) → NamesBelow n m → IsOperand k m → k < n
-operand-below n k (node.Half o c) below is = absurd is
-operand-below n k node.Empty below is = absurd is
-operand-below n k node.Full below is = absurd is
-operand-below n k (node.And i j) below is = elim is [ inl e ↦ rw e below.0 | inr e ↦ rw e below.1 ]
-operand-below n k (node.Or i j) below is = elim is [ inl e ↦ rw e below.0 | inr e ↦ rw e below.1 ]
-operand-below n k (node.Diff i j) below is = elim is [ inl e ↦ rw e below.0 | inr e ↦ rw e below.1 ]
-operand-below n k (node.Xor i j) below is = elim is [ inl e ↦ rw e below.0 | inr e ↦ rw e below.1 ]
-operand-below n k (node.Not i) below is = rw is below
-operand-below n k (node.Int i) below is = rw is below
-operand-below n k (node.Cl i) below is = rw is below
-operand-below n k (node.Bd i) below is = rw is below
-operand-below n k (node.Reg i) below is = rw is below
 
 -- the others are kept that a later step looks at
 pub kept-less : (nodes : List Node) (list : List (Option Complex)) (uses : List ℕ) (n k now : ℕ) → slice_index uses n ≤ now → now < slice_index uses k → IsKept nodes list k → IsKept nodes (slice_set list n None) k

@@ -8,8 +8,8 @@ use Rattle.std.specs.declared.io.ErrorKind.TheVariants.{InvalidData}
 use Rattle.std.specs.declared.vec.IntoIter.{IntoIter}
 use Rattle.std.specs.declared.vec.Vec.{Vec}
 use Rattle.std.specs.declared.string.String.{String}
-use Rattle.nef_words.specs.declared.options.WordsFault.{WordsFault}
-use Rattle.nef_words.specs.declared.options.WordsFault.TheVariants as fault
+use Rattle.nef_words.specs.declared.words.WordsFault.{WordsFault}
+use Rattle.nef_words.specs.declared.words.WordsFault.TheVariants as fault
 use Rattle.nef_statement.specs.declared.status.Status.{Status}
 use Rattle.nef_statement.specs.declared.status.Status.TheVariants.{Done, Refused, Words, ReadFault, WriteFault, OutOfMemory}
 use Rattle.nef_statement.specs.Status.{status_code}

@@ -4,14 +4,14 @@ use Rattle.std.specs.Prelude.{slice_get, slice_set}
 use Rattle.std.specs.declared.vec.Vec.{Vec}
 use Rattle.std.proofs.lemmas.Bool.{cases_eq}
 use Rattle.nef_core.proofs.Places.{get_set_here, get_set_other}
-use Rattle.nef_core.specs.declared.how.TextVersion.{TextVersion}
+use Rattle.nef_core.specs.declared.work.TextVersion.{TextVersion}
 use Rattle.nef_space.specs.Sets.{Set}
 use Rattle.nef_complex.specs.declared.complex.Complex.{Complex}
 use Rattle.nef_expr.specs.declared.nodes.Node.{Node}
 use Rattle.nef_expr.specs.Nodes.{node_set}
-use Rattle.nef_parts.specs.declared.parts.Parts.{Parts}
-use Rattle.nef_parts.specs.Text.{text}
-use Rattle.nef_shell.specs.Operations.{AreShown, AreBound, AreMadeOf, ArePartsOf, AreHeld}
+use Rattle.nef_complex.specs.declared.parts.Parts.{Parts}
+use Rattle.nef_complex.specs.Text.{text}
+use Rattle.nef_shell.specs.Operations.{AreShown, AreBound, AreMadeOf, AreHeld}
 use Rattle.nef_shell.specs.Output.{printed}
 use Rattle.nef_statement.specs.Output.{framed}
 use Rattle.nef_statement.specs.Texts.{IsWrittenOf}
@@ -69,10 +69,6 @@ held-less version nodes list parts texts n a b c held = record {
   parts_of = made-less _ list parts n b held.parts_of;
   texts_of = made-less _ list texts n c held.texts_of;
 }
-
--- parts are worked
-pub held-parts : {Z : Type 0} (version : TextVersion) (nodes : List Node) (list : List (Option Complex)) (old new : List (Option Parts)) (texts : List (Option (Vec ℕ Z))) → AreHeld version nodes list old texts → ArePartsOf list new → AreHeld version nodes list new texts
-held-parts version nodes list old new texts held parts = record { shown = held.shown; parts_of = parts; texts_of = held.texts_of }
 
 -- a text that is there is written of its node's set
 pub text-written : {Z : Type 0} (version : TextVersion) (nodes : List Node) (list : List (Option Complex)) (parts : List (Option Parts)) (texts : List (Option (Vec ℕ Z))) (k : ℕ) (x : Vec ℕ Z) → AreHeld version nodes list parts texts → slice_get texts k ≡ Some (Some x)

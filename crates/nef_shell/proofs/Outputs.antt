@@ -7,14 +7,14 @@ use Rattle.nef_space.specs.Local.{Joined, SameSet}
 use Rattle.nef_space.specs.Place.{Place, InFrame}
 use Rattle.nef_space.specs.Sets.{Set}
 use Rattle.nef_io.specs.Bytes.{Grows, GrowsWithin}
-use Rattle.nef_core.specs.declared.how.TextVersion.{TextVersion}
+use Rattle.nef_core.specs.declared.work.TextVersion.{TextVersion}
 use Rattle.nef_expr.specs.declared.nodes.Node.{Node}
-use Rattle.nef_plan.specs.declared.step.Step.{Step}
-use Rattle.nef_plan.specs.declared.step.Step.TheVariants.{Make, Turn, Ask}
+use Rattle.nef_plan.specs.declared.planner.Step.{Step}
+use Rattle.nef_plan.specs.declared.planner.Step.TheVariants.{Make, Turn, Ask}
 use Rattle.nef_plan.specs.Steps.{asked}
 use Rattle.nef_script.specs.declared.script.Command.{Command}
-use Rattle.nef_shell.specs.declared.stop.Stop.{Stop}
-use Rattle.nef_shell.specs.declared.stop.Stop.TheVariants.{OutOfMemory}
+use Rattle.nef_statement.specs.declared.status.Status.{Status}
+use Rattle.nef_statement.specs.declared.status.Status.TheVariants.{OutOfMemory}
 use Rattle.nef_shell.specs.Working.{FrontOf, WorkEnds}
 use Rattle.nef_statement.specs.Output.{same_answer, joined_answer, IsSameAnswer, IsJoinedAnswer}
 use Rattle.nef_statement.proofs.Grown.{grows_within-none}
@@ -80,7 +80,7 @@ front-at version nodes steps i s first before after output within at so_far grow
     )
 
 -- the work ended before its first command, for want of memory
-pub ends-before : {A : Type 0} (version : TextVersion) (nodes : List Node) (cs : List Command) (before : Option (List ℕ)) (faults : ℕ) (r : Result A Stop) → r ≡ Err OutOfMemory → WorkEnds version nodes cs before before faults faults r
+pub ends-before : {A : Type 0} (version : TextVersion) (nodes : List Node) (cs : List Command) (before : Option (List ℕ)) (faults : ℕ) (r : Result A Status) → r ≡ Err OutOfMemory → WorkEnds version nodes cs before before faults faults r
 ends-before version nodes cs before faults r is = rw is (record { done = tt; quiet = tt; stopped = tt; front = (0, [], refl, grows_within-none before []) })
 
 -- the output of one command

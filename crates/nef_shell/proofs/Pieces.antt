@@ -5,8 +5,8 @@ use Rattle.nef_space.specs.Local.{SameSet}
 use Rattle.nef_space.specs.Sets.{Set}
 use Rattle.law_near.proofs.Germs.{label-one}
 use Rattle.nef_geo.specs.Shapes.{place_of, vector_of}
-use Rattle.nef_core.specs.declared.how.TextVersion.{TextVersion}
-use Rattle.nef_parts.specs.Text.{text}
+use Rattle.nef_core.specs.declared.work.TextVersion.{TextVersion}
+use Rattle.nef_complex.specs.Text.{text}
 use Rattle.nef_expr.specs.declared.nodes.Node.{Node}
 use Rattle.nef_expr.specs.Nodes.{node_set}
 use Rattle.nef_script.specs.declared.script.Command.{Command}

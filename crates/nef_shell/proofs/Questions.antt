@@ -5,7 +5,7 @@ use Rattle.nef_space.specs.Local.{HasLabel}
 use Rattle.nef_space.specs.Sets.{Set}
 use Rattle.nef_space.specs.declared.label.Label.{Label}
 use Rattle.nef_geo.specs.Shapes.{place_of, vector_of}
-use Rattle.nef_core.specs.declared.how.TextVersion.{TextVersion}
+use Rattle.nef_core.specs.declared.work.TextVersion.{TextVersion}
 use Rattle.nef_expr.specs.declared.nodes.Node.{Node}
 use Rattle.nef_expr.specs.Nodes.{node_set}
 use Rattle.nef_plan.specs.Steps.{HasMore, is_question}
@@ -14,7 +14,7 @@ use Rattle.nef_script.specs.declared.script.Command.TheVariants.{Bind, Turn, Has
 use Rattle.nef_script.specs.Meaning.{IsWithin}
 use Rattle.nef_statement.specs.Output.{answer_of, IsSameAnswer, IsJoinedAnswer, IsRayAnswer}
 use Rattle.nef_statement.specs.Texts.{IsWrittenOf, count_line}
-use Rattle.nef_shell.specs.declared.stop.Stop.{Stop}
+use Rattle.nef_statement.specs.declared.status.Status.{Status}
 use Rattle.nef_shell.specs.Output.{printed, IsPiece, IsOutput}
 use Rattle.nef_shell.specs.Working.{WorkEnds}
 
@@ -68,7 +68,7 @@ module _ (version : TextVersion) (old new : List Node) (more : HasMore old new) 
       by false asks n others is = let (m, all) = others n x is in (suc m, ([], x, silent version old c asks, all, refl))
 
 -- how the work of all commands ends, from that of the questions among them
-pub ends-all : {A : Type 0} (version : TextVersion) (old new : List Node) (cs questions : List Command) (before after : Option (List ℕ)) (faults faults' : ℕ) (r : Result A Stop) → HasMore old new → All (IsWithin (length old)) cs → questions ≡ filter is_question cs
+pub ends-all : {A : Type 0} (version : TextVersion) (old new : List Node) (cs questions : List Command) (before after : Option (List ℕ)) (faults faults' : ℕ) (r : Result A Status) → HasMore old new → All (IsWithin (length old)) cs → questions ≡ filter is_question cs
     → WorkEnds version new questions before after faults faults' r → WorkEnds version old cs before after faults faults' r
 ends-all version old new cs questions before after faults faults' (Ok a) more within same ends =
     let (x, is, grown) = ends.done in

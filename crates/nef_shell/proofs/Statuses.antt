@@ -3,10 +3,10 @@ use Rattle.std.proofs.Common.{◌≡◌, ℕ, refl, ap, ◌∙◌, sym, subst, L
 use Rattle.std.specs.Prelude.{option_map, is_some}
 use Rattle.std.specs.Io.KnownBytes.{Consumes}
 use Rattle.nef_io.specs.Bytes.{Rose, Grows, GrowsWithin}
-use Rattle.nef_script.specs.declared.fault.ScriptKind.{ScriptKind}
+use Rattle.nef_script.specs.declared.script.ScriptKind.{ScriptKind}
 use Rattle.nef_script.specs.Refusal.{FirstRefusal, IsAccepted}
 use Rattle.nef_script.proofs.RefusalLaws.{one_refusal, never_both}
-use Rattle.nef_words.specs.declared.options.Options.{Options}
+use Rattle.nef_words.specs.declared.words.Options.{Options}
 use Rattle.nef_words.specs.Chosen.{options_of}
 use Rattle.nef_statement.specs.declared.status.Status.{Status}
 use Rattle.nef_statement.specs.declared.status.Status.TheVariants.{Done, Refused, Words, ReadFault, WriteFault, OutOfMemory}
@@ -18,7 +18,7 @@ use Rattle.nef_statement.specs.Statement.{SaysAll, SaysFront, RunSays}
 use Rattle.nef_statement.specs.Texts.{IsText}
 use Rattle.nef_statement.proofs.Runs.{stairs-one, stairs-both, taken-whole, refused-whole}
 use Rattle.nef_shell.specs.Status.{MatchStatus}
-use Rattle.nef_shell.specs.Answers.{HasOutput, HasFront, HasEnded}
+use Rattle.nef_shell.specs.Answers.{HasNoScript, HasOutput, HasFront, HasEnded}
 use Rattle.nef_shell.specs.Ended.{RunEnds}
 use Rattle.nef_shell.proofs.Pieces.{texts-compared, texts-meant}
 use Rattle.nef_shell.proofs.Walk.{output-said, front-said}
@@ -49,6 +49,25 @@ refused-status words Words io bytes line kind given read refused reads h = absur
 refused-status words ReadFault io bytes line kind given read refused reads h = absurd h
 refused-status words WriteFault io bytes line kind given read refused reads (rose, part) = (rose, HasFront.of_refusal bytes line kind given read refused part)
 refused-status words OutOfMemory io bytes line kind given read refused reads same = inl same
+
+-- the statuses where there is no script, but one that is refused
+pub none-status : (words : List (List ℕ)) (s : Status) (io : Traffic) (stairs : Option ℕ) → GiveStairs words stairs → ((line : ℕ) (kind : ScriptKind) → s ≡ Refused line kind → ⊥)
+    → HasNoScript stairs io.before.rest io.after.rest io.before.read_faults io.after.read_faults s → io.after.written ≡ io.before.written → HasEnded words s io
+none-status words Done io stairs given other none same = absurd none.said
+none-status words (Refused l k) io stairs given other none same = absurd (other l k refl)
+none-status words Words io stairs given other none same = absurd none.said
+none-status words ReadFault io stairs given other none same = let (out, rose) = none.said in (subst (GiveStairs words) out given, rose, same)
+none-status words WriteFault io stairs given other none same = absurd none.said
+none-status words OutOfMemory io stairs given other none same = inl same
+
+-- the statuses where the work of a script stopped
+pub stopped-status : (words : List (List ℕ)) (s : Status) (io : Traffic) → MatchStatus s ⊥ (λ line kind. ⊥) ⊥ ⊥ (Rose io.before.write_faults io.after.write_faults) (Unit {0}) → HasFront words io → HasEnded words s io
+stopped-status words Done io stopped front = absurd stopped
+stopped-status words (Refused l k) io stopped front = absurd stopped
+stopped-status words Words io stopped front = absurd stopped
+stopped-status words ReadFault io stopped front = absurd stopped
+stopped-status words WriteFault io stopped front = (stopped, front)
+stopped-status words OutOfMemory io stopped front = inr front
 
 -- how an accepted script ends that the source has
 finishes : (words : List (List ℕ)) (s : Status) (io : Traffic) → HasEnded words s io → (bytes : List ℕ) → io.before.rest ≡ Some bytes → IsAccepted bytes → (Rose io.before.read_faults io.after.read_faults → ⊥) → (Rose io.before.write_faults io.after.write_faults → ⊥) → EndsAs Done s

@@ -7,16 +7,16 @@ use Rattle.law_near.proofs.Rays.{same-place_sym}
 use Rattle.law_sphere.proofs.Compare.{SameDirection-turned}
 use Rattle.nef_lex.specs.Lines.{lines_of}
 use Rattle.nef_lex.specs.Words.{words_of}
-use Rattle.nef_core.specs.declared.how.TextVersion.{TextVersion}
+use Rattle.nef_core.specs.declared.work.TextVersion.{TextVersion}
 use Rattle.nef_expr.specs.declared.nodes.Node.{Node}
 use Rattle.nef_expr.specs.Nodes.{node_set, IsOrdered}
 use Rattle.nef_script.specs.Table.{binds}
 use Rattle.nef_script.specs.Meaning.{Names, Sets, IsBinding, MeansCommand, MeansWords, MeansLines, MeansScript, has_words, bases_of}
-use Rattle.nef_script.specs.declared.table.Verb.{Verb}
-use Rattle.nef_script.specs.declared.table.Verb.TheVariants as verb
+use Rattle.nef_script.specs.declared.arguments.Verb.{Verb}
+use Rattle.nef_script.specs.declared.arguments.Verb.TheVariants as verb
 use Rattle.nef_script.specs.declared.script.Command.{Command}
 use Rattle.nef_script.specs.declared.script.Command.TheVariants.{Bind, Turn, Has, Joined, Ray, Same, Count, Print}
-use Rattle.nef_parts.specs.Text.{text}
+use Rattle.nef_complex.specs.Text.{text}
 use Rattle.nef_statement.specs.Denotes.{Bindings, bound_set, bound_after}
 use Rattle.nef_statement.specs.Said.{IsSaid, IsSaidBy, AreSaid}
 use Rattle.nef_statement.specs.Texts.{IsText}

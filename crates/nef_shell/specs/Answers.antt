@@ -1,9 +1,9 @@
 -- What a run with accepted words leaves of the source and of the sink.
-use Rattle.std.specs.Prelude.{◌≡◌, ℕ, List, None, take, ◌⊎◌}
+use Rattle.std.specs.Prelude.{◌≡◌, ℕ, List, Option, None, take, ◌⊎◌}
 use Rattle.nef_io.specs.Bytes.{Rose, Grows, GrowsWithin}
-use Rattle.nef_core.specs.declared.how.TextVersion.{TextVersion}
+use Rattle.nef_core.specs.declared.work.TextVersion.{TextVersion}
 use Rattle.nef_expr.specs.declared.nodes.Node.{Node}
-use Rattle.nef_script.specs.declared.fault.ScriptKind.{ScriptKind}
+use Rattle.nef_script.specs.declared.script.ScriptKind.{ScriptKind}
 use Rattle.nef_script.specs.declared.script.Command.{Command}
 use Rattle.nef_script.specs.Refusal.{FirstRefusal, IsAccepted}
 use Rattle.nef_script.specs.Meaning.{MeansScript}
@@ -18,6 +18,16 @@ use Rattle.nef_shell.specs.Status.{MatchStatus}
 pub record IsWorked (bytes : List ℕ) (nodes : List Node) (commands : List Command) : Type 0 where
   pub accepted : IsAccepted bytes
   pub means : MeansScript bytes nodes commands
+
+-- what is said where there is no script to work: it is refused, a read failed, or memory was wanted
+pub record HasNoScript (stairs : Option ℕ) (old new : Option (List ℕ)) (faults faults' : ℕ) (status : Status) : Type 0 where
+  pub said : MatchStatus status
+      ⊥
+      (λ line kind. (stairs ≡ None) × ((bytes : List ℕ) × IsRead old new bytes × FirstRefusal bytes line kind × (faults' ≡ faults)))
+      ⊥
+      ((stairs ≡ None) × Rose faults faults')
+      ⊥
+      (Unit {0})
 
 -- the whole output of the script that the words have run, with texts of the version that they choose
 pub record HasOutput (words : List (List ℕ)) (io : Traffic) : Type 0 where

@@ -4,10 +4,9 @@ use Rattle.nef_complex.specs.declared.complex.Complex.{Complex}
 use Rattle.nef_complex.specs.Complexes.{ShowsSet}
 use Rattle.nef_expr.specs.declared.nodes.Node.{Node}
 use Rattle.nef_expr.specs.Nodes.{node_set, sets_after}
-use Rattle.nef_sched.specs.Marks.{IsMarked}
-use Rattle.nef_sched.specs.Results.{kept}
-use Rattle.nef_plan.specs.declared.step.Step.{Step}
-use Rattle.nef_plan.specs.declared.step.Step.TheVariants.{Make, Turn, Ask}
+use Rattle.nef_sched.specs.Results.{IsMarked, kept}
+use Rattle.nef_plan.specs.declared.planner.Step.{Step}
+use Rattle.nef_plan.specs.declared.planner.Step.TheVariants.{Make, Turn, Ask}
 use Rattle.nef_plan.specs.Alike.{AreAlike}
 use Rattle.nef_plan.specs.Steps.{AsksAbout, Makes, LooksAt, IsMade}
 use Rattle.nef_shell.specs.declared.bindings.Binding.{Binding}

@@ -8,7 +8,5 @@ pub mod Ended
 pub mod Program
 pub mod Uses
 pub mod Operations
-pub mod Stops
 pub mod Working
-pub mod NoScripts
 pub mod Bindings

@@ -6,13 +6,13 @@ use Rattle.law_turns.specs.Turned.{turned_set}
 use Rattle.nef_stopo.specs.Sets.{op_set}
 use Rattle.nef_complex.specs.declared.complex.Complex.{Complex}
 use Rattle.nef_complex.specs.Complexes.{ShowsSet, complex_of}
-use Rattle.nef_core.specs.declared.how.TextVersion.{TextVersion}
+use Rattle.nef_core.specs.declared.work.TextVersion.{TextVersion}
 use Rattle.nef_expr.specs.declared.nodes.Node.{Node}
 use Rattle.nef_expr.specs.Nodes.{operand, node_set}
 use Rattle.nef_ops.specs.Nodes.{constant_set, unary_set}
-use Rattle.nef_parts.specs.declared.parts.Parts.{Parts}
-use Rattle.nef_parts.specs.Numbers.{IsParts}
-use Rattle.nef_parts.specs.Text.{text, Text}
+use Rattle.nef_complex.specs.declared.parts.Parts.{Parts}
+use Rattle.nef_complex.specs.Numbers.{IsParts}
+use Rattle.nef_complex.specs.Text.{text, Text}
 use Rattle.std.specs.declared.vec.Vec.{Vec}
 use Rattle.nef_statement.specs.Texts.{IsWrittenOf}
 use Rattle.nef_shell.specs.declared.operation.Means.{Means}

@@ -4,9 +4,9 @@ use Rattle.nef_space.specs.Local.{HasLabel}
 use Rattle.nef_space.specs.declared.label.Label.{Label}
 use Rattle.nef_geo.specs.Shapes.{place_of, vector_of}
 use Rattle.nef_complex.specs.declared.complex.Complex.{Complex}
-use Rattle.nef_core.specs.declared.how.TextVersion.{TextVersion}
-use Rattle.nef_parts.specs.declared.parts.Parts.{Parts}
-use Rattle.nef_parts.specs.Text.{text}
+use Rattle.nef_core.specs.declared.work.TextVersion.{TextVersion}
+use Rattle.nef_complex.specs.declared.parts.Parts.{Parts}
+use Rattle.nef_complex.specs.Text.{text}
 use Rattle.nef_expr.specs.declared.nodes.Node.{Node}
 use Rattle.nef_expr.specs.Nodes.{node_set}
 use Rattle.nef_script.specs.declared.script.Command.{Command}

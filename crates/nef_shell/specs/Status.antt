@@ -1,6 +1,6 @@
 -- What is said of a run by its status.
 use Rattle.std.specs.Prelude.{ℕ}
-use Rattle.nef_script.specs.declared.fault.ScriptKind.{ScriptKind}
+use Rattle.nef_script.specs.declared.script.ScriptKind.{ScriptKind}
 use Rattle.nef_statement.specs.declared.status.Status.{Status}
 use Rattle.nef_statement.specs.declared.status.Status.TheVariants.{Done, Refused, Words, ReadFault, WriteFault, OutOfMemory}
 

@@ -1,7 +1,7 @@
 -- Which steps look at which nodes last.
 use Rattle.std.specs.Prelude.{◌≡◌, ℕ, ◌<◌, ◌≤◌, List, ◌⊎◌, Some, slice_get, slice_index, length}
 use Rattle.nef_expr.specs.declared.nodes.Node.{Node}
-use Rattle.nef_plan.specs.declared.step.Step.{Step}
+use Rattle.nef_plan.specs.declared.planner.Step.{Step}
 use Rattle.nef_plan.specs.Steps.{LooksAt}
 
 -- at each node's place the number of a step that none comes after which looks at it

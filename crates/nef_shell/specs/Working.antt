@@ -1,17 +1,17 @@
 -- What is written while steps are worked.
 use Rattle.std.specs.Prelude.{◌≡◌, ℕ, Bool, List, Option, Result, OnOk, IfErr, take}
 use Rattle.nef_complex.specs.declared.complex.Complex.{Complex}
-use Rattle.nef_core.specs.declared.how.TextVersion.{TextVersion}
+use Rattle.nef_core.specs.declared.work.TextVersion.{TextVersion}
 use Rattle.nef_expr.specs.declared.nodes.Node.{Node}
 use Rattle.nef_io.specs.Bytes.{Rose, Grows, GrowsWithin}
-use Rattle.nef_plan.specs.declared.step.Step.{Step}
+use Rattle.nef_plan.specs.declared.planner.Step.{Step}
 use Rattle.nef_plan.specs.Steps.{IsRight}
 use Rattle.nef_script.specs.declared.script.Command.{Command}
-use Rattle.nef_shell.specs.declared.stop.Stop.{Stop}
+use Rattle.nef_statement.specs.declared.status.Status.{Status}
 use Rattle.nef_shell.specs.Bindings.{Needs}
 use Rattle.nef_shell.specs.Operations.{IsKept}
 use Rattle.nef_shell.specs.Output.{IsOutput}
-use Rattle.nef_shell.specs.Stops.{MatchStop}
+use Rattle.nef_shell.specs.Status.{MatchStatus}
 
 -- what is known of a step that comes next: it is right, and what it needs is there
 pub record IsDue (ahead : Bool) (nodes : List Node) (list : List (Option Complex)) (s : Step) : Type 0 where
@@ -27,8 +27,8 @@ abbrev pub FrontOf : TextVersion → List Node → List Command → Option (List
 FrontOf version nodes cs before after = (count : ℕ) × (output : List ℕ) × IsOutput version nodes (take count cs) output × GrowsWithin before after output
 
 -- how the work of commands ends: their output was written, and no count of faults rose; or a front of it was, where a write failed or memory was wanted
-pub record WorkEnds {A : Type 0} (version : TextVersion) (nodes : List Node) (commands : List Command) (before after : Option (List ℕ)) (faults faults' : ℕ) (result : Result A Stop) : Type 0 where
+pub record WorkEnds {A : Type 0} (version : TextVersion) (nodes : List Node) (commands : List Command) (before after : Option (List ℕ)) (faults faults' : ℕ) (result : Result A Status) : Type 0 where
   pub done : OnOk result (HasWrittenAll version nodes commands before after)
   pub quiet : OnOk result (faults' ≡ faults)
-  pub stopped : IfErr result (λ stop. MatchStop stop (Rose faults faults') (Unit {0}))
+  pub stopped : IfErr result (λ status. MatchStatus status ⊥ (λ line kind. ⊥) ⊥ ⊥ (Rose faults faults') (Unit {0}))
   pub front : IfErr result (λ _. FrontOf version nodes commands before after)

@@ -6,8 +6,8 @@ use Rattle.nef_space.specs.Sets.{Set, Holds}
 use Rattle.law_complex.specs.Belongs.{Belongs}
 use Rattle.nef_complex.specs.declared.complex.Complex.{Complex}
 use Rattle.nef_complex.specs.Complexes.{complex_of}
-use Rattle.nef_core.specs.declared.how.TextVersion.{TextVersion}
-use Rattle.nef_parts.specs.Text.{text, Spells}
+use Rattle.nef_core.specs.declared.work.TextVersion.{TextVersion}
+use Rattle.nef_complex.specs.Text.{text, Spells}
 use Rattle.nef_shell.specs.Output.{printed}
 use Rattle.nef_statement.specs.Texts.{IsWrittenOf, count_line}
 use Rattle.nef_statement.specs.Written.{CountTells}

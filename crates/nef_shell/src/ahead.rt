@@ -1,41 +1,26 @@
 //! Works all bindings of a script's steps ahead of its questions, in rounds.
 
-ghost use Rattle.std.specs.Prelude.{◌≡◌, ◌<◌, ◌↔◌, ◌⊎◌, ℕ, List, Some, true, IfOk, IfSome, length, slice_get, vec_len};
+ghost use Rattle.std.specs.Prelude.{◌≡◌, ◌<◌, ◌↔◌, ◌⊎◌};
+ghost use Rattle.nef_complex.specs.Prelude.{ℕ, Some, true, IfOk, IfSome, length, slice_get, vec_len, ShowsSet};
 ghost use Rattle.nef_complex.specs.declared.complex.Complex.{Complex};
-ghost use Rattle.nef_complex.specs.Complexes.{ShowsSet};
 ghost use Rattle.nef_expr.specs.Nodes.{node_set};
-ghost use Rattle.nef_expr.specs.declared.nodes.Node.{Node};
-ghost use Rattle.nef_plan.specs.declared.step.Step.{Step};
+ghost use Rattle.nef_plan.specs.declared.planner.Step.{Step};
 ghost use Rattle.nef_plan.specs.Steps.{IsRight, AreSteps};
-ghost use Rattle.nef_sched.specs.Marks.{IsMarked};
-ghost use Rattle.nef_sched.specs.Results.{AreSound, IsKept as HasResult};
-ghost use Rattle.nef_shell.specs.Bindings.{AreBindings, Fits, Asks, IsAskedAbout, AreMarkedAsked, ArePlaced, AreFirst};
+ghost use Rattle.nef_sched.specs.Results.{IsMarked, AreSound, IsKept as HasResult};
+ghost use Rattle.nef_shell.specs.Bindings.{AreBindings, Fits, IsAskedAbout, ArePlaced, AreFirst};
 ghost use Rattle.nef_shell.specs.Operations.{AreMeans, AreShown, IsKept};
 
-use crate::bindings::{Binding, bindings_of};
+use crate::bindings::{Binding, bindings_of, work_bindings};
 use crate::operation::Means;
-use crate::stage::work_bindings;
-use crate::uses::asked_nodes;
 use nef_complex::Complex;
 use nef_expr::Nodes;
 use nef_io::Gate;
-use nef_plan::Step;
+use nef_plan::{Step, asked_nodes};
 use nef_sched::empty_places;
 use std::alloc::{AllocError, Global};
 use std::mem;
 use std::sync::Wait;
 use std::thread::Threads;
-
-// The nodes that the step asks about: none, where it makes a set.
-fn asked_by(step: &Step) -> (Option<usize>, Option<usize>)
-    ensures asked { (k : ℕ) → Asks step.now k ↔ ((result.0 ≡ Some k) ⊎ (result.1 ≡ Some k)) }
-    ensures within { (nodes : List Node) → IsRight nodes step.now → IfSome result.0 (λ k. k < length nodes) × IfSome result.1 (λ k. k < length nodes) }
-{
-    match step {
-        Step::Ask(command) => asked_nodes(command),
-        Step::Make { .. } | Step::Turn { .. } => (None, None),
-    }
-}
 
 // Marks the node, if there is one.
 fn mark(marks: &mut [bool], node: Option<usize>)
@@ -57,9 +42,11 @@ fn asked_about(alloc: Global, nodes: &Nodes, steps: &[Step]) -> Result<Vec<bool>
     let mut marks = vec![in alloc; false; nodes.len()]?;
     let asked = marks.as_mut_slice();
     for step in steps {
-        let (first, second) = asked_by(step);
-        mark(asked, first);
-        mark(asked, second);
+        if let Step::Ask(command) = step {
+            let (first, second) = asked_nodes(command);
+            mark(asked, first);
+            mark(asked, second);
+        }
     }
     Ok(marks)
 }
@@ -75,22 +62,6 @@ fn wanted(alloc: Global, bindings: &[Binding], asked: &[bool]) -> Result<Vec<boo
         marks.push(asked[binding.node])?;
     }
     Ok(marks)
-}
-
-// Marks on the bindings whose nodes questions ask about.
-fn wanted_for(
-    alloc: Global,
-    nodes: &Nodes,
-    steps: &[Step],
-    bindings: &[Binding],
-) -> Result<Vec<bool>, AllocError>
-    requires right { (i : ℕ) (s : Step) → slice_get steps.now i ≡ Some s → IsRight nodes.now s }
-    requires are { AreBindings nodes.now bindings.now }
-    ensures count { IfOk result (λ v. vec_len v ≡ length bindings.now) }
-    ensures marks { IfOk result (λ v. AreMarkedAsked steps.now bindings.now v.items) }
-{
-    let asked = asked_about(alloc, nodes, steps)?;
-    wanted(alloc, bindings, &asked)
 }
 
 // Puts the result, if there is one, to the place of the node that the binding binds. It is exchanged where it stands:
@@ -167,6 +138,7 @@ pub(crate) fn worked_ahead<R: Threads + Wait + Sync, G: Gate + Sync>(
     ensures first { IfOk result (λ v. AreFirst nodes.now steps.now true v.items) }
 {
     let bindings = bindings_of(alloc, nodes, steps)?;
-    let wanted = wanted_for(alloc, nodes, steps, &bindings)?;
+    let asked = asked_about(alloc, nodes, steps)?;
+    let wanted = wanted(alloc, &bindings, &asked)?;
     worked(rt, alloc, nodes, &bindings, &wanted, means, gate)
 }

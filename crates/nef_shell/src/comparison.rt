@@ -1,16 +1,12 @@
-//! Whether two sets have one text.
+//! What the texts of sets tell of them.
 
-ghost use Rattle.std.specs.Prelude.{◌≡◌, ◌↔◌, IfOk, IsTrue};
-ghost use Rattle.nef_space.specs.Local.{SameSet};
-ghost use Rattle.nef_space.specs.Sets.{Set};
-ghost use Rattle.nef_complex.specs.Complexes.{ShowsSet, complex_of};
-ghost use Rattle.nef_parts.specs.Numbers.{IsParts};
-ghost use Rattle.nef_parts.specs.Text.{text};
+ghost use Rattle.std.specs.Prelude.{◌≡◌, ◌↔◌};
+ghost use Rattle.nef_complex.specs.Prelude.{IfOk, IsTrue, SameSet, Set, ShowsSet, complex_of, IsParts, text};
+ghost use Rattle.nef_shell.specs.Written.{TextsTellSets, PiecesAreOne, TextHolds, CountsComponents};
 
 use nef_canon::write_text;
-use nef_complex::Complex;
+use nef_complex::{Complex, Parts};
 use nef_core::TextVersion;
-use nef_parts::Parts;
 use std::alloc::{AllocError, Global};
 
 /// Whether the texts of two complexes with their parts, in this version, are equal, byte by byte. They are, exactly where
@@ -32,3 +28,14 @@ pub fn same_text(
     let second = write_text(alloc, b, q, version)?;
     Ok(first.as_slice() == second.as_slice())
 }
+
+/// The texts that are printed of two sets, in one version, are equal exactly where the sets are the same; what is printed and counted is
+/// determined by the set; the text of a set spells some complex, and a point of the frame belongs to each complex that it
+/// spells exactly where the set holds. The four numbers that are counted are those of the connected components of the
+/// points with no, one, two and three flat directions, over all of space; the outside is one of the last.
+pub fn written_laws()
+    ensures texts { TextsTellSets }
+    ensures pieces { PiecesAreOne }
+    ensures holds { TextHolds }
+    ensures counts { CountsComponents }
+{}

@@ -8,29 +8,14 @@
 #![tactic(auto)]
 
 mod ahead;
-mod answer;
 mod bindings;
 mod comparison;
-mod entry;
-mod joining;
-mod laws;
-mod line;
-mod listing;
 mod operation;
 mod piece;
-mod places;
-mod ray_end;
-mod script;
 mod sets;
-mod stage;
-mod status;
-mod stop;
 mod top;
-mod uses;
 mod work;
 
-pub use comparison::same_text;
-pub use entry::program;
-pub use laws::written_laws;
-pub use status::{Status, code};
-pub use top::run;
+pub use comparison::{same_text, written_laws};
+pub use nef_statement::Status;
+pub use top::{code, program, run};

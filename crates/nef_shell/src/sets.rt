@@ -1,35 +1,53 @@
 //! The complexes of the nodes, with their parts and their texts.
 
-ghost use Rattle.std.specs.Prelude.{◌≡◌, ◌+◌, ◌≤◌, ◌<◌, ◌↔◌, ◌⊎◌, ℕ, Some, IfOk, IfSome, IsTrue, OnOk, length, slice_get, slice_index, vec_len, []};
-ghost use Rattle.std.specs.Option.{option_copied};
-ghost use Rattle.nef_space.specs.Local.{SameSet};
+ghost use Rattle.std.specs.Prelude.{◌≡◌, ◌+◌, ◌≤◌, ◌<◌, ◌⊎◌};
+ghost use Rattle.nef_complex.specs.Prelude.{ℕ, true, false, Some, IfOk, IfSome, OnOk, length, slice_get, slice_index, slice_set, vec_len, [], option_copied, ShowsSet, complex_of, IsParts, text};
 ghost use Rattle.nef_complex.specs.declared.complex.Complex.{Complex};
-ghost use Rattle.nef_complex.specs.Complexes.{ShowsSet, complex_of};
-ghost use Rattle.nef_core.specs.declared.how.TextVersion.{TextVersion};
+ghost use Rattle.nef_core.specs.declared.work.TextVersion.{TextVersion};
 ghost use Rattle.nef_expr.specs.Nodes.{node_set, sets_after};
-ghost use Rattle.nef_parts.specs.Numbers.{IsParts};
-ghost use Rattle.nef_parts.specs.Text.{text};
 ghost use Rattle.nef_plan.specs.Alike.{AreAlike};
 ghost use Rattle.nef_plan.specs.Steps.{LooksAt, Makes, IsRight};
-ghost use Rattle.nef_shell.specs.Operations.{set_by, HasOperand, HasTurn, AreMeans, IsLent, AreShown, IsKept, IsGone, IsLean, AreBound, ArePartsOf, AreTextsOf, HasParts, HasText, AreHeld};
+ghost use Rattle.nef_shell.specs.Operations.{set_by, HasOperand, HasTurn, AreMeans, IsLent, IsKept, IsThere, IsGone, IsLean, AreBound, ArePartsOf, AreTextsOf, HasParts, HasText, AreHeld};
 ghost use Rattle.nef_statement.specs.Texts.{IsWrittenOf};
 
-use crate::operation::{Means, Operation, made};
-use crate::places::{is_there, put_at, thing_at};
-use crate::uses::{bound_node, looked_at};
+use crate::operation::{Means, Operation, bound, given, made};
 use nef_canon::write_text;
-use nef_complex::Complex;
-use nef_core::TextVersion;
+use nef_complex::{Complex, Parts};
 use nef_expr::Nodes;
 use nef_io::Gate;
-use nef_ops::same;
-use nef_parts::Parts;
-use nef_plan::Step;
+use nef_plan::{Step, looked_at};
 use nef_sched::empty_places;
 use nef_volumes::parts_by_threads;
+use nef_words::Options;
 use std::alloc::{AllocError, Global};
 use std::sync::Wait;
 use std::thread::Threads;
+
+// Whether something is there.
+fn is_there<X>(places: &Vec<Option<X>>, k: usize) -> bool
+    requires within { k < length places.now.items }
+    ensures there { result ≡ true → IsThere places.now.items k }
+    ensures gone { result ≡ false → IsGone places.now.items k }
+{
+    places[k].is_some()
+}
+
+// What is there.
+fn thing_at<X>(places: &[Option<X>], k: usize) -> &X
+    requires there { IsThere places.now k }
+    ensures at { slice_get places.now k ≡ Some (Some result.now) }
+{
+    given(places[k].as_ref())
+}
+
+// Puts this in the place of what is there.
+fn put_at<X: Drop>(places: &mut Vec<Option<X>>, k: usize, thing: Option<X>)
+    requires within { k < length places.old.items }
+    ensures put { places.new.items ≡ slice_set places.old.items k thing }
+    ensures len { vec_len places.new ≡ vec_len places.old }
+{
+    places[k] = thing;
+}
 
 /// The complexes of a script's nodes: of each node whose set a step makes, from that step to the last
 /// one that looks at it. Parts and text of a complex are worked when they are first asked for, and go with it.
@@ -87,34 +105,6 @@ impl<'a> Sets<'a> {
         }
     }
 
-    /// Whether the two nodes stand for one set.
-    pub(crate) fn same(&self, left: usize, right: usize) -> bool
-        requires first { IsKept self.now.nodes.now self.now.list.items left }
-        requires second { IsKept self.now.nodes.now self.now.list.items right }
-        ensures same { IsTrue result ↔ SameSet (node_set self.now.nodes.now left) (node_set self.now.nodes.now right) }
-    {
-        same(self.get(left), self.get(right))
-    }
-
-    // The complex that the operation makes of those of its operands.
-    fn made_by<R: Threads + Wait + Sync, G: Gate + Sync>(
-        &self,
-        rt: &R,
-        alloc: Global,
-        operation: Operation,
-        means: &Means,
-        gate: &G,
-    ) -> Result<Complex, AllocError>
-        requires means { AreMeans means.now }
-        requires turn { HasTurn operation }
-        requires operands { (k : ℕ) → HasOperand operation k → IsKept self.now.nodes.now self.now.list.items k }
-        ensures shows { IfOk result (λ c. ShowsSet (set_by (sets_after [] self.now.nodes.now) operation) c) }
-    {
-        let (first, second) = operation.operands();
-        let (a, b) = (self.lent(first), self.lent(second));
-        made(rt, alloc, operation, a, b, means, gate)
-    }
-
     /// Works the node by the operation that makes its set, unless its complex is there. `AllocError` says that
     /// memory was wanted and not found.
     pub(crate) fn bind<R: Threads + Wait + Sync, G: Gate + Sync>(
@@ -130,18 +120,18 @@ impl<'a> Sets<'a> {
         requires node { node < length self.old.nodes.now }
         requires turn { HasTurn operation }
         requires set { AreAlike (set_by (sets_after [] self.old.nodes.now) operation) (node_set self.old.nodes.now node) }
-        requires shown { AreShown self.old.nodes.now self.old.list.items }
+        requires held { AreHeld means.now.options.text self.old.nodes.now self.old.list.items self.old.parts.items self.old.texts.items }
         requires operands { (k : ℕ) → HasOperand operation k → IsKept self.old.nodes.now self.old.list.items k }
-        ensures shown { OnOk result (AreShown self.old.nodes.now self.new.list.items) }
+        ensures held { OnOk result (AreHeld means.now.options.text self.old.nodes.now self.new.list.items self.new.parts.items self.new.texts.items) }
         ensures bound { OnOk result (AreBound self.old.nodes.now (λ k. k ≡ node) self.old.list.items self.new.list.items) }
-        ensures parts { self.new.parts ≡ self.old.parts }
-        ensures texts { self.new.texts ≡ self.old.texts }
         ensures nodes { self.new.nodes ≡ self.old.nodes }
     {
         if is_there(&self.list, node) {
             return Ok(());
         }
-        let complex = self.made_by(rt, alloc, operation, means, gate)?;
+        let (first, second) = operation.operands();
+        let (a, b) = (self.lent(first), self.lent(second));
+        let complex = made(rt, alloc, operation, a, b, means, gate)?;
         put_at(&mut self.list, node, Some(complex));
         Ok(())
     }
@@ -153,20 +143,19 @@ impl<'a> Sets<'a> {
         rt: &R,
         alloc: Global,
         node: usize,
-        workers: u32,
+        options: &Options,
     ) -> Result<(), AllocError>
         requires kept { IsKept self.old.nodes.now self.old.list.items node }
-        requires parts { ArePartsOf self.old.list.items self.old.parts.items }
+        requires held { AreHeld options.now.text self.old.nodes.now self.old.list.items self.old.parts.items self.old.texts.items }
         ensures has { OnOk result (HasParts self.new.nodes.now self.new.list.items self.new.parts.items node) }
-        ensures parts { OnOk result (ArePartsOf self.old.list.items self.new.parts.items) }
+        ensures held { OnOk result (AreHeld options.now.text self.old.nodes.now self.old.list.items self.new.parts.items self.new.texts.items) }
         ensures list { self.new.list ≡ self.old.list }
-        ensures texts { self.new.texts ≡ self.old.texts }
         ensures nodes { self.new.nodes ≡ self.old.nodes }
     {
         if is_there(&self.parts, node) {
             return Ok(());
         }
-        let parts = parts_by_threads(rt, alloc, self.get(node), workers)?;
+        let parts = parts_by_threads(rt, alloc, self.get(node), options.how.workers)?;
         put_at(&mut self.parts, node, Some(parts));
         Ok(())
     }
@@ -181,29 +170,28 @@ impl<'a> Sets<'a> {
         (thing_at(&self.list, node), thing_at(&self.parts, node))
     }
 
-    /// Works the text of the node's complex, in this version, unless it is there. `AllocError` says that memory
-    /// was wanted and not found.
+    /// Works the text of the node's complex, in the version that the options choose, unless it is there. `AllocError` says
+    /// that memory was wanted and not found.
     pub(crate) fn work_text<R: Threads + Sync>(
         &mut self,
         rt: &R,
         alloc: Global,
         node: usize,
-        version: TextVersion,
-        workers: u32,
+        options: &Options,
     ) -> Result<(), AllocError>
         requires kept { IsKept self.old.nodes.now self.old.list.items node }
-        requires held { AreHeld version self.old.nodes.now self.old.list.items self.old.parts.items self.old.texts.items }
-        ensures has { OnOk result (HasText version self.new.nodes.now self.new.texts.items node) }
-        ensures held { OnOk result (AreHeld version self.old.nodes.now self.old.list.items self.new.parts.items self.new.texts.items) }
+        requires held { AreHeld options.now.text self.old.nodes.now self.old.list.items self.old.parts.items self.old.texts.items }
+        ensures has { OnOk result (HasText options.now.text self.new.nodes.now self.new.texts.items node) }
+        ensures held { OnOk result (AreHeld options.now.text self.old.nodes.now self.old.list.items self.new.parts.items self.new.texts.items) }
         ensures list { self.new.list ≡ self.old.list }
         ensures nodes { self.new.nodes ≡ self.old.nodes }
     {
         if is_there(&self.texts, node) {
             return Ok(());
         }
-        self.work_parts(rt, alloc, node, workers)?;
+        self.work_parts(rt, alloc, node, options)?;
         let (complex, parts) = self.get_with_parts(node);
-        let text = write_text(alloc, complex, parts, version)?;
+        let text = write_text(alloc, complex, parts, options.text)?;
         put_at(&mut self.texts, node, Some(text));
         Ok(())
     }
@@ -243,15 +231,18 @@ impl<'a> Sets<'a> {
         requires right { IsRight self.old.nodes.now step.now }
         requires uses { length uses.now ≡ length self.old.nodes.now }
         requires used { (k : ℕ) → k < length self.old.list.items → slice_index uses.now k < now + 1 → IsGone self.old.list.items k ⊎ (LooksAt step.now k ⊎ Makes step.now k) }
-        ensures count { length self.new.list.items ≡ length self.old.list.items }
         ensures held { (version : TextVersion) → AreHeld version self.old.nodes.now self.old.list.items self.old.parts.items self.old.texts.items → AreHeld version self.new.nodes.now self.new.list.items self.new.parts.items self.new.texts.items }
         ensures kept { (k : ℕ) → now < slice_index uses.now k → IsKept self.old.nodes.now self.old.list.items k → IsKept self.new.nodes.now self.new.list.items k }
         ensures lean { IsLean uses.now (now + 1) self.new.list.items }
         ensures nodes { self.new.nodes ≡ self.old.nodes }
     {
         let (first, second) = looked_at(step);
+        let node = match bound(self.nodes, step) {
+            Some((node, _)) => Some(node),
+            None => None,
+        };
         self.release_one(first, now, uses);
         self.release_one(second, now, uses);
-        self.release_one(bound_node(step), now, uses);
+        self.release_one(node, now, uses);
     }
 }

@@ -1,28 +1,45 @@
-//! The top call.
+//! The top call, and the program: from the words of the command line to the exit status.
 
-ghost use Rattle.std.specs.Prelude.{◌≡◌, ◌≤◌, ℕ, List, Some, IfSome, map, string_bytes};
-ghost use Rattle.nef_space.specs.Limits.{most_stairs};
+ghost use Rattle.std.specs.Prelude.{◌≡◌, ◌≤◌};
+ghost use Rattle.nef_complex.specs.Prelude.{ℕ, List, Some, IfOk, IfSome, IsOk, IsErr, map, string_bytes, IfErr, exit_status, most_stairs};
 ghost use Rattle.nef_io.specs.Bytes.{Rose, Grows, GrowsWithin};
 ghost use Rattle.nef_shell.specs.Status.{MatchStatus};
 ghost use Rattle.nef_statement.specs.Output.{refusal_line, words_line};
-ghost use Rattle.nef_statement.specs.Answers.{GiveStairs, GiveText};
-ghost use Rattle.nef_statement.specs.Statement.{RunSays};
+ghost use Rattle.nef_statement.specs.Answers.{GiveStairs, GiveText, IsScriptFor};
+ghost use Rattle.nef_statement.specs.Statement.{RunSays, ProgramSays};
+ghost use Rattle.nef_statement.specs.Status.{status_code};
 ghost use Rattle.nef_statement.specs.Texts.{IsText};
-ghost use Rattle.nef_shell.specs.Answers.{HasEnded};
+ghost use Rattle.nef_shell.specs.Answers.{HasEnded, HasNoScript, IsWorked};
 ghost use Rattle.nef_shell.specs.Ended.{RunEnds};
+ghost use Rattle.nef_shell.specs.Program.{IsCollected, ProgramEnds};
 ghost use Rattle.nef_statement.specs.Traffic.{traffic, IsUnread};
+ghost use Rattle.nef_plan.specs.Steps.{AreWorkable};
 
-use crate::line::refusal_line;
-use crate::script::{NoScript, script_for};
-use crate::status::Status;
-use crate::stop::Stop;
 use crate::work::work;
-use nef_io::{Gate, Sink, Source, put_all};
-use nef_script::ScriptKind;
-use nef_words::{Options, WordsFault, read_words};
-use std::alloc::Global;
+use itoa::Buffer;
+use nef_io::{Gate, Sink, Source, put_all, read_all};
+use nef_script::{Script, ScriptKind, parse, stairs};
+use nef_statement::Status;
+use nef_words::{Options, WordsFault, line_words, read_words};
+use std::alloc::{AllocError, Global};
+use std::env::Args;
+use std::io;
+use std::process::ExitCode;
 use std::sync::Wait;
 use std::thread::Threads;
+
+// The line `line L: TEXT`.
+fn refusal_line(alloc: Global, line: u64, kind: ScriptKind) -> Result<Vec<u8>, AllocError>
+    ensures bytes { IfOk result (λ text. text.items ≡ refusal_line line kind) }
+{
+    let mut number = Buffer::new();
+    let mut text = Vec::from_slice(alloc, b"line ")?;
+    text.extend_from_slice(number.format(line).as_bytes())?;
+    text.extend_from_slice(b": ")?;
+    text.extend_from_slice(kind.text().as_bytes())?;
+    text.push(b'\n')?;
+    Ok(text)
+}
 
 // Writes the refusal's line.
 fn refuse<K: Sink>(alloc: Global, sink: &mut K, line: u64, kind: ScriptKind) -> Status
@@ -43,8 +60,8 @@ fn refuse<K: Sink>(alloc: Global, sink: &mut K, line: u64, kind: ScriptKind) -> 
     }
 }
 
-/// Writes the line of refused words.
-pub(crate) fn refuse_words<K: Sink>(sink: &mut K) -> Status
+// Writes the line of refused words.
+fn refuse_words<K: Sink>(sink: &mut K) -> Status
     ensures status { MatchStatus result
         ⊥
         (λ l k. ⊥)
@@ -57,6 +74,28 @@ pub(crate) fn refuse_words<K: Sink>(sink: &mut K) -> Status
         Ok(()) => Status::Words,
         Err(_) => Status::WriteFault,
     }
+}
+
+// The script that is run: the generated one of so many boxes, where `boxes` has their number, and the
+// source isn't looked at; otherwise what the source has. Where there is none, how the run ends, before a refusal is
+// written.
+fn script_for<S: Source>(
+    alloc: Global,
+    boxes: Option<u32>,
+    source: &mut S,
+) -> Result<Script, Status>
+    requires stairs { IfSome boxes (λ n. (1 ≤ n) × (n ≤ most_stairs)) }
+    ensures script { IfOk result (λ s. (bytes : List ℕ) × IsScriptFor boxes (S.rest source.old) (S.rest source.new) bytes × IsWorked bytes s.nodes s.commands) }
+    ensures workable { IfOk result (λ s. AreWorkable s.nodes s.commands) }
+    ensures none { IfErr result (HasNoScript boxes (S.rest source.old) (S.rest source.new) (S.faults source.old) (S.faults source.new)) }
+    ensures quiet { IfOk result (λ _. S.faults source.new ≡ S.faults source.old) }
+    ensures unread { (n : ℕ) → boxes ≡ Some n → (S.rest source.new ≡ S.rest source.old) × (S.faults source.new ≡ S.faults source.old) }
+{
+    let bytes = match boxes {
+        None => read_all(alloc, source)?,
+        Some(count) => stairs(alloc, count)?,
+    };
+    Ok(parse(alloc, &bytes)?)
 }
 
 // Runs the script that the options choose: has it checked, and works it.
@@ -74,14 +113,14 @@ fn run_script<R: Threads + Wait + Sync, S: Source, K: Sink, G: Gate + Sync>(
 {
     let script = match script_for(alloc, options.stairs, source) {
         Ok(script) => script,
-        Err(NoScript::ReadFault) => return Status::ReadFault,
-        Err(NoScript::Refused { line, kind }) => return refuse(alloc, sink, line, kind),
-        Err(NoScript::OutOfMemory) => return Status::OutOfMemory,
+        Err(status) => match status {
+            Status::Refused { line, kind } => return refuse(alloc, sink, line, kind),
+            _ => return status,
+        },
     };
     match work(rt, alloc, options, &script, sink, gate) {
         Ok(()) => Status::Done,
-        Err(Stop::WriteFault) => Status::WriteFault,
-        Err(Stop::OutOfMemory) => Status::OutOfMemory,
+        Err(status) => status,
     }
 }
 
@@ -131,4 +170,58 @@ pub fn run<R: Threads + Wait + Sync, S: Source, K: Sink, G: Gate + Sync>(
         Err(WordsFault::Refused) => refuse_words(sink),
         Err(WordsFault::OutOfMemory) => Status::OutOfMemory,
     }
+}
+
+/// The exit status of the program, 0 to 5 in the order of the variants. It takes no memory.
+pub fn code(status: &Status) -> u8
+    ensures code { result ≡ status_code status.now }
+{
+    match status {
+        Status::Done => 0,
+        Status::Refused { .. } => 1,
+        Status::Words => 2,
+        Status::ReadFault => 3,
+        Status::WriteFault => 4,
+        Status::OutOfMemory => 5,
+    }
+}
+
+// All words of the command line, or why they can't be had. It fails for want of memory alone.
+fn collected(alloc: Global, line: io::Result<Args>) -> Result<io::Result<Vec<String>>, AllocError>
+    ensures words { IfOk result (λ all. IsCollected line all) }
+    ensures memory { IsErr result → IsOk line }
+{
+    match line {
+        Ok(args) => Ok(Ok(args.collect(alloc)?)),
+        Err(error) => Ok(Err(error)),
+    }
+}
+
+/// The whole program: [`run`] with the words behind the program's name, of those that `std::env::args`
+/// gave, and the exit status of its answer, which is 0 to 5 in the order of [`Status`]. Where a word
+/// isn't text, the words are refused. Where they can't be had for another reason, memory is wanted for
+/// them, nothing is read and written, and the status is that of `OutOfMemory`.
+///
+/// `main` returns what this gives for standard input and output: a `FromReader` of the one and an
+/// `IntoWriter` of the other.
+pub fn program<R: Threads + Wait + Sync, S: Source, K: Sink, G: Gate + Sync>(
+    rt: &R,
+    alloc: Global,
+    line: io::Result<Args>,
+    source: &mut S,
+    sink: &mut K,
+    gate: &G,
+) -> ExitCode
+    ensures says { ProgramSays IsText line (exit_status result) (traffic S.rest S.faults K.written K.faults source.old source.new sink.old sink.new) }
+    ensures ends { ProgramEnds line (exit_status result) (traffic S.rest S.faults K.written K.faults source.old source.new sink.old sink.new) }
+{
+    let Ok(line) = collected(alloc, line) else {
+        return ExitCode::from(code(&Status::OutOfMemory));
+    };
+    let status = match line_words(&line) {
+        Ok(words) => run(rt, alloc, words, source, sink, gate),
+        Err(WordsFault::Refused) => refuse_words(sink),
+        Err(WordsFault::OutOfMemory) => Status::OutOfMemory,
+    };
+    ExitCode::from(code(&status))
 }

@@ -3,9 +3,9 @@ use Rattle.std.proofs.Common.{◌≡◌, ℕ, ◌+◌, ◌^◌, ℤ, pos, ◌*�
 use Rattle.std.specs.Bool.{IsTrue}
 use Rattle.nef_space.specs.Vectors.{dot}
 use Rattle.law_sphere.specs.Maps.{At, Item, items, item_normal}
-use Rattle.nef_smap.specs.declared.linear.Values.{Values}
+use Rattle.nef_smap.specs.declared.meets.Values.{Values}
 use Rattle.nef_smap.specs.declared.map.SphereMap.{SphereMap}
-use Rattle.nef_smap.specs.declared.path.SpherePath.{SpherePath}
+use Rattle.nef_smap.specs.declared.meets.SpherePath.{SpherePath}
 use Rattle.nef_smap.specs.Linear.{linear_at, turn_value, AreAtMost, IsLarge}
 use Rattle.nef_smap.specs.Maps.{map_of}
 use Rattle.nef_smap.specs.WideVectors.{start_at, end_at, AreValues}

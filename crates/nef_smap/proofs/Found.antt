@@ -3,18 +3,18 @@ use Rattle.std.proofs.Common.{◌≡◌, ℕ, zero, suc, ◌+◌, ◌<◌, ◌�
 use Rattle.std.proofs.lemmas.Option.{slice_get_read}
 use Rattle.std.proofs.lemmas.List.{length-map}
 use Rattle.std.proofs.Math.Nat.{eq-or-lt_of_le}
-use Rattle.nef_space.specs.Vectors.{Vector, IsDirection, SameDirection}
+use Rattle.nef_space.specs.Vectors.{Vector, SameDirection}
 use Rattle.nef_space.specs.declared.label.Label.{Label}
 use Rattle.nef_geo.specs.Shapes.{vector_of}
 use Rattle.nef_geo.specs.declared.dir.Dir.{Dir}
 use Rattle.nef_geo.proofs.Unique.{same_directions_equal}
-use Rattle.law_sphere.specs.Maps.{At, MapVertex, Arc, MapSloop, Map, Item, arc_item, sloop_item, items, item_mark, OnItem, IsFree, MapLabel, at_svertex, on_item, seen, Side, whole, Sees}
+use Rattle.law_sphere.specs.Maps.{At, MapVertex, Arc, MapSloop, Map, Item, arc_item, sloop_item, items_then, items, item_mark, OnItem, MapLabel, at_svertex, on_item, seen, Side, whole, Sees}
 use Rattle.law_sphere.proofs.Lists.{at-one}
 use Rattle.law_sphere.proofs.Arcs.{sloop-at, at-arc}
 use Rattle.law_sphere.proofs.Shot.{arc-at}
 use Rattle.law_sphere.proofs.Compare.{dir-self}
 use Rattle.nef_smap.specs.Sides.{LabelledSide, sides_of, IsSide, SideSees, IsPlaceOf}
-use Rattle.nef_smap.specs.Maps.{svertex_of, map_of}
+use Rattle.nef_smap.specs.Maps.{svertex_of, arc_of, map_of}
 use Rattle.nef_smap.specs.declared.map.SVertex.{SVertex}
 use Rattle.nef_smap.specs.declared.map.SphereMap.{SphereMap}
 use Rattle.nef_smap.specs.declared.map.SPlace.TheVariants as place
@@ -41,15 +41,6 @@ read {X} xs ys n x e h q = subst (λ (zs : List X). slice_get zs n ≡ Some x) e
 pub dir-same : (a b : Dir) → (a ≡ b) ↔ SameDirection (vector_of a) (vector_of b)
 dir-same a b = (λ e. subst (λ (x : Dir). SameDirection (vector_of a) (vector_of x)) e (dir-self (vector_of a) a.some), λ s. same_directions_equal a b s)
 
--- ---- a direction on no svertex, arc or loop
-pub free-if : (M : Map) (d : Vector) → IsDirection d → ((k : ℕ) (v : MapVertex) → At M.svertices k v → SameDirection v.dir d → ⊥)
-    → ((k : ℕ) (a : Arc) → At M.arcs k a → OnItem M (arc_item a) d → ⊥) → (((l : MapSloop) × (M.sloop ≡ Some l) × OnItem M (sloop_item l) d) → ⊥) → IsFree M d
-free-if M d h no_svertex no_arc no_sloop = record { direction = h; off_svertices = no_svertex; off_items = by }
-  where
-    by : (k : ℕ) (x : Item) → At (items M) k x → OnItem M x d → ⊥
-    by k (arc_item a) b o = no_arc k a (arc-at M.arcs M.sloop k a b) o
-    by k (sloop_item l) b o = no_sloop (l, sloop-at M.arcs M.sloop k l b, o)
-
 -- ---- the label of a side that sees
 pub side-within : (M : Map) (s : ℕ) (d : Vector) → SideSees M s d → s < length (sides_of M)
 side-within M s d (o, l, i, q) = get-within (sides_of M) s (o, l) i
@@ -74,6 +65,12 @@ label-by_side M s d m (o, l, i, q) (p, j) =
 map-within : {X Y : Type 0} (f : X → Y) (xs : List X) (k : ℕ) (y : Y) → At (map f xs) k y → k < length xs
 map-within f xs k y a = let w = at-within (map f xs) k y a in let e = length-map xs f in omega arith
 
+-- the sloop comes after the arcs
+past-arcs : (as' : List Arc) (o : Option MapSloop) (k : ℕ) (l : MapSloop) → At (items_then as' o) k (sloop_item l) → k < length as' → ⊥
+past-arcs [] o k l a h = absurd (omega (arith, h))
+past-arcs (b ∷ as') o zero l a h = absurd cc
+past-arcs (b ∷ as') o (suc k) l a h = past-arcs as' o k l a (omega (arith, h))
+
 module _ (m : SphereMap) (d : Vector) where
   pub svertex-within : (k : ℕ) → IsPlaceOf (map_of m) d (place.SVertex k) → k < length m.svertices
   svertex-within k (v, a, s) = map-within svertex_of m.svertices k v a
@@ -88,6 +85,15 @@ module _ (m : SphereMap) (d : Vector) where
 
   pub sloop-placed : (k : ℕ) → k ≡ length m.arcs → IsPlaceOf (map_of m) d place.Loop → (x : Item) × At (items (map_of m)) k x × OnItem (map_of m) x d
   sloop-placed k e (l, h, o) = (sloop_item l, subst (λ (n : ℕ). At (items (map_of m)) n (sloop_item l)) (sym e) (sloop-listed m.arcs m.sloop l h), o)
+
+  -- the place of a direction on an item, by the item's number
+  pub arc-place : (k : ℕ) → k < length m.arcs → (x : Item) → At (items (map_of m)) k x → OnItem (map_of m) x d → IsPlaceOf (map_of m) d (place.Arc k)
+  arc-place k h (arc_item a) b o = (a, arc-at (map_of m).arcs (map_of m).sloop k a b, o)
+  arc-place k h (sloop_item l) b o = let e = length-map m.arcs arc_of in absurd (past-arcs (map_of m).arcs (map_of m).sloop k l b (omega (arith, h, e)))
+
+  pub sloop-place : (k : ℕ) → length m.arcs ≤ k → (x : Item) → At (items (map_of m)) k x → OnItem (map_of m) x d → IsPlaceOf (map_of m) d place.Loop
+  sloop-place k h (arc_item a) b o = let w = map-within arc_of m.arcs k a (arc-at (map_of m).arcs (map_of m).sloop k a b) in absurd (omega (arith, h, w))
+  sloop-place k h (sloop_item l) b o = (l, sloop-at (map_of m).arcs (map_of m).sloop k l b, o)
 
   pub label-item : (k : ℕ) (y : Item) (t : Label) → At (items (map_of m)) k y → t ≡ item_mark y → ((x : Item) × At (items (map_of m)) k x × OnItem (map_of m) x d) → MapLabel (map_of m) d t
   label-item k y t b e (x, a, o) = on_item k y b (subst (λ (r : Item). OnItem (map_of m) r d) (at-one (items (map_of m)) k x y a b) o) (sym e)

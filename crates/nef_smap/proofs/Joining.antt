@@ -1,7 +1,6 @@
 -- What each link of the program joins.
-use Rattle.std.proofs.Common.{◌≡◌, ℕ, zero, suc, ◌<◌, ℤ, pos, ◌*ℤ◌, ◌<ℤ◌, arith, ap, sym, ◌∙◌, List, [], ◌∷◌, length, map, slice_get, subst, Some}
+use Rattle.std.proofs.Common.{◌≡◌, ℕ, zero, suc, ◌<◌, ℤ, pos, ◌*ℤ◌, ◌<ℤ◌, arith, ap, sym, ◌∙◌, List, [], ◌∷◌, map, slice_get, subst, Some}
 use Rattle.std.proofs.lemmas.Int.{ints}
-use Rattle.std.proofs.lemmas.List.{length-map}
 use Rattle.nef_space.proofs.Ring.{ring, at, num, ◌⊕◌, ◌⊖◌, ◌⊗◌}
 use Rattle.nef_space.proofs.Combination.{follows, given, none}
 use Rattle.nef_space.proofs.Order.{mul_pos}
@@ -10,10 +9,10 @@ use Rattle.nef_space.specs.Vectors.{Vector, IsDirection, IsZero, IsAtMost, cross
 use Rattle.law_near.proofs.FlatDecided.{triple-dot}
 use Rattle.law_near.proofs.Directions.{self-pos, dot-zero, direction-left}
 use Rattle.law_near.proofs.Far.{same-nought}
+use Rattle.nef_geo.proofs.Directions.{small-neg}
 use Rattle.nef_geo.specs.Shapes.{vector_of}
-use Rattle.law_sphere.specs.Maps.{At, MapVertex, Item, arc_item, items, item_normal}
+use Rattle.law_sphere.specs.Maps.{At, Item, arc_item, items, item_normal}
 use Rattle.law_sphere.proofs.Vectors.{same-plus}
-use Rattle.law_sphere.proofs.Lists.{at-one}
 use Rattle.law_sphere.proofs.Parallel.{apart}
 use Rattle.law_sphere.proofs.Shot.{dir-at}
 use Rattle.law_sphere.proofs.Labels.{dir-signs}
@@ -24,7 +23,6 @@ use Rattle.nef_smap.specs.declared.map.SphereMap.{SphereMap}
 use Rattle.nef_smap.specs.Maps.{svertex_of, arc_of, map_of, IsSphereMap}
 use Rattle.nef_smap.proofs.Axes.{x_axis, y_axis}
 use Rattle.nef_smap.proofs.CloseSigns.{dir-from_get}
-use Rattle.nef_smap.proofs.MapLists.{at-within}
 use Rattle.nef_smap.proofs.Sound.{along-turn}
 use Rattle.nef_smap.proofs.Stands.{dot-opposite}
 use Rattle.nef_smap.proofs.Upward.{map-ahead, map-across}
@@ -47,6 +45,16 @@ module _ (m : SphereMap) (S : IsSphereMap m) (k : ℕ) (v : SVertex) (a : slice_
 
 pub back-off : (c d e : Vector) → e ≡ opposite d → (dot c d ≡ pos 0 → ⊥) → dot c e ≡ pos 0 → ⊥
 back-off c d e q f z = f (let g = dot-opposite c d in let h = subst (λ (r : Vector). dot c r ≡ pos 0) q z in omega (arith, ints))
+
+pub back-small : (k : ℕ) (d e : Vector) → e ≡ opposite d → IsAtMost k d → IsAtMost k e
+back-small k d e q s = record {
+  of_x = small-neg k d.x e.x (ap (λ (v : Vector). v.x) q) s.of_x;
+  of_y = small-neg k d.y e.y (ap (λ (v : Vector). v.y) q) s.of_y;
+  of_z = small-neg k d.z e.z (ap (λ (v : Vector). v.z) q) s.of_z;
+}
+
+pub one-small : (d : Vector) → IsAtMost 1 d → IsAtMost svertex_limit d
+one-small d s = let x = s.of_x in let y = s.of_y in let z = s.of_z in record { of_x = omega (arith, x); of_y = omega (arith, y); of_z = omega (arith, z) }
 
 -- ---- items
 pub arc-listed : (as' : List SArc) (k : ℕ) (a : SArc) → slice_get as' k ≡ Some a → At (map arc_of as') k (arc_of a)
@@ -116,10 +124,3 @@ module _ (m : SphereMap) (S : IsSphereMap m) where
         let e = w.shaped.arcs_between k (arc_of r) (arc-listed m.arcs k r a) in
         subst (λ (d : Vector). dot (vector_of r.normal) d ≡ pos 0)
         (sym (dir-at (map svertex_of m.svertices) r.source e.source e.has_source) ∙ dir-from_get m.svertices r.source v b) e.level_source
-
-  -- a svertex by its number
-  pub around-get : (k : ℕ) (v : SVertex) (x : MapVertex) → slice_get m.svertices k ≡ Some v → At (map svertex_of m.svertices) k x → svertex_of v ≡ x
-  around-get k v x e a = at-one (map svertex_of m.svertices) k (svertex_of v) x (svertex-listed m.svertices k v e) a
-
-  pub svertex-within : (k : ℕ) (x : MapVertex) → At (map svertex_of m.svertices) k x → k < length m.svertices
-  svertex-within k x a = let l = length-map m.svertices svertex_of in let h = at-within (map svertex_of m.svertices) k x a in omega (arith, l)

@@ -11,7 +11,7 @@ use Rattle.nef_geo.specs.declared.sign.Sign.{Sign as Answer}
 use Rattle.nef_geo.specs.declared.sign.Sign.TheVariants.{Minus, Zero, Plus}
 use Rattle.law_near.proofs.Far.{nought-or, same-nought, same-off, sign-large, sign-level}
 use Rattle.nef_smap.specs.Linear.{leading_of, turn_value, AreAtMost, IsLarge}
-use Rattle.nef_smap.specs.declared.linear.Values.{Values}
+use Rattle.nef_smap.specs.declared.meets.Values.{Values}
 
 -- ---- the program's signs
 answer : Sign → Answer

@@ -1,12 +1,11 @@
 -- Lists of links, link by link.
-use Rattle.std.proofs.Common.{◌≡◌, ℕ, zero, suc, ◌+◌, ◌<◌, arith, length-append, refl, ap, sym, ◌∙◌, ◌⊎◌, inl, inr, ⊎_elim, List, [], ◌∷◌, ◌++◌, length, subst, Option, Some, None, Result, IfOk, Bor}
-use Rattle.std.proofs.lemmas.Result.{IfOk-weaker}
+use Rattle.std.proofs.Common.{◌≡◌, ℕ, zero, suc, ◌+◌, ◌<◌, arith, length-append, refl, ap, sym, ◌∙◌, ◌⊎◌, inl, inr, ⊎_elim, List, [], ◌∷◌, ◌++◌, length, subst, Option, Some, None, Bor}
 use Rattle.nef_space.specs.Lists.{IsAt}
 use Rattle.nef_space.specs.Vectors.{up}
 use Rattle.nef_space.specs.declared.label.Label.{Label}
 use Rattle.law_sphere.specs.Maps.{At, MapVertex, Arc, MapSloop, Map, sloop_item, items, items_then, around_svertex, pos_item, whole}
 use Rattle.law_sphere.proofs.Lists.{at-one}
-use Rattle.nef_classes.specs.declared.link.Link.{Link}
+use Rattle.nef_classes.specs.declared.forest.Link.{Link}
 use Rattle.nef_smap.specs.Sides.{labelled, svertex_sides, item_sides, sides_of}
 use Rattle.nef_classes.specs.Classes.{AreLinked}
 use Rattle.nef_smap.specs.declared.map.SphereMap.{SphereMap}
@@ -27,10 +26,9 @@ each-more P n ls l p E = record { as_many = let a = length-append ls (l ∷ []) 
     by k x (last e f) = subst (λ (i : ℕ). P i x) (sym (e ∙ E.as_many)) (subst (P n) (sym f) p)
 
 -- the links of calls, where each call does what is wanted
-pub each-joined : {V E : Type 0} (joins : Bor SphereMap → ℕ → Link → Type 0) (P : SphereMap → ℕ → Link → Type 0) (m : SphereMap) (n count : ℕ) (items : V → List Link) (r : Result V E)
-    → ((at : Bor SphereMap) (k : ℕ) (l : Link) → joins at k l → P at.now k l) → n ≡ count → IfOk r (λ v. AreEach (ComesOf joins m) n (items v)) → IfOk r (λ v. AreEach (P m) count (items v))
-each-joined joins P m n count items r f e = IfOk-weaker r (λ v. AreEach (ComesOf joins m) n (items v)) (λ v. AreEach (P m) count (items v))
-    (λ v E. record { as_many = E.as_many ∙ e; each = λ k l a. let q = E.each k l a in subst (λ (x : SphereMap). P x k l) q.1 (f q.0 k l q.2) })
+pub each-joined : (joins : Bor SphereMap → ℕ → Link → Type 0) (P : SphereMap → ℕ → Link → Type 0) (m : SphereMap) (n count : ℕ) (ls : List Link)
+    → ((at : Bor SphereMap) (k : ℕ) (l : Link) → joins at k l → P at.now k l) → n ≡ count → AreEach (ComesOf joins m) n ls → AreEach (P m) count ls
+each-joined joins P m n count ls f e E = record { as_many = E.as_many ∙ e; each = λ k l a. let q = E.each k l a in subst (λ (x : SphereMap). P x k l) q.1 (f q.0 k l q.2) }
 
 pub each-has : (P : ℕ → Link → Type 0) (n : ℕ) (ls : List Link) → AreEach P n ls → (k : ℕ) → k < n → HasLink ls (P k)
 each-has P n ls E k h = let e = E.as_many in let r = is-at_some ls k (omega arith) in (k, r.0, r.1, E.each k r.0 r.1)
@@ -53,6 +51,11 @@ has-more P ls ms (i, l, a, p) = (i, l, is-at_left ls ms i l a, p)
 
 pub has-last : (P : Link → Type 0) (ls : List Link) (l : Link) → P l → HasLink (ls ++ l ∷ []) P
 has-last P ls l p = (length ls, l, is-at_last ls l, p)
+
+-- what lies over the directions just below a svertex is joined with the side round it
+pub around-of_below : (M : Map) (n side : ℕ) (v : MapVertex) (m : Label) (l : Link) → At M.svertices n v → v.around ≡ Some m → side ≡ arounds_before M.svertices n → JoinsBelow M n l → JoinsAround M n (record { first = side; second = l.first })
+around-of_below M n side v m l a q e (w, b, (j, f, g)) =
+    (w, m, b, ap (λ (u : MapVertex). u.around) (at-one M.svertices n w v b a) ∙ q, (record { aside = j.aside; off = j.off; first = j.left; is_first = j.left_first }, e, f))
 
 pub arounds-none : (M : Map) → AreArounds M 0 []
 arounds-none M = record { only = λ i l a. cc; each = λ k v m h a q. absurd (omega arith) }

@@ -7,8 +7,8 @@ use Rattle.nef_geo.specs.Signs.{sign_of, sign_number}
 use Rattle.nef_geo.specs.declared.sign.Sign.{Sign}
 use Rattle.nef_geo.specs.declared.sign.Sign.TheVariants.{Minus, Zero, Plus}
 use Rattle.law_sphere.proofs.Vectors.{dot-comb}
-use Rattle.nef_smap.specs.declared.linear.Values.{Values}
-use Rattle.nef_smap.specs.declared.path.SpherePath.{SpherePath}
+use Rattle.nef_smap.specs.declared.meets.Values.{Values}
+use Rattle.nef_smap.specs.declared.meets.SpherePath.{SpherePath}
 use Rattle.nef_smap.specs.Linear.{linear_at, turn_value}
 use Rattle.nef_geo.specs.Triples.{wide_vector}
 use Rattle.nef_smap.specs.WideVectors.{start_at, end_at, AreValues}

@@ -120,10 +120,8 @@ face-ok (Ok t) M s d l V sees has T axis empty one mark =
     neighbourhood-of t T M (face-shows t M l V T empty one mark (subst (λ (c : Dir). SeenAs M (vector_of c) l) (sym axis) (side-label M s (vector_of d) l sees has))) d axis
 face-ok (Err e) M s d l V sees has T axis empty one mark = tt
 
-pub along-ok : {E : Type 0} (r : Result Star E) (M : Map) (i : ℕ) (x : Item) (d : Dir) → Valid M → At (items M) i x → OnItem M x (vector_of d) → IfOk r IsStar → IfOk r (λ t. t.axis ≡ d)
-    → IfOk r (λ t. IsStarAlong x (star_of t)) → IfOk r (λ t. IsNeighbourhood (star_of t) M (vector_of d))
-along-ok (Ok t) M i x d V a o T axis A = neighbourhood-of t T M (along-shows t M V T i x a (subst (λ (c : Dir). OnItem M x (vector_of c)) (sym axis) o) A) d axis
-along-ok (Err e) M i x d V a o T axis A = tt
+pub along-here : (t : Star) (M : Map) (i : ℕ) (x : Item) (d : Dir) → Valid M → At (items M) i x → OnItem M x (vector_of d) → IsStar t → t.axis ≡ d → IsStarAlong x (star_of t) → IsNeighbourhood (star_of t) M (vector_of d)
+along-here t M i x d V a o T axis A = neighbourhood-of t T M (along-shows t M V T i x a (subst (λ (c : Dir). OnItem M x (vector_of c)) (sym axis) o) A) d axis
 
 -- what lies on an item with this number
 pub on-listed : (M : Map) (i : ℕ) (y : Item) (d : Vector) → (x : Item) × At (items M) i x × OnItem M x d → At (items M) i y → OnItem M y d

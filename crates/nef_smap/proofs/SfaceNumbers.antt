@@ -4,7 +4,7 @@ use Rattle.std.proofs.lemmas.List.{length-take-le}
 use Rattle.nef_space.specs.Lists.{IsAt, Chained}
 use Rattle.nef_space.specs.Vectors.{Vector, IsDirection, cross, dot}
 use Rattle.law_sphere.specs.Maps.{At, MapVertex, Map, Item, items, item_normal, Shaped}
-use Rattle.nef_classes.specs.declared.link.Link.{Link}
+use Rattle.nef_classes.specs.declared.forest.Link.{Link}
 use Rattle.nef_smap.specs.Sides.{sides_of, SeeOneWay, AreSfaces}
 use Rattle.nef_smap.specs.Links.{AreJoins}
 use Rattle.nef_classes.specs.Classes.{AreLinked, AreWithin, AreClasses, AreNumbered}

@@ -1,8 +1,8 @@
 -- Expressions that are linear in a large number.
 use Rattle.std.specs.Prelude.{ℕ, suc, ◌^◌, ◌*◌, ◌≤◌, ℤ, pos, ◌+ℤ◌, ◌-ℤ◌, ◌*ℤ◌, nat_abs, cond}
 use Rattle.std.specs.Ordering.{int_eq}
-use Rattle.nef_smap.specs.declared.linear.Linear.{Linear}
-use Rattle.nef_smap.specs.declared.linear.Values.{Values}
+use Rattle.nef_smap.specs.declared.meets.Linear.{Linear}
+use Rattle.nef_smap.specs.declared.meets.Values.{Values}
 
 abbrev pub linear_at : Linear → ℕ → ℤ
 linear_at l k = pos k *ℤ l.factor +ℤ pos 1 *ℤ l.rest

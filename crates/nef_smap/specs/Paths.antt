@@ -3,7 +3,7 @@ use Rattle.std.specs.Prelude.{◌≡◌, ℕ, ◌<◌, pos, ◌-ℤ◌, ◌*ℤ�
 use Rattle.nef_space.specs.Vectors.{Vector, IsDirection, dot, cross}
 use Rattle.law_sphere.specs.Vectors.{comb}
 use Rattle.law_sphere.specs.Maps.{At, Item, Map, items, item_normal, OnItem}
-use Rattle.nef_smap.specs.declared.path.SpherePath.{SpherePath}
+use Rattle.nef_smap.specs.declared.meets.SpherePath.{SpherePath}
 use Rattle.nef_smap.specs.Linear.{IsLarge}
 use Rattle.nef_smap.specs.WideVectors.{start_at, end_at}
 

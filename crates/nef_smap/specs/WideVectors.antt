@@ -2,8 +2,8 @@
 use Rattle.std.specs.Prelude.{◌≡◌, ℕ, ◌^◌}
 use Rattle.nef_space.specs.Vectors.{Vector, dot, blend, IsAtMost}
 use Rattle.nef_geo.specs.Triples.{wide_vector}
-use Rattle.nef_smap.specs.declared.linear.Values.{Values}
-use Rattle.nef_smap.specs.declared.path.SpherePath.{SpherePath}
+use Rattle.nef_smap.specs.declared.meets.Values.{Values}
+use Rattle.nef_smap.specs.declared.meets.SpherePath.{SpherePath}
 
 abbrev pub start_at : SpherePath → ℕ → Vector
 start_at w j = blend j (wide_vector w.start) 1 (wide_vector w.upward)

@@ -1,10 +1,7 @@
 //! What lies over directions of a sphere map: what the way from them to the upward direction meets first.
 
-ghost use Rattle.std.specs.Prelude.{◌≡◌, ◌+◌, ◌<◌, ℕ, IfSome, pos, ◌<ℤ◌, ◌↔◌, IsTrue, length};
-ghost use Rattle.nef_space.specs.Limits.{normal_limit, svertex_limit};
-ghost use Rattle.nef_space.specs.Signs.{Sign as Signum};
-ghost use Rattle.nef_space.specs.Vectors.{Vector, dot, cross, up, IsAtMost};
-ghost use Rattle.nef_geo.specs.Shapes.{vector_of};
+ghost use Rattle.std.specs.Prelude.{◌≡◌, ◌+◌, ◌<◌, ◌<ℤ◌, ◌↔◌};
+ghost use Rattle.nef_geo.specs.Prelude.{ℕ, IfSome, pos, IsTrue, length, normal_limit, svertex_limit, Sign as Signum, Vector, dot, cross, up, IsAtMost, vector_of};
 ghost use Rattle.law_sphere.specs.Maps.{At, items};
 ghost use Rattle.nef_smap.specs.Maps.{map_of, IsSphereMap};
 ghost use Rattle.nef_smap.specs.Items.{item_of};

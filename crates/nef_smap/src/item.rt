@@ -1,14 +1,14 @@
-//! Arcs and the sloop, which together are the items of a sphere map.
+//! The items of a sphere map, arcs and the sloop, and the sides, with their labels.
 
-ghost use Rattle.std.specs.Prelude.{◌≡◌, ◌<◌, ◌^◌, ◌↔◌, ℕ, length, cond, IsTrue, MatchOption};
-ghost use Rattle.nef_space.specs.Limits.{normal_limit, svertex_limit};
-ghost use Rattle.nef_space.specs.Vectors.{Vector, SameDirection, IsAtMost};
+ghost use Rattle.std.specs.Prelude.{◌≡◌, ◌<◌, ◌^◌, ◌↔◌, ◌≤◌};
+ghost use Rattle.nef_geo.specs.Prelude.{ℕ, length, cond, IsTrue, MatchOption, slice_get, normal_limit, svertex_limit, Vector, SameDirection, IsAtMost, vector_of, filter_map};
 ghost use Rattle.law_cyclic.specs.Arcs.{IsOnCircle};
 ghost use Rattle.nef_arc.specs.Arcs.{normal_vector, IsOn};
-ghost use Rattle.law_sphere.specs.Maps.{At, Item as PlainItem, items, item_normal, item_pos, item_mark, item_neg, arc_item, OnItem};
-ghost use Rattle.nef_geo.specs.Shapes.{vector_of};
+ghost use Rattle.law_sphere.specs.Maps.{At, Item as PlainItem, items, item_normal, item_pos, item_mark, item_neg, arc_item, OnItem, Side, pos_item, neg_item};
 ghost use Rattle.nef_smap.specs.Maps.{arc_of, map_of, IsSphereMap};
 ghost use Rattle.nef_smap.specs.Items.{item_of, IsItemThrough};
+ghost use Rattle.nef_smap.specs.Sides.{IsSide, sides_of};
+ghost use Rattle.nef_smap.specs.SideNumbers.{number_of, arounds_before};
 
 use crate::map::{SArc, SLoop, SphereMap};
 use nef_arc::{Arc, strictly_on};
@@ -76,13 +76,27 @@ pub fn on_circle(normal: &Dir) -> Dir
     common_perpendicular(normal, &axis_y())
 }
 
-// Whether the item with this number has the normal and holds the direction.
-fn item_passes(map: &SphereMap, number: usize, normal: &Dir, d: &Dir) -> bool
-    requires map { IsSphereMap map.now }
-    requires within { number < length (items (map_of map.now)) }
-    ensures passes { (x : PlainItem) × At (items (map_of map.now)) number x × (IsTrue result ↔ (SameDirection (item_normal x) (vector_of normal.now) × OnItem (map_of map.now) x (vector_of d.now))) }
+// How many svertices have a label round them.
+fn around_sides(map: &SphereMap) -> usize
+    ensures count { result ≡ length (filter_map (λ v. v.around) map.now.svertices) }
+    ensures small { result < 2 ^ 60 }
 {
-    map.item_at(number).normal().is_same(normal) && map.item_holds(number, d)
+    map.svertices
+        .as_slice()
+        .iter()
+        .filter_map(|v| v.around)
+        .count()
+}
+
+// The label round the svertex with this number among those that have one.
+fn around_label(map: &SphereMap, side: usize) -> Option<Label>
+    ensures label { result ≡ slice_get (filter_map (λ v. v.around) map.now.svertices) side }
+{
+    map.svertices
+        .as_slice()
+        .iter()
+        .filter_map(|v| v.around)
+        .nth(side)
 }
 
 impl SphereMap {
@@ -120,15 +134,6 @@ impl SphereMap {
         Arc::of(source, target, arc.normal)
     }
 
-    /// Whether the direction lies strictly on the arc, which is one of the map's.
-    pub fn arc_holds(&self, arc: &SArc, d: &Dir) -> bool
-        requires map { IsSphereMap self.now }
-        requires arc { (i : ℕ) × At (map_of self.now).arcs i (arc_of arc.now) }
-        ensures on { IsTrue result ↔ OnItem (map_of self.now) (arc_item (arc_of arc.now)) (vector_of d.now) }
-    {
-        strictly_on(&self.great_arc(arc), d)
-    }
-
     /// Whether the direction lies on the item with this number: strictly, if that is an arc.
     pub fn item_holds(&self, number: usize, d: &Dir) -> bool
         requires map { IsSphereMap self.now }
@@ -136,7 +141,7 @@ impl SphereMap {
         ensures on { (x : PlainItem) × At (items (map_of self.now)) number x × (IsTrue result ↔ OnItem (map_of self.now) x (vector_of d.now)) }
     {
         match self.item_at(number) {
-            Item::Arc(arc) => self.arc_holds(&arc, d),
+            Item::Arc(arc) => strictly_on(&self.great_arc(&arc), d),
             Item::Loop(circle) => circle.holds(d),
         }
     }
@@ -159,10 +164,65 @@ impl SphereMap {
         ensures item { MatchOption result ((k : ℕ) → IsItemThrough (map_of self.now) (vector_of normal.now) (vector_of d.now) k → ⊥) (IsItemThrough (map_of self.now) (vector_of normal.now) (vector_of d.now)) }
     {
         for number in 0..self.item_count() {
-            if item_passes(self, number, normal, d) {
+            if self.item_at(number).normal().is_same(normal) && self.item_holds(number, d) {
                 return Some(number);
             }
         }
         None
+    }
+
+    /// The number of the side round the svertex with this number, if it has a label round it: how many of those before it
+    /// have one.
+    pub fn around_side(&self, svertex: usize) -> usize
+        requires within { svertex ≤ length self.now.svertices }
+        ensures number { result ≡ arounds_before (map_of self.now).svertices svertex }
+    {
+        let mut found = 0;
+        for number in 0..svertex {
+            if self.svertices.at(number).around.is_some() {
+                found += 1;
+            }
+        }
+        found
+    }
+
+    /// The number of a side of the item with this number: of the one to which its normal points if `above`, and of the
+    /// other if not.
+    pub fn item_side(&self, number: usize, above: bool) -> usize
+        requires within { number < length (items (map_of self.now)) }
+        ensures number { result ≡ number_of (map_of self.now) (cond above (pos_item number) (neg_item number)) }
+        ensures side { (x : PlainItem) × At (items (map_of self.now)) number x × IsSide (map_of self.now) result (cond above (pos_item number) (neg_item number)) (cond above (item_pos x) (item_neg x)) }
+    {
+        let within = number < self.item_count();
+        prove!(within);
+        around_sides(self) + 2 * number + usize::from(!above)
+    }
+}
+
+/// How many sides the map has: one for each svertex without arcs, two for each arc and for the sloop, and one for the
+/// face of a map that has nothing else.
+pub fn sides(map: &SphereMap) -> usize
+    ensures count { result ≡ length (sides_of (map_of map.now)) }
+    ensures small { result < 2 ^ 62 }
+{
+    around_sides(map) + 2 * map.item_count() + usize::from(map.ground.is_some())
+}
+
+/// The label of the side with this number. The sides of svertices without arcs stand first; then those of the arcs and
+/// of the sloop, for each the one to which the normal points and then the other; then that of a map without items.
+pub fn side_label(map: &SphereMap, side: usize) -> Label
+    requires within { side < length (sides_of (map_of map.now)) }
+    ensures label { (o : Side) × IsSide (map_of map.now) side o result }
+{
+    if let Some(label) = around_label(map, side) {
+        return label;
+    }
+    let of_items = side - around_sides(map);
+    if of_items < 2 * map.item_count() {
+        return map.item_at(of_items / 2).label(of_items % 2 == 0);
+    }
+    match map.ground {
+        Some(label) => label,
+        None => unreachable!(),
     }
 }

@@ -7,26 +7,16 @@
 #![tactic(auto)]
 
 mod above;
-mod duplicate;
 mod item;
-mod join;
-mod linear;
 mod locate;
 mod map;
 mod meets;
-mod path;
 mod sface;
-mod side;
-mod sight;
 mod simple;
-mod stars;
 
-pub use duplicate::copy;
-pub use item::{Item, on_circle};
-pub use locate::{at, label_at};
+pub use item::{Item, on_circle, side_label, sides};
+pub use locate::{at, label_at, star_at};
 pub use map::{RawStars, SArc, SLoop, SPlace, SVertex, SphereMap};
 pub use sface::sfaces;
-pub use side::{side_label, sides};
-pub use simple::{face_map, plane_map};
-pub use stars::{star_at, star_in};
+pub use simple::{copy, face_map, plane_map};
 pub use std::alloc::AllocError as OutOfMemory;

@@ -1,14 +1,19 @@
-//! Where a direction lies on a sphere map, and its label.
+//! Where a direction lies on a sphere map, its label, and the star there.
 
-ghost use Rattle.std.specs.Prelude.{ℕ, ◌↔◌, IsTrue, MatchOption};
-ghost use Rattle.law_sphere.specs.Maps.{MapLabel};
-ghost use Rattle.nef_geo.specs.Shapes.{vector_of};
+ghost use Rattle.std.specs.Prelude.{◌≡◌, ◌++◌, ◌∷◌};
+ghost use Rattle.nef_geo.specs.Prelude.{ℕ, MatchOption, [], cond, IfOk, OnOk, vector_of, svertex_limit, SameDirection, IsAtMost};
+ghost use Rattle.law_sphere.specs.Maps.{MapLabel, At, Item as PlainItem, MapVertex, items, OnItem};
 ghost use Rattle.nef_smap.specs.Maps.{map_of, IsSphereMap};
 ghost use Rattle.nef_smap.specs.Sides.{IsPlaceOf};
+ghost use Rattle.nef_star.specs.Stars.{star_of, IsStar};
+ghost use Rattle.nef_smap.specs.Stars.{AreArcEnds, IsNeighbourhood};
 
+use crate::OutOfMemory;
+use crate::item::side_label;
 use crate::map::{SPlace, SphereMap};
-use crate::side::side_label;
 use nef_geo::{Dir, Label};
+use nef_star::{Ray, Star, bare, round};
+use std::alloc::Global;
 
 // The number of the svertex in this direction.
 fn svertex_at(map: &SphereMap, d: &Dir) -> Option<usize>
@@ -22,26 +27,17 @@ fn svertex_at(map: &SphereMap, d: &Dir) -> Option<usize>
     None
 }
 
-// The number of the arc on which the direction lies.
-fn arc_at(map: &SphereMap, d: &Dir) -> Option<usize>
+// The number of the item on which the direction lies: strictly, if that is an arc.
+fn item_on(map: &SphereMap, d: &Dir) -> Option<usize>
     requires map { IsSphereMap map.now }
-    ensures arc { MatchOption result ((k : ℕ) → IsPlaceOf (map_of map.now) (vector_of d.now) (SPlace.Arc k) → ⊥) (λ k. IsPlaceOf (map_of map.now) (vector_of d.now) (SPlace.Arc k)) }
+    ensures item { MatchOption result ((k : ℕ) (x : PlainItem) → At (items (map_of map.now)) k x → OnItem (map_of map.now) x (vector_of d.now) → ⊥) (λ k. (x : PlainItem) × At (items (map_of map.now)) k x × OnItem (map_of map.now) x (vector_of d.now)) }
 {
-    for (number, arc) in map.arcs.as_slice().iter().enumerate() {
-        if map.arc_holds(arc, d) {
+    for number in 0..map.item_count() {
+        if map.item_holds(number, d) {
             return Some(number);
         }
     }
     None
-}
-
-fn is_on_sloop(map: &SphereMap, d: &Dir) -> bool
-    ensures on { IsTrue result ↔ IsPlaceOf (map_of map.now) (vector_of d.now) SPlace.Loop }
-{
-    match &map.sloop {
-        Some(circle) => circle.holds(d),
-        None => false,
-    }
 }
 
 /// Where the direction lies on the map. It takes no memory.
@@ -52,13 +48,13 @@ pub fn at(map: &SphereMap, d: &Dir) -> SPlace
     if let Some(number) = svertex_at(map, d) {
         return SPlace::SVertex(number);
     }
-    if let Some(number) = arc_at(map, d) {
+    let Some(number) = item_on(map, d) else {
+        return SPlace::Face(map.face_toward(d));
+    };
+    if number < map.arcs.len() {
         return SPlace::Arc(number);
     }
-    if is_on_sloop(map, d) {
-        return SPlace::Loop;
-    }
-    SPlace::Face(map.face_toward(d))
+    SPlace::Loop
 }
 
 /// The label of the direction.
@@ -71,5 +67,100 @@ pub fn label_at(map: &SphereMap, d: &Dir) -> Label
         SPlace::Arc(number) => map.item_at(number).mark(),
         SPlace::Loop => map.item_at(map.arcs.len()).mark(),
         SPlace::Face(side) => side_label(map, side),
+    }
+}
+
+// Adds the ray with the label of the face to its left, if it is one at the svertex.
+fn push_if(
+    ends: &mut Vec<(Ray, Label)>,
+    is_end: bool,
+    ray: Ray,
+    left: Label,
+) -> Result<(), OutOfMemory>
+    ensures pushed { OnOk result (ends.new.items ≡ ends.old.items ++ cond is_end ((ray, left) ∷ []) []) }
+{
+    if is_end {
+        ends.push((ray, left))?;
+    }
+    Ok(())
+}
+
+// The rays at the svertex along the arcs that begin or end there, each with the label of the face to its left.
+fn arc_ends(
+    alloc: Global,
+    map: &SphereMap,
+    svertex: usize,
+) -> Result<Vec<(Ray, Label)>, OutOfMemory>
+    ensures ends { IfOk result (λ es. AreArcEnds map.now.arcs svertex es.items) }
+{
+    let mut ends = Vec::new(alloc);
+    for arc in map.arcs.as_slice() {
+        let (ahead, back) = (
+            Ray::of(arc.normal, true, arc.mark),
+            Ray::of(arc.normal, false, arc.mark),
+        );
+        push_if(&mut ends, arc.source == svertex, ahead, arc.pos)?;
+        push_if(&mut ends, arc.target == svertex, back, arc.neg)?;
+    }
+    Ok(ends)
+}
+
+// The star of a direction on the item with this number: one ray goes ahead along it, the other back.
+fn star_on_item(alloc: Global, map: &SphereMap, d: &Dir, number: usize) -> Result<Star, OutOfMemory>
+    requires map { IsSphereMap map.now }
+    requires small { IsAtMost svertex_limit (vector_of d.now) }
+    requires on { (x : PlainItem) × At (items (map_of map.now)) number x × OnItem (map_of map.now) x (vector_of d.now) }
+    ensures star { IfOk result (λ t. IsStar t) }
+    ensures axis { IfOk result (λ t. t.axis ≡ d.now) }
+    ensures shows { IfOk result (λ t. IsNeighbourhood (star_of t) (map_of map.now) (vector_of d.now)) }
+{
+    let item = map.item_at(number);
+    let (normal, mark) = (*item.normal(), item.mark());
+    let (ahead, back) = (Ray::of(normal, true, mark), Ray::of(normal, false, mark));
+    let rays = Vec::from_slice(alloc, &[ahead, back])?;
+    let (above, below) = (item.label(true), item.label(false));
+    let sectors = Vec::from_slice(alloc, &[above, below])?;
+    Ok(Star::of(*d, rays, sectors, mark))
+}
+
+// The star of the svertex with this number.
+fn star_at_svertex(
+    alloc: Global,
+    map: &SphereMap,
+    d: &Dir,
+    number: usize,
+) -> Result<Star, OutOfMemory>
+    requires map { IsSphereMap map.now }
+    requires small { IsAtMost svertex_limit (vector_of d.now) }
+    requires at { (v : MapVertex) × At (map_of map.now).svertices number v × SameDirection v.dir (vector_of d.now) }
+    ensures star { IfOk result (λ t. IsStar t) }
+    ensures axis { IfOk result (λ t. t.axis ≡ d.now) }
+    ensures shows { IfOk result (λ t. IsNeighbourhood (star_of t) (map_of map.now) (vector_of d.now)) }
+{
+    let svertex = *map.svertices.at(number);
+    if let Some(around) = svertex.around {
+        return bare(alloc, *d, svertex.mark, around);
+    }
+    let ends = arc_ends(alloc, map, number)?;
+    round(alloc, *d, svertex.mark, ends.as_slice())
+}
+
+/// The star of any direction of the map: each direction close to it has the label that the star gives it.
+/// `OutOfMemory` says that memory was wanted and not found.
+pub fn star_at(alloc: Global, map: &SphereMap, d: &Dir) -> Result<Star, OutOfMemory>
+    requires map { IsSphereMap map.now }
+    requires small { IsAtMost svertex_limit (vector_of d.now) }
+    ensures star { IfOk result (λ t. IsStar t) }
+    ensures axis { IfOk result (λ t. t.axis ≡ d.now) }
+    ensures shows { IfOk result (λ t. IsNeighbourhood (star_of t) (map_of map.now) (vector_of d.now)) }
+{
+    match at(map, d) {
+        SPlace::SVertex(number) => star_at_svertex(alloc, map, d, number),
+        SPlace::Arc(number) => star_on_item(alloc, map, d, number),
+        SPlace::Loop => star_on_item(alloc, map, d, map.arcs.len()),
+        SPlace::Face(side) => {
+            let label = side_label(map, side);
+            bare(alloc, *d, label, label)
+        }
     }
 }

@@ -1,24 +1,142 @@
-//! The first item that a way meets.
+//! The way from close to a direction to close to a svertex, the first item that it meets, and so the side that sees a
+//! free direction; and the signs of expressions that are linear in a large number, which tell what is met.
 
-ghost use Rattle.std.specs.Prelude.{◌≡◌, ℕ, ◌^◌, ◌<◌, pos, ◌*ℤ◌, ◌<ℤ◌, ◌↔◌, length, IsTrue};
-ghost use Rattle.nef_space.specs.Limits.{normal_limit};
-ghost use Rattle.nef_space.specs.Vectors.{Vector, dot, IsAtMost, IsDirection};
-ghost use Rattle.law_sphere.specs.Maps.{At, arc_item, items, item_normal, OnItem};
-ghost use Rattle.nef_geo.specs.Shapes.{vector_of};
-ghost use Rattle.nef_geo.specs.Signs.{sign_of};
+ghost use Rattle.std.specs.Prelude.{◌≡◌, ◌*◌, ◌^◌, ◌<◌, ◌*ℤ◌, ◌<ℤ◌, ◌↔◌, ◌≤◌, ◌-ℤ◌};
+ghost use Rattle.nef_geo.specs.Prelude.{ℕ, pos, length, IsTrue, ℤ, nat_abs, normal_limit, svertex_limit, Vector, dot, cross, up, IsAtMost, IsDirection, vector_of, sign_of, wide_vector};
+ghost use Rattle.law_sphere.specs.Maps.{At, arc_item, items, item_normal, OnItem, IsFree};
 ghost use Rattle.nef_smap.specs.Maps.{arc_of, map_of, IsSphereMap};
 ghost use Rattle.nef_smap.specs.Items.{item_of};
-ghost use Rattle.nef_smap.specs.Linear.{linear_at, turn_value, AreAtMost, IsLarge};
-ghost use Rattle.nef_geo.specs.Triples.{wide_vector};
+ghost use Rattle.nef_smap.specs.Linear.{linear_at, turn_value, AreAtMost, IsLarge, leading_of};
 ghost use Rattle.nef_smap.specs.WideVectors.{IsWithin, AreValues};
 ghost use Rattle.nef_smap.specs.Paths.{met_at, IsMet, OnFairPaths, MeetsFirst};
+ghost use Rattle.nef_smap.specs.Sides.{SideSees};
 
 use crate::item::Item;
-use crate::linear::{Values, sign_at_meet};
 use crate::map::{SArc, SphereMap};
-use crate::path::{SpherePath, values};
 use nef_case::between;
-use nef_geo::{Sign, Wide, cross_wide, dot, triple, wide};
+use nef_geo::{Dir, Sign, Wide, cross_wide, dot, dot_wide, triple, up, wide};
+
+// `factor k + rest`, for a number k that is large beside both.
+#[derive(Clone, Copy)]
+struct Linear {
+    factor: i128,
+    rest: i128,
+}
+
+// The values of a form at the two ends of a way: linear in one large number at the start, and in another at the end,
+// which is large even beside the first.
+#[derive(Clone, Copy)]
+struct Values {
+    start: Linear,
+    end: Linear,
+}
+
+// The first of the two that isn't zero.
+fn leading(first: i128, second: i128) -> i128
+    ensures leading { result ≡ leading_of first second }
+{
+    if first == 0 { second } else { first }
+}
+
+impl Linear {
+    // The sign for every k of at least 2^128.
+    fn sign(&self) -> Sign
+        ensures sign { (k : ℕ) → 2 ^ 128 ≤ k → result ≡ sign_of (linear_at self.now k) }
+    {
+        Sign::of(leading(self.factor, self.rest))
+    }
+}
+
+// `a b - c d`, for a and c of at most 2^50 in size and b and d of at most 2^74.
+fn minor(a: i128, b: i128, c: i128, d: i128) -> i128
+    requires a_small { nat_abs a ≤ 2 ^ 50 }
+    requires b_small { nat_abs b ≤ 2 ^ 74 }
+    requires c_small { nat_abs c ≤ 2 ^ 50 }
+    requires d_small { nat_abs d ≤ 2 ^ 74 }
+    ensures minor { result ≡ a *ℤ b -ℤ c *ℤ d }
+{
+    a * b - c * d
+}
+
+// The sign of `(n.a)(g.b) - (n.b)(g.a)`, from the values of the forms n and g at the ends a and b of a way. It is bilinear
+// in the two large numbers, so its sign is that of the first of four minors that isn't zero.
+fn turn_sign(n: &Values, g: &Values) -> Sign
+    requires n_small { AreAtMost (2 ^ 50) n.now }
+    requires g_small { AreAtMost (2 ^ 74) g.now }
+    ensures sign { (j k : ℕ) → IsLarge j k → result ≡ sign_of (turn_value n.now g.now j k) }
+{
+    let with_end = leading(
+        minor(n.start.factor, g.end.factor, n.end.factor, g.start.factor),
+        minor(n.start.rest, g.end.factor, n.end.factor, g.start.rest),
+    );
+    let without = leading(
+        minor(n.start.factor, g.end.rest, n.end.rest, g.start.factor),
+        minor(n.start.rest, g.end.rest, n.end.rest, g.start.rest),
+    );
+    Sign::of(leading(with_end, without))
+}
+
+// The sign of the form g where a way meets the plane of the form n, from the values of both at the way's ends. The meet
+// is `(n.a) ((n.a) b - (n.b) a)`.
+fn sign_at_meet(n: &Values, g: &Values) -> Sign
+    requires n_small { AreAtMost (2 ^ 50) n.now }
+    requires g_small { AreAtMost (2 ^ 74) g.now }
+    ensures sign { (j k : ℕ) → IsLarge j k → result ≡ sign_of (linear_at n.now.start j *ℤ turn_value n.now g.now j k) }
+{
+    let turn = turn_sign(n, g);
+    match n.start.sign() {
+        Sign::Minus => turn.opposite(),
+        Sign::Zero => Sign::Zero,
+        Sign::Plus => turn,
+    }
+}
+
+// The way from `j start + upward` to `k end + beside`, for two large numbers j and k.
+#[derive(Clone, Copy)]
+struct SpherePath {
+    start: Wide,
+    upward: Wide,
+    end: Wide,
+    beside: Wide,
+}
+
+// The values of the form g at the ends of the way.
+fn form_values(way: &SpherePath, g: &Wide) -> Values
+    requires way { IsWithin way.now }
+    requires form { IsAtMost (2 ^ 35) (wide_vector g.now) }
+    ensures values { AreValues way.now (wide_vector g.now) result }
+    ensures small { (m : ℕ) → IsAtMost m (wide_vector g.now) → AreAtMost (m * 2 ^ 39) result }
+{
+    Values {
+        start: Linear {
+            factor: dot_wide(g, &way.start),
+            rest: dot_wide(g, &way.upward),
+        },
+        end: Linear {
+            factor: dot_wide(g, &way.end),
+            rest: dot_wide(g, &way.beside),
+        },
+    }
+}
+
+// The way from close to d to close to the svertex, ahead of it on the circle of the normal.
+fn way_to(d: &Dir, svertex: &Dir, normal: &Dir) -> SpherePath
+    requires svertex_small { IsAtMost svertex_limit (vector_of svertex.now) }
+    requires normal_small { IsAtMost normal_limit (vector_of normal.now) }
+    ensures within { IsWithin result }
+    ensures start { wide_vector result.start ≡ vector_of d.now }
+    ensures upward { wide_vector result.upward ≡ up }
+    ensures end { wide_vector result.end ≡ vector_of svertex.now }
+    ensures beside { wide_vector result.beside ≡ cross (vector_of normal.now) (vector_of svertex.now) }
+{
+    let end = wide(svertex);
+    SpherePath {
+        start: wide(d),
+        upward: wide(&up()),
+        end,
+        beside: cross_wide(&wide(normal), &end),
+    }
+}
 
 // The sign of the form g where the way meets a plane whose form has the values n.
 fn sign_where_met(way: &SpherePath, n: &Values, g: &Wide) -> Sign
@@ -27,7 +145,7 @@ fn sign_where_met(way: &SpherePath, n: &Values, g: &Wide) -> Sign
     requires g_small { IsAtMost (2 ^ 35) (wide_vector g.now) }
     ensures sign { (m : Vector) (j k : ℕ) → AreValues way.now m n.now → IsLarge j k → result ≡ sign_of (dot (wide_vector g.now) (met_at way.now m j k)) }
 {
-    sign_at_meet(n, &values(way, g))
+    sign_at_meet(n, &form_values(way, g))
 }
 
 // Whether the way meets the plane of the arc, which has the values n, on the arc, where it meets it at all.
@@ -53,13 +171,13 @@ fn is_met_on_arc(map: &SphereMap, way: &SpherePath, arc: &SArc, n: &Values) -> b
     ])
 }
 
-pub(crate) fn item_values(way: &SpherePath, item: &Item) -> Values
+fn item_values(way: &SpherePath, item: &Item) -> Values
     requires way { IsWithin way.now }
     requires normal { IsAtMost normal_limit (item_normal (item_of item.now)) }
     ensures values { AreValues way.now (item_normal (item_of item.now)) result }
     ensures small { AreAtMost (2 ^ 50) result }
 {
-    values(way, &wide(item.normal()))
+    form_values(way, &wide(item.normal()))
 }
 
 // Whether the way meets the item, which has the values n.
@@ -91,7 +209,7 @@ fn is_before(n: &Values, first: &Values) -> bool
 }
 
 // The number of the item that the way meets first. It leads to the first item.
-pub(crate) fn first_met(map: &SphereMap, way: &SpherePath) -> usize
+fn first_met(map: &SphereMap, way: &SpherePath) -> usize
     requires map { IsSphereMap map.now }
     requires some { 0 < length (items (map_of map.now)) }
     requires way { IsWithin way.now }
@@ -109,4 +227,37 @@ pub(crate) fn first_met(map: &SphereMap, way: &SpherePath) -> usize
         }
     }
     first
+}
+
+// On a map with arcs: the side, toward d, of the item that is met first from close to d to close to a svertex, on an arc.
+// The way begins a little upward of d, so that no item's plane holds its start.
+fn side_on_way(map: &SphereMap, d: &Dir) -> usize
+    requires map { IsSphereMap map.now }
+    requires free { IsFree (map_of map.now) (vector_of d.now) }
+    requires arcs { 0 < length map.now.arcs }
+    ensures side { SideSees (map_of map.now) result (vector_of d.now) }
+{
+    let arc = map.arcs.at(0);
+    let way = way_to(d, &map.svertices.at(arc.source).dir, &arc.normal);
+    let first = first_met(map, &way);
+    let start = item_values(&way, &map.item_at(first)).start.sign();
+    map.item_side(first, start.is_plus())
+}
+
+impl SphereMap {
+    /// The number of a side that sees the free direction, one on no svertex and on no item. A map without items has one
+    /// face, so any side serves. It takes no memory.
+    pub fn face_toward(&self, d: &Dir) -> usize
+        requires map { IsSphereMap self.now }
+        requires free { IsFree (map_of self.now) (vector_of d.now) }
+        ensures side { SideSees (map_of self.now) result (vector_of d.now) }
+    {
+        if !self.arcs.is_empty() {
+            return side_on_way(self, d);
+        }
+        match &self.sloop {
+            Some(circle) => self.item_side(0, dot(&circle.normal, d).is_plus()),
+            None => 0,
+        }
+    }
 }

@@ -1,19 +1,125 @@
-//! The sfaces of a sphere map.
+//! The sfaces of a sphere map: which of its sides are joined, with each other and with the upward direction.
 
-ghost use Rattle.std.specs.Prelude.{◌≡◌, ℕ, ◌<◌, ◌++◌, length, IfOk, OnOk};
-ghost use Rattle.nef_space.specs.Vectors.{up};
+ghost use Rattle.std.specs.Prelude.{◌≡◌, ◌<◌, ◌<ℤ◌};
+ghost use Rattle.nef_geo.specs.Prelude.{ℕ, length, IfOk, pos, Option, Some, up, dot, cross, IsAtMost, IsDirection, svertex_limit, vector_of};
 ghost use Rattle.nef_smap.specs.Maps.{map_of, IsSphereMap};
 ghost use Rattle.nef_smap.specs.Sides.{AreSfaces};
 ghost use Rattle.nef_classes.specs.Classes.{AreLinked};
-ghost use Rattle.nef_smap.specs.JoinLinks.{JoinsBelow, JoinsArc, ComesOf, AreEach, AreArounds, AreSloops, AreGrounds};
-ghost use Rattle.nef_smap.specs.Links.{AreJoins};
+ghost use Rattle.nef_smap.specs.JoinLinks.{ComesOf, AreEach, AreArounds, AreSloops, AreGrounds, JoinsBelow, JoinsArc, JoinsSloop};
+ghost use Rattle.nef_smap.specs.Links.{AreJoins, met_number};
+ghost use Rattle.nef_smap.specs.Close.{toward, then_toward};
+ghost use Rattle.nef_smap.specs.Joined.{FirstNear};
 
 use crate::OutOfMemory;
-use crate::join::{join_arc, join_around, join_below, join_sloop};
-use crate::map::SphereMap;
-use crate::side::sides;
+use crate::above::{Close, Lean, above};
+use crate::item::{on_circle, sides};
+use crate::map::{SLoop, SphereMap};
 use nef_classes::{Link, class_numbers, class_of_each};
+use nef_geo::{Dir, Sign, axis_x, axis_y, axis_z, common_perpendicular, dot, triple, up};
 use std::alloc::Global;
+
+// A coordinate axis that isn't at right angles to d.
+fn slanted_axis(d: &Dir) -> Dir
+    ensures off { dot (vector_of d.now) (vector_of result) ≡ pos 0 → ⊥ }
+    ensures small { IsAtMost 1 (vector_of result) }
+{
+    let (x, y) = (d.x(), d.y());
+    if x != 0 {
+        return axis_x();
+    }
+    if y != 0 {
+        return axis_y();
+    }
+    axis_z()
+}
+
+// A direction along a coordinate axis whose product with d is positive.
+fn axis_along(d: &Dir) -> Dir
+    ensures along { pos 0 <ℤ dot (vector_of d.now) (vector_of result) }
+    ensures small { IsAtMost 1 (vector_of result) }
+{
+    let axis = slanted_axis(d);
+    if dot(d, &axis).is_plus() {
+        axis
+    } else {
+        axis.back()
+    }
+}
+
+// A direction along a coordinate axis that isn't in the plane of the upward direction and d.
+fn beside(d: &Dir) -> Dir
+    requires apart { IsDirection (cross up (vector_of d.now)) }
+    ensures off { dot (cross up (vector_of d.now)) (vector_of result) ≡ pos 0 → ⊥ }
+    ensures small { IsAtMost 1 (vector_of result) }
+{
+    let up = up();
+    let x = axis_x();
+    if triple(&up, d, &x) != Sign::Zero {
+        return x;
+    }
+    let y = axis_y();
+    if triple(&up, d, &y) != Sign::Zero {
+        return y;
+    }
+    axis_z()
+}
+
+// What lies over the directions close to `at` that lie toward `aside` as `lean` says: the number of the lower side of the
+// item that is met first, or of the upward direction, which comes after the sides.
+fn number_near(map: &SphereMap, at: Dir, aside: Dir, lean: Lean) -> usize
+    requires map { IsSphereMap map.now }
+    requires off { dot (cross up (vector_of at)) (vector_of aside) ≡ pos 0 → ⊥ }
+    requires at_small { IsAtMost svertex_limit (vector_of at) }
+    requires aside_small { IsAtMost svertex_limit (vector_of aside) }
+    ensures number { (r : Option ℕ) × (result ≡ met_number (map_of map.now) r) × FirstNear (map_of map.now) up (vector_of at) (toward lean (vector_of aside)) (then_toward lean (vector_of aside)) r }
+{
+    match above(map, &Close { at, aside, lean }) {
+        Some(item) => map.item_side(item, false),
+        None => sides(map),
+    }
+}
+
+// Joins what lies over the directions just below the svertex on both sides of its meridian.
+fn join_below(map: &SphereMap, number: usize) -> Link
+    requires map { IsSphereMap map.now }
+    requires number { number < length map.now.svertices }
+    ensures joins { JoinsBelow (map_of map.now) number result }
+{
+    let at = map.svertices.at(number).dir;
+    let aside = beside(&at);
+    Link {
+        first: number_near(map, at, aside, Lean::Down),
+        second: number_near(map, at, aside.back(), Lean::Down),
+    }
+}
+
+// Joins the side above the arc with what lies over directions close to its source: along the arc, and there up.
+fn join_arc(map: &SphereMap, number: usize) -> Link
+    requires map { IsSphereMap map.now }
+    requires number { number < length map.now.arcs }
+    ensures joins { JoinsArc (map_of map.now) number result }
+{
+    let arc = map.arcs.at(number);
+    let at = map.svertices.at(arc.source).dir;
+    let aside = common_perpendicular(&arc.normal, &axis_along(&at));
+    Link {
+        first: map.item_side(number, true),
+        second: number_near(map, at, aside, Lean::Along),
+    }
+}
+
+// Joins the side above the sloop, the last of the items, with what lies over one of its directions.
+fn join_sloop(map: &SphereMap, circle: &SLoop) -> Link
+    requires map { IsSphereMap map.now }
+    requires circle { map.now.sloop ≡ Some circle.now }
+    ensures joins { JoinsSloop (map_of map.now) (length map.now.arcs) result }
+{
+    let at = on_circle(&circle.normal);
+    Link {
+        first: map.item_side(map.arcs.len(), true),
+        second: number_near(map, at, beside(&at), Lean::Up),
+    }
+}
 
 // The links that `join` makes of the numbers below the count.
 fn each_link<F: Fn(&SphereMap, usize) -> Link>(
@@ -32,23 +138,7 @@ fn each_link<F: Fn(&SphereMap, usize) -> Link>(
     Ok(links)
 }
 
-// A link for each svertex.
-fn below_links(alloc: Global, map: &SphereMap) -> Result<Vec<Link>, OutOfMemory>
-    requires map { IsSphereMap map.now }
-    ensures links { IfOk result (λ v. AreEach (JoinsBelow (map_of map.now)) (length map.now.svertices) v.items) }
-{
-    each_link(alloc, map, map.svertices.len(), join_below)
-}
-
-// A link for each arc.
-fn arc_links(alloc: Global, map: &SphereMap) -> Result<Vec<Link>, OutOfMemory>
-    requires map { IsSphereMap map.now }
-    ensures links { IfOk result (λ v. AreEach (JoinsArc (map_of map.now)) (length map.now.arcs) v.items) }
-{
-    each_link(alloc, map, map.arcs.len(), join_arc)
-}
-
-// A link for each svertex that has a side.
+// A link for each svertex that has a side: of that side with what lies over the directions just below the svertex.
 fn around_links(alloc: Global, map: &SphereMap) -> Result<Vec<Link>, OutOfMemory>
     requires map { IsSphereMap map.now }
     ensures links { IfOk result (λ v. AreArounds (map_of map.now) (length map.now.svertices) v.items) }
@@ -57,7 +147,10 @@ fn around_links(alloc: Global, map: &SphereMap) -> Result<Vec<Link>, OutOfMemory
     let mut side = 0;
     for number in 0..map.svertices.len() {
         if map.svertices.at(number).around.is_some() {
-            links.push(join_around(map, number, side))?;
+            links.push(Link {
+                first: side,
+                second: join_below(map, number).first,
+            })?;
             side += 1;
         }
     }
@@ -91,23 +184,17 @@ fn ground_links(alloc: Global, map: &SphereMap) -> Result<Vec<Link>, OutOfMemory
     Vec::from_slice(alloc, &[link])
 }
 
-// Adds more links at the end.
-fn append(links: &mut Vec<Link>, more: Vec<Link>) -> Result<(), OutOfMemory>
-    ensures added { OnOk result (links.new.items ≡ links.old.items ++ more.items) }
-{
-    links.extend_from_slice(more.as_slice())
-}
-
 // All links. The upward direction has the number after those of the sides.
 fn links(alloc: Global, map: &SphereMap) -> Result<Vec<Link>, OutOfMemory>
     requires map { IsSphereMap map.now }
     ensures joins { IfOk result (λ v. AreJoins (map_of map.now) up (AreLinked v.items)) }
 {
-    let mut links = below_links(alloc, map)?;
-    append(&mut links, around_links(alloc, map)?)?;
-    append(&mut links, arc_links(alloc, map)?)?;
-    append(&mut links, sloop_links(alloc, map)?)?;
-    append(&mut links, ground_links(alloc, map)?)?;
+    let mut links = each_link(alloc, map, map.svertices.len(), join_below)?;
+    links.extend_from_slice(around_links(alloc, map)?.as_slice())?;
+    let arcs = each_link(alloc, map, map.arcs.len(), join_arc)?;
+    links.extend_from_slice(arcs.as_slice())?;
+    links.extend_from_slice(sloop_links(alloc, map)?.as_slice())?;
+    links.extend_from_slice(ground_links(alloc, map)?.as_slice())?;
     Ok(links)
 }
 

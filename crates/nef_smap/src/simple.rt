@@ -1,14 +1,12 @@
-//! The maps of one label and of one plane.
+//! The maps of one label and of one plane, and copies.
 
 ghost use Rattle.std.specs.Prelude.{◌≡◌};
-ghost use Rattle.nef_space.specs.Limits.{normal_limit};
-ghost use Rattle.nef_space.specs.Vectors.{Vector, dot, IsDirection, IsNormal, IsAtMost};
-ghost use Rattle.nef_space.specs.Signs.{sign};
-ghost use Rattle.nef_geo.specs.Shapes.{vector_of};
+ghost use Rattle.nef_geo.specs.Prelude.{IfOk, normal_limit, Vector, dot, IsDirection, IsNormal, IsAtMost, sign, vector_of};
 ghost use Rattle.law_sphere.specs.Least.{by_side};
 ghost use Rattle.law_sphere.specs.Maps.{MapLabel};
 ghost use Rattle.nef_smap.specs.Maps.{map_of, IsSphereMap, IsLeastMap};
 
+use crate::OutOfMemory;
 use crate::map::{SLoop, SphereMap};
 use nef_geo::{Dir, Label, List};
 use std::alloc::Global;
@@ -45,4 +43,26 @@ pub fn plane_map(alloc: Global, sloop: SLoop) -> SphereMap
         sloop: Some(sloop),
         ground: None,
     }
+}
+
+// A copy of a list.
+fn copy_list<T: Copy + Drop>(alloc: Global, list: &List<T>) -> Result<List<T>, OutOfMemory>
+    ensures same { IfOk result (λ l. l ≡ list.now) }
+{
+    Ok(List::from_vec(Vec::from_slice(alloc, list.as_slice())?))
+}
+
+/// A copy of the map.
+pub fn copy(alloc: Global, map: &SphereMap) -> Result<SphereMap, OutOfMemory>
+    ensures same { IfOk result (λ m. m ≡ map.now) }
+{
+    let svertices = copy_list(alloc, &map.svertices)?;
+    let arcs = copy_list(alloc, &map.arcs)?;
+    Ok(SphereMap {
+        mark: map.mark,
+        svertices,
+        arcs,
+        sloop: map.sloop,
+        ground: map.ground,
+    })
 }

@@ -12,3 +12,4 @@ pub mod Sets
 pub mod Local
 pub mod Labels
 pub mod Laws
+pub mod Prelude

@@ -1,4 +1,5 @@
-//! Exact arithmetic in proofs: the laws, grouped by their subject.
+//! The laws: exact arithmetic in proofs, grouped by subject, and what shows on closed examples that the definitions mean
+//! what they should.
 
 ghost use Rattle.nef_space.specs.ArithmeticLaws.{
   EqualFractionsCompareAlike,
@@ -21,6 +22,7 @@ ghost use Rattle.nef_space.specs.ArithmeticLaws.{
   SmallScales,
   SmallWeakens,
 };
+ghost use Rattle.nef_space.specs.Laws.{InteriorOfWhole, OpenHalfAtBoundary, ClosureAtBoundary, MissingPoint, FrameIsOpen, GermBesideHalf};
 
 /// An equation or an order between polynomials holds where a computed test passes.
 pub fn identity_laws()
@@ -63,4 +65,15 @@ pub fn size_laws()
 pub fn sample_laws()
     ensures points { FinitelyManyPoints }
     ensures vectors { FinitelyManyVectors }
+{}
+
+/// Small facts on the definitions: the interior of the whole is the whole; an open half-space
+/// doesn't hold on its boundary and its closure does; the frame is open.
+pub fn definition_examples()
+    ensures interior_of_whole { InteriorOfWhole }
+    ensures open_half { OpenHalfAtBoundary }
+    ensures closure { ClosureAtBoundary }
+    ensures missing_point { MissingPoint }
+    ensures frame_is_open { FrameIsOpen }
+    ensures germ { GermBesideHalf }
 {}

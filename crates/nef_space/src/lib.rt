@@ -9,14 +9,13 @@
 
 mod arithmetic;
 mod label;
-mod laws;
 mod limits;
 
 pub use arithmetic::{
-    fraction_laws, identity_laws, machine_laws, sample_laws, sign_laws, size_laws,
+    definition_examples, fraction_laws, identity_laws, machine_laws, sample_laws, sign_laws,
+    size_laws,
 };
 pub use label::Label;
-pub use laws::definition_examples;
 pub use limits::{
     AXIS_FACTOR, HALF_SIDE, MOST_STAIRS, NORMAL_LIMIT, OFFSET_LIMIT, QUERY_LIMIT,
     QUERY_WEIGHT_LIMIT, RAY_ENTRY_LIMIT, RAY_LIMIT, RAY_WEIGHT_LIMIT, UP_X, UP_Y,

@@ -29,7 +29,7 @@ module _ (r : RawStars) (m : SphereMap) (w : IsMadeFrom r m) where
   built : (gs : List Vector) (L : Vector → Label) → IsLabelling gs L → IsRawOf (raw_of r) L → Valid (map_of m) × Least (map_of m) × Ordered (map_of m) × ((d : Vector) → IsDirection d → MapLabel (map_of m) d (L d))
   built gs L l raw =
       let shown = kept-show (raw_of r) (raw_of w.simple) L raw (kept-raw r w.simple w.stars w.mark w.sloop w.ground) in
-      from-stars gs L (raw_of w.simple) (map_of m) l shown (all-simplified r w.simple w.stars) (built-from w.simple w.pieces m w.are_pieces w.made shown)
+      from-stars gs L (raw_of w.simple) (map_of m) l shown (all-simplified r w.simple w.stars) (let s = w.of_simple in built-from w.simple s.pieces m s.are_pieces s.made shown)
 
   pub built-labels : (gs : List Vector) (L : Vector → Label) → IsLabelling gs L → IsRawOf (raw_of r) L → (d : Vector) → IsDirection d → MapLabel (map_of m) d (L d)
   built-labels gs L l raw = let b = built gs L l raw in b.3
@@ -39,12 +39,12 @@ module _ (r : RawStars) (m : SphereMap) (w : IsMadeFrom r m) where
     built-least raw =
         let b = built h.0 h.1 h.2 h.3 in
         record {
-          sphere_map = record { valid = b.0; ordered = b.2; small = small w.simple w.pieces m w.are_pieces w.made (all-stars r w.simple w.stars) (λ l e. raw.circle_small l (sym w.sloop ∙ e)) };
+          sphere_map = record { valid = b.0; ordered = b.2; small = let s = w.of_simple in small w.simple s.pieces m s.are_pieces s.made (all-stars r w.simple w.stars) (λ l e. raw.circle_small l (sym w.sloop ∙ e)) };
           least = b.1;
         }
 
     pub built-only : (N : Map) → Valid N → Least N → Ordered N → N.mark ≡ r.mark → SameLabels (map_of m) N → map_of m ≡ N
-    built-only N V L O e s = let b = built h.0 h.1 h.2 h.3 in least-unique (map_of m) N b.0 V b.2 O b.1 L (let made = w.made in let pieces = w.are_pieces in made.mark ∙ pieces.mark ∙ w.mark ∙ sym e) s
+    built-only N V L O e s = let b = built h.0 h.1 h.2 h.3 in least-unique (map_of m) N b.0 V b.2 O b.1 L (let s = w.of_simple in let made = s.made in made.mark ∙ w.mark ∙ sym e) s
 
   pub built-op : (A B : Map) (op : Label → Label → Label) → Valid A → Valid B → Raw (raw_of r) A B op → (d : Vector) (l : Label) → IsDirection d → MapLabel (map_of m) d l ↔ ByOp A B op d l
   built-op A B op V W raw d l h =

@@ -13,8 +13,7 @@ use Rattle.nef_smap.specs.declared.map.RawStars.{RawStars}
 use Rattle.nef_smap.specs.Maps.{sloop_of, raw_of}
 use Rattle.nef_smap.proofs.Lists.{at-map, map-at, at-within, get-at}
 use Rattle.nef_smap.proofs.WellFormed.{star-well_formed}
-use Rattle.nef_spair.specs.declared.pieces.Pieces.{Pieces}
-use Rattle.nef_spair.specs.Pieces.{IsSimple, AreSimple, IsDropped, ArePiecesOf}
+use Rattle.nef_spair.specs.Pieces.{Pieces, IsSimple, AreSimple, IsDropped, ArePiecesOf}
 use Rattle.nef_spair.proofs.Places.{others-from, others-all, others-in_order, all-at, at-all}
 
 -- ---- stars that have been simplified
@@ -54,32 +53,32 @@ first-same t s u = let e : s.first ∷ s.second ∷ [] ≡ u.first ∷ u.second 
 
 module _ (q : RawStars) (p : Pieces) (pieces : ArePiecesOf q p) where
   abbrev K : List PlainStar
-  K = map star_of p.kept.items
+  K = map star_of p.kept
 
-  from-raw : (k : ℕ) (t : Star) → At p.kept.items k t → (j : ℕ) × At q.stars j t × (IsDropped t → ⊥)
-  from-raw = others-from IsDropped q.stars p.kept.items pieces.kept
+  from-raw : (k : ℕ) (t : Star) → At p.kept k t → (j : ℕ) × At q.stars j t × (IsDropped t → ⊥)
+  from-raw = others-from IsDropped q.stars p.kept pieces.kept
 
-  pub kept-stars : All IsStar q.stars → All IsStar p.kept.items
-  kept-stars all = at-all IsStar p.kept.items (λ k t a. let f = from-raw k t a in all-at IsStar q.stars all f.0 t f.1)
+  pub kept-stars : All IsStar q.stars → All IsStar p.kept
+  kept-stars all = at-all IsStar p.kept (λ k t a. let f = from-raw k t a in all-at IsStar q.stars all f.0 t f.1)
 
   pub plain-from : (k : ℕ) (t : PlainStar) → At K k t → (j : ℕ) × At (map star_of q.stars) j t
-  plain-from k t a = let u = at-map star_of p.kept.items k t a in let f = from-raw k u.0 u.1 in (f.0, subst (At (map star_of q.stars) f.0) u.2 (map-at star_of q.stars f.0 u.0 f.1))
+  plain-from k t a = let u = at-map star_of p.kept k t a in let f = from-raw k u.0 u.1 in (f.0, subst (At (map star_of q.stars) f.0) u.2 (map-at star_of q.stars f.0 u.0 f.1))
 
   pub plain-needed : (k : ℕ) (t : PlainStar) → At K k t → IsPlain t ⊎ IsStraight t → ⊥
-  plain-needed k t a d = let u = at-map star_of p.kept.items k t a in let f = from-raw k u.0 u.1 in f.2 (subst (λ (x : PlainStar). IsPlain x ⊎ IsStraight x) (sym u.2) d)
+  plain-needed k t a d = let u = at-map star_of p.kept k t a in let f = from-raw k u.0 u.1 in f.2 (subst (λ (x : PlainStar). IsPlain x ⊎ IsStraight x) (sym u.2) d)
 
   pub plain-all : (j : ℕ) (t : PlainStar) → At (map star_of q.stars) j t → IsPlain t ⊎ IsStraight t ⊎ ((k : ℕ) × At K k t)
   plain-all j t a =
       let u = at-map star_of q.stars j t a in
       subst (λ (x : PlainStar). IsPlain x ⊎ IsStraight x ⊎ ((k : ℕ) × At K k x)) u.2
-      (elim (others-all IsDropped q.stars p.kept.items pieces.kept j u.0 u.1) [
+      (elim (others-all IsDropped q.stars p.kept pieces.kept j u.0 u.1) [
         | inl d ↦ elim d [ inl x ↦ inl x | inr x ↦ inr (inl x) ]
-        | inr f ↦ inr (inr (f.0, map-at star_of p.kept.items f.0 u.0 f.1))
+        | inr f ↦ inr (inr (f.0, map-at star_of p.kept f.0 u.0 f.1))
       ])
 
   pub plain-ordered : InOrder (λ (t u : PlainStar). VectorBelow t.axis u.axis) (map star_of q.stars) → InOrder (λ (t u : PlainStar). VectorBelow t.axis u.axis) K
   plain-ordered o i k x y l a b =
-      let u = at-map star_of p.kept.items i x a in let v = at-map star_of p.kept.items k y b in
-      let f = others-in_order IsDropped q.stars p.kept.items pieces.kept i k u.0 v.0 l u.1 v.1 in
+      let u = at-map star_of p.kept i x a in let v = at-map star_of p.kept k y b in
+      let f = others-in_order IsDropped q.stars p.kept pieces.kept i k u.0 v.0 l u.1 v.1 in
       let below = o f.0 f.1 (star_of u.0) (star_of v.0) f.2 (map-at star_of q.stars f.0 u.0 f.3) (map-at star_of q.stars f.1 v.0 f.4) in
       subst (λ (z : PlainStar). VectorBelow x.axis z.axis) v.2 (subst (λ (z : PlainStar). VectorBelow z.axis (vector_of v.0.axis)) u.2 below)

@@ -17,18 +17,17 @@ use Rattle.nef_smap.specs.declared.map.RawStars.{RawStars}
 use Rattle.nef_smap.specs.declared.map.SphereMap.{SphereMap}
 use Rattle.nef_smap.specs.Maps.{svertex_of, arc_of, sloop_of, map_of, raw_of, IsSmall}
 use Rattle.nef_smap.proofs.Lists.{at-map, map-at, at-within}
-use Rattle.nef_spair.specs.declared.pieces.Pieces.{Pieces}
 use Rattle.nef_spair.specs.Made.{IsMadeOf}
-use Rattle.nef_spair.specs.Pieces.{ArePiecesOf, IsChosen}
+use Rattle.nef_spair.specs.Pieces.{Pieces, ArePiecesOf, IsChosen}
 use Rattle.nef_spair.proofs.OneKind.{no-sloop-was, sloop-was, none-was}
 use Rattle.nef_spair.proofs.Places.{all-at}
 use Rattle.nef_spair.proofs.Built.{first-same, kept-stars, plain-from, plain-needed, plain-all, plain-ordered}
 use Rattle.law_build.proofs.BuiltAxes.{map-empty as map-none}
 use Rattle.law_build.proofs.RawGround.{not-both as none-some}
 
-module _ (q : RawStars) (p : Pieces) (m : SphereMap) (pieces : ArePiecesOf q p) (made : IsMadeOf p m) where
+module _ (q : RawStars) (p : Pieces) (m : SphereMap) (pieces : ArePiecesOf q p) (made : IsMadeOf q p m) where
   abbrev K : List PlainStar
-  K = map star_of p.kept.items
+  K = map star_of p.kept
 
   -- ---- arcs
   arcs-from : (k : ℕ) (a : Arc) → At (map arc_of m.arcs) k a → IsArcFrom K a
@@ -36,10 +35,10 @@ module _ (q : RawStars) (p : Pieces) (m : SphereMap) (pieces : ArePiecesOf q p) 
 
   arcs-all : (i k : ℕ) (t : PlainStar) (r : PlainRay) → At K i t → At t.rays k r → r.ahead ≡ true → (j : ℕ) × (a : Arc) × At (map arc_of m.arcs) j a × (a.source ≡ i) × (a.normal ≡ r.normal)
   arcs-all i k t r h b f =
-      let u = at-map star_of p.kept.items i t h in
+      let u = at-map star_of p.kept i t h in
       let v = at-map ray_of u.0.rays.items k r (subst (λ (x : PlainStar). At x.rays k r) (sym u.2) b) in
       let w = made.arcs in
-      let o = w.all i k u.0 v.0 u.1 v.1 (ap (λ (x : PlainRay). x.ahead) v.2 ∙ f) (inl (at-within p.kept.items i u.0 u.1)) in
+      let o = w.all i k u.0 v.0 u.1 v.1 (ap (λ (x : PlainRay). x.ahead) v.2 ∙ f) (inl (at-within p.kept i u.0 u.1)) in
       (o.0, arc_of o.1, map-at arc_of m.arcs o.0 o.1 o.2, o.3, ap vector_of o.4 ∙ ap (λ (x : PlainRay). x.normal) v.2)
 
   arcs-ordered : InOrder ArcBelow (map arc_of m.arcs)
@@ -48,8 +47,8 @@ module _ (q : RawStars) (p : Pieces) (m : SphereMap) (pieces : ArePiecesOf q p) 
       subst (ArcBelow x) v.2 (subst (λ (z : Arc). ArcBelow z (arc_of v.0)) u.2 (made.ordered i k u.0 v.0 l u.1 v.1))
 
   -- ---- the sloop
-  chosen-from : (c : SLoop) → IsChosen p.kept.items p.circles.items p.sloop c → IsSloopFrom (raw_of q) K (sloop_of c)
-  chosen-from c (inl (given, proper)) = raw_sloop (ap (option_map sloop_of) (sym pieces.sloop ∙ given)) proper
+  chosen-from : (c : SLoop) → IsChosen p.kept p.circles q.sloop c → IsSloopFrom (raw_of q) K (sloop_of c)
+  chosen-from c (inl (given, proper)) = raw_sloop (ap (option_map sloop_of) given) proper
   chosen-from c (inr (k, listed, bare)) =
       let w = pieces.circles in let f = w.from k c listed in
       straight_sloop f.0 (star_of f.1) (map-at star_of q.stars f.0 f.1 f.2) f.3.0 (subst (IsBare K) (ap (λ (l : MapSloop). l.normal) f.3.1) bare) f.3.1
@@ -57,14 +56,14 @@ module _ (q : RawStars) (p : Pieces) (m : SphereMap) (pieces : ArePiecesOf q p) 
   sloop-from : (l : MapSloop) → option_map sloop_of m.sloop ≡ Some l → IsSloopFrom (raw_of q) K l
   sloop-from l e =
       let c = sloop-was m.sloop l e in
-      let found = subst (λ (o : Option SLoop). MatchOption o ((d : SLoop) → IsChosen p.kept.items p.circles.items p.sloop d → ⊥) (IsChosen p.kept.items p.circles.items p.sloop)) c.1 made.sloop in
+      let found = subst (λ (o : Option SLoop). MatchOption o ((d : SLoop) → IsChosen p.kept p.circles q.sloop d → ⊥) (IsChosen p.kept p.circles q.sloop)) c.1 made.sloop in
       subst (IsSloopFrom (raw_of q) K) c.2 (chosen-from c.0 found)
 
   -- the circle that a loop comes from is chosen, where none is
-  choice : (l : MapSloop) → IsSloopFrom (raw_of q) K l → (c : SLoop) × IsChosen p.kept.items p.circles.items p.sloop c
+  choice : (l : MapSloop) → IsSloopFrom (raw_of q) K l → (c : SLoop) × IsChosen p.kept p.circles q.sloop c
   choice l (raw_sloop e proper) =
       let c = sloop-was q.sloop l e in
-      (c.0, inl (pieces.sloop ∙ c.1, λ a b. proper (sym (ap (λ (x : MapSloop). x.pos) c.2) ∙ a ∙ ap (λ (x : MapSloop). x.mark) c.2) (sym (ap (λ (x : MapSloop). x.neg) c.2) ∙ b ∙ ap (λ (x : MapSloop). x.mark) c.2)))
+      (c.0, inl (c.1, λ a b. proper (sym (ap (λ (x : MapSloop). x.pos) c.2) ∙ a ∙ ap (λ (x : MapSloop). x.mark) c.2) (sym (ap (λ (x : MapSloop). x.neg) c.2) ∙ b ∙ ap (λ (x : MapSloop). x.mark) c.2)))
   choice l (straight_sloop j t a s bare e) =
       let u = at-map star_of q.stars j t a in
       let v : (s : IsStraight (star_of u.0)) × IsBare K s.first.normal = subst (λ (x : PlainStar). (s : IsStraight x) × IsBare K s.first.normal) (sym u.2) (s, bare) in
@@ -75,7 +74,7 @@ module _ (q : RawStars) (p : Pieces) (m : SphereMap) (pieces : ArePiecesOf q p) 
   sloop-all : (l : MapSloop) → IsSloopFrom (raw_of q) K l → (k : MapSloop) × (option_map sloop_of m.sloop ≡ Some k)
   sloop-all l h = by m.sloop made.sloop
     where
-      by : (o : Option SLoop) → MatchOption o ((d : SLoop) → IsChosen p.kept.items p.circles.items p.sloop d → ⊥) (IsChosen p.kept.items p.circles.items p.sloop) → (k : MapSloop) × (option_map sloop_of o ≡ Some k)
+      by : (o : Option SLoop) → MatchOption o ((d : SLoop) → IsChosen p.kept p.circles q.sloop d → ⊥) (IsChosen p.kept p.circles q.sloop) → (k : MapSloop) × (option_map sloop_of o ≡ Some k)
       by None none = let c = choice l h in absurd (none c.0 c.1)
       by (Some c) w = (sloop_of c, refl)
 
@@ -99,7 +98,7 @@ module _ (q : RawStars) (p : Pieces) (m : SphereMap) (pieces : ArePiecesOf q p) 
     kept_needed = plain-needed q p pieces;
     kept_all = plain-all q p pieces;
     kept_ordered = plain-ordered q p pieces raw.ordered;
-    mark = made.mark ∙ pieces.mark;
+    mark = made.mark;
     svertices = made.svertices;
     arcs_from = arcs-from;
     arcs_all = arcs-all;
@@ -115,16 +114,16 @@ module _ (q : RawStars) (p : Pieces) (m : SphereMap) (pieces : ArePiecesOf q p) 
     way-small : (k : ℕ) (v : MapVertex) → At (map svertex_of m.svertices) k v → IsAtMost svertex_limit v.dir
     way-small k v a =
         let t = at-map svertex_at K k v (subst (λ (l : List MapVertex). At l k v) made.svertices a) in
-        let u = at-map star_of p.kept.items k t.0 t.1 in
-        let s = all-at IsStar p.kept.items (kept-stars q p pieces stars) k u.0 u.1 in
+        let u = at-map star_of p.kept k t.0 t.1 in
+        let s = all-at IsStar p.kept (kept-stars q p pieces stars) k u.0 u.1 in
         subst (λ (x : MapVertex). IsAtMost svertex_limit x.dir) t.2 (subst (λ (x : PlainStar). IsAtMost svertex_limit x.axis) u.2 s.turned.axis_small)
 
-    chosen-small : (c : SLoop) → IsChosen p.kept.items p.circles.items p.sloop c → IsAtMost normal_limit (vector_of c.normal)
-    chosen-small c (inl (given, proper)) = circle c (sym pieces.sloop ∙ given)
-    chosen-small c (inr (k, listed, bare)) = let w = pieces.circles in all-at (λ (x : SLoop). IsAtMost normal_limit (vector_of x.normal)) p.circles.items w.small k c listed
+    chosen-small : (c : SLoop) → IsChosen p.kept p.circles q.sloop c → IsAtMost normal_limit (vector_of c.normal)
+    chosen-small c (inl (given, proper)) = circle c given
+    chosen-small c (inr (k, listed, bare)) = let w = pieces.circles in all-at (λ (x : SLoop). IsAtMost normal_limit (vector_of x.normal)) p.circles w.small k c listed
 
     items-small : (arcs : List SArc) (o : Option SLoop) → ((k : ℕ) (a : SArc) → At arcs k a → IsAtMost normal_limit (vector_of a.normal))
-        → MatchOption o ((d : SLoop) → IsChosen p.kept.items p.circles.items p.sloop d → ⊥) (IsChosen p.kept.items p.circles.items p.sloop)
+        → MatchOption o ((d : SLoop) → IsChosen p.kept p.circles q.sloop d → ⊥) (IsChosen p.kept p.circles q.sloop)
         → (k : ℕ) (x : Item) → At (items_then (map arc_of arcs) (option_map sloop_of o)) k x → IsAtMost normal_limit (item_normal x)
     items-small [] None f w k x a = absurd a
     items-small [] (Some c) f w zero x a = subst (λ (y : Item). IsAtMost normal_limit (item_normal y)) a (chosen-small c w)

@@ -16,6 +16,7 @@ use Rattle.law_build.specs.From.{IsArcFrom, IsFirstAfter}
 use Rattle.nef_star.specs.declared.star.Ray.{Ray}
 use Rattle.nef_star.specs.declared.star.Star.{Star}
 use Rattle.nef_star.specs.Stars.{ray_of, star_of, left_of, left_at, IsRay, IsTurned}
+use Rattle.nef_star.specs.Turning.{IsNext}
 use Rattle.nef_star.proofs.Turns.{three_ways}
 use Rattle.nef_star.proofs.Counted.{count-some}
 use Rattle.nef_smap.specs.declared.map.SArc.{SArc}
@@ -34,7 +35,7 @@ ray-leaves t T k r h = all-at (IsRay (vector_of t.axis)) t.rays.items T.rays k r
 
 module _ (kept : List Star) (a : PlainArc) (t : Star) (r : Ray) (number before : ℕ) (T : IsTurned t) (star : At kept a.source t) (ray : At t.rays.items number r) (ahead : r.ahead ≡ true)
     (normal : a.normal ≡ vector_of r.normal) (mark : a.mark ≡ r.mark) (above : a.pos ≡ get_or t.sectors.items number Out) (below : a.neg ≡ get_or t.sectors.items before Out)
-    (follows : (before + 1 ≡ number) ⊎ ((before + 1 ≡ length t.sectors.items) × (number ≡ 0))) (target : IsFirstAfter (map star_of kept) a.normal (star_of t) a.target) where
+    (follows : IsNext (length t.sectors.items) before number) (target : IsFirstAfter (map star_of kept) a.normal (star_of t) a.target) where
   sectors : length t.sectors.items ≡ length t.rays.items
   sectors = as-many-sectors t T number r ray
 
@@ -45,11 +46,11 @@ module _ (kept : List Star) (a : PlainArc) (t : Star) (r : Ray) (number before :
   label k l h e = subst (At t.sectors.items k) (sym e) (get-at t.sectors.items k Out h)
 
   before_within : before < length t.sectors.items
-  before_within = elim follows [ inl e ↦ omega (arith, e, within, sectors) | inr e ↦ omega (arith, e.0) ]
+  before_within = elim follows [ inl e ↦ omega (arith, e.0, within, sectors) | inr e ↦ omega (arith, e.0) ]
 
   follow : Follows (map ray_of t.rays.items) before number
   follow = elim follows [
-    | inl e ↦ inl (omega (arith, e))
+    | inl e ↦ inl (omega (arith, e.0))
     | inr e ↦ let n = length-map t.rays.items ray_of in inr (omega (arith, e.0, n, sectors), e.1)
   ]
 

@@ -15,7 +15,6 @@ use Rattle.nef_star.specs.Stars.{star_of, IsStar, IsKept}
 use Rattle.nef_smap.specs.declared.map.SLoop.{SLoop}
 use Rattle.nef_smap.specs.declared.map.RawStars.{RawStars}
 use Rattle.nef_smap.specs.Maps.{sloop_of, raw_of}
-use Rattle.nef_spair.specs.declared.pieces.Pieces.{Pieces}
 
 -- s is t without needless rays
 pub record IsSimple (t s : Star) : Type 0 where
@@ -53,11 +52,16 @@ pub record AreCircles (ts : List Star) (cs : List SLoop) : Type 0 where
 abbrev pub IsGroundOf : RawStars → Option Label → Type 0
 IsGroundOf r o = MatchOption o ((r.ground ≡ None) × (r.stars ≡ []) × (r.sloop ≡ None)) (IsRawLabel (raw_of r))
 
+-- the stars that become svertices, the circles of the straight ones, and the label of the one face of a map that has neither svertex nor sloop
+pub record Pieces : Type 0 where
+  pub kept : List Star
+  pub circles : List SLoop
+  pub ground : Option Label
+
+-- what the map of simplified stars is made of
 pub record ArePiecesOf (r : RawStars) (p : Pieces) : Type 0 where
-  pub mark : p.mark ≡ r.mark
-  pub kept : AreOthers IsDropped r.stars p.kept.items
-  pub circles : AreCircles r.stars p.circles.items
-  pub sloop : p.sloop ≡ r.sloop
+  pub kept : AreOthers IsDropped r.stars p.kept
+  pub circles : AreCircles r.stars p.circles
   pub ground : IsGroundOf r p.ground
 
 -- no star has its axis on the circle

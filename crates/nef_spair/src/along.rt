@@ -1,9 +1,7 @@
 //! The arcs that leave stars.
 
-ghost use Rattle.std.specs.Prelude.{◌≡◌, ◌<◌, ◌+◌, ◌⊎◌, length, map, pos, true, IsTrue, IfOk, OnOk};
-ghost use Rattle.std.specs.List.{All};
-ghost use Rattle.nef_space.specs.Vectors.{dot};
-ghost use Rattle.nef_geo.specs.Shapes.{vector_of};
+ghost use Rattle.std.specs.Prelude.{◌≡◌, ◌<◌, ◌+◌};
+ghost use Rattle.nef_geo.specs.Prelude.{length, map, pos, true, IsTrue, IfOk, OnOk, All, dot, vector_of};
 ghost use Rattle.law_sphere.specs.Maps.{At};
 ghost use Rattle.law_build.specs.From.{IsFirstAfter, IsArcFrom};
 ghost use Rattle.nef_star.specs.Stars.{star_of, IsStar};
@@ -14,7 +12,7 @@ use crate::OutOfMemory;
 use nef_arc::{Arc, strictly_on};
 use nef_geo::Dir;
 use nef_smap::SArc;
-use nef_star::{Ray, Star};
+use nef_star::{Ray, Star, before_of};
 use std::alloc::Global;
 
 // The number of the first star whose axis comes after that of number `from`, counterclockwise about the normal; its own
@@ -24,11 +22,11 @@ fn first_after(kept: &[Star], from: usize, normal: &Dir) -> usize
     requires level { (t : Star) → At kept.now from t → dot (vector_of normal.now) (vector_of t.axis) ≡ pos 0 }
     ensures first { (t : Star) → At kept.now from t → IsFirstAfter (map star_of kept.now) (vector_of normal.now) (star_of t) result }
 {
-    let source = *kept[from].axis();
+    let source = kept[from].axis;
     let mut first = from;
     for (k, star) in kept.iter().enumerate() {
-        let way = Arc::of(source, *kept[first].axis(), *normal);
-        if strictly_on(&way, star.axis()) {
+        let way = Arc::of(source, kept[first].axis, *normal);
+        if strictly_on(&way, &star.axis) {
             first = k;
         }
     }
@@ -39,7 +37,7 @@ fn first_after(kept: &[Star], from: usize, normal: &Dir) -> usize
 fn are_two_ends(kept: &[Star]) -> bool
     ensures ends { IsTrue result → AreTwoEnds kept.now }
 {
-    kept.len() == 2 && kept[0].axis().back().is_same(kept[1].axis())
+    kept.len() == 2 && kept[0].axis.back().is_same(&kept[1].axis)
 }
 
 // The number of the star that an arc with this normal leads to from star number `from`.
@@ -55,15 +53,6 @@ fn target_of(kept: &[Star], from: usize, normal: &Dir) -> usize
     first_after(kept, from, normal)
 }
 
-// The number before `number` of `count` that stand round in a circle.
-fn number_before(number: usize, count: usize) -> usize
-    requires within { number < count }
-    ensures within { result < count }
-    ensures before { (result + 1 ≡ number) ⊎ ((result + 1 ≡ count) × (number ≡ 0)) }
-{
-    if number > 0 { number - 1 } else { count - 1 }
-}
-
 // The arc along ray number `number` of star number `from`, which goes ahead.
 fn arc_along(kept: &[Star], from: usize, number: usize, ray: &Ray) -> SArc
     requires stars { All IsStar kept.now }
@@ -74,13 +63,13 @@ fn arc_along(kept: &[Star], from: usize, number: usize, ray: &Ray) -> SArc
     ensures source { result.source ≡ from }
     ensures along { IsAlong kept.now result number }
 {
-    let sectors = kept[from].sectors();
-    let before = number_before(number, sectors.len());
+    let sectors = kept[from].sectors.as_slice();
+    let before = before_of(sectors.len(), number);
     SArc {
         source: from,
-        target: target_of(kept, from, ray.normal()),
-        normal: *ray.normal(),
-        mark: ray.mark(),
+        target: target_of(kept, from, &ray.normal),
+        normal: ray.normal,
+        mark: ray.mark,
         pos: sectors[number],
         neg: sectors[before],
     }
@@ -93,8 +82,8 @@ fn push_arcs(arcs: &mut Vec<SArc>, kept: &[Star], from: usize) -> Result<(), Out
     requires arcs { AreArcs kept.now from 0 arcs.old.items }
     ensures arcs { OnOk result (AreArcs kept.now (from + 1) 0 arcs.new.items) }
 {
-    for (number, ray) in kept[from].rays().iter().enumerate() {
-        if ray.ahead() {
+    for (number, ray) in kept[from].rays.as_slice().iter().enumerate() {
+        if ray.ahead {
             arcs.push(arc_along(kept, from, number, ray))?;
         }
     }

@@ -3,16 +3,10 @@
 
 mod along;
 mod answer;
-mod building;
-mod circle;
-mod dimension;
+mod least;
 mod making;
-mod order;
-mod pieces;
-mod sorting;
 
 pub use answer::Kind;
-pub use building::build;
-pub use dimension::kind;
-pub use order::sort_arcs;
+pub use least::{build, kind};
+pub use making::sort_arcs;
 pub use std::alloc::AllocError as OutOfMemory;

@@ -1,29 +1,109 @@
-//! The map that is made of its pieces.
+//! The map that is made of simplified stars, parted into those that are kept and the circles of straight ones.
 
-ghost use Rattle.std.specs.Prelude.{◌≡◌, [], map, IfOk};
-ghost use Rattle.std.specs.List.{All};
+ghost use Rattle.std.specs.Prelude.{◌≡◌, ◌↔◌};
+ghost use Rattle.nef_geo.specs.Prelude.{ℕ, [], map, IsTrue, IfOk, MatchOption, All, IsPermutation, MatchOrdering, vector_of, normal_limit, IsAtMost};
+ghost use Rattle.law_sphere.specs.Least.{InOrder};
+ghost use Rattle.law_sphere.specs.Maps.{At};
+ghost use Rattle.law_sphere.specs.Raw.{IsBare};
 ghost use Rattle.law_build.specs.From.{around_of, svertex_at};
 ghost use Rattle.nef_star.specs.Stars.{star_of, IsStar};
-ghost use Rattle.nef_smap.specs.Maps.{svertex_of};
-ghost use Rattle.nef_spair.specs.Made.{IsMadeOf};
+ghost use Rattle.nef_smap.specs.Maps.{svertex_of, sloop_of};
+ghost use Rattle.nef_spair.specs.Arcs.{IsArcBelow, IsTwin, AreApart};
+ghost use Rattle.nef_spair.specs.Made.{IsMadeOfSimple};
+ghost use Rattle.nef_spair.specs.Pieces.{IsBareCircle, IsProperCircle, IsChosen, IsDropped, AreAllKept, AreOthers, IsCircleOf, AreCircles, AreSimple, IsGroundOf};
+ghost use Rattle.law_sphere.specs.Stars.{IsStraight};
 
 use crate::OutOfMemory;
 use crate::along::arcs_of;
-use crate::circle::sloop_of;
-use crate::order::sort_arcs;
-use crate::pieces::Pieces;
-use nef_geo::{Label, List};
-use nef_smap::{SLoop, SVertex, SphereMap};
-use nef_star::Star;
+use nef_geo::{Dir, Label, List, dir_cmp};
+use nef_smap::{RawStars, SArc, SLoop, SVertex, SphereMap};
+use nef_star::{Star, is_plain, is_straight, simplify};
 use std::alloc::Global;
+use std::cmp::Ordering;
+
+// The stars without needless rays.
+pub(crate) fn simplified(stars: List<Star>) -> List<Star>
+    requires stars { All IsStar stars }
+    ensures simple { AreSimple stars result }
+{
+    let mut stars = stars.into_vec();
+    for star in stars.iter_mut() {
+        simplify(star);
+    }
+    List::from_vec(stars)
+}
+
+// The circle of a straight star: the ray that goes ahead stands first, with the sector after it on its left.
+fn circle_of(star: &Star) -> SLoop
+    requires star { IsStar star.now }
+    requires straight { IsStraight (star_of star.now) }
+    ensures circle { IsCircleOf (star_of star.now) (sloop_of result) }
+    ensures small { IsAtMost normal_limit (vector_of result.normal) }
+{
+    let sectors = star.sectors.as_slice();
+    SLoop {
+        normal: star.rays[0].normal,
+        mark: star.mark,
+        pos: sectors[0],
+        neg: sectors[1],
+    }
+}
+
+// One of the labels of a raw map.
+fn some_label(raw: &RawStars) -> Option<Label>
+    ensures ground { IsGroundOf raw.now result }
+{
+    if raw.ground.is_some() {
+        return raw.ground;
+    }
+    if raw.stars.is_empty() {
+        return raw.sloop.map(|circle| circle.mark);
+    }
+    Some(raw.stars.at(0).mark)
+}
+
+// Whether no star is plain or straight.
+fn are_all_kept(stars: &[Star]) -> bool
+    requires stars { All IsStar stars.now }
+    ensures kept { IsTrue result → AreAllKept stars.now }
+{
+    for star in stars {
+        if is_straight(star) || is_plain(star) {
+            return false;
+        }
+    }
+    true
+}
+
+// The stars that are needed, and the circles of the straight ones.
+fn parted(alloc: Global, stars: List<Star>) -> Result<(Vec<Star>, Vec<SLoop>), OutOfMemory>
+    requires stars { All IsStar stars }
+    ensures kept { IfOk result (λ p. AreOthers IsDropped stars p.0.items) }
+    ensures circles { IfOk result (λ p. AreCircles stars p.1.items) }
+{
+    // most lists of stars stay as they are
+    if are_all_kept(stars.as_slice()) {
+        return Ok((stars.into_vec(), Vec::new(alloc)));
+    }
+    let mut kept = Vec::new(alloc);
+    let mut circles = Vec::new(alloc);
+    for star in stars.into_vec() {
+        if is_straight(&star) {
+            circles.push(circle_of(&star))?;
+        } else if !is_plain(&star) {
+            kept.push(star)?;
+        }
+    }
+    Ok((kept, circles))
+}
 
 // The label round a star without rays.
 fn around(star: &Star) -> Option<Label>
     requires star { IsStar star.now }
     ensures around { result ≡ around_of (star_of star.now).rays (star_of star.now).sectors }
 {
-    if star.rays().is_empty() {
-        Some(star.sectors()[0])
+    if star.rays.as_slice().is_empty() {
+        Some(star.sectors.as_slice()[0])
     } else {
         None
     }
@@ -34,8 +114,8 @@ fn svertex(star: &Star) -> SVertex
     ensures svertex { svertex_of result ≡ svertex_at (star_of star.now) }
 {
     SVertex {
-        dir: *star.axis(),
-        mark: star.mark(),
+        dir: star.axis,
+        mark: star.mark,
         around: around(star),
     }
 }
@@ -51,6 +131,70 @@ fn svertices_of(alloc: Global, kept: &[Star]) -> Result<Vec<SVertex>, OutOfMemor
     Ok(svertices)
 }
 
+// Compares the normals, and then the sources.
+fn arc_cmp(a: &SArc, b: &SArc) -> Ordering
+    ensures order { MatchOrdering result (IsArcBelow a.now b.now) (IsTwin a.now b.now) (IsArcBelow b.now a.now) }
+{
+    match dir_cmp(&a.normal, &b.normal) {
+        Ordering::Less => Ordering::Less,
+        Ordering::Equal => a.source.cmp(&b.source),
+        Ordering::Greater => Ordering::Greater,
+    }
+}
+
+/// Puts arcs in the order of their normals, and of their sources where they have one normal. No two of them have both in
+/// common.
+pub fn sort_arcs(arcs: &mut Vec<SArc>)
+    requires apart { AreApart arcs.old.items }
+    ensures permutation { IsPermutation arcs.old.items arcs.new.items }
+    ensures ordered { InOrder IsArcBelow arcs.new.items }
+{
+    arcs.sort_unstable_by(arc_cmp);
+}
+
+// Whether no star has its axis on the circle.
+fn is_bare(kept: &[Star], normal: &Dir) -> bool
+    ensures bare { IsTrue result ↔ IsBare (map star_of kept.now) (vector_of normal.now) }
+{
+    for star in kept {
+        if normal.is_perpendicular(&star.axis) {
+            return false;
+        }
+    }
+    true
+}
+
+// The first of the circles that no star has its axis on.
+fn bare_circle(circles: &[SLoop], kept: &[Star]) -> Option<SLoop>
+    ensures circle { MatchOption result ((k : ℕ) (c : SLoop) → At circles.now k c → IsBareCircle kept.now c → ⊥) (λ c. (k : ℕ) × At circles.now k c × IsBareCircle kept.now c) }
+{
+    for circle in circles {
+        if is_bare(kept, &circle.normal) {
+            return Some(*circle);
+        }
+    }
+    None
+}
+
+// Whether the circle's label differs from that of one of its sides.
+fn is_proper(circle: &SLoop) -> bool
+    ensures proper { IsTrue result ↔ IsProperCircle circle.now }
+{
+    circle.pos != circle.mark || circle.neg != circle.mark
+}
+
+// The given circle if it is proper, or the first that no kept star has its axis on.
+fn sloop_of(given: Option<SLoop>, circles: &[SLoop], kept: &[Star]) -> Option<SLoop>
+    ensures chosen { MatchOption result ((c : SLoop) → IsChosen kept.now circles.now given c → ⊥) (IsChosen kept.now circles.now given) }
+{
+    if let Some(circle) = given
+        && is_proper(&circle)
+    {
+        return Some(circle);
+    }
+    bare_circle(circles, kept)
+}
+
 // The label of the one face, where there is neither svertex nor sloop.
 fn ground_of(svertices: &[SVertex], sloop: Option<SLoop>, ground: Option<Label>) -> Option<Label>
     ensures alone { svertices.now ≡ [] → sloop ≡ None → result ≡ ground }
@@ -63,18 +207,21 @@ fn ground_of(svertices: &[SVertex], sloop: Option<SLoop>, ground: Option<Label>)
     }
 }
 
-// The svertices of the kept stars, the arcs along their rays, the sloop, and the one face where there is neither.
-pub(crate) fn map_of_pieces(alloc: Global, pieces: Pieces) -> Result<SphereMap, OutOfMemory>
-    requires stars { All IsStar pieces.kept.items }
-    ensures made { IfOk result (IsMadeOf pieces) }
+// The map of simplified stars: the svertices of those that are kept, the arcs along their rays, the sloop, and the one
+// face where there is neither.
+pub(crate) fn map_of_simple(alloc: Global, raw: RawStars) -> Result<SphereMap, OutOfMemory>
+    requires stars { All IsStar raw.stars }
+    ensures made { IfOk result (IsMadeOfSimple raw) }
 {
-    let svertices = svertices_of(alloc, &pieces.kept)?;
-    let mut arcs = arcs_of(alloc, &pieces.kept)?;
+    let label = some_label(&raw);
+    let (kept, circles) = parted(alloc, raw.stars)?;
+    let svertices = svertices_of(alloc, &kept)?;
+    let mut arcs = arcs_of(alloc, &kept)?;
     sort_arcs(&mut arcs);
-    let sloop = sloop_of(&pieces);
-    let ground = ground_of(&svertices, sloop, pieces.ground);
+    let sloop = sloop_of(raw.sloop, &circles, &kept);
+    let ground = ground_of(&svertices, sloop, label);
     Ok(SphereMap {
-        mark: pieces.mark,
+        mark: raw.mark,
         svertices: List::from_vec(svertices),
         arcs: List::from_vec(arcs),
         sloop,

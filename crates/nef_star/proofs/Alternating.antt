@@ -10,7 +10,7 @@ use Rattle.nef_geo.specs.declared.dir.Dir.{Dir}
 use Rattle.law_cyclic.specs.Arcs.{IsOnCircle, Passes}
 use Rattle.law_cyclic.proofs.StrictlyOn.{same-sym}
 use Rattle.law_cyclic.proofs.Cyclic.{one_is_first, order_is_transitive, order_is_cyclic, seen_from_later}
-use Rattle.nef_star.specs.declared.op.Op.{Op}
+use Rattle.nef_star.specs.declared.star.Op.{Op}
 use Rattle.nef_star.specs.declared.star.Ray.{Ray}
 use Rattle.nef_star.specs.declared.star.Star.{Star}
 use Rattle.nef_star.specs.Ops.{op_label}

@@ -6,7 +6,7 @@ use Rattle.nef_space.specs.declared.label.Label.{Label}
 use Rattle.nef_geo.specs.Shapes.{vector_of}
 use Rattle.nef_geo.specs.declared.dir.Dir.{Dir}
 use Rattle.law_cyclic.specs.Arcs.{IsOnCircle}
-use Rattle.nef_star.specs.declared.op.Op.{Op}
+use Rattle.nef_star.specs.declared.star.Op.{Op}
 use Rattle.nef_star.specs.declared.star.Star.{Star}
 use Rattle.nef_star.specs.Ops.{op_label}
 use Rattle.nef_star.specs.Turning.{IsTurning, Gives, on_ray, in_sector, in_only_sector, IsAfter}

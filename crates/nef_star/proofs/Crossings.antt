@@ -16,8 +16,8 @@ use Rattle.law_cyclic.proofs.Planar.{triple_poly, numbers, dot_comm, triple-back
 use Rattle.law_cyclic.proofs.Directions.{level_cross_first, same_or_opposite}
 use Rattle.law_sphere.specs.Least.{by_side}
 use Rattle.law_sphere.specs.Stars.{StarLabel}
-use Rattle.nef_star.specs.declared.line.Line.{Line}
-use Rattle.nef_star.specs.declared.op.Op.{Op}
+use Rattle.nef_star.specs.declared.rounds.Line.{Line}
+use Rattle.nef_star.specs.declared.star.Op.{Op}
 use Rattle.nef_star.specs.declared.star.Ray.{Ray}
 use Rattle.nef_star.specs.declared.star.Star.{Star}
 use Rattle.nef_star.specs.Ops.{op_label}

@@ -10,7 +10,7 @@ use Rattle.nef_geo.specs.Shapes.{vector_of}
 use Rattle.nef_geo.specs.declared.dir.Dir.{Dir}
 use Rattle.law_cyclic.specs.Arcs.{IsOnCircle}
 use Rattle.law_sphere.specs.Stars.{StarLabel}
-use Rattle.nef_star.specs.declared.op.Op.{Op}
+use Rattle.nef_star.specs.declared.star.Op.{Op}
 use Rattle.nef_star.specs.declared.star.Ray.{Ray}
 use Rattle.nef_star.specs.declared.star.Star.{Star}
 use Rattle.nef_star.specs.Ops.{op_label}
@@ -136,7 +136,7 @@ module _ (op : Op) (b t s : Star) (B : IsTurned b) (T : IsTurned t) (none : leng
       h ∙ one-value r.sectors.items 0 k Out some
       ∙ only-label (vector_of r.axis) (left_at r.rays.items) (mark_at r.rays.items) (sector_at r.sectors.items) d l (subst (λ (m : ℕ). Gives (vector_of r.axis) m (left_at r.rays.items) (mark_at r.rays.items) (sector_at r.sectors.items) d l) n g)
 
-  only-turned : IsTurned s
+  pub only-turned : IsTurned s
   only-turned = turned-by t s T e f (subst (All (IsRay (vector_of t.axis))) (sym rays) T.rays) (length t.rays.items) (ap length rays)
       (subst (λ (l : List Ray). IsTurning (vector_of t.axis) (length t.rays.items) (left_at l)) (sym rays) T.counterclockwise)
       (ap length sectors ∙ length-set t.sectors.items 0 z ∙ T.sectors ∙ ap sector_count (sym rays))

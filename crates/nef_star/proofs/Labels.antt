@@ -6,7 +6,7 @@ use Rattle.nef_space.specs.Labels.{label_number}
 use Rattle.nef_space.specs.declared.label.Label.{Label}
 use Rattle.nef_space.specs.declared.label.Label.TheVariants.{Out, Not, In}
 use Rattle.nef_case.specs.Labels.{and_label, or_label, diff_label, xor_label}
-use Rattle.nef_star.specs.declared.op.Op.TheVariants.{And, Or, Diff, Xor}
+use Rattle.nef_star.specs.declared.star.Op.TheVariants.{And, Or, Diff, Xor}
 use Rattle.nef_star.specs.Ops.{op_label}
 
 pub and_number : (a b : Label) → and_label (label_number a) (label_number b) ≡ label_number (op_label And a b)

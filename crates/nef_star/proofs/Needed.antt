@@ -1,6 +1,6 @@
 -- Rays that aren't needless stay so when the rays are counted from another one on.
 use lib.Dec.{T}
-use Rattle.std.proofs.Common.{◌≡◌, ℕ, ◌+◌, ◌-◌, ◌<◌, ◌≤◌, length, get_or, true, false, arith, refl, sym, ap, subst, ◌∙◌, inl, inr, ◌⊎◌}
+use Rattle.std.proofs.Common.{◌≡◌, ℕ, ◌+◌, ◌-◌, ◌<◌, ◌≤◌, length, get_or, true, false, arith, refl, sym, ap, subst, ◌∙◌, inl, inr, ◌⊎◌, ◌↔◌}
 use Rattle.nef_space.specs.Vectors.{cross, IsDirection}
 use Rattle.nef_geo.specs.Shapes.{vector_of}
 use Rattle.nef_geo.specs.declared.dir.Dir.{Dir}
@@ -69,6 +69,18 @@ module _ (t s : Star) (T : IsTurned t) (e : s.axis ≡ t.axis) (f : s.mark ≡ t
       let i = unmoved (length t.rays.items) m k h (omega (arith, l, n)) in
       let there = moved-value (length t.rays.items) m (λ i. get_or t.rays.items i r) (λ i. get_or s.rays.items i r) (rotated-list r m t.rays.items s.rays.items (omega (arith, h)) c.rays) h i.0 k i.1 (omega (arith, l, n)) i.2 in
       a i.0 q r i.1 first (sym there ∙ p') b
+
+-- the ray before the last
+last-before : (n j k : ℕ) → 0 < n → k ≡ n - 1 → IsNext n j k → j ≡ n - 2
+last-before n j k some e (inl (x, y)) = omega (arith, x, e)
+last-before n j k some e (inr (x, y)) = omega (arith, x, y, e, some)
+
+pub last-needless : (t : Star) (j k : ℕ) → 0 < length t.rays.items → k ≡ length t.rays.items - 1 → IsNext (length t.rays.items) j k → IsNeedless t j k ↔ IsNeedless t (length t.rays.items - 2) (length t.rays.items - 1)
+last-needless t j k some e x =
+    let n = length t.rays.items in let b = last-before n j k some e x in (
+      λ z. subst (IsNeedless t (n - 2)) e (subst (λ (i : ℕ). IsNeedless t i k) b z),
+      λ z. subst (λ (i : ℕ). IsNeedless t i k) (sym b) (subst (IsNeedless t (n - 2)) (sym e) z),
+    )
 
 -- the last ray passed
 pub passed-needed : (t s : Star) → IsTurned t → s.axis ≡ t.axis → s.mark ≡ t.mark → 0 < length t.rays.items → IsCountedFrom (length t.rays.items - 1) t s

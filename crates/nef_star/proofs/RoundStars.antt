@@ -11,7 +11,7 @@ use Rattle.nef_space.specs.declared.label.Label.{Label}
 use Rattle.nef_space.specs.declared.label.Label.TheVariants.{Out}
 use Rattle.nef_geo.specs.Shapes.{vector_of}
 use Rattle.nef_geo.specs.declared.dir.Dir.{Dir}
-use Rattle.nef_star.specs.declared.op.Op.TheVariants.{Or}
+use Rattle.nef_star.specs.declared.star.Op.TheVariants.{Or}
 use Rattle.nef_star.specs.declared.star.Ray.{Ray}
 use Rattle.nef_star.specs.declared.star.Star.{Star}
 use Rattle.nef_star.specs.Rounds.{End, AreApart, IsRound, IsEndAt, HasWays, IsEnded}

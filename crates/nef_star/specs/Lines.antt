@@ -8,8 +8,8 @@ use Rattle.nef_geo.specs.Shapes.{vector_of}
 use Rattle.nef_geo.specs.declared.dir.Dir.{Dir}
 use Rattle.law_sphere.specs.Least.{by_side}
 use Rattle.law_sphere.specs.Stars.{StarLabel}
-use Rattle.nef_star.specs.declared.line.Line.{Line}
-use Rattle.nef_star.specs.declared.op.Op.{Op}
+use Rattle.nef_star.specs.declared.rounds.Line.{Line}
+use Rattle.nef_star.specs.declared.star.Op.{Op}
 use Rattle.nef_star.specs.declared.star.Star.{Star}
 use Rattle.nef_star.specs.Ops.{op_label}
 use Rattle.nef_star.specs.Stars.{star_of}

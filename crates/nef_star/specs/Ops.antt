@@ -1,8 +1,8 @@
 -- The operations on two sets, and the label of a combination.
 use Rattle.nef_space.specs.declared.label.Label.{Label}
 use Rattle.nef_space.specs.declared.label.Label.TheVariants.{Out, Not, In}
-use Rattle.nef_star.specs.declared.op.Op.{Op}
-use Rattle.nef_star.specs.declared.op.Op.TheVariants.{And, Or, Diff, Xor}
+use Rattle.nef_star.specs.declared.star.Op.{Op}
+use Rattle.nef_star.specs.declared.star.Op.TheVariants.{And, Or, Diff, Xor}
 
 -- Out where one of the two is Out
 abbrev pub op_label : Op → Label → Label → Label

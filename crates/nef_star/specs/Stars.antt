@@ -11,7 +11,7 @@ use Rattle.law_cyclic.specs.Arcs.{IsOnCircle}
 use Rattle.law_sphere.specs.Stars.{Ray as PlainRay, Star as PlainStar, StarLabel}
 use Rattle.nef_star.specs.declared.star.Ray.{Ray}
 use Rattle.nef_star.specs.declared.star.Star.{Star}
-use Rattle.nef_star.specs.declared.op.Op.{Op}
+use Rattle.nef_star.specs.declared.star.Op.{Op}
 use Rattle.nef_star.specs.Ops.{op_label}
 use Rattle.nef_star.specs.Turning.{IsTurning, IsNext, Gives, IsPast, IsUnder, IsAfter}
 

@@ -1,17 +1,53 @@
-//! Two stars combined.
+//! Two stars combined; the rays of two that alternate stand in a known order.
 
-ghost use Rattle.std.specs.Prelude.{◌≡◌, ◌<◌, ℕ, length, IfOk, OnOk};
+ghost use Rattle.std.specs.Prelude.{◌≡◌, ◌<◌, ◌-◌};
+ghost use Rattle.nef_geo.specs.Prelude.{ℕ, length, IfOk, OnOk, IsTrue, vector_of};
 ghost use Rattle.law_cyclic.specs.Arcs.{IsOnCircle};
-ghost use Rattle.nef_geo.specs.Shapes.{vector_of};
-ghost use Rattle.nef_star.specs.Stars.{left_at, IsTurned, IsStar, LeftGives, LeftAfter, HasLeft, IsCombined, IsLeftCombined, IsCombinedAt};
+ghost use Rattle.nef_star.specs.Stars.{left_at, IsTurned, IsStar, LeftGives, LeftAfter, HasLeft, IsCombined, IsLeftCombined, IsCombinedAt, AreAlternate};
 
 use crate::OutOfMemory;
-use crate::crossing::{alternate, cross};
-use crate::cut::{cut_by, left_of_ray, place_of, with_mark};
-use crate::needless::begin_with_least;
-use crate::op::Op;
-use crate::star::Star;
+use crate::rays::{begin_with_least, cut_by, is_past, left_of_ray, place_of, with_mark};
+use crate::star::{Op, Star};
 use nef_geo::{Dir, Label};
+
+// Whether two stars have two rays each, and ray `first` of the other one comes between the first ray and the second, and
+// its other ray between the second and the first.
+fn alternate(star: &Star, other: &Star, first: usize) -> bool
+    requires turned { IsTurned star.now }
+    requires within { first < 2 }
+    ensures alternate { IsTrue result → AreAlternate star.now other.now first }
+{
+    if star.rays.len() != 2 || other.rays.len() != 2 {
+        return false;
+    }
+    is_past(star, 0, &left_of_ray(other, first)) && is_past(star, 1, &left_of_ray(other, 1 - first))
+}
+
+// Combines the star with another one whose rays alternate with its own. So no place of a ray needs to be looked for.
+fn cross(star: &mut Star, other: &Star, first: usize, op: Op) -> Result<(), OutOfMemory>
+    requires turned { IsTurned star.old }
+    requires other { IsTurned other.now }
+    requires one_axis { other.now.axis ≡ star.old.axis }
+    requires within { first < 2 }
+    requires alternate { AreAlternate star.old other.now first }
+    ensures turned { OnOk result (IsTurned star.new) }
+    ensures combined { OnOk result (IsCombined op star.old other.now star.new) }
+{
+    let (ray, back) = (star.rays[0], star.rays[1]);
+    let (left, right) = (star.sectors[0], star.sectors[1]);
+    let (crossing, crossing_back) = (other.rays[first], other.rays[1 - first]);
+    let (past, before) = (other.sectors[first], other.sectors[1 - first]);
+    star.mark = op.label(star.mark, other.mark);
+    star.rays[0] = with_mark(&ray, op.label(ray.mark, before));
+    star.rays[1] = with_mark(&crossing, op.label(left, crossing.mark));
+    star.rays.push(with_mark(&back, op.label(back.mark, past)))?;
+    star.rays.push(with_mark(&crossing_back, op.label(right, crossing_back.mark)))?;
+    star.sectors[0] = op.label(left, before);
+    star.sectors[1] = op.label(left, past);
+    star.sectors.push(op.label(right, past))?;
+    star.sectors.push(op.label(right, before))?;
+    Ok(())
+}
 
 // The labels that the star gives a ray with this direction to its left, and just after it.
 fn labels_at(star: &Star, left: &Dir) -> (Label, Label)
@@ -60,17 +96,6 @@ fn combine_rays(star: &mut Star, other: &Star, op: Op)
     }
 }
 
-// Combines the only sectors of two stars without rays.
-fn combine_sector(star: &mut Star, other: &Star, op: Op)
-    requires turned { IsTurned star.old }
-    requires other { IsTurned other.now }
-    requires none { length star.old.rays.items ≡ 0 }
-    requires other_none { length other.now.rays.items ≡ 0 }
-    ensures combined { IsLeftCombined op other.now star.old star.new }
-{
-    star.sectors[0] = op.label(star.sectors[0], other.sectors[0]);
-}
-
 // Combines the star with another one, whose rays it has.
 fn combine(star: &mut Star, other: &Star, op: Op)
     requires turned { IsTurned star.old }
@@ -82,7 +107,7 @@ fn combine(star: &mut Star, other: &Star, op: Op)
 {
     star.mark = op.label(star.mark, other.mark);
     if star.rays.is_empty() {
-        combine_sector(star, other, op);
+        star.sectors[0] = op.label(star.sectors[0], other.sectors[0]);
         return;
     }
     combine_rays(star, other, op);

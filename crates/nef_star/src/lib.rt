@@ -2,20 +2,12 @@
 #![tactic(auto)]
 
 mod combining;
-mod crossing;
-mod cut;
-mod laws;
-mod line;
-mod needless;
-mod op;
+mod rays;
 mod rounds;
 mod star;
 
 pub use combining::merge;
-pub use laws::star_laws;
-pub use line::{Line, crossed};
-pub use needless::simplify;
-pub use op::Op;
-pub use rounds::round;
-pub use star::{Ray, Star, is_plain, is_straight};
+pub use rays::{before_of, simplify};
+pub use rounds::{Line, bare, crossed, round};
+pub use star::{Op, Ray, Star, is_plain, is_straight, star_laws};
 pub use std::alloc::AllocError as OutOfMemory;

@@ -1,37 +1,30 @@
-//! Stars put together from their rays.
+//! Stars put together: of their rays, or of two great circles that cross.
 
-ghost use Rattle.std.specs.Prelude.{◌≡◌, ◌<◌, ◌+◌, ℕ, length, IsTrue, IfOk, OnOk};
-ghost use Rattle.nef_space.specs.Limits.{svertex_limit};
-ghost use Rattle.nef_space.specs.Lists.{IsAt};
-ghost use Rattle.nef_space.specs.Vectors.{IsAtMost};
-ghost use Rattle.nef_geo.specs.Shapes.{vector_of};
+ghost use Rattle.std.specs.Prelude.{◌≡◌, ◌<◌, ◌+◌, ◌∷◌};
+ghost use Rattle.nef_geo.specs.Prelude.{ℕ, [], length, IsTrue, IfOk, OnOk, svertex_limit, IsAt, IsAtMost, IsParallel, vector_of};
 ghost use Rattle.nef_star.specs.Rounds.{End, AreApart, IsRound, HasWays, IsEnded, IsWhole, AreTwoWays};
 ghost use Rattle.nef_star.specs.Stars.{left_of, IsRay, IsTurned, IsStar};
 ghost use Rattle.nef_star.specs.declared.star.Star.{Star};
+ghost use Rattle.nef_star.specs.Ops.{op_label};
+ghost use Rattle.nef_star.specs.Lines.{IsLine, IsCrossed, IsFourRays};
 
 use crate::OutOfMemory;
-use crate::cut::{cut, left_of_ray, with_mark};
-use crate::needless::begin_with_least;
-use crate::star::{Ray, Star};
-use nef_geo::{Dir, Label};
+use crate::rays::{begin_with_least, cut, with_mark};
+use crate::star::{Op, Ray, Star};
+use nef_geo::{Dir, Label, triple};
 use std::alloc::Global;
 
-// The star without rays whose only sector has the label of the axis.
-fn bare(alloc: Global, axis: Dir, mark: Label) -> Result<Star, OutOfMemory>
+/// The star without rays, whose one sector has the label `around`. `OutOfMemory` says that memory was wanted and not found.
+pub fn bare(alloc: Global, axis: Dir, mark: Label, around: Label) -> Result<Star, OutOfMemory>
     requires small { IsAtMost svertex_limit (vector_of axis) }
-    ensures turned { IfOk result (λ t. IsTurned t) }
+    ensures star { IfOk result (λ t. IsStar t) }
     ensures axis { IfOk result (λ t. t.axis ≡ axis) }
+    ensures rays { IfOk result (λ t. t.rays.items ≡ []) }
+    ensures sectors { IfOk result (λ t. t.sectors.items ≡ around ∷ []) }
     ensures mark { IfOk result (λ t. t.mark ≡ mark) }
-    ensures none { IfOk result (λ t. length t.rays.items ≡ 0) }
 {
-    let mut sectors = Vec::new(alloc);
-    sectors.push(mark)?;
-    Ok(Star {
-        axis,
-        rays: Vec::new(alloc),
-        sectors,
-        mark,
-    })
+    let sectors = Vec::from_slice(alloc, &[around])?;
+    Ok(Star::of(axis, Vec::new(alloc), sectors, mark))
 }
 
 // Puts the rays into a star that has none.
@@ -99,7 +92,7 @@ fn all_ways(
     ensures axis { IfOk result (λ t. t.axis ≡ axis) }
     ensures mark { IfOk result (λ t. t.mark ≡ mark) }
 {
-    let mut star = bare(alloc, axis, mark)?;
+    let mut star = bare(alloc, axis, mark, mark)?;
     cut_ways(&mut star, ends)?;
     end_rays(&mut star, ends);
     Ok(star)
@@ -129,12 +122,7 @@ fn two_ways(
     let (first, second) = (ends[0], ends[1]);
     let rays = Vec::from_slice(alloc, &[first.0, second.0])?;
     let sectors = Vec::from_slice(alloc, &[first.1, second.1])?;
-    Ok(Star {
-        axis,
-        rays,
-        sectors,
-        mark,
-    })
+    Ok(Star::of(axis, rays, sectors, mark))
 }
 
 /// The star with this axis and these rays, in whatever order they are given, each with the label of the sector after
@@ -159,6 +147,71 @@ pub fn round(
     } else {
         all_ways(alloc, axis, mark, ends)?
     };
+    begin_with_least(&mut star);
+    Ok(star)
+}
+
+/// A great circle near one of its directions: the label on it, and those on the side to which the normal points and on
+/// the other.
+#[derive(Debug, Clone, Copy, PartialEq, Eq)]
+pub struct Line {
+    pub normal: Dir,
+    pub mark: Label,
+    pub pos: Label,
+    pub neg: Label,
+}
+
+// The four rays of two lines that cross, from the first line's that goes ahead on. The second line's next ray goes ahead
+// if `left`.
+fn four_rays(
+    alloc: Global,
+    axis: Dir,
+    x: &Line,
+    y: &Line,
+    left: bool,
+    op: Op,
+) -> Result<Star, OutOfMemory>
+    ensures rays { IfOk result (λ t. IsFourRays op axis x.now y.now left t) }
+{
+    let (past, before) = if left { (y.pos, y.neg) } else { (y.neg, y.pos) };
+    let rays = Vec::from_slice(
+        alloc,
+        &[
+            Ray::of(x.normal, true, op.label(x.mark, before)),
+            Ray::of(y.normal, left, op.label(x.pos, y.mark)),
+            Ray::of(x.normal, false, op.label(x.mark, past)),
+            Ray::of(y.normal, !left, op.label(x.neg, y.mark)),
+        ],
+    )?;
+    let sectors = Vec::from_slice(
+        alloc,
+        &[
+            op.label(x.pos, before),
+            op.label(x.pos, past),
+            op.label(x.neg, past),
+            op.label(x.neg, before),
+        ],
+    )?;
+    let mark = op.label(x.mark, y.mark);
+    Ok(Star::of(axis, rays, sectors, mark))
+}
+
+/// The star of a direction in which two great circles cross, with the labels of the operation on theirs. It isn't merged
+/// of two stars, since the order of the four rays is known at once. `OutOfMemory` says that memory was wanted and not
+/// found.
+pub fn crossed(alloc: Global, axis: Dir, x: &Line, y: &Line, op: Op) -> Result<Star, OutOfMemory>
+    requires small { IsAtMost svertex_limit (vector_of axis) }
+    requires first { IsLine (vector_of axis) x.now }
+    requires second { IsLine (vector_of axis) y.now }
+    requires apart { IsParallel (vector_of x.now.normal) (vector_of y.now.normal) → ⊥ }
+    ensures star { IfOk result (λ t. IsStar t) }
+    ensures axis { IfOk result (λ t. t.axis ≡ axis) }
+    ensures mark { IfOk result (λ t. t.mark ≡ op_label op x.now.mark y.now.mark) }
+    ensures labels { IfOk result (IsCrossed op axis x.now y.now) }
+{
+    // whether the second line leaves the axis less than half a turn after the first, both ahead
+    let left = triple(&axis, &x.normal, &y.normal).is_plus();
+    let mut star = four_rays(alloc, axis, x, y, left, op)?;
     begin_with_least(&mut star);
     Ok(star)
 }

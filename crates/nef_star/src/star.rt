@@ -1,19 +1,22 @@
-//! Rays and stars.
+//! Rays, stars, and the operations whose labels they take.
 
-ghost use Rattle.std.specs.Prelude.{◌≡◌, ◌↔◌, IsTrue};
+ghost use Rattle.std.specs.Prelude.{◌≡◌, ◌↔◌};
+ghost use Rattle.nef_geo.specs.Prelude.{IsTrue, vector_of, label_number};
 ghost use Rattle.law_sphere.specs.Stars.{IsPlain, IsStraight};
-ghost use Rattle.nef_geo.specs.Shapes.{vector_of};
 ghost use Rattle.nef_star.specs.Stars.{star_of, left_of, AreStraight, IsStar};
+ghost use Rattle.nef_star.specs.Laws.{EachHasOneLabel};
+ghost use Rattle.nef_star.specs.Ops.{op_label};
 
+use nef_case::{op_and, op_diff, op_or, op_xor};
 use nef_geo::{Dir, Label};
 
 /// A ray leaves the axis along `normal x axis` where it goes ahead, and the opposite way otherwise. Its normal is
-/// perpendicular to the axis.
+/// perpendicular to the axis. `mark` is the label on it.
 #[derive(Debug, Clone, Copy, PartialEq, Eq)]
 pub struct Ray {
-    pub(crate) normal: Dir,
-    pub(crate) ahead: bool,
-    pub(crate) mark: Label,
+    pub normal: Dir,
+    pub ahead: bool,
+    pub mark: Label,
 }
 
 impl Ray {
@@ -30,27 +33,6 @@ impl Ray {
         }
     }
 
-    /// The normal of the plane that the ray and the axis lie in.
-    pub fn normal(&self) -> &Dir
-        ensures normal { result.now ≡ self.now.normal }
-    {
-        &self.normal
-    }
-
-    /// Whether the ray leaves the axis along `normal x axis`.
-    pub fn ahead(&self) -> bool
-        ensures ahead { result ≡ self.now.ahead }
-    {
-        self.ahead
-    }
-
-    /// The label on the ray.
-    pub fn mark(&self) -> Label
-        ensures mark { result ≡ self.now.mark }
-    {
-        self.mark
-    }
-
     /// The direction to the left of the ray, seen from outside.
     pub(crate) fn left(&self) -> Dir
         ensures left { vector_of result ≡ left_of self.now }
@@ -65,13 +47,13 @@ impl Ray {
 
 /// The neighbourhood of the direction `axis` on the sphere. The rays stand in counterclockwise order, seen from
 /// outside, and begin with the least by normal, with one that goes ahead before its opposite. Sector i lies after
-/// ray i, counterclockwise; a star without rays has one sector.
+/// ray i, counterclockwise; a star without rays has one sector. `mark` is the label on the axis.
 #[derive(Debug, Drop)]
 pub struct Star {
-    pub(crate) axis: Dir,
-    pub(crate) rays: Vec<Ray>,
-    pub(crate) sectors: Vec<Label>,
-    pub(crate) mark: Label,
+    pub axis: Dir,
+    pub rays: Vec<Ray>,
+    pub sectors: Vec<Label>,
+    pub mark: Label,
 }
 
 impl Star {
@@ -90,34 +72,6 @@ impl Star {
             sectors,
             mark,
         }
-    }
-
-    /// The direction whose neighbourhood the star is.
-    pub fn axis(&self) -> &Dir
-        ensures axis { result.now ≡ self.now.axis }
-    {
-        &self.axis
-    }
-
-    /// The rays in order.
-    pub fn rays(&self) -> &[Ray]
-        ensures rays { result.now ≡ self.now.rays.items }
-    {
-        self.rays.as_slice()
-    }
-
-    /// The labels of the sectors: number i lies after ray i.
-    pub fn sectors(&self) -> &[Label]
-        ensures sectors { result.now ≡ self.now.sectors.items }
-    {
-        self.sectors.as_slice()
-    }
-
-    /// The label on the axis.
-    pub fn mark(&self) -> Label
-        ensures mark { result ≡ self.now.mark }
-    {
-        self.mark
     }
 }
 
@@ -149,4 +103,47 @@ pub fn is_straight(star: &Star) -> bool
         return false;
     }
     are_straight(&star.rays[0], &star.rays[1], star.mark)
+}
+
+/// A star gives each direction that isn't parallel to its axis exactly one label.
+pub fn star_laws()
+    ensures one_label { EachHasOneLabel }
+{}
+
+/// A boolean operation on two sets: CGAL manual, "3D Boolean Operations on Nef Polyhedra".
+#[derive(Debug, Clone, Copy, PartialEq, Eq)]
+pub enum Op {
+    And,
+    Or,
+    /// The first without the second.
+    Diff,
+    /// Where exactly one of the two holds.
+    Xor,
+}
+
+// The label of a number from -1 to 1.
+fn label_of(number: i8) -> Label
+    ensures label { (l : Label) → number ≡ label_number l → result ≡ l }
+{
+    match number {
+        0 => Label::Not,
+        1 => Label::In,
+        _ => Label::Out,
+    }
+}
+
+impl Op {
+    /// The label of the combination, from the labels of its two sets: `Out` where one is `Out`; otherwise
+    /// `In` exactly where the combination holds.
+    pub fn label(self, a: Label, b: Label) -> Label
+        ensures label { result ≡ op_label self a b }
+    {
+        let key = [a.number(), b.number()];
+        match self {
+            Op::And => label_of(op_and(&key)),
+            Op::Or => label_of(op_or(&key)),
+            Op::Diff => label_of(op_diff(&key)),
+            Op::Xor => label_of(op_xor(&key)),
+        }
+    }
 }

@@ -19,8 +19,8 @@ use Rattle.nef_script.specs.Table.{binds}
 use Rattle.nef_script.specs.Tests.{number_or_zero, on_verb}
 use Rattle.nef_script.specs.Refusal.{bound_name}
 use Rattle.nef_script.specs.Meaning.{Names, IsNode, Sets, IsBind, IsTurn, IsBinding, MeansCommand, MeansWords}
-use Rattle.nef_script.specs.declared.table.Verb.{Verb}
-use Rattle.nef_script.specs.declared.table.Verb.TheVariants as verb
+use Rattle.nef_script.specs.declared.arguments.Verb.{Verb}
+use Rattle.nef_script.specs.declared.arguments.Verb.TheVariants as verb
 use Rattle.nef_script.specs.declared.script.Command.{Command}
 use Rattle.nef_statement.specs.Denotes.{Bindings, set_named, made_of, bound_set, and_bound, bound_after}
 use Rattle.nef_statement.proofs.Alike.{same-self, same-half, same-other, same-inside, same-closed, same-border, same-regular, same-both, same-either, same-less, same-one_of}

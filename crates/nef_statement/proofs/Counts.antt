@@ -5,7 +5,7 @@ use Rattle.nef_space.specs.Sets.{Set}
 use Rattle.law_near.proofs.Alike.{Joined-same, cones-of_same, FlatDim-by_cone}
 use Rattle.nef_conn.specs.Components.{HasComponents}
 use Rattle.nef_conn.proofs.OneCount.{one-count}
-use Rattle.nef_parts.specs.Text.{line, numbers}
+use Rattle.nef_complex.specs.Text.{line, numbers}
 use Rattle.nef_statement.specs.Written.{CountTells}
 use Rattle.nef_statement.proofs.Alike.{same-turned}
 

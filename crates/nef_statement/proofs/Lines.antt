@@ -16,7 +16,7 @@ use Rattle.nef_lex.proofs.Decimal.{decimal_value-push}
 use Rattle.nef_lex.proofs.LineLaws.{pieces_of_ended}
 use Rattle.nef_lex.proofs.WordLaws.{words_of_spaced}
 use Rattle.nef_script.specs.Tests.{number_or_zero}
-use Rattle.nef_parts.specs.Text.{Word, line}
+use Rattle.nef_complex.specs.Text.{Word, line}
 use Rattle.nef_statement.specs.Reader.{Row, rows_of}
 
 -- each element has P

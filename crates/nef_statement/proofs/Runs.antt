@@ -5,13 +5,13 @@ use Rattle.std.specs.Io.KnownBytes.{Consumes, IsAtEnd}
 use Rattle.std.proofs.lemmas.Bool.{cases_lt}
 use Rattle.std.proofs.lemmas.List.{take_all, take-take}
 use Rattle.nef_space.specs.Sets.{Set}
-use Rattle.nef_core.specs.declared.how.TextVersion.{TextVersion}
+use Rattle.nef_core.specs.declared.work.TextVersion.{TextVersion}
 use Rattle.nef_io.specs.Bytes.{Grows, GrowsWithin}
 use Rattle.nef_lex.specs.Lines.{lines_of}
-use Rattle.nef_words.specs.declared.options.Options.{Options}
+use Rattle.nef_words.specs.declared.words.Options.{Options}
 use Rattle.nef_words.specs.Chosen.{options_of}
-use Rattle.nef_script.specs.declared.fault.ScriptKind.{ScriptKind}
-use Rattle.nef_script.specs.declared.fault.ScriptKind.TheVariants.{ScriptTooLong}
+use Rattle.nef_script.specs.declared.script.ScriptKind.{ScriptKind}
+use Rattle.nef_script.specs.declared.script.ScriptKind.TheVariants.{ScriptTooLong}
 use Rattle.nef_script.specs.Refusal.{script_limit, FirstRefusal, IsAccepted}
 use Rattle.nef_script.specs.Stairs.{stairs_text}
 use Rattle.nef_script.proofs.RefusalLaws.{one_refusal, never_both, decided}

@@ -1,6 +1,6 @@
 -- The statement.
 use Rattle.std.proofs.Common.{◌≡◌, ℕ, List, []}
-use Rattle.nef_core.specs.declared.how.TextVersion.{TextVersion}
+use Rattle.nef_core.specs.declared.work.TextVersion.{TextVersion}
 use Rattle.nef_space.specs.Sets.{Set}
 use Rattle.nef_statement.specs.Statement.{Statement}
 use Rattle.nef_statement.specs.Texts.{IsText}

@@ -8,19 +8,19 @@ use Rattle.law_complex.specs.Complexes.{Vertex, Edge, Edges}
 use Rattle.law_complex.proofs.FacetNames.{facet-at, facet-of}
 use Rattle.law_complex.proofs.Skeletons.{belongs-holds}
 use Rattle.nef_complex.specs.Complexes.{complex_of, vertex_of, edge_of, ShowsSet}
-use Rattle.nef_core.specs.declared.how.TextVersion.{TextVersion}
+use Rattle.nef_core.specs.declared.work.TextVersion.{TextVersion}
 use Rattle.nef_unique.proofs.Vertices.{edges-one, set-vertices}
 use Rattle.law_text.proofs.SameText.{same-parts, same-set_text, text-set, spelled-holds}
-use Rattle.nef_parts.specs.Numbers.{IsParts}
-use Rattle.nef_parts.specs.Text.{version_word, first_line, vertices_text, edge_line, facet_text, line, numbers, volumes_text, text, Spells}
+use Rattle.nef_complex.specs.Numbers.{IsParts}
+use Rattle.nef_complex.specs.Text.{version_word, first_line, vertices_text, edge_line, facet_text, line, numbers, volumes_text, text, Spells}
 use Rattle.std.specs.Prelude.{codes}
 use Rattle.std.specs.List.{flat_map}
 use Rattle.nef_statement.proofs.Counts.{count-same}
-use Rattle.nef_parts.specs.declared.parts.Parts.{Parts}
+use Rattle.nef_complex.specs.declared.parts.Parts.{Parts}
 use Rattle.nef_complex.specs.declared.complex.Complex.{Complex}
 use Rattle.nef_complex.specs.declared.complex.Vertex.{Vertex as ComplexVertex}
 use Rattle.nef_complex.specs.declared.complex.Edge.{Edge as ComplexEdge}
-use Rattle.nef_core.specs.declared.how.TextVersion.TheVariants.{One, Two}
+use Rattle.nef_core.specs.declared.work.TextVersion.TheVariants.{One, Two}
 use Rattle.nef_volumes.proofs.Components.{are-counted}
 use Rattle.nef_statement.specs.Reader.{rows_of, vertices_told, with_edges, TextSays}
 use Rattle.nef_statement.specs.Texts.{count_line, IsWrittenOf, IsText}

@@ -24,14 +24,14 @@ use Rattle.nef_complex.specs.declared.complex.Edge.{Edge}
 use Rattle.nef_complex.specs.declared.complex.Corner.{Corner}
 use Rattle.nef_complex.specs.declared.complex.Complex.{Complex}
 use Rattle.nef_complex.specs.Complexes.{vertex_of}
-use Rattle.nef_core.specs.declared.how.TextVersion.{TextVersion}
-use Rattle.nef_core.specs.declared.how.TextVersion.TheVariants.{One, Two}
-use Rattle.nef_parts.specs.declared.parts.Cycle.{Cycle}
-use Rattle.nef_parts.specs.declared.parts.Facet.{Facet}
-use Rattle.nef_parts.specs.declared.parts.Parts.{Parts}
-use Rattle.nef_parts.specs.declared.parts.Shell.{Shell}
-use Rattle.nef_parts.specs.declared.parts.Side.{Side}
-use Rattle.nef_parts.specs.Text.{Word, line, label_word, option_word, numbers, signed, svertex_line, arc_line, sloop_line, vertex_line, vertex_text, edge_line, corner_words, cycle_line, facet_line, facet_text, volume_line, sface_line, side_words, shell_line, faced_text, shelled_text, with_rows, counts, version_word, first_line, vertices_text, volumes_text, text}
+use Rattle.nef_core.specs.declared.work.TextVersion.{TextVersion}
+use Rattle.nef_core.specs.declared.work.TextVersion.TheVariants.{One, Two}
+use Rattle.nef_complex.specs.declared.parts.Cycle.{Cycle}
+use Rattle.nef_complex.specs.declared.parts.Facet.{Facet}
+use Rattle.nef_complex.specs.declared.parts.Parts.{Parts}
+use Rattle.nef_complex.specs.declared.parts.Shell.{Shell}
+use Rattle.nef_complex.specs.declared.parts.Side.{Side}
+use Rattle.nef_complex.specs.Text.{Word, line, label_word, option_word, numbers, signed, svertex_line, arc_line, sloop_line, vertex_line, vertex_text, edge_line, corner_words, cycle_line, facet_line, facet_text, volume_line, sface_line, side_words, shell_line, faced_text, shelled_text, with_rows, counts, version_word, first_line, vertices_text, volumes_text, text}
 use Rattle.law_text.proofs.Vertices.{with-rows_firsts}
 use Rattle.nef_script.specs.Tests.{number_or_zero}
 use Rattle.nef_statement.specs.Reader.{Row, rows_of, word_at, number_at, Told, told, with_row, told_by, vertices_told, positive}

@@ -1,10 +1,10 @@
 -- What the words choose, and what a run leaves of the source and of the sink.
 use Rattle.std.specs.Prelude.{◌≡◌, ℕ, ◌+◌, List, Option, Some, None, IsSome, option_map, length, ◌⊎◌}
 use Rattle.std.specs.Io.KnownBytes.{Consumes, IsAtEnd}
-use Rattle.nef_core.specs.declared.how.TextVersion.{TextVersion}
+use Rattle.nef_core.specs.declared.work.TextVersion.{TextVersion}
 use Rattle.nef_io.specs.Bytes.{Rose, Grows, GrowsWithin}
 use Rattle.nef_words.specs.Chosen.{options_of}
-use Rattle.nef_script.specs.declared.fault.ScriptKind.{ScriptKind}
+use Rattle.nef_script.specs.declared.script.ScriptKind.{ScriptKind}
 use Rattle.nef_script.specs.Refusal.{script_limit, FirstRefusal}
 use Rattle.nef_script.specs.Stairs.{stairs_text}
 use Rattle.nef_statement.specs.declared.status.Status.{Status}

@@ -7,8 +7,8 @@ use Rattle.law_turns.specs.Turned.{turned_set}
 use Rattle.nef_lex.specs.Words.{words_of}
 use Rattle.nef_script.specs.Table.{verb_of}
 use Rattle.nef_script.specs.Tests.{number_or_zero}
-use Rattle.nef_script.specs.declared.table.Verb.{Verb}
-use Rattle.nef_script.specs.declared.table.Verb.TheVariants as verb
+use Rattle.nef_script.specs.declared.arguments.Verb.{Verb}
+use Rattle.nef_script.specs.declared.arguments.Verb.TheVariants as verb
 
 -- the names that are bound so far, each with its set
 abbrev pub Bindings : Type 0

@@ -10,7 +10,7 @@ use Rattle.nef_space.specs.declared.label.Label.TheVariants.{Out, Not, In}
 use Rattle.nef_geo.specs.Shapes.{place_of}
 use Rattle.nef_ray.specs.Ends.{IsRayEnd}
 use Rattle.nef_ray.specs.declared.ray.RayEnd.{RayEnd}
-use Rattle.nef_script.specs.declared.fault.ScriptKind.{ScriptKind}
+use Rattle.nef_script.specs.declared.script.ScriptKind.{ScriptKind}
 use Rattle.nef_script.specs.Texts.{kind_text}
 
 -- each line ends with LF

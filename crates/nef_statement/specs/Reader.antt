@@ -12,8 +12,8 @@ use Rattle.law_complex.specs.Belongs.{Belongs}
 use Rattle.law_complex.specs.Complexes.{Vertex, Edge, Complex, Edges}
 use Rattle.nef_lex.specs.Lines.{lines_of}
 use Rattle.nef_lex.specs.Words.{words_of}
-use Rattle.nef_core.specs.declared.how.TextVersion.{TextVersion}
-use Rattle.nef_parts.specs.Text.{version_word}
+use Rattle.nef_core.specs.declared.work.TextVersion.{TextVersion}
+use Rattle.nef_complex.specs.Text.{version_word}
 use Rattle.nef_script.specs.Tests.{number_or_zero}
 use Rattle.nef_statement.specs.Written.{CountTells}
 

@@ -9,8 +9,8 @@ use Rattle.nef_geo.specs.Shapes.{place_at}
 use Rattle.nef_lex.specs.Words.{words_of}
 use Rattle.nef_script.specs.Table.{verb_of}
 use Rattle.nef_script.specs.Tests.{number_or_zero}
-use Rattle.nef_script.specs.declared.table.Verb.{Verb}
-use Rattle.nef_script.specs.declared.table.Verb.TheVariants as verb
+use Rattle.nef_script.specs.declared.arguments.Verb.{Verb}
+use Rattle.nef_script.specs.declared.arguments.Verb.TheVariants as verb
 use Rattle.nef_statement.specs.Output.{answer_of, framed, IsSameAnswer, IsJoinedAnswer, IsRayAnswer}
 use Rattle.nef_statement.specs.Written.{CountTells}
 use Rattle.nef_statement.specs.Denotes.{Bindings, set_named, bound_set, bound_after}

@@ -8,10 +8,10 @@ use Rattle.std.specs.declared.string.String.{String}
 use Rattle.std.specs.declared.vec.IntoIter.{IntoIter}
 use Rattle.nef_space.specs.Local.{SameSet}
 use Rattle.nef_space.specs.Sets.{Set}
-use Rattle.nef_core.specs.declared.how.TextVersion.{TextVersion}
+use Rattle.nef_core.specs.declared.work.TextVersion.{TextVersion}
 use Rattle.nef_io.specs.Bytes.{Rose, Grows, GrowsWithin}
 use Rattle.nef_lex.specs.Lines.{lines_of}
-use Rattle.nef_script.specs.declared.fault.ScriptKind.{ScriptKind}
+use Rattle.nef_script.specs.declared.script.ScriptKind.{ScriptKind}
 use Rattle.nef_script.specs.Refusal.{FirstRefusal, IsAccepted}
 use Rattle.nef_statement.specs.declared.status.Status.{Status}
 use Rattle.nef_statement.specs.declared.status.Status.TheVariants.{Done, Refused, Words, ReadFault, WriteFault, OutOfMemory}

@@ -1,5 +1,10 @@
 -- How a run ends.
 use Rattle.std.specs.Prelude.{◌≡◌, ℕ, ◌⊎◌}
+use Rattle.nef_io.specs.declared.traits.ReadAll.{ReadAll}
+use Rattle.nef_io.specs.declared.traits.ReadAll.TheVariants as read
+use Rattle.nef_script.specs.declared.script.ScriptFault.{ScriptFault}
+use Rattle.nef_script.specs.declared.script.ScriptFault.TheVariants as fault
+use Rattle.nef_script.specs.declared.script.ScriptKind.TheVariants.{ScriptTooLong}
 use Rattle.nef_statement.specs.declared.status.Status.{Status}
 use Rattle.nef_statement.specs.declared.status.Status.TheVariants.{Done, Refused, Words, ReadFault, WriteFault, OutOfMemory}
 
@@ -22,3 +27,14 @@ EndsByItself Done = Unit {0}
 EndsByItself (Refused line kind) = Unit {0}
 EndsByItself Words = Unit {0}
 EndsByItself _ = ⊥
+
+-- what reading says: too many bytes are a refusal of the whole script, line 0
+abbrev pub unread : ReadAll → Status
+unread read.ReadFault = ReadFault
+unread read.TooLong = Refused 0 ScriptTooLong
+unread read.OutOfMemory = OutOfMemory
+
+-- what checking says
+abbrev pub unaccepted : ScriptFault → Status
+unaccepted (fault.Refused line kind) = Refused line kind
+unaccepted fault.OutOfMemory = OutOfMemory

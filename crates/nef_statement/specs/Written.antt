@@ -2,7 +2,7 @@
 use Rattle.std.specs.Prelude.{◌≡◌, ℕ, List, [], ◌∷◌}
 use Rattle.nef_space.specs.Sets.{Set}
 use Rattle.nef_conn.specs.Components.{HasComponents}
-use Rattle.nef_parts.specs.Text.{line, numbers}
+use Rattle.nef_complex.specs.Text.{line, numbers}
 
 -- the four numbers are those of the connected components of the points with no, one, two and three flat directions, over all of space
 pub record CountTells (s : Set) (x : List ℕ) : Type 0 where

@@ -3,8 +3,6 @@
 //! the proofs: what has the laws of `Statement` is the text of a set, whatever makes it.
 #![tactic(auto)]
 
-mod laws;
 mod status;
 
-pub use laws::{statement_examples, statement_laws};
-pub use status::Status;
+pub use status::{Status, statement_examples, statement_laws};

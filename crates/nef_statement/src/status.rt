@@ -1,6 +1,13 @@
-//! How a run ends.
+//! How a run ends, and what all runs say.
 
-use nef_script::ScriptKind;
+ghost use Rattle.nef_statement.specs.Examples.{DenotedExample, ToldExample};
+ghost use Rattle.nef_statement.specs.Meanings.{NodesDenote};
+ghost use Rattle.nef_statement.specs.Statement.{Statement};
+ghost use Rattle.nef_statement.specs.Texts.{IsText};
+
+use nef_io::{Failed, ReadAll};
+use nef_script::{ScriptFault, ScriptKind};
+use std::alloc::AllocError;
 
 /// How a run ended, and what it wrote by then.
 #[derive(Debug, Clone, Copy, PartialEq, Eq)]
@@ -18,3 +25,71 @@ pub enum Status {
     /// Some front of what the words and the script define. Memory was wanted and not found.
     OutOfMemory,
 }
+
+impl From<ReadAll> for Status {
+    ghost use Rattle.std.specs.Prelude.{◌≡◌};
+    ghost use Rattle.nef_statement.specs.Status.{unread};
+
+    ghost from_gives = { λ fault r. r ≡ unread fault };
+
+    fn from(fault: ReadAll) -> Self {
+        match fault {
+            ReadAll::ReadFault => Status::ReadFault,
+            ReadAll::TooLong => Status::Refused {
+                line: 0,
+                kind: ScriptKind::ScriptTooLong,
+            },
+            ReadAll::OutOfMemory => Status::OutOfMemory,
+        }
+    }
+}
+
+impl From<ScriptFault> for Status {
+    ghost use Rattle.std.specs.Prelude.{◌≡◌};
+    ghost use Rattle.nef_statement.specs.Status.{unaccepted};
+
+    ghost from_gives = { λ fault r. r ≡ unaccepted fault };
+
+    fn from(fault: ScriptFault) -> Self {
+        match fault {
+            ScriptFault::Refused { line, kind } => Status::Refused { line, kind },
+            ScriptFault::OutOfMemory => Status::OutOfMemory,
+        }
+    }
+}
+
+impl From<Failed> for Status {
+    ghost use Rattle.std.specs.Prelude.{◌≡◌};
+    ghost use Rattle.nef_statement.specs.declared.status.Status.{Status};
+
+    ghost from_gives = { λ e r. r ≡ Status.WriteFault };
+
+    fn from(_error: Failed) -> Self {
+        Status::WriteFault
+    }
+}
+
+impl From<AllocError> for Status {
+    ghost use Rattle.std.specs.Prelude.{◌≡◌};
+    ghost use Rattle.nef_statement.specs.declared.status.Status.{Status};
+
+    ghost from_gives = { λ e r. r ≡ Status.OutOfMemory };
+
+    fn from(_error: AllocError) -> Self {
+        Status::OutOfMemory
+    }
+}
+
+/// Lines say one output. So runs that are asked for the same write fronts of one output, however they end, and those that
+/// come to an end of their own write all of it. Two texts are equal exactly where their sets are one, and a text tells its
+/// set. The nodes of a script's meaning have the sets that its lines give the names.
+pub fn statement_laws()
+    ensures states { Statement IsText }
+    ensures denotes { NodesDenote }
+{}
+
+/// The definitions at worked examples.
+pub fn statement_examples()
+    ensures denoted { DenotedExample }
+    ensures told { ToldExample }
+{}

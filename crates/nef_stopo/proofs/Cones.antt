@@ -11,8 +11,8 @@ use Rattle.law_near.proofs.Combine.{and-label, or-label, less-label, one_of-labe
 use Rattle.law_sphere.specs.Labelling.{ByOp}
 use Rattle.law_sphere.specs.Least.{Cone}
 use Rattle.law_sphere.specs.Maps.{Map, MapLabel, Valid}
-use Rattle.nef_star.specs.declared.op.Op.{Op}
-use Rattle.nef_star.specs.declared.op.Op.TheVariants.{And, Or, Diff, Xor}
+use Rattle.nef_star.specs.declared.star.Op.{Op}
+use Rattle.nef_star.specs.declared.star.Op.TheVariants.{And, Or, Diff, Xor}
 use Rattle.nef_star.specs.Ops.{op_label}
 use Rattle.nef_stopo.specs.Sets.{op_set}
 

@@ -9,7 +9,7 @@ use Rattle.law_border.specs.Topology.{Topology}
 use Rattle.law_border.specs.Marks.{is_in, all_in, some_in, label_by, label_from, ray_mark}
 use Rattle.nef_star.specs.declared.star.Ray.{Ray}
 use Rattle.nef_star.specs.Stars.{ray_of}
-use Rattle.nef_stopo.specs.declared.nearby.Nearby.{Nearby}
+use Rattle.nef_stopo.specs.declared.topology.Nearby.{Nearby}
 use Rattle.nef_stopo.specs.Labels.{nearby_of}
 
 and-append : (a : Bool) (xs ys : List Label) → a && (all_in xs && all_in ys) ≡ (a && all_in xs) && all_in ys

@@ -1,20 +1,45 @@
 -- A least map with In and Not exchanged everywhere is the least map of the complement.
-use Rattle.std.proofs.Common.{◌≡◌, List, Option, map, ap, sym, subst, ◌∙◌}
+use Rattle.std.proofs.Common.{◌≡◌, List, [], ◌∷◌, Option, Some, None, Bool, map, refl, ap, sym, subst, ◌∙◌}
 use Rattle.std.specs.Prelude.{option_map}
 use Rattle.nef_space.specs.Limits.{normal_limit, svertex_limit}
 use Rattle.nef_space.specs.Place.{Place}
 use Rattle.nef_space.specs.Sets.{Set}
 use Rattle.nef_space.specs.Vectors.{IsAtMost}
 use Rattle.nef_space.specs.declared.label.Label.{Label}
+use Rattle.nef_space.specs.declared.label.Label.TheVariants.{Out, Not, In}
 use Rattle.law_sphere.specs.Maps.{MapVertex, Arc, MapSloop, Item, Map, item_normal, Valid}
 use Rattle.law_sphere.specs.Least.{Least, Ordered, Cone}
 use Rattle.law_border.specs.Topology.{complement}
-use Rattle.law_border.specs.Marks.{exchanged, exchanged_svertex, exchanged_arc, exchanged_sloop, exchanged_map}
+use Rattle.law_border.specs.Marks.{all_in, some_in, label_by, sloop_by, exchanged, exchanged_svertex, exchanged_arc, exchanged_sloop, exchanged_map}
 use Rattle.law_border.proofs.Cones.{topology-cone}
 use Rattle.law_border.proofs.Exchanged.{item-same, svertex-was, item-was}
 use Rattle.law_border.proofs.ExchangedLabels.{exchanged-laws}
+use Rattle.nef_smap.specs.declared.map.SArc.{SArc}
 use Rattle.nef_smap.specs.declared.map.SphereMap.{SphereMap}
+use Rattle.nef_smap.specs.declared.map.SVertex.{SVertex}
 use Rattle.nef_smap.specs.Maps.{svertex_of, arc_of, sloop_of, map_of, IsSmall, IsLeastMap}
+
+-- the complement of a circle looks at no labels close to it
+other-label : (l : Label) (all some : Bool) → label_by complement l all some ≡ exchanged l
+other-label Out all some = refl
+other-label Not all some = refl
+other-label In all some = refl
+
+abbrev other_sides : MapSloop → Label → MapSloop
+other_sides l m = record { normal = l.normal; pos = exchanged l.pos; mark = m; neg = exchanged l.neg }
+
+pub other-sloop : (o : Option MapSloop) → option_map (sloop_by complement) o ≡ option_map exchanged_sloop o
+other-sloop None = refl
+other-sloop (Some l) = ap (λ (m : Label). Some (other_sides l m)) (other-label l.mark (all_in (l.pos ∷ l.neg ∷ [])) (some_in (l.pos ∷ l.neg ∷ [])))
+
+-- what changes its labels in place changes their view
+pub svertex-other : (v : SVertex) (mark : Label) (around : Option Label) → mark ≡ exchanged v.mark → around ≡ option_map exchanged v.around
+    → svertex_of (record v { mark = mark; around = around }) ≡ exchanged_svertex (svertex_of v)
+svertex-other v mark around p q = rw (p, q) refl
+
+pub arc-other : (a : SArc) (mark pos neg : Label) → mark ≡ exchanged a.mark → pos ≡ exchanged a.pos → neg ≡ exchanged a.neg
+    → arc_of (record a { mark = mark; pos = pos; neg = neg }) ≡ exchanged_arc (arc_of a)
+arc-other a mark pos neg p q r = rw (p, q, r) refl
 
 -- n has the parts of m with In and Not exchanged
 pub record IsOther (m n : SphereMap) : Type 0 where

@@ -5,7 +5,7 @@ use Rattle.law_border.specs.Topology.{Topology as SetTopology, interior, closure
 use Rattle.law_border.specs.Marks.{all_in, some_in}
 use Rattle.nef_stopo.specs.declared.topology.Topology.{Topology}
 use Rattle.nef_stopo.specs.declared.topology.Topology.TheVariants.{Interior, Closure, Boundary, Complement}
-use Rattle.nef_stopo.specs.declared.nearby.Nearby.{Nearby}
+use Rattle.nef_stopo.specs.declared.topology.Nearby.{Nearby}
 
 abbrev pub topology_of : Topology → SetTopology
 topology_of Interior = interior

@@ -1,7 +1,7 @@
 -- The sets of the operations.
 use Rattle.nef_space.specs.Sets.{Set}
-use Rattle.nef_star.specs.declared.op.Op.{Op}
-use Rattle.nef_star.specs.declared.op.Op.TheVariants.{And, Or, Diff, Xor}
+use Rattle.nef_star.specs.declared.star.Op.{Op}
+use Rattle.nef_star.specs.declared.star.Op.TheVariants.{And, Or, Diff, Xor}
 
 -- what the operation makes of two sets
 abbrev pub op_set : Op → Set → Set → Set

@@ -1,15 +1,13 @@
-//! Operations on sphere maps: interior, closure, boundary and complement of the set that a map shows, and the combination of
-//! the sets that two maps show.
+//! Operations on sphere maps: two maps overlaid, which gives the stars of all directions that may be svertices of a
+//! combination; the combination of the sets that two maps show; and interior, closure, boundary and complement of the set
+//! that a map shows.
 #![tactic(auto)]
 
-mod combining;
-mod exchange;
-mod nearby;
+mod axes;
 mod operations;
-mod stars;
+mod overlaid;
 mod topology;
 
-pub use combining::combine;
-pub use exchange::exchanged;
-pub use operations::{boundary, closure, complement, interior};
+pub use operations::{boundary, closure, combine, complement, exchanged, interior};
+pub use overlaid::overlay;
 pub use std::alloc::AllocError as OutOfMemory;

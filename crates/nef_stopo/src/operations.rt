@@ -1,41 +1,103 @@
-//! The operations of topology on sphere maps.
+//! The operations on sphere maps: those of topology, of which the complement is made in place too, and the combination of the
+//! sets that two maps show at a point.
 
-ghost use Rattle.std.specs.Prelude.{IfOk};
-ghost use Rattle.nef_space.specs.Sets.{Set};
-ghost use Rattle.law_border.specs.Topology.{set_by};
-ghost use Rattle.law_border.specs.Topology.{interior as made_interior, closure as made_closure, boundary as made_boundary, complement as made_complement};
-ghost use Rattle.law_border.specs.Marks.{IsTopologyRaw};
-ghost use Rattle.nef_smap.specs.Maps.{map_of, raw_of, IsSphereMap, IsRawStars};
+ghost use Rattle.std.specs.Prelude.{◌≡◌, ◌↔◌};
+ghost use Rattle.nef_geo.specs.Prelude.{IfOk, length, map, Place, Set, Vector, IsDirection, Label as PlainLabel};
+ghost use Rattle.law_sphere.specs.Labelling.{ByOp};
+ghost use Rattle.law_sphere.specs.Least.{Cone};
+ghost use Rattle.law_sphere.specs.Maps.{MapLabel};
+ghost use Rattle.law_border.specs.Topology.{set_by, interior as made_interior, closure as made_closure, boundary as made_boundary, complement as made_complement};
+ghost use Rattle.nef_star.specs.Ops.{op_label};
+ghost use Rattle.nef_smap.specs.Maps.{map_of, IsSphereMap, IsLeastMap, svertex_of, arc_of};
 ghost use Rattle.nef_stopo.specs.Labels.{topology_of};
 ghost use Rattle.nef_stopo.specs.Made.{IsMadeBy};
+ghost use Rattle.nef_stopo.specs.Sets.{op_set};
+ghost use Rattle.law_border.specs.Marks.{IsRemarked, face_label, exchanged_svertex as other_svertex, exchanged_arc as other_arc};
+ghost use Rattle.nef_star.specs.Stars.{star_of, IsStar};
+ghost use Rattle.nef_stopo.specs.Stars.{AreMarked, AreRemarked};
 
 use crate::OutOfMemory;
-use crate::nearby::near_map;
-use crate::stars::remarked_stars;
-use crate::topology::Topology;
-use nef_smap::{RawStars, SphereMap};
+use crate::overlaid::overlay;
+use crate::topology::{Nearby, Topology, near_map, near_star};
+use nef_geo::{Label, List};
+use nef_smap::{RawStars, SArc, SVertex, SphereMap, star_at};
 use nef_spair::build;
+use nef_star::{Op, Ray, Star};
 use std::alloc::Global;
 
-// The map's stars, its mark, its sloop and its one face with what they become.
-fn relabelled(alloc: Global, map: &SphereMap, topology: Topology) -> Result<RawStars, OutOfMemory>
-    requires map { IsSphereMap map.now }
-    ensures raw { IfOk result IsRawStars }
-    ensures topology { IfOk result (λ raw. IsTopologyRaw (topology_of topology) (map_of map.now) (raw_of raw)) }
+// The rays with what their marks become between the sectors on their two sides.
+fn remarked_rays(alloc: Global, star: &Star, topology: Topology) -> Result<Vec<Ray>, OutOfMemory>
+    requires star { IsStar star.now }
+    ensures rays { IfOk result (λ rays. AreMarked (topology_of topology) star.now (length star.now.rays.items) rays.items) }
 {
-    Ok(RawStars {
-        mark: topology.label(map.mark, near_map(map)),
-        stars: remarked_stars(alloc, map, topology)?,
-        sloop: topology.sloop(map.sloop),
-        ground: topology.ground(map.ground),
-    })
+    let sectors = star.sectors.as_slice();
+    let mut before = sectors[sectors.len() - 1];
+    let mut rays = Vec::new(alloc);
+    for (k, ray) in star.rays.as_slice().iter().enumerate() {
+        let after = sectors[k];
+        let mark = topology.label(ray.mark, Nearby::of(before).and(Nearby::of(after)));
+        let marked = Ray::of(ray.normal, ray.ahead, mark);
+        rays.push(marked)?;
+        before = after;
+    }
+    Ok(rays)
 }
 
+// What the labels of the sectors become.
+fn remarked_sectors(
+    alloc: Global,
+    sectors: &[Label],
+    topology: Topology,
+) -> Result<Vec<Label>, OutOfMemory>
+    ensures sectors { IfOk result (λ labels. labels.items ≡ map (face_label (topology_of topology)) sectors.now) }
+{
+    sectors
+        .iter()
+        .map(|label| topology.face_label(*label))
+        .collect(alloc)
+}
+
+// The star with what its marks and its sectors become.
+fn remarked(alloc: Global, star: &Star, topology: Topology) -> Result<Star, OutOfMemory>
+    requires star { IsStar star.now }
+    ensures star { IfOk result IsStar }
+    ensures remarked { IfOk result (λ u. IsRemarked (topology_of topology) (star_of star.now) (star_of u)) }
+{
+    let rays = remarked_rays(alloc, star, topology)?;
+    let sectors = remarked_sectors(alloc, star.sectors.as_slice(), topology)?;
+    let mark = topology.label(star.mark, near_star(star));
+    Ok(Star::of(star.axis, rays, sectors, mark))
+}
+
+// The stars of the map's svertices with what their marks and their sectors become.
+fn remarked_stars(
+    alloc: Global,
+    map: &SphereMap,
+    topology: Topology,
+) -> Result<List<Star>, OutOfMemory>
+    requires map { IsSphereMap map.now }
+    ensures stars { IfOk result (λ stars. AreRemarked (topology_of topology) map.now (length map.now.svertices) stars) }
+{
+    let mut stars = List::new(alloc);
+    for svertex in map.svertices.as_slice() {
+        let star = star_at(alloc, map, &svertex.dir)?;
+        stars.push(remarked(alloc, &star, topology)?)?;
+    }
+    Ok(stars)
+}
+
+// The least map of the map's stars, its mark, its sloop and its one face with what they become.
 fn made(alloc: Global, map: &SphereMap, topology: Topology) -> Result<SphereMap, OutOfMemory>
     requires map { IsSphereMap map.now }
     ensures made { IfOk result (IsMadeBy (topology_of topology) (set_by (topology_of topology)) map.now) }
 {
-    build(alloc, relabelled(alloc, map, topology)?)
+    let raw = RawStars {
+        mark: topology.label(map.mark, near_map(map)),
+        stars: remarked_stars(alloc, map, topology)?,
+        sloop: topology.sloop(map.sloop),
+        ground: topology.ground(map.ground),
+    };
+    build(alloc, raw)
 }
 
 /// The least map of the interior: what is In, and has only In close to it. An item is In exactly where it and every
@@ -73,4 +135,64 @@ pub fn complement(alloc: Global, map: &SphereMap) -> Result<SphereMap, OutOfMemo
     ensures made { IfOk result (IsMadeBy made_complement Set.other map.now) }
 {
     made(alloc, map, Topology::Complement)
+}
+
+/// The least map whose mark and labels are those of the operation on the marks and labels of two maps. Where the maps
+/// are those of two sets at a point, it is the map of the combination of the sets there. `OutOfMemory` says that memory
+/// was wanted and not found.
+pub fn combine(
+    alloc: Global,
+    a: &SphereMap,
+    b: &SphereMap,
+    op: Op,
+) -> Result<SphereMap, OutOfMemory>
+    requires first { IsSphereMap a.now }
+    requires second { IsSphereMap b.now }
+    ensures least { IfOk result (λ m. IsLeastMap m) }
+    ensures mark { IfOk result (λ m. m.mark ≡ op_label op a.now.mark b.now.mark) }
+    ensures labels { IfOk result (λ m. (d : Vector) (l : PlainLabel) → IsDirection d → MapLabel (map_of m) d l ↔ ByOp (map_of a.now) (map_of b.now) (op_label op) d l) }
+    ensures cone { IfOk result (λ m. (s t : Set) (p : Place) → Cone (map_of a.now) s p → Cone (map_of b.now) t p → Cone (map_of m) (op_set op s t) p) }
+{
+    let raw = overlay(alloc, a, b, op)?;
+    let map = build(alloc, raw)?;
+    Ok(map)
+}
+
+fn exchanged_svertices(svertices: List<SVertex>) -> List<SVertex>
+    ensures other { map svertex_of result ≡ map other_svertex (map svertex_of svertices) }
+{
+    let mut items = svertices.into_vec();
+    for svertex in items.iter_mut() {
+        svertex.mark = Topology::Complement.face_label(svertex.mark);
+        svertex.around = Topology::Complement.ground(svertex.around);
+    }
+    List::from_vec(items)
+}
+
+fn exchanged_arcs(arcs: List<SArc>) -> List<SArc>
+    ensures other { map arc_of result ≡ map other_arc (map arc_of arcs) }
+{
+    let mut items = arcs.into_vec();
+    for arc in items.iter_mut() {
+        arc.mark = Topology::Complement.face_label(arc.mark);
+        arc.pos = Topology::Complement.face_label(arc.pos);
+        arc.neg = Topology::Complement.face_label(arc.neg);
+    }
+    List::from_vec(items)
+}
+
+/// The map with In and `Not` exchanged everywhere; `Out` stays `Out`. Of a least map it is the least map of the
+/// complement, which [`complement`](crate::complement) builds of any map. It takes no memory.
+pub fn exchanged(map: SphereMap) -> SphereMap
+    requires least { IsLeastMap map }
+    ensures least { IsLeastMap result }
+    ensures cone { (s : Set) (p : Place) → Cone (map_of map) s p → Cone (map_of result) (Set.other s) p }
+{
+    SphereMap {
+        mark: Topology::Complement.face_label(map.mark),
+        svertices: exchanged_svertices(map.svertices),
+        arcs: exchanged_arcs(map.arcs),
+        sloop: Topology::Complement.sloop(map.sloop),
+        ground: Topology::Complement.ground(map.ground),
+    }
 }

@@ -1,13 +1,144 @@
-//! The operations of topology, and what each makes of labels.
+//! The operations of topology, and what each makes of labels and of what is known of the labels close to them.
 
-ghost use Rattle.std.specs.Prelude.{◌≡◌, option_map};
-ghost use Rattle.law_border.specs.Marks.{in_by, label_by, face_label, sloop_by};
-ghost use Rattle.nef_smap.specs.Maps.{sloop_of};
-ghost use Rattle.nef_stopo.specs.Labels.{topology_of};
+ghost use Rattle.std.specs.Prelude.{◌≡◌, ◌∷◌, ◌++◌};
+ghost use Rattle.nef_geo.specs.Prelude.{option_map, List, [], map, Label};
+ghost use Rattle.law_border.specs.Marks.{in_by, label_by, face_label, sloop_by, is_in, ray_mark, star_labels, svertex_labels, arc_labels, sloop_labels, option_labels, map_labels};
+ghost use Rattle.nef_smap.specs.Maps.{sloop_of, svertex_of, arc_of, map_of};
+ghost use Rattle.nef_stopo.specs.Labels.{topology_of, nearby_of};
+ghost use Rattle.law_sphere.specs.Forms.{gather};
+ghost use Rattle.nef_star.specs.Stars.{ray_of, star_of};
 
-use crate::nearby::{Nearby, is_in};
 use nef_geo::Label;
-use nef_smap::SLoop;
+use nef_smap::{SArc, SLoop, SVertex, SphereMap};
+use nef_star::{Ray, Star};
+
+fn is_in(label: Label) -> bool
+    ensures { result ≡ is_in label }
+{
+    label == Label::In
+}
+
+/// Of some labels, whether all and whether some are In.
+#[derive(Debug, Clone, Copy, PartialEq, Eq)]
+pub(crate) struct Nearby {
+    all: bool,
+    some: bool,
+}
+
+impl Nearby {
+    // Of no label.
+    fn none() -> Nearby
+        ensures { result ≡ nearby_of [] }
+    {
+        Nearby {
+            all: true,
+            some: false,
+        }
+    }
+
+    /// Of one label.
+    pub(crate) fn of(label: Label) -> Nearby
+        ensures { result ≡ nearby_of (label ∷ []) }
+    {
+        Nearby {
+            all: is_in(label),
+            some: is_in(label),
+        }
+    }
+
+    /// Of the labels of both.
+    pub(crate) fn and(self, other: Nearby) -> Nearby
+        ensures { (xs ys : List Label) → self ≡ nearby_of xs → other ≡ nearby_of ys → result ≡ nearby_of (xs ++ ys) }
+    {
+        Nearby {
+            all: self.all && other.all,
+            some: self.some || other.some,
+        }
+    }
+}
+
+fn near_labels(labels: &[Label]) -> Nearby
+    ensures { result ≡ nearby_of labels.now }
+{
+    let mut near = Nearby::none();
+    for label in labels {
+        near = near.and(Nearby::of(*label));
+    }
+    near
+}
+
+fn near_rays(rays: &[Ray]) -> Nearby
+    ensures { result ≡ nearby_of (map ray_mark (map ray_of rays.now)) }
+{
+    let mut near = Nearby::none();
+    for ray in rays {
+        near = near.and(Nearby::of(ray.mark));
+    }
+    near
+}
+
+/// Of all labels of rays and sectors.
+pub(crate) fn near_star(star: &Star) -> Nearby
+    ensures { result ≡ nearby_of (star_labels (star_of star.now)) }
+{
+    near_rays(star.rays.as_slice()).and(near_labels(star.sectors.as_slice()))
+}
+
+fn near_option(label: Option<Label>) -> Nearby
+    ensures { result ≡ nearby_of (option_labels label) }
+{
+    match label {
+        Some(label) => Nearby::of(label),
+        None => Nearby::none(),
+    }
+}
+
+fn near_svertices(svertices: &[SVertex]) -> Nearby
+    ensures { result ≡ nearby_of (gather svertex_labels (map svertex_of svertices.now)) }
+{
+    let mut near = Nearby::none();
+    for svertex in svertices {
+        near = near.and(Nearby::of(svertex.mark).and(near_option(svertex.around)));
+    }
+    near
+}
+
+/// Of the labels of an item and of its two sides.
+fn near_item(pos: Label, mark: Label, neg: Label) -> Nearby
+    ensures { result ≡ nearby_of (pos ∷ mark ∷ neg ∷ []) }
+{
+    Nearby {
+        all: is_in(pos) && is_in(mark) && is_in(neg),
+        some: is_in(pos) || is_in(mark) || is_in(neg),
+    }
+}
+
+fn near_arcs(arcs: &[SArc]) -> Nearby
+    ensures { result ≡ nearby_of (gather arc_labels (map arc_of arcs.now)) }
+{
+    let mut near = Nearby::none();
+    for arc in arcs {
+        near = near.and(near_item(arc.pos, arc.mark, arc.neg));
+    }
+    near
+}
+
+fn near_circle(circle: Option<SLoop>) -> Nearby
+    ensures { result ≡ nearby_of (sloop_labels (option_map sloop_of circle)) }
+{
+    match circle {
+        Some(circle) => near_item(circle.pos, circle.mark, circle.neg),
+        None => Nearby::none(),
+    }
+}
+
+/// Of all labels that a map lists, except its mark.
+pub(crate) fn near_map(map: &SphereMap) -> Nearby
+    ensures { result ≡ nearby_of (map_labels (map_of map.now)) }
+{
+    let faces = near_circle(map.sloop).and(near_option(map.ground));
+    near_svertices(map.svertices.as_slice()).and(near_arcs(map.arcs.as_slice()).and(faces))
+}
 
 /// What is made of a set.
 #[derive(Debug, Clone, Copy, PartialEq, Eq)]
@@ -55,24 +186,18 @@ impl Topology {
         self.label(own, Nearby::none())
     }
 
-    // The circle with what its labels become.
-    fn circle(self, circle: SLoop) -> SLoop
-        ensures circle { sloop_of result ≡ sloop_by (topology_of self) (sloop_of circle) }
-    {
-        let near = Nearby::of(circle.pos).and(Nearby::of(circle.neg));
-        SLoop {
-            normal: circle.normal,
-            mark: self.label(circle.mark, near),
-            pos: self.face_label(circle.pos),
-            neg: self.face_label(circle.neg),
-        }
-    }
-
     /// The sloop, if there is one, with what its labels become.
     pub(crate) fn sloop(self, sloop: Option<SLoop>) -> Option<SLoop>
         ensures sloop { option_map sloop_of result ≡ option_map (sloop_by (topology_of self)) (option_map sloop_of sloop) }
     {
-        sloop.map(|circle| self.circle(circle))
+        let circle = sloop?;
+        let near = Nearby::of(circle.pos).and(Nearby::of(circle.neg));
+        Some(SLoop {
+            normal: circle.normal,
+            mark: self.label(circle.mark, near),
+            pos: self.face_label(circle.pos),
+            neg: self.face_label(circle.neg),
+        })
     }
 
     /// The label of the one face, if there is one, with what it becomes.

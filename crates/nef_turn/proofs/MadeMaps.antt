@@ -13,7 +13,7 @@ use Rattle.nef_smap.specs.declared.map.SLoop.{SLoop}
 use Rattle.nef_smap.specs.declared.map.SphereMap.{SphereMap}
 use Rattle.nef_smap.proofs.Primitive.{dir-primitive}
 use Rattle.law_turns.specs.Maps.{turned_svertex, IsTurnedArc, IsTurnedOption, HasTurnedLists}
-use Rattle.nef_turn.specs.declared.moved.Moved.{Moved}
+use Rattle.nef_turn.specs.declared.maps.Moved.{Moved}
 use Rattle.nef_turn.specs.Images.{AreImages}
 use Rattle.nef_turn.specs.Turning.{AreMoved, AreNumbers, IsOfMoved, AreTurnedArcs, number_in}
 use Rattle.nef_turn.proofs.MovedSvertices.{placed, number-is}

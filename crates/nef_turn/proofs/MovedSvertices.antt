@@ -1,15 +1,15 @@
 -- Turned svertices, sorted, and their new numbers.
-use Rattle.std.proofs.Common.{◌≡◌, ℕ, ◌+◌, ◌<◌, ◌≤◌, List, length, get_or, set, arith, ap, sym, ◌∙◌, subst, ⊎_elim}
+use Rattle.std.proofs.Common.{◌≡◌, ℕ, ◌+◌, ◌<◌, ◌≤◌, List, length, map, get_or, set, arith, ap, sym, ◌∙◌, subst, ⊎_elim}
 use Rattle.std.proofs.Math.ListN.{length-set}
 use Rattle.std.proofs.Math.Nat.{eq-or-lt_of_le}
-use Rattle.std.proofs.lemmas.List.{get_or-set_same, get_or-set_other}
+use Rattle.std.proofs.lemmas.List.{length-map, get_or-set_same, get_or-set_other}
 use Rattle.std.proofs.lemmas.List.Sorted.{length_permutation}
 use Rattle.std.specs.List.Sorted.{IsPermutation}
 use Rattle.nef_geo.specs.Shapes.{vector_of}
 use Rattle.law_sphere.specs.Maps.{At, MapVertex, Shaped}
 use Rattle.law_sphere.specs.Least.{InOrder}
 use Rattle.law_sphere.proofs.Lists.{at-one}
-use Rattle.law_build.proofs.BuiltAxes.{map-at}
+use Rattle.law_build.proofs.BuiltAxes.{at-map, map-at}
 use Rattle.nef_smap.specs.Maps.{svertex_of, map_of}
 use Rattle.nef_smap.specs.declared.map.SVertex.{SVertex}
 use Rattle.nef_smap.specs.declared.map.SphereMap.{SphereMap}
@@ -20,9 +20,9 @@ use Rattle.nef_spair.proofs.Apart.{was-listed, still-listed}
 use Rattle.law_turns.specs.Turned.{turned_vector}
 use Rattle.law_turns.specs.Maps.{turned_svertex}
 use Rattle.law_turns.proofs.Exists.{image-number}
-use Rattle.nef_turn.specs.declared.moved.Moved.{Moved}
+use Rattle.nef_turn.specs.declared.maps.Moved.{Moved}
 use Rattle.nef_turn.specs.Images.{AreImages, AreApart}
-use Rattle.nef_turn.specs.Turning.{IsMoved, IsMovedBelow, HaveSameWay, HaveSameNumber, AreMoved, AreWithin, AreNumbers, IsOfMoved, Renumbers, number_in}
+use Rattle.nef_turn.specs.Turning.{IsMoved, IsMovedBelow, HaveSameWay, HaveSameNumber, AreMoved, AreWithin, AreNumbers, svertex_in, IsOfMoved, Renumbers, number_in}
 use Rattle.nef_turn.proofs.Images.{images-all}
 use Rattle.nef_turn.proofs.Orders.{moved-apart}
 
@@ -61,6 +61,13 @@ module _ (k : ℕ) (m : SphereMap) (V : Shaped (map_of m)) (us : List Moved) (I 
           (dir-equal u.svertex.dir w.svertex.dir (way-of k u v q ∙ ap (λ (y : SVertex). turned_vector k (vector_of y.dir)) one ∙ sym (way-of k w x s)));
       ordered = o;
     }
+
+-- ---- without their old numbers
+pub images-mapped : (us : List Moved) (ws : List SVertex) → ws ≡ map svertex_in us → AreImages IsOfMoved (length us) us ws
+images-mapped us ws e = subst (AreImages IsOfMoved (length us) us) (sym e) (record {
+  count = let f = length-map us svertex_in in omega (arith, f);
+  each = λ j v a. let (u, b, f) = at-map svertex_in us j v a in (u, b, sym f);
+})
 
 -- ---- new numbers
 pub numbers-none : (us : List Moved) (ns : List ℕ) → AreNumbers 0 us ns

@@ -14,7 +14,7 @@ use Rattle.nef_smap.proofs.WellFormed.{below-vectors}
 use Rattle.nef_complex.specs.declared.complex.Vertex.{Vertex}
 use Rattle.nef_complex.proofs.Order.{one-order, point_order, point-ordered, point_total}
 use Rattle.nef_spair.proofs.Apart.{sorted-in_order, still-apart}
-use Rattle.nef_turn.specs.declared.moved.Moved.{Moved}
+use Rattle.nef_turn.specs.declared.maps.Moved.{Moved}
 use Rattle.nef_turn.specs.Images.{AreApart}
 use Rattle.nef_turn.specs.Turning.{IsMovedBelow, HaveSameWay, IsVertexBelow, AreAtOnePlace}
 

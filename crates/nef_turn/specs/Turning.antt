@@ -7,16 +7,15 @@ use Rattle.nef_geo.specs.declared.plane.Plane.{Plane}
 use Rattle.law_sphere.specs.Vectors.{VectorBelow}
 use Rattle.law_sphere.specs.Maps.{At}
 use Rattle.law_sphere.specs.Least.{InOrder, Ordered}
-use Rattle.nef_smap.specs.Maps.{svertex_of, arc_of, sloop_of, map_of, IsLeastMap}
+use Rattle.nef_smap.specs.Maps.{svertex_of, arc_of, map_of, IsLeastMap}
 use Rattle.nef_smap.specs.declared.map.SVertex.{SVertex}
 use Rattle.nef_smap.specs.declared.map.SArc.{SArc}
-use Rattle.nef_smap.specs.declared.map.SLoop.{SLoop}
 use Rattle.nef_complex.specs.declared.complex.Vertex.{Vertex}
 use Rattle.nef_spair.specs.Arcs.{IsArcBelow}
 use Rattle.law_turns.specs.Turned.{turned_plane, turned_place}
 use Rattle.law_turns.specs.Complexes.{signed_form}
-use Rattle.law_turns.specs.Maps.{turned_svertex, IsTurnedArc, IsTurnedSloop, IsTurnedMap}
-use Rattle.nef_turn.specs.declared.moved.Moved.{Moved}
+use Rattle.law_turns.specs.Maps.{turned_svertex, IsTurnedArc, IsTurnedMap}
+use Rattle.nef_turn.specs.declared.maps.Moved.{Moved}
 
 -- ---- carriers
 abbrev pub IsTurnedCarrier : ℕ → ℕ → Plane → Plane → Type 0
@@ -51,8 +50,11 @@ AreWithin us = (j : ℕ) (u : Moved) → At us j u → u.old < length us
 abbrev pub AreNumbers : ℕ → List Moved → List ℕ → Type 0
 AreNumbers n us ns = (j : ℕ) (u : Moved) → j < n → At us j u → At ns u.old j
 
+abbrev pub svertex_in : Moved → SVertex
+svertex_in u = u.svertex
+
 abbrev pub IsOfMoved : ℕ → Moved → SVertex → Type 0
-IsOfMoved j u v = v ≡ u.svertex
+IsOfMoved j u v = v ≡ svertex_in u
 
 -- the number at the place
 abbrev pub number_in : List ℕ → ℕ → ℕ
@@ -64,7 +66,7 @@ pub record Renumbers (k : ℕ) (vs : List SVertex) (ns : List ℕ) : Type 0 wher
   pub svertices : List SVertex
   pub placed : (i : ℕ) (v : SVertex) → At vs i v → (u : SVertex) × At svertices (number_in ns i) u × (svertex_of u ≡ turned_svertex k (svertex_of v))
 
--- ---- arcs and sloops
+-- ---- arcs
 abbrev pub HasEnds : ℕ → SArc → Type 0
 HasEnds n a = (a.source < n) × (a.target < n)
 
@@ -79,9 +81,6 @@ pub record AreTurnedArcs (k : ℕ) (ns : List ℕ) (arcs images : List SArc) : T
   pub each : (j : ℕ) (b : SArc) → At images j b → (i : ℕ) × (a : SArc) × At arcs i a × IsArcImage k ns 0 a b
   pub all : (i : ℕ) (a : SArc) → At arcs i a → (j : ℕ) × (b : SArc) × At images j b × IsArcImage k ns 0 a b
   pub ordered : InOrder IsArcBelow images
-
-abbrev pub IsSloopImage : ℕ → SLoop → SLoop → Type 0
-IsSloopImage k l m = (flip : Bool) × IsTurnedSloop k flip (sloop_of l) (sloop_of m) × IsNormal (vector_of m.normal)
 
 -- ---- vertices
 abbrev pub IsVertexImage : ℕ → ℕ → Vertex → Vertex → Type 0

@@ -4,17 +4,8 @@
 //! the turned vertices. A turn that makes counterclockwise clockwise reverses the arcs of the maps.
 #![tactic(auto)]
 
-mod arcs;
-mod carriers;
-mod laws;
 mod maps;
-mod moved;
-mod svertices;
-mod turn;
 mod turning;
-mod vectors;
-mod vertices;
 
-pub use laws::turning_laws;
 pub use std::alloc::AllocError as OutOfMemory;
-pub use turning::turn_complex;
+pub use turning::{turn_complex, turning_laws};

@@ -1,17 +1,136 @@
-//! Turned sphere maps.
+//! Turned sphere maps: turned svertices and the numbers that they get, arcs and sloops.
 
-ghost use Rattle.std.specs.Prelude.{◌≡◌, IfOk};
-ghost use Rattle.nef_smap.specs.Maps.{map_of, IsLeastMap};
-ghost use Rattle.law_sphere.specs.Least.{Ordered};
-ghost use Rattle.law_turns.specs.Maps.{HasTurnedLists};
+ghost use Rattle.std.specs.Prelude.{◌≡◌};
+ghost use Rattle.nef_complex.specs.Prelude.{length, cond, option_map, map, IfOk, IfSome, IsNormal, vector_of, Ordered, Shaped};
+ghost use Rattle.nef_smap.specs.Maps.{sloop_of, map_of, IsLeastMap};
+ghost use Rattle.law_turns.specs.Maps.{HasTurnedLists, IsTurnedOption};
+ghost use Rattle.nef_turn.specs.Images.{AreApart};
+ghost use Rattle.nef_turn.specs.Turning.{HaveSameNumber, AreMoved, AreNumbers, AreWithin, svertex_in, HasEnds, IsArcImage, Renumbers, AreTurnedArcs};
 
 use crate::OutOfMemory;
-use crate::arcs::{turned_arcs, turned_sloop};
-use crate::svertices::{moved_svertices, new_numbers, unnumbered};
-use crate::turn::Turn;
+use crate::turning::{Turn, turned_dir, turned_normal};
 use nef_geo::List;
-use nef_smap::SphereMap;
+use nef_smap::{SArc, SLoop, SVertex, SphereMap};
+use nef_spair::sort_arcs;
 use std::alloc::Global;
+
+// A turned svertex, with the number that the svertex had before the turn.
+#[derive(Debug, Clone, Copy)]
+struct Moved {
+    svertex: SVertex,
+    old: usize,
+}
+
+// The turned svertices of the map, in increasing order of their directions.
+fn moved_svertices(alloc: Global, turn: &Turn, map: &SphereMap) -> Result<Vec<Moved>, OutOfMemory>
+    requires shaped { Shaped (map_of map.now) }
+    ensures moved { IfOk result (λ v. AreMoved turn.now.number map.now.svertices v.items) }
+{
+    let mut images = Vec::new(alloc);
+    for (old, svertex) in map.svertices.as_slice().iter().enumerate() {
+        images.push(Moved {
+            svertex: SVertex {
+                dir: turned_dir(turn, &svertex.dir),
+                mark: svertex.mark,
+                around: svertex.around,
+            },
+            old,
+        })?;
+    }
+    images.sort_unstable_by_key(|moved| moved.svertex.dir);
+    Ok(images)
+}
+
+// The new number of each svertex, by its old one.
+fn new_numbers(alloc: Global, svertices: &[Moved]) -> Result<Vec<usize>, OutOfMemory>
+    requires within { AreWithin svertices.now }
+    requires apart { AreApart HaveSameNumber svertices.now }
+    ensures count { IfOk result (λ v. length v.items ≡ length svertices.now) }
+    ensures numbers { IfOk result (λ v. AreNumbers (length svertices.now) svertices.now v.items) }
+{
+    let mut numbers = vec![in alloc; 0; svertices.len()]?;
+    for (new, moved) in svertices.iter().enumerate() {
+        numbers[moved.old] = new;
+    }
+    Ok(numbers)
+}
+
+// The svertices without their old numbers.
+fn unnumbered(alloc: Global, svertices: &[Moved]) -> Result<Vec<SVertex>, OutOfMemory>
+    ensures svertices { IfOk result (λ v. v.items ≡ map svertex_in svertices.now) }
+{
+    svertices.iter().map(|moved| moved.svertex).collect(alloc)
+}
+
+// Two values, in the other order where they are to be exchanged.
+fn exchanged_if<T: Copy>(exchange: bool, first: T, second: T) -> (T, T)
+    ensures first { result.0 ≡ cond exchange second first }
+    ensures second { result.1 ≡ cond exchange first second }
+{
+    if exchange {
+        (second, first)
+    } else {
+        (first, second)
+    }
+}
+
+// The turned arc. A turn that makes counterclockwise clockwise exchanges the ends, and so does the normal form where it
+// is opposite to the turned normal; that exchanges the sides too.
+fn turned_arc(turn: &Turn, numbers: &[usize], arc: &SArc) -> SArc
+    requires ends { HasEnds (length numbers.now) arc.now }
+    ensures turned { IsArcImage turn.now.number numbers.now 0 arc.now result }
+{
+    let (normal, flipped) = turned_normal(turn, &arc.normal);
+    let (source, target) = exchanged_if(
+        turn.odd != flipped,
+        numbers[arc.source],
+        numbers[arc.target],
+    );
+    let (pos, neg) = exchanged_if(flipped, arc.pos, arc.neg);
+    SArc {
+        source,
+        target,
+        normal,
+        mark: arc.mark,
+        pos,
+        neg,
+    }
+}
+
+// The turned arcs of the map, in order. `numbers` gives the new number of each svertex.
+fn turned_arcs(
+    alloc: Global,
+    turn: &Turn,
+    numbers: &[usize],
+    map: &SphereMap,
+) -> Result<Vec<SArc>, OutOfMemory>
+    requires shaped { Shaped (map_of map.now) }
+    requires numbers { Renumbers turn.now.number map.now.svertices numbers.now }
+    ensures turned { IfOk result (λ v. AreTurnedArcs turn.now.number numbers.now map.now.arcs v.items) }
+{
+    let mut images = Vec::new(alloc);
+    for arc in map.arcs.as_slice() {
+        images.push(turned_arc(turn, numbers, arc))?;
+    }
+    sort_arcs(&mut images);
+    Ok(images)
+}
+
+// The turned sloop, if there is one. The normal form exchanges the sides where it is opposite to the turned normal.
+fn turned_sloop(turn: &Turn, sloop: Option<SLoop>) -> Option<SLoop>
+    ensures turned { IsTurnedOption turn.now.number (option_map sloop_of sloop) (option_map sloop_of result) }
+    ensures normal { IfSome result (λ l. IsNormal (vector_of l.normal)) }
+{
+    let circle = sloop?;
+    let (normal, flipped) = turned_normal(turn, &circle.normal);
+    let (pos, neg) = exchanged_if(flipped, circle.pos, circle.neg);
+    Some(SLoop {
+        normal,
+        mark: circle.mark,
+        pos,
+        neg,
+    })
+}
 
 /// The turned map: its lists have the turned items of the map, in order.
 pub(crate) fn turned_map(

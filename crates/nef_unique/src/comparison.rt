@@ -1,9 +1,8 @@
-//! Complexes by their vertices.
+//! Complexes by their vertices, and the laws of what is unique.
 
-ghost use Rattle.std.specs.Prelude.{◌≡◌, ◌↔◌, IsTrue};
-ghost use Rattle.nef_space.specs.Local.{SameSet};
-ghost use Rattle.nef_space.specs.Sets.{Set};
-ghost use Rattle.nef_complex.specs.Complexes.{ShowsSet};
+ghost use Rattle.std.specs.Prelude.{◌≡◌, ◌↔◌};
+ghost use Rattle.nef_complex.specs.Prelude.{IsTrue, SameSet, Set, ShowsSet};
+ghost use Rattle.nef_unique.specs.Laws.{LeastUnique, SameSetSameVertices, SameVerticesSameSet};
 
 use nef_complex::{Complex, Vertex};
 use nef_smap::SphereMap;
@@ -50,3 +49,11 @@ pub fn compare(a: &Complex, b: &Complex) -> bool
 {
     same_vertices(a, b)
 }
+
+/// Two least maps with one mark and one label in every direction are equal. So complexes that show one set have the
+/// same vertices and edges; and sets with the same vertices are one.
+pub fn unique_laws()
+    ensures least { LeastUnique }
+    ensures vertices { SameSetSameVertices }
+    ensures sets { SameVerticesSameSet }
+{}

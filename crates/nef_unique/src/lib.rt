@@ -4,7 +4,5 @@
 #![tactic(auto)]
 
 mod comparison;
-mod laws;
 
-pub use comparison::{compare, same_map, same_vertices};
-pub use laws::unique_laws;
+pub use comparison::{compare, same_map, same_vertices, unique_laws};

@@ -1,5 +1,5 @@
 -- The parts of a complex, put together.
-use Rattle.std.proofs.Common.{◌≡◌, ℕ, List, [], ◌∷◌, length, map, arith, refl, sym, subst}
+use Rattle.std.proofs.Common.{◌≡◌, ℕ, ◌<◌, List, [], ◌∷◌, length, map, arith, refl, sym, subst}
 use Rattle.nef_space.specs.Lists.{IsAt, Chained}
 use Rattle.nef_space.specs.declared.label.Label.{Label}
 use Rattle.nef_geo.specs.declared.plane.Plane.{Plane}
@@ -10,13 +10,13 @@ use Rattle.law_complex.specs.Rays.{VertexSide, HasSideLabel}
 use Rattle.nef_complex.specs.Complexes.{corner_of}
 use Rattle.nef_complex.specs.declared.complex.Corner.{Corner as ProgramCorner}
 use Rattle.law_links.specs.Links.{VolumeLink}
-use Rattle.nef_parts.specs.Cycles.{IsCycle, Cycles}
-use Rattle.nef_parts.specs.Numbers.{IsFacetOf, IsVolumeOf, VolumeNumbers, pos_of, neg_of, IsFacetAt, cycle_corners, IsFacet, shell_sides, IsParts}
-use Rattle.nef_parts.specs.Shells.{SfaceNumbers, Shells}
-use Rattle.nef_parts.specs.declared.parts.Cycle.{Cycle}
-use Rattle.nef_parts.specs.declared.parts.Facet.{Facet}
-use Rattle.nef_parts.specs.declared.parts.Parts.{Parts}
-use Rattle.nef_parts.specs.declared.parts.Shell.{Shell}
+use Rattle.nef_complex.specs.Cycles.{IsCycle, Cycles}
+use Rattle.nef_complex.specs.Numbers.{IsFacetOf, IsVolumeOf, VolumeNumbers, pos_of, neg_of, IsFacetAt, cycle_corners, IsFacet, shell_sides, IsParts}
+use Rattle.nef_complex.specs.Shells.{SfaceNumbers, Shells}
+use Rattle.nef_complex.specs.declared.parts.Cycle.{Cycle}
+use Rattle.nef_complex.specs.declared.parts.Facet.{Facet}
+use Rattle.nef_complex.specs.declared.parts.Parts.{Parts}
+use Rattle.nef_complex.specs.declared.parts.Shell.{Shell}
 use Rattle.nef_facets.specs.Facets.{IsFacetParts}
 use Rattle.nef_volumes.specs.Labels.{AreVolumeLabels}
 use Rattle.nef_facets.specs.Carriers.{HasItem}
@@ -92,6 +92,13 @@ module _ (C : Complex) (planes : List Plane) (marks : List Label) (cycles : List
       as_many_shells = many;
       shells = H;
     }
+
+-- the first corner is one of a first cycle
+pub some-cycle : (C : Complex) (xs : List Cycle) → HasFirst C xs → 0 < length xs
+some-cycle C xs (j, (y, a, b), h) = is-at_within xs 0 y a
+
+pub some-corner : (C : Complex) (xs : List Cycle) → HasFirst C xs → (x : Cycle) → IsAt xs 0 x → 0 < length x.corners
+some-corner C xs (j, (y, a, b), h) x e = is-at_within x.corners 0 j (subst (λ (z : Cycle). IsAt z.corners 0 j) (is-at_one xs 0 y x a e) b)
 
 -- there is an item at the first corner
 pub first-item : (C : Complex) (xs : List Cycle) → HasFirst C xs → (x : Cycle) (k : ProgramCorner) → IsAt xs 0 x → IsAt x.corners 0 k → HasItem C (corner_of k)

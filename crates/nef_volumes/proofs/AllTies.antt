@@ -13,7 +13,7 @@ use Rattle.law_complex.specs.Rays.{VertexSide, RayDown}
 use Rattle.nef_classes.specs.Tables.{AreTied}
 use Rattle.nef_classes.specs.declared.table.Tie.{Tie}
 use Rattle.law_links.specs.Links.{FacetLink, IsSideOf, LinkInSface, AreSidesAlong, pos_arcs, neg_arcs, around_ends, LinkAcrossFacet, LinkDown, LinkOutside, VolumeLink}
-use Rattle.nef_parts.specs.Shells.{ShellLink}
+use Rattle.nef_complex.specs.Shells.{ShellLink}
 use Rattle.nef_facets.specs.Ties.{cell_of}
 use Rattle.nef_volumes.specs.Ties.{outside_cell, IsCellOf, IsEndOf, AreLinks, AreTiedSides, AreTiesOf, AreTiesWithOutside, AreTiedOutside, AreTiesDown, AreVolumeTies, LinkOfItems, LinkOfEnds, LinkOfFacets, AreTiedCorners, AreItemTies}
 use Rattle.nef_volumes.proofs.SideCells.{tie-chain, more-tied, more-sides, both-links, links-as, one-cell}

@@ -25,8 +25,8 @@ use Rattle.nef_conn.proofs.AtSides.{points-reach_sides}
 use Rattle.nef_conn.proofs.Counted.{components-by, vertices-counted, edges-counted}
 use Rattle.nef_conn.proofs.SidesName.{converse-for_all}
 use Rattle.nef_conn.proofs.Steps.{joined-items_linked}
-use Rattle.nef_parts.specs.Numbers.{IsFacetOf, IsVolumeOf, FacetNumbers, IsParts}
-use Rattle.nef_parts.specs.declared.parts.Parts.{Parts}
+use Rattle.nef_complex.specs.Numbers.{IsFacetOf, IsVolumeOf, FacetNumbers, IsParts}
+use Rattle.nef_complex.specs.declared.parts.Parts.{Parts}
 use Rattle.nef_volumes.specs.Joins.{FacetsAreComponents, VolumesAreComponents, AreCounted}
 use Rattle.nef_facets.specs.Carriers.{HasItem}
 use Rattle.nef_volumes.proofs.SideLabels.{upright}

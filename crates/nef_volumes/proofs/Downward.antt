@@ -1,18 +1,13 @@
 -- Rays down from vertices, and the sides that see downward.
-use Rattle.std.proofs.Common.{◌≡◌, ℕ, ◌*◌, ◌<◌, ◌≤◌, pos, neg_ℤ, nat_abs, ⊎_elim, [], ◌∷◌, length, Some, slice_get, arith, refl, ap, sym, ◌∙◌, subst}
-use Rattle.std.proofs.lemmas.Bool.{cases_lt}
+use Rattle.std.proofs.Common.{◌≡◌, ℕ, ◌<◌, pos, neg_ℤ, [], ◌∷◌, length, Some, slice_get, arith, refl, ap, sym, ◌∙◌, subst}
 use Rattle.std.proofs.lemmas.Int.{ints}
 use Rattle.nef_space.proofs.Ring.{ring, at, neg, ◌⊖◌, ◌⊗◌}
-use Rattle.nef_space.specs.Limits.{half_side}
-use Rattle.nef_space.specs.Local.{FlatDim}
 use Rattle.nef_space.specs.Place.{Place, InClosedFrame, IsAhead}
 use Rattle.nef_space.specs.Sets.{Set}
 use Rattle.nef_space.specs.Vectors.{Vector, IsZero, SameDirection, cross, opposite, up}
 use Rattle.nef_space.specs.declared.label.Label.{Label}
 use Rattle.nef_space.specs.declared.label.Label.TheVariants.{Out}
 use Rattle.nef_geo.specs.Shapes.{place_of}
-use Rattle.law_near.proofs.Alike.{FlatDim-one}
-use Rattle.law_near.proofs.Frames.{flat_dim-outside}
 use Rattle.law_sphere.specs.Maps.{At, MapVertex, Item, items, item_normal, OnItem, IsFree, Side, HasSide, Sees, here, link}
 use Rattle.law_sphere.proofs.Forms.{on-level}
 use Rattle.nef_smap.specs.declared.map.SphereMap.{SphereMap}
@@ -31,7 +26,8 @@ use Rattle.nef_complex.specs.declared.complex.Vertex.{Vertex as ProgramVertex}
 use Rattle.nef_classes.specs.declared.table.Cell.{Cell}
 use Rattle.law_links.specs.Links.{LinkDown}
 use Rattle.law_links.proofs.EdgeEnds.{dot-opposite}
-use Rattle.nef_locate.specs.declared.place.Place.{Place as LocatedPlace}
+use Rattle.nef_complex.proofs.Framed.{dim-framed}
+use Rattle.nef_locate.specs.declared.point.Place.{Place as LocatedPlace}
 use Rattle.nef_locate.specs.Places.{IsPlaceAt, IsFirstHit}
 use Rattle.nef_locate.specs.Rays.{IsSideAbove}
 use Rattle.nef_volumes.specs.Ties.{side_cell, IsCellOf, IsBelow, IsFloorCell, IsTieDown}
@@ -59,25 +55,9 @@ module _ (m : SphereMap) (S : IsSphereMap m) where
   down-free = record { direction = λ z. (let e : neg_ℤ (pos 1) ≡ pos 0 = z.2 in omega (arith, ints, e)); off_svertices = no-svertex; off_items = no-item }
 
 -- ---- vertices lie in the closed frame
-framed : (s : Set) (y : Place) → FlatDim s y 0 → InClosedFrame y
-framed s y f = record {
-  along_x = least (nat_abs y.x) (half_side * y.w) (λ m. outside (λ (i : InClosedFrame y). over (nat_abs y.x) (half_side * y.w) m i.along_x));
-  along_y = least (nat_abs y.y) (half_side * y.w) (λ m. outside (λ (i : InClosedFrame y). over (nat_abs y.y) (half_side * y.w) m i.along_y));
-  along_z = least (nat_abs y.z) (half_side * y.w) (λ m. outside (λ (i : InClosedFrame y). over (nat_abs y.z) (half_side * y.w) m i.along_z));
-}
-  where
-    outside : (InClosedFrame y → ⊥) → ⊥
-    outside n = let e = FlatDim-one s y 0 3 f (flat_dim-outside s y n) in omega (arith, e)
-
-    over : (a b : ℕ) → b < a → a ≤ b → ⊥
-    over a b m i = omega arith
-
-    least : (a b : ℕ) → (b < a → ⊥) → a ≤ b
-    least a b n = ⊎_elim (λ m. absurd (n m)) (λ m. omega arith) (cases_lt b a)
-
 module _ (s : Set) (c : Complex) (S : ShowsSet s c) (i : ℕ) (u : ProgramVertex) (e : slice_get c.vertices i ≡ Some u) where
   pub vertex-framed : InClosedFrame (place_of u.point)
-  vertex-framed = framed s (place_of u.point) (S.shows.vertices i (vertex_of u) (vertex-there c i u e))
+  vertex-framed = dim-framed s (place_of u.point) 0 (omega arith) (S.shows.vertices i (vertex_of u) (vertex-there c i u e))
 
   -- ---- the side above the point where the ray ends
   module _ (floor : LocatedPlace) (F : IsFirstHit (complex_of c) (place_of u.point) (opposite up) floor) where

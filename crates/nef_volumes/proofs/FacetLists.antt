@@ -14,9 +14,9 @@ use Rattle.law_complex.specs.Complexes.{Vertex, Complex as PlainComplex, Corner 
 use Rattle.nef_complex.specs.Complexes.{vertex_of, complex_of}
 use Rattle.nef_complex.specs.declared.complex.Complex.{Complex}
 use Rattle.nef_complex.specs.declared.complex.Vertex.{Vertex as ProgramVertex}
-use Rattle.nef_parts.specs.Numbers.{IsVolumeOf, VolumeNumbers}
-use Rattle.nef_parts.specs.declared.parts.Cycle.{Cycle}
-use Rattle.nef_parts.specs.declared.parts.Facet.{Facet}
+use Rattle.nef_complex.specs.Numbers.{IsVolumeOf, VolumeNumbers}
+use Rattle.nef_complex.specs.declared.parts.Cycle.{Cycle}
+use Rattle.nef_complex.specs.declared.parts.Facet.{Facet}
 use Rattle.nef_volumes.specs.Ties.{side_at}
 use Rattle.nef_facets.specs.Carriers.{HasItem}
 use Rattle.nef_volumes.specs.Parts.{side_beside, IsBeside, AreFacetsOf}

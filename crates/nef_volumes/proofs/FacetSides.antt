@@ -10,7 +10,7 @@ use Rattle.law_complex.specs.Complexes.{Vertex, Complex, Corner, IsCorner}
 use Rattle.law_complex.specs.Skeleton.{meets_vertex, meets_edge, RayNames}
 use Rattle.law_complex.specs.Rays.{VertexSide}
 use Rattle.law_links.specs.Links.{LinkAlong, FacetLink, IsSideOf, pos_arcs, neg_arcs, VolumeLink}
-use Rattle.nef_parts.specs.Numbers.{pos_of, neg_of}
+use Rattle.nef_complex.specs.Numbers.{pos_of, neg_of}
 use Rattle.nef_facets.specs.Carriers.{HasItem}
 
 module _ (C : Complex) where

@@ -5,8 +5,8 @@ use Rattle.std.proofs.lemmas.Int.{ints}
 use Rattle.nef_space.specs.Lists.{IsAt}
 use Rattle.nef_classes.proofs.ClassLists.{Either, earlier, last, is-at_either, is-at_one, is-at_within, less-or-last}
 use Rattle.nef_classes.proofs.Writes.{set-same, set-at}
-use Rattle.nef_parts.specs.Shells.{IsNameBelow}
-use Rattle.nef_parts.specs.declared.parts.Side.{Side}
+use Rattle.nef_complex.specs.Shells.{IsNameBelow}
+use Rattle.nef_complex.specs.declared.parts.Side.{Side}
 use Rattle.nef_volumes.specs.Held.{AreHeld}
 use Rattle.nef_volumes.specs.Shells.{IsShellOf, AreNumberedNames, IsNamedBefore, AreGathered, IsPut}
 use Rattle.nef_volumes.proofs.Held.{held-none, held-as, held-opened, held-more}

@@ -14,7 +14,7 @@ use Rattle.nef_classes.specs.Tables.{IsCellIn, AreTied, AreTiedWithin}
 use Rattle.nef_classes.specs.declared.table.Cell.{Cell}
 use Rattle.nef_classes.specs.declared.table.Tie.{Tie}
 use Rattle.law_links.specs.Links.{IsSideOf}
-use Rattle.nef_parts.specs.Numbers.{count_items}
+use Rattle.nef_complex.specs.Numbers.{count_items}
 use Rattle.nef_facets.specs.Ties.{cell_of, corner_at, Adds, Any}
 use Rattle.nef_facets.proofs.Adding.{adds-both}
 use Rattle.nef_volumes.specs.Ties.{side_cell, IsCellOf, AreTiedSides, AreTiesOf, side_at, IsItemSide, IsSideTie, IsTieOfItems, LinkOfItems, LinkOfEnds, IsAroundCell, IsTieOfEnds}

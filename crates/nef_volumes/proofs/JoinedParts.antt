@@ -1,5 +1,7 @@
 -- Points are joined exactly where they lie in one part.
-use Rattle.std.proofs.Common.{rules, IsTrue, nat_eq, ◌≡◌, ℕ, arith, refl, ap, subst, ◌↔◌}
+use Rattle.std.proofs.Common.{Bool, ◌≡◌, ℕ, arith, refl, ap, subst, ◌↔◌}
+use Rattle.std.specs.Bool.{Decides}
+use Rattle.std.proofs.lemmas.Bool.Decides.{Decides-like, Decides-eqb}
 use Rattle.nef_space.specs.Local.{FlatDim, Joined}
 use Rattle.nef_space.specs.Place.{Place}
 use Rattle.nef_space.specs.Sets.{Set}
@@ -16,11 +18,12 @@ use Rattle.nef_conn.proofs.OnEdges.{joined-as_flat, joined-vertices, joined-edge
 use Rattle.law_links.proofs.Down.{facet-at}
 use Rattle.nef_complex.specs.Complexes.{complex_of, ShowsSet}
 use Rattle.nef_complex.specs.declared.complex.Complex.{Complex}
-use Rattle.nef_parts.specs.Numbers.{IsParts}
-use Rattle.nef_parts.specs.declared.parts.Parts.{Parts}
-use Rattle.nef_volumes.specs.Joins.{IsPartAt, same_part}
-use Rattle.nef_volumes.specs.declared.connected.Part.{Part}
-use Rattle.nef_volumes.specs.declared.connected.Part.TheVariants.{Vertex, Edge, Facet, Volume}
+use Rattle.nef_complex.specs.Numbers.{IsParts}
+use Rattle.nef_complex.specs.declared.parts.Parts.{Parts}
+use Rattle.nef_volumes.specs.Joins.{IsPartAt}
+use Rattle.nef_volumes.specs.declared.all.Part.{Part}
+use Rattle.nef_volumes.specs.declared.all.Part.TheVariants.{Vertex, Edge, Facet, Volume}
+use Rattle.nef_volumes.specs.contracts.all.PartPartialEq.TheImpl.{eq-value as part_eq}
 use Rattle.nef_volumes.proofs.Components.{facets-are_components, volumes-are_components}
 use Rattle.nef_volumes.proofs.SideLabels.{upright}
 
@@ -99,35 +102,23 @@ module _ (s : Set) (c : Complex) (p : Parts) (S : ShowsSet s c) (I : IsParts (co
     )
 
 -- ---- the test of parts
-number-true : (m n : ℕ) → IsTrue (nat_eq m n) → m ≡ n
-number-true m n h = search rules
+abbrev pub part_test : Part → Part → Bool
+part_test = part_eq.it
 
-number-one : (m n : ℕ) → m ≡ n → IsTrue (nat_eq m n)
-number-one m n e = search rules
-
-pub same-true : (a b : Part) → IsTrue (same_part a b) → a ≡ b
-same-true (Vertex m) (Vertex n) h = ap (λ i. Vertex i) (number-true m n h)
-same-true (Edge m) (Edge n) h = ap (λ i. Edge i) (number-true m n h)
-same-true (Facet m) (Facet n) h = ap (λ i. Facet i) (number-true m n h)
-same-true (Volume m) (Volume n) h = ap (λ i. Volume i) (number-true m n h)
-same-true (Vertex m) (Edge n) h = cc
-same-true (Vertex m) (Facet n) h = cc
-same-true (Vertex m) (Volume n) h = cc
-same-true (Edge m) (Vertex n) h = cc
-same-true (Edge m) (Facet n) h = cc
-same-true (Edge m) (Volume n) h = cc
-same-true (Facet m) (Vertex n) h = cc
-same-true (Facet m) (Edge n) h = cc
-same-true (Facet m) (Volume n) h = cc
-same-true (Volume m) (Vertex n) h = cc
-same-true (Volume m) (Edge n) h = cc
-same-true (Volume m) (Facet n) h = cc
-
-same-itself_part : (a : Part) → IsTrue (same_part a a)
-same-itself_part (Vertex n) = number-one n n refl
-same-itself_part (Edge n) = number-one n n refl
-same-itself_part (Facet n) = number-one n n refl
-same-itself_part (Volume n) = number-one n n refl
-
-pub same-one : (a b : Part) → a ≡ b → IsTrue (same_part a b)
-same-one a b e = subst (λ (r : Part). IsTrue (same_part a r)) e (same-itself_part a)
+pub part-decides : (a b : Part) → Decides (part_test a b) (a ≡ b)
+part-decides (Vertex m) (Vertex n) = Decides-like (part_test (Vertex m) (Vertex n)) (λ e. ap (λ i. Vertex i) e) (λ e. cc) (Decides-eqb m n)
+part-decides (Edge m) (Edge n) = Decides-like (part_test (Edge m) (Edge n)) (λ e. ap (λ i. Edge i) e) (λ e. cc) (Decides-eqb m n)
+part-decides (Facet m) (Facet n) = Decides-like (part_test (Facet m) (Facet n)) (λ e. ap (λ i. Facet i) e) (λ e. cc) (Decides-eqb m n)
+part-decides (Volume m) (Volume n) = Decides-like (part_test (Volume m) (Volume n)) (λ e. ap (λ i. Volume i) e) (λ e. cc) (Decides-eqb m n)
+part-decides (Vertex m) (Edge n) = (λ e. cc, λ e. cc)
+part-decides (Vertex m) (Facet n) = (λ e. cc, λ e. cc)
+part-decides (Vertex m) (Volume n) = (λ e. cc, λ e. cc)
+part-decides (Edge m) (Vertex n) = (λ e. cc, λ e. cc)
+part-decides (Edge m) (Facet n) = (λ e. cc, λ e. cc)
+part-decides (Edge m) (Volume n) = (λ e. cc, λ e. cc)
+part-decides (Facet m) (Vertex n) = (λ e. cc, λ e. cc)
+part-decides (Facet m) (Edge n) = (λ e. cc, λ e. cc)
+part-decides (Facet m) (Volume n) = (λ e. cc, λ e. cc)
+part-decides (Volume m) (Vertex n) = (λ e. cc, λ e. cc)
+part-decides (Volume m) (Edge n) = (λ e. cc, λ e. cc)
+part-decides (Volume m) (Facet n) = (λ e. cc, λ e. cc)

@@ -6,7 +6,7 @@ use Rattle.std.proofs.lemmas.List.Elements.{Contains-append_left, Contains-appen
 use Rattle.nef_space.specs.Lists.{IsAt, Chained, NumbersClasses}
 use Rattle.nef_classes.specs.Classes.{AreLinked, AreWithin, AreClasses, AreNumbered}
 use Rattle.nef_classes.specs.Tables.{IsCellIn, AreTiedWithin, AreTied, HasCounts, IsCellNumber, AreNumbers}
-use Rattle.nef_classes.specs.declared.link.Link.{Link}
+use Rattle.nef_classes.specs.declared.forest.Link.{Link}
 use Rattle.nef_classes.specs.declared.table.Cell.{Cell}
 use Rattle.nef_classes.specs.declared.table.Tie.{Tie}
 use Rattle.nef_classes.proofs.Chains.{chain-here, chain-link}

@@ -1,36 +1,29 @@
 -- The numbers of the part in which a point lies are those of its place in the complex.
-use Rattle.std.proofs.Common.{ℕ, ◌<◌, List, length, arith, subst}
-use Rattle.nef_space.specs.Lists.{IsAt, IsInTable}
+use Rattle.std.proofs.Common.{ℕ, arith}
+use Rattle.nef_space.specs.Lists.{IsInTable}
 use Rattle.nef_space.specs.Place.{Place, InFrame, InClosedFrame}
-use Rattle.nef_classes.proofs.ClassLists.{is-at_one, is-at_within, is-at_some}
+use Rattle.nef_classes.proofs.ClassLists.{is-at_within, is-at_some}
 use Rattle.nef_smap.proofs.Lists.{at-within}
 use Rattle.nef_smap.specs.Sides.{sides_of}
 use Rattle.law_complex.specs.Complexes.{Complex as PlainComplex, Corner}
 use Rattle.nef_locate.specs.Places.{IsPlaceIn, IsPlaceAt}
-use Rattle.nef_locate.specs.declared.place.Place.TheVariants as place
-use Rattle.nef_parts.specs.Numbers.{IsParts}
-use Rattle.nef_parts.specs.declared.parts.Parts.{Parts}
-use Rattle.nef_volumes.specs.Joins.{HasFacet, IsNumberAt, HasSideNumber, IsPartAt}
+use Rattle.nef_locate.specs.declared.point.Place.TheVariants as place
+use Rattle.nef_complex.specs.Numbers.{IsParts, IsFacetOf}
+use Rattle.nef_complex.specs.declared.parts.Parts.{Parts}
+use Rattle.nef_volumes.specs.Joins.{IsPartAt}
 use Rattle.nef_facets.specs.Carriers.{HasItem}
-use Rattle.nef_volumes.specs.declared.connected.Part.TheVariants.{Volume}
+use Rattle.nef_volumes.specs.declared.all.Part.TheVariants.{Volume}
 use Rattle.nef_volumes.proofs.Components.{item-numbered}
 
 -- the frame lies in the closed frame
 pub frame-closed : (p : Place) → InFrame p → InClosedFrame p
 frame-closed p h = let x = h.along_x in let y = h.along_y in let z = h.along_z in record { along_x = omega arith; along_y = omega arith; along_z = omega arith }
 
--- ---- reading a table
-pub row-there : (rows : List (List ℕ)) (i k n : ℕ) → IsInTable rows i k n → i < length rows
-row-there rows i k n (row, a, b) = is-at_within rows i row a
-
-pub entry-there : (rows : List (List ℕ)) (i k n : ℕ) → IsInTable rows i k n → (row : List ℕ) → IsAt rows i row → k < length row
-entry-there rows i k n (r, a, b) row c = is-at_within row k n (subst (λ (xs : List ℕ). IsAt xs k n) (is-at_one rows i r row a c) b)
-
 module _ (C : PlainComplex) (p : Parts) (I : IsParts C p) where
-  pub item-facet : (k : Corner) → HasItem C k → HasFacet p k
+  pub item-facet : (k : Corner) → HasItem C k → (n : ℕ) × IsFacetOf p.facet_of k n
   item-facet k (v, x, K) = item-numbered C p.facet_of I.facet_numbers k v x K
 
-  pub side-volume : (i j : ℕ) → IsPlaceIn C (place.InVolume i j) → HasSideNumber p i j
+  pub side-volume : (i j : ℕ) → IsPlaceIn C (place.InVolume i j) → (n : ℕ) × IsInTable p.volume_of i j n
   side-volume i j (o, l, (v, a, s)) =
       let N = I.volume_numbers in
       let S = N.shape in
@@ -41,5 +34,5 @@ module _ (C : PlainComplex) (p : Parts) (I : IsParts C p) where
       let q = is-at_some r.0 j (omega (arith, h, e)) in
       (q.0, (r.0, r.1, q.1))
 
-  pub volume-part : (y : Place) (i j n : ℕ) → IsPlaceAt C y (place.InVolume i j) → IsNumberAt p i j n → IsPartAt C p y (Volume n)
+  pub volume-part : (y : Place) (i j n : ℕ) → IsPlaceAt C y (place.InVolume i j) → IsInTable p.volume_of i j n → IsPartAt C p y (Volume n)
   volume-part y i j n (o, l, (v, a, s), H) X = (record { vertex = i; side = o }, H, (j, record { vertex = v; is_vertex = a; label = l; is_side = s }, X))

@@ -20,8 +20,8 @@ use Rattle.nef_classes.specs.declared.table.Cell.{Cell}
 use Rattle.nef_classes.specs.declared.table.Tie.{Tie}
 use Rattle.law_links.specs.Links.{VolumeLink}
 use Rattle.law_links.specs.Components.{IsUpright}
-use Rattle.nef_parts.specs.Sides.{IsSideNumber}
-use Rattle.nef_parts.specs.Numbers.{HasRows, count_sides, IsVolumeOf, IsSideBelow, VolumeNumbers}
+use Rattle.nef_complex.specs.Sides.{IsSideNumber}
+use Rattle.nef_complex.specs.Numbers.{HasRows, count_sides, IsVolumeOf, IsSideBelow, VolumeNumbers}
 use Rattle.nef_volumes.specs.Ties.{outside_cell, side_cell, row_counts, IsCellOf, IsEndOf, AreTiesWithOutside, AreTiedOutside}
 use Rattle.nef_volumes.proofs.SideCells.{contains-at, one-cell, not-outside, ends-in_volume, volume-chains}
 use Rattle.nef_volumes.proofs.SideLabels.{chain-label}

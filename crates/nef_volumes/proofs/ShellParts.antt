@@ -12,11 +12,11 @@ use Rattle.nef_smap.proofs.SideLists.{side-has, at-from_get, get-from_at}
 use Rattle.nef_smap.proofs.Lists.{at-map, map-at}
 use Rattle.nef_classes.proofs.Chains.{chain-link, chain-map}
 use Rattle.nef_classes.proofs.ClassLists.{is-at_one, is-at_within}
-use Rattle.nef_parts.specs.Sides.{IsSideNumber}
-use Rattle.nef_parts.specs.Numbers.{IsVolumeOf, VolumeNumbers, shell_sides}
-use Rattle.nef_parts.specs.Shells.{ShellLink, IsNamed, IsNameBelow, IsListed, IsShell, IsShellBelow, Shells}
-use Rattle.nef_parts.specs.declared.parts.Shell.{Shell}
-use Rattle.nef_parts.specs.declared.parts.Side.{Side}
+use Rattle.nef_complex.specs.Sides.{IsSideNumber}
+use Rattle.nef_complex.specs.Numbers.{IsVolumeOf, VolumeNumbers, shell_sides}
+use Rattle.nef_complex.specs.Shells.{ShellLink, IsNamed, IsNameBelow, IsListed, IsShell, IsShellBelow, Shells}
+use Rattle.nef_complex.specs.declared.parts.Shell.{Shell}
+use Rattle.nef_complex.specs.declared.parts.Side.{Side}
 use Rattle.nef_volumes.specs.Labels.{AreVolumeLabels}
 use Rattle.nef_volumes.specs.Ties.{side_cell}
 use Rattle.nef_volumes.specs.Shells.{AreShellRows, IsShellOf, AreGathered, AreShellsOf, HaveVolumes}

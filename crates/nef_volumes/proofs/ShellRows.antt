@@ -7,8 +7,8 @@ use Rattle.law_complex.specs.Rays.{VertexSide}
 use Rattle.nef_classes.proofs.ClassLists.{is-at_within}
 use Rattle.nef_classes.specs.Tables.{AreTied, IsCellBelow, IsCellNumber}
 use Rattle.nef_classes.specs.declared.table.Cell.{Cell}
-use Rattle.nef_parts.specs.Shells.{ShellLink, IsNamed, IsNameBelow}
-use Rattle.nef_parts.specs.declared.parts.Side.{Side}
+use Rattle.nef_complex.specs.Shells.{ShellLink, IsNamed, IsNameBelow}
+use Rattle.nef_complex.specs.declared.parts.Side.{Side}
 use Rattle.nef_volumes.specs.Joining.{AreNumbersBelow}
 use Rattle.nef_volumes.specs.Shells.{AreShellRows, IsShellOf, AreNumberedNames, AreGathered}
 use Rattle.nef_volumes.specs.Ties.{outside_cell, side_cell, row_counts, IsCellOf}

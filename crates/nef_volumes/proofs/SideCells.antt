@@ -19,8 +19,8 @@ use Rattle.nef_classes.specs.Tables.{IsCellIn, AreTied, AreTiedWithin}
 use Rattle.nef_classes.specs.declared.table.Cell.{Cell}
 use Rattle.nef_classes.specs.declared.table.Tie.{Tie}
 use Rattle.law_links.specs.Links.{VolumeLink}
-use Rattle.nef_parts.specs.Numbers.{count_sides}
-use Rattle.nef_parts.specs.Shells.{ShellLink}
+use Rattle.nef_complex.specs.Numbers.{count_sides}
+use Rattle.nef_complex.specs.Shells.{ShellLink}
 use Rattle.nef_volumes.specs.Ties.{outside_cell, side_cell, row_counts, IsCellOf, IsEndOf, AreLinks, AreTiedSides, AreTiesTo, AreTiesOf, AreTiesWithOutside}
 use Rattle.nef_volumes.proofs.Agree.{chains-agree}
 

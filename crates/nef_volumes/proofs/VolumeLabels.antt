@@ -19,8 +19,8 @@ use Rattle.law_complex.specs.Complexes.{Vertex, Complex}
 use Rattle.law_complex.specs.Rays.{VertexSide, HasSideLabel}
 use Rattle.nef_complex.specs.Complexes.{complex_of, ShowsSet}
 use Rattle.nef_complex.specs.declared.complex.Complex.{Complex as ProgramComplex}
-use Rattle.nef_parts.specs.Sides.{IsSideNumber}
-use Rattle.nef_parts.specs.Numbers.{IsVolumeOf, VolumeNumbers}
+use Rattle.nef_complex.specs.Sides.{IsSideNumber}
+use Rattle.nef_complex.specs.Numbers.{IsVolumeOf, VolumeNumbers}
 use Rattle.nef_volumes.specs.Labels.{HasAppeared, AreLabelsTo, AreLabelsOf, AreVolumeLabels}
 use Rattle.nef_volumes.proofs.SideLabels.{upright, chain-label}
 use Rattle.nef_volumes.proofs.OutsideSide.{out-side}

@@ -2,7 +2,7 @@
 use Rattle.std.specs.Prelude.{◌≡◌, ℕ, ◌<◌, List, length}
 use Rattle.nef_space.specs.Lists.{IsAt}
 use Rattle.nef_classes.specs.Tables.{IsCellNumber}
-use Rattle.nef_classes.specs.declared.link.Link.{Link}
+use Rattle.nef_classes.specs.declared.forest.Link.{Link}
 use Rattle.nef_classes.specs.declared.table.Cell.{Cell}
 use Rattle.nef_classes.specs.declared.table.Tie.{Tie}
 

@@ -1,6 +1,5 @@
 -- Facets and volumes as components: points at items and sides are joined exactly where these have one number; the parts in which points lie; and the numbers of parts as numbers of components.
-use Rattle.std.specs.Prelude.{◌≡◌, ℕ, length, ◌↔◌, Bool, false, nat_eq}
-use Rattle.nef_space.specs.Lists.{IsInTable}
+use Rattle.std.specs.Prelude.{◌≡◌, ℕ, length, ◌↔◌}
 use Rattle.nef_space.specs.Local.{Joined}
 use Rattle.nef_space.specs.Place.{Place}
 use Rattle.nef_space.specs.Sets.{Set}
@@ -11,10 +10,10 @@ use Rattle.law_links.specs.Components.{IsAtItem, IsAtSide}
 use Rattle.nef_conn.specs.Components.{HasComponents}
 use Rattle.nef_complex.specs.Complexes.{complex_of, ShowsSet}
 use Rattle.nef_complex.specs.declared.complex.Complex.{Complex}
-use Rattle.nef_parts.specs.Numbers.{IsFacetOf, IsVolumeOf}
-use Rattle.nef_parts.specs.declared.parts.Parts.{Parts}
-use Rattle.nef_volumes.specs.declared.connected.Part.{Part}
-use Rattle.nef_volumes.specs.declared.connected.Part.TheVariants as part
+use Rattle.nef_complex.specs.Numbers.{IsFacetOf, IsVolumeOf}
+use Rattle.nef_complex.specs.declared.parts.Parts.{Parts}
+use Rattle.nef_volumes.specs.declared.all.Part.{Part}
+use Rattle.nef_volumes.specs.declared.all.Part.TheVariants as part
 
 -- points at two items are joined exactly where the items have one facet number
 abbrev pub FacetsAreComponents : Complex → Parts → Type 0
@@ -32,28 +31,9 @@ AreCounted c p = (s : Set) → ShowsSet s c
     → HasComponents s 0 (length c.vertices) × HasComponents s 1 (length c.edges) × HasComponents s 2 (length p.facets) × HasComponents s 3 (length p.volumes)
 
 -- ---- the part in which a point lies
--- the corner has a facet number
-abbrev pub HasFacet : Parts → Corner → Type 0
-HasFacet p k = (n : ℕ) × IsFacetOf p.facet_of k n
-
--- side j of vertex i has the volume number n
-abbrev pub IsNumberAt : Parts → ℕ → ℕ → ℕ → Type 0
-IsNumberAt p i j n = IsInTable p.volume_of i j n
-
-abbrev pub HasSideNumber : Parts → ℕ → ℕ → Type 0
-HasSideNumber p i j = (n : ℕ) × IsNumberAt p i j n
-
 -- y is the vertex, lies on the edge, or has a corner of the facet or a side of the volume
 abbrev pub IsPartAt : PlainComplex → Parts → Place → Part → Type 0
 IsPartAt C p y (part.Vertex n) = IsVertexPoint C n y
 IsPartAt C p y (part.Edge n) = IsEdgePoint C n y
 IsPartAt C p y (part.Facet n) = (k : Corner) × HasCorner C y k × IsFacetOf p.facet_of k n
 IsPartAt C p y (part.Volume n) = (x : VertexSide) × HasVolumeSide C y x × IsVolumeOf C p.volume_of x n
-
--- whether the parts are one
-abbrev pub same_part : Part → Part → Bool
-same_part (part.Vertex m) (part.Vertex n) = nat_eq m n
-same_part (part.Edge m) (part.Edge n) = nat_eq m n
-same_part (part.Facet m) (part.Facet n) = nat_eq m n
-same_part (part.Volume m) (part.Volume n) = nat_eq m n
-same_part _ _ = false

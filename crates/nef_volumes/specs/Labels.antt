@@ -7,7 +7,7 @@ use Rattle.law_sphere.specs.Maps.{Map, Side}
 use Rattle.nef_smap.specs.Sides.{IsSide}
 use Rattle.law_complex.specs.Complexes.{Complex}
 use Rattle.law_complex.specs.Rays.{VertexSide, HasSideLabel}
-use Rattle.nef_parts.specs.Numbers.{IsVolumeOf}
+use Rattle.nef_complex.specs.Numbers.{IsVolumeOf}
 
 -- before each number of the row, those that are smaller, from low on, have appeared in it
 abbrev pub HasAppeared : ℕ → List ℕ → Type 0

@@ -10,12 +10,13 @@ use Rattle.nef_complex.specs.declared.complex.Corner.{Corner as ProgramCorner}
 use Rattle.nef_classes.specs.declared.table.Tie.{Tie}
 use Rattle.nef_facets.specs.Facets.{IsFacetParts}
 use Rattle.nef_facets.specs.declared.parts.FacetParts.{FacetParts}
-use Rattle.nef_parts.specs.Numbers.{IsVolumeOf, VolumeNumbers, shell_sides, pos_of, neg_of}
-use Rattle.nef_parts.specs.Shells.{SfaceNumbers, Shells}
-use Rattle.nef_parts.specs.declared.parts.Cycle.{Cycle}
-use Rattle.nef_parts.specs.declared.parts.Facet.{Facet}
-use Rattle.nef_parts.specs.declared.parts.Shell.{Shell}
+use Rattle.nef_complex.specs.Numbers.{IsVolumeOf, VolumeNumbers, shell_sides, pos_of, neg_of}
+use Rattle.nef_complex.specs.Shells.{SfaceNumbers, Shells}
+use Rattle.nef_complex.specs.declared.parts.Cycle.{Cycle}
+use Rattle.nef_complex.specs.declared.parts.Facet.{Facet}
+use Rattle.nef_complex.specs.declared.parts.Shell.{Shell}
 use Rattle.nef_facets.specs.Carriers.{HasItem}
+use Rattle.nef_volumes.specs.declared.ties.FacetPieces.{FacetPieces}
 use Rattle.nef_volumes.specs.Ties.{side_at, AreItemTies, AreTiesDown}
 use Rattle.nef_volumes.specs.Labels.{AreVolumeLabels}
 
@@ -50,6 +51,11 @@ pub record AreVolumesOf (C : Complex) (faces rows : List (List ℕ)) (ls : List 
   pub labels : AreVolumeLabels C rows ls
   pub as_many : length hss ≡ length ls
   pub shells : (n : ℕ) (hs : List Shell) → IsAt hss n hs → Shells C (λ x. IsVolumeOf C rows x n) (shell_sides hs)
+
+-- the facets, and the ties of the sides of linked items
+pub record AreFacetPieces (C : Complex) (p : FacetPieces) : Type 0 where
+  pub facets : IsFacetParts C p.parts
+  pub items : AreItemTies C p.items.items
 
 -- what the parts are made of: the facets, the ties of the sides of linked items, the numbers of sfaces, and the ties down rays
 pub record ArePieces (C : Complex) (p : FacetParts) (ts : List Tie) (faces : List (List ℕ)) (us : List Tie) : Type 0 where

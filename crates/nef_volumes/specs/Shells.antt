@@ -4,9 +4,9 @@ use Rattle.nef_space.specs.Lists.{IsAt, IsInTable}
 use Rattle.law_complex.specs.Complexes.{Complex}
 use Rattle.nef_classes.specs.Tables.{HasCounts, AreNumbers}
 use Rattle.nef_classes.specs.declared.table.Tie.{Tie}
-use Rattle.nef_parts.specs.Shells.{ShellLink, IsNameBelow}
-use Rattle.nef_parts.specs.declared.parts.Shell.{Shell}
-use Rattle.nef_parts.specs.declared.parts.Side.{Side}
+use Rattle.nef_complex.specs.Shells.{ShellLink, IsNameBelow}
+use Rattle.nef_complex.specs.declared.parts.Shell.{Shell}
+use Rattle.nef_complex.specs.declared.parts.Side.{Side}
 use Rattle.nef_volumes.specs.Held.{AreHeld}
 use Rattle.nef_volumes.specs.Ties.{row_counts, AreTiesOf}
 

@@ -14,8 +14,8 @@ use Rattle.nef_facets.specs.Ties.{cell_of}
 use Rattle.nef_classes.specs.declared.table.Cell.{Cell}
 use Rattle.nef_classes.specs.declared.table.Tie.{Tie}
 use Rattle.law_links.specs.Links.{IsSideOf, LinkAlong, LinkAcross, LinkDown, VolumeLink}
-use Rattle.nef_parts.specs.Numbers.{count_sides}
-use Rattle.nef_parts.specs.Shells.{ShellLink}
+use Rattle.nef_complex.specs.Numbers.{count_sides}
+use Rattle.nef_complex.specs.Shells.{ShellLink}
 
 -- something with P was found, or nothing has P
 abbrev pub Finds : {X : Type 0} → Option X → (X → Type 0) → Type 0

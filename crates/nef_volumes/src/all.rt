@@ -1,28 +1,25 @@
-//! All parts of a complex.
+//! All parts of a complex, and whether two points are joined.
 
-ghost use Rattle.std.specs.Prelude.{◌≡◌, ℕ, List as Sequence, length, IfOk};
-ghost use Rattle.nef_space.specs.Lists.{IsAt};
-ghost use Rattle.nef_space.specs.Sets.{Set};
-ghost use Rattle.nef_complex.specs.Complexes.{complex_of, corner_of, ShowsSet};
-ghost use Rattle.nef_parts.specs.declared.parts.Cycle.{Cycle as PlainCycle};
-ghost use Rattle.nef_parts.specs.Numbers.{IsVolumeOf, VolumeNumbers, IsParts};
-ghost use Rattle.nef_facets.specs.Facets.{IsFacetParts};
-ghost use Rattle.nef_volumes.specs.Joins.{FacetsAreComponents, VolumesAreComponents, AreCounted};
-ghost use Rattle.nef_parts.specs.Shells.{SfaceNumbers};
+ghost use Rattle.std.specs.Prelude.{◌≡◌, ◌↔◌};
+ghost use Rattle.nef_complex.specs.Prelude.{ℕ, List as Sequence, length, IfOk, OnOk, IsTrue, IsAt, Set, Joined, InFrame, place_of, complex_of, corner_of, ShowsSet, IsVolumeOf, VolumeNumbers, IsParts, SfaceNumbers};
+ghost use Rattle.nef_complex.specs.declared.parts.Cycle.{Cycle as PlainCycle};
+ghost use Rattle.nef_smap.specs.Maps.{map_of};
+ghost use Rattle.nef_smap.specs.Sides.{sides_of};
 ghost use Rattle.nef_facets.specs.Carriers.{HasItem};
+ghost use Rattle.nef_volumes.specs.Joins.{FacetsAreComponents, VolumesAreComponents, AreCounted, IsPartAt};
 ghost use Rattle.nef_volumes.specs.Ties.{AreItemTies, AreTiesDown};
-ghost use Rattle.nef_volumes.specs.Parts.{side_beside, HasFirst, IsBeside, AreFacetsOf, AreVolumesOf, ArePieces};
+ghost use Rattle.nef_volumes.specs.Labels.{HasAppeared, AreLabelsTo, AreVolumeLabels};
+ghost use Rattle.nef_volumes.specs.Parts.{side_beside, HasFirst, AreFacetsOf, AreVolumesOf, ArePieces};
 
 use crate::OutOfMemory;
-use crate::labels::volume_labels;
-use crate::numbers::{shell_rows, volume_numbers};
-use crate::pieces::{FacetPieces, Pieces, all_pieces};
-use crate::shells::{gathered, volume_shells};
-use nef_classes::Tie;
-use nef_complex::{Complex, Corner};
+use crate::numbers::{gathered, shell_rows, volume_numbers, volume_shells};
+use crate::ties::{FacetPieces, down_ties, facet_pieces, sface_numbers};
+use nef_classes::{Tie, number_at};
+use nef_complex::{Complex, Corner, Cycle, Facet, Parts, Shell};
 use nef_facets::FacetParts;
-use nef_geo::{Label, List, Plane};
-use nef_parts::{Cycle, Facet, Parts, Shell};
+use nef_geo::{Label, List, Plane, Point};
+use nef_locate::{Place, locate};
+use nef_smap::{SphereMap, side_label};
 use std::alloc::Global;
 
 // The number of the volume at a side of the item: at that to which its normal points, or at the other.
@@ -38,36 +35,7 @@ fn volume_at(c: &Complex, volume_of: &List<List<usize>>, corner: &Corner, above:
     *row.at(side)
 }
 
-// The facet with these cycles. Its volumes are those beside its first corner.
-fn facet(
-    c: &Complex,
-    volume_of: &List<List<usize>>,
-    plane: Plane,
-    mark: Label,
-    cycles: List<Cycle>,
-) -> Facet
-    requires shows { (s : Set) × ShowsSet s c.now }
-    requires numbers { VolumeNumbers (complex_of c.now) volume_of.now }
-    requires first { HasFirst (complex_of c.now) cycles }
-    ensures plane { result.plane ≡ plane }
-    ensures mark { result.mark ≡ mark }
-    ensures cycles { result.cycles ≡ cycles }
-    ensures beside { IsBeside (complex_of c.now) volume_of.now result }
-{
-    let cycle = cycles.at(0);
-    let corner = *cycle.corners.at(0);
-    let pos = volume_at(c, volume_of, &corner, true);
-    let neg = volume_at(c, volume_of, &corner, false);
-    Facet {
-        plane,
-        mark,
-        pos,
-        neg,
-        cycles,
-    }
-}
-
-// The facets with their planes, marks and cycles.
+// The facets with their planes, marks and cycles. The volumes of each are those beside its first corner.
 fn list_facets(
     alloc: Global,
     c: &Complex,
@@ -88,111 +56,115 @@ fn list_facets(
         let number = facets.len();
         let plane = *planes.at(number);
         let mark = *marks.at(number);
-        facets.push(facet(c, volume_of, plane, mark, own))?;
+        let cycle = own.at(0);
+        let corner = *cycle.corners.at(0);
+        let pos = volume_at(c, volume_of, &corner, true);
+        let neg = volume_at(c, volume_of, &corner, false);
+        facets.push(Facet {
+            plane,
+            mark,
+            pos,
+            neg,
+            cycles: own,
+        })?;
     }
     Ok(facets)
 }
 
-// The volumes of a complex, and the numbers of its sides.
-#[derive(Drop)]
-struct Volumes {
-    // For each vertex the numbers of the sfaces of its sides.
-    sface_of: List<List<usize>>,
-    // For each vertex the numbers of the volumes of its sides.
-    volume_of: List<List<usize>>,
-    // The label of each volume.
-    labels: List<Label>,
-    // The shells of each volume.
-    shells: List<List<Shell>>,
+// Adds the labels of the volumes that first appear in this row, which has the numbers of the volumes of the map's sides.
+fn add_labels(labels: &mut Vec<Label>, map: &SphereMap, row: &[usize]) -> Result<(), OutOfMemory>
+    requires sides { length row.now ≡ length (sides_of (map_of map.now)) }
+    requires appeared { HasAppeared (length labels.old.items) row.now }
+    ensures added { OnOk result (AreLabelsTo (map_of map.now) row.now labels.old.items (length row.now) labels.new.items) }
+{
+    for side in 0..row.len() {
+        let number = row[side];
+        // The volume is the first that has no label yet.
+        if number == labels.len() {
+            labels.push(side_label(map, side))?;
+        }
+    }
+    Ok(())
 }
 
-// The volumes of the complex. The numbers of the sfaces of sides are given, and the ties of the sides of linked items and
-// those down rays.
+// The labels of the volumes in the order of their numbers, of which there is one for each side in `volume_of`.
+fn volume_labels(
+    alloc: Global,
+    c: &Complex,
+    volume_of: &List<List<usize>>,
+) -> Result<List<Label>, OutOfMemory>
+    requires shows { (s : Set) × ShowsSet s c.now }
+    requires numbers { VolumeNumbers (complex_of c.now) volume_of.now }
+    ensures labels { IfOk result (λ ls. AreVolumeLabels (complex_of c.now) volume_of.now ls) }
+{
+    let mut labels = Vec::new(alloc);
+    labels.push(Label::Out)?;
+    for vertex in 0..c.vertices.len() {
+        let row = volume_of.at(vertex).as_slice();
+        add_labels(&mut labels, &c.vertices.at(vertex).map, row)?;
+    }
+    Ok(List::from_vec(labels))
+}
+
+// For each vertex the numbers of the volumes of its sides, the labels of the volumes, and their shells. The numbers of the
+// sfaces of sides are given, and the ties of the sides of linked items and those down rays.
 fn volumes_of(
     alloc: Global,
     c: &Complex,
-    sface_of: List<List<usize>>,
+    sface_of: &List<List<usize>>,
     items: &[Tie],
     down: &[Tie],
-) -> Result<Volumes, OutOfMemory>
+) -> Result<(List<List<usize>>, List<Label>, List<List<Shell>>), OutOfMemory>
     requires shows { (s : Set) × ShowsSet s c.now }
-    requires sfaces { SfaceNumbers (complex_of c.now) sface_of }
+    requires sfaces { SfaceNumbers (complex_of c.now) sface_of.now }
     requires items { AreItemTies (complex_of c.now) items.now }
     requires down { AreTiesDown (complex_of c.now) down.now }
-    ensures volumes { IfOk result (λ v. AreVolumesOf (complex_of c.now) v.sface_of v.volume_of v.labels v.shells) }
+    ensures volumes { IfOk result (λ v. AreVolumesOf (complex_of c.now) sface_of.now v.0 v.1 v.2) }
 {
-    let rows = shell_rows(alloc, c, &sface_of, items)?;
+    let rows = shell_rows(alloc, c, sface_of, items)?;
     let sides = gathered(alloc, &rows)?;
     let volume_of = volume_numbers(alloc, c, &rows, sides.len() + 1, down)?;
     let labels = volume_labels(alloc, c, &volume_of)?;
     let shells = volume_shells(alloc, &volume_of, sides, labels.len())?;
-    Ok(Volumes {
-        sface_of,
-        volume_of,
-        labels,
-        shells,
-    })
+    Ok((volume_of, labels, shells))
 }
 
-// The parts of the complex, of which these are the facets and the volumes.
-fn parts_of(
+/// The parts of the complex: of its facets with the ties of the sides of linked items, the numbers of the sfaces of its
+/// sides, and the ties down rays.
+pub(crate) fn parts_of_pieces(
     alloc: Global,
     c: &Complex,
-    facet_parts: FacetParts,
-    volumes: Volumes,
+    facets: FacetPieces,
+    sface_of: List<List<usize>>,
+    down: Vec<Tie>,
 ) -> Result<Parts, OutOfMemory>
     requires shows { (s : Set) × ShowsSet s c.now }
-    requires facets { IsFacetParts (complex_of c.now) facet_parts }
-    requires volumes { AreVolumesOf (complex_of c.now) volumes.sface_of volumes.volume_of volumes.labels volumes.shells }
+    requires pieces { ArePieces (complex_of c.now) facets.parts facets.items.items sface_of down.items }
     ensures parts { IfOk result (λ p. IsParts (complex_of c.now) p) }
-    ensures items_joined { IfOk result (λ p. FacetsAreComponents c.now p) }
-    ensures sides_joined { IfOk result (λ p. VolumesAreComponents c.now p) }
-    ensures counted { IfOk result (λ p. AreCounted c.now p) }
 {
+    let FacetPieces { parts, items } = facets;
+    let (volume_of, labels, shells) = volumes_of(
+        alloc,
+        c,
+        &sface_of,
+        items.as_slice(),
+        down.as_slice(),
+    )?;
     let FacetParts {
         planes,
         marks,
         cycles,
         facet_of,
-    } = facet_parts;
-    let Volumes {
-        sface_of,
-        volume_of,
-        labels,
-        shells,
-    } = volumes;
-    let facets = list_facets(alloc, c, &volume_of, &planes, &marks, cycles)?;
+    } = parts;
+    let listed = list_facets(alloc, c, &volume_of, &planes, &marks, cycles)?;
     Ok(Parts {
-        facets,
+        facets: listed,
         volumes: labels,
         facet_of,
         volume_of,
         sface_of,
         shells,
     })
-}
-
-/// The parts of the complex, which has these pieces.
-pub(crate) fn parts_of_pieces(
-    alloc: Global,
-    c: &Complex,
-    pieces: Pieces,
-) -> Result<Parts, OutOfMemory>
-    requires shows { (s : Set) × ShowsSet s c.now }
-    requires pieces { ArePieces (complex_of c.now) pieces.facets.parts pieces.facets.items.items pieces.sface_of pieces.down.items }
-    ensures parts { IfOk result (λ p. IsParts (complex_of c.now) p) }
-    ensures items_joined { IfOk result (λ p. FacetsAreComponents c.now p) }
-    ensures sides_joined { IfOk result (λ p. VolumesAreComponents c.now p) }
-    ensures counted { IfOk result (λ p. AreCounted c.now p) }
-{
-    let Pieces {
-        facets,
-        sface_of,
-        down,
-    } = pieces;
-    let FacetPieces { parts, items } = facets;
-    let volumes = volumes_of(alloc, c, sface_of, items.as_slice(), down.as_slice())?;
-    parts_of(alloc, c, parts, volumes)
 }
 
 /// The facets and volumes of the complex, with their numbers, the numbers of sfaces, and the shells of volumes. Points at
@@ -206,6 +178,47 @@ pub fn parts(alloc: Global, c: &Complex) -> Result<Parts, OutOfMemory>
     ensures sides_joined { IfOk result (λ p. VolumesAreComponents c.now p) }
     ensures counted { IfOk result (λ p. AreCounted c.now p) }
 {
-    let pieces = all_pieces(alloc, c)?;
-    parts_of_pieces(alloc, c, pieces)
+    let facets = facet_pieces(alloc, c)?;
+    let sface_of = sface_numbers(alloc, c)?;
+    let down = down_ties(alloc, c, 0, c.vertices.len())?;
+    parts_of_pieces(alloc, c, facets, sface_of, down)
+}
+
+// A part of a complex: a vertex, an edge, a facet or a volume, with its number.
+#[derive(Debug, Clone, Copy, PartialEq, Eq)]
+enum Part {
+    Vertex(usize),
+    Edge(usize),
+    Facet(usize),
+    Volume(usize),
+}
+
+// The part in which the point lies.
+fn part_at(c: &Complex, parts: &Parts, p: &Point) -> Part
+    requires shows { (s : Set) × ShowsSet s c.now }
+    requires parts { IsParts (complex_of c.now) parts.now }
+    requires framed { InFrame (place_of p.now) }
+    ensures part { IsPartAt (complex_of c.now) parts.now (place_of p.now) result }
+{
+    match locate(c, p) {
+        Place::Vertex(number) => Part::Vertex(number),
+        Place::OnEdge(number) => Part::Edge(number),
+        Place::InFacet(corner) => {
+            Part::Facet(number_at(&parts.facet_of, corner.vertex, corner.item))
+        }
+        Place::InVolume { vertex, side } => Part::Volume(number_at(&parts.volume_of, vertex, side)),
+    }
+}
+
+/// Whether the points, both of the frame, are joined: whether some path of segments leads from the one to the other
+/// through points at which as many independent directions are flat. So it is just of points of one volume, one facet or
+/// one edge, and of a vertex with itself. The parts are those of the complex. It takes no memory.
+pub fn joined(c: &Complex, parts: &Parts, p: &Point, q: &Point) -> bool
+    requires shows { (s : Set) × ShowsSet s c.now }
+    requires parts { IsParts (complex_of c.now) parts.now }
+    requires first { InFrame (place_of p.now) }
+    requires second { InFrame (place_of q.now) }
+    ensures joined { (s : Set) → ShowsSet s c.now → IsTrue result ↔ Joined s (place_of p.now) (place_of q.now) }
+{
+    part_at(c, parts, p) == part_at(c, parts, q)
 }

@@ -1,27 +1,20 @@
 //! All parts of a complex, made by several threads.
 
-ghost use Rattle.std.specs.Prelude.{◌≡◌, ◌≤◌, ◌++◌, length, IfOk, Ok};
-ghost use Rattle.nef_space.specs.Sets.{Set};
-ghost use Rattle.nef_complex.specs.Complexes.{complex_of, ShowsSet};
+ghost use Rattle.std.specs.Prelude.{◌≡◌, ◌≤◌, ◌++◌};
+ghost use Rattle.nef_complex.specs.Prelude.{length, IfOk, Ok, Set, complex_of, ShowsSet, IsParts, SfaceNumbers};
 ghost use Rattle.nef_core.specs.Work.{crew_of};
 ghost use Rattle.nef_core.specs.declared.work.Work.TheVariants.{Parts as MakingParts};
-ghost use Rattle.nef_facets.specs.Facets.{IsFacetParts};
-ghost use Rattle.nef_parts.specs.Numbers.{IsParts};
-ghost use Rattle.nef_parts.specs.Shells.{SfaceNumbers};
 ghost use Rattle.nef_volumes.specs.Joins.{FacetsAreComponents, VolumesAreComponents, AreCounted};
-ghost use Rattle.nef_volumes.specs.Parts.{ArePieces};
-ghost use Rattle.nef_volumes.specs.Ties.{AreItemTies, AreDownBetween, AreTiesDown};
+ghost use Rattle.nef_volumes.specs.Parts.{AreFacetPieces};
+ghost use Rattle.nef_volumes.specs.Ties.{AreDownBetween, AreTiesDown};
 
 use crate::OutOfMemory;
 use crate::all::{parts, parts_of_pieces};
-use crate::below::down_ties;
-use crate::pieces::{FacetPieces, Pieces, facet_pieces};
-use crate::sface::sface_numbers;
+use crate::ties::{FacetPieces, down_ties, facet_pieces, sface_numbers};
 use nef_classes::Tie;
-use nef_complex::Complex;
+use nef_complex::{Complex, Parts};
 use nef_core::Work;
 use nef_geo::List;
-use nef_parts::Parts;
 use std::alloc::Global;
 use std::thread;
 use std::thread::Threads;
@@ -40,14 +33,10 @@ fn both<A: Drop, B: Drop>(
     }
 }
 
-// The pieces, made by two threads: one follows the rays down.
-fn pieces_by_two<R: Threads + Sync>(
-    rt: &R,
-    alloc: Global,
-    c: &Complex,
-) -> Result<Pieces, OutOfMemory>
+// The parts, made by two threads: one follows the rays down.
+fn parts_by_two<R: Threads + Sync>(rt: &R, alloc: Global, c: &Complex) -> Result<Parts, OutOfMemory>
     requires shows { (s : Set) × ShowsSet s c.now }
-    ensures pieces { IfOk result (λ p. ArePieces (complex_of c.now) p.facets.parts p.facets.items.items p.sface_of p.down.items) }
+    ensures parts { IfOk result (λ p. IsParts (complex_of c.now) p) }
 {
     let count = c.vertices.len();
     let (down, rest) = thread::join(
@@ -60,16 +49,11 @@ fn pieces_by_two<R: Threads + Sync>(
         || -> Result<(List<List<usize>>, FacetPieces), OutOfMemory>
             requires { (s : Set) × ShowsSet s c.now }
             ensures sfaces { IfOk result (λ p. SfaceNumbers (complex_of c.entry.now) p.0) }
-            ensures facets { IfOk result (λ p. IsFacetParts (complex_of c.entry.now) p.1.parts) }
-            ensures items { IfOk result (λ p. AreItemTies (complex_of c.entry.now) p.1.items.items) }
+            ensures pieces { IfOk result (λ p. AreFacetPieces (complex_of c.entry.now) p.1) }
         { both(sface_numbers(alloc, c), facet_pieces(alloc, c)) },
     );
     let (down, (sface_of, facets)) = both(down, rest)?;
-    Ok(Pieces {
-        facets,
-        sface_of,
-        down,
-    })
+    parts_of_pieces(alloc, c, facets, sface_of, down)
 }
 
 // The ties down the rays from the vertices from `start` on, made by another thread, and the facets with the ties of the
@@ -82,8 +66,7 @@ fn facets_by_two<R: Threads + Sync>(
 ) -> Result<(Vec<Tie>, FacetPieces), OutOfMemory>
     requires shows { (s : Set) × ShowsSet s c.now }
     ensures down { IfOk result (λ p. AreDownBetween (complex_of c.now) start (length c.now.vertices) p.0.items) }
-    ensures facets { IfOk result (λ p. IsFacetParts (complex_of c.now) p.1.parts) }
-    ensures items { IfOk result (λ p. AreItemTies (complex_of c.now) p.1.items.items) }
+    ensures pieces { IfOk result (λ p. AreFacetPieces (complex_of c.now) p.1) }
 {
     let (down, facets) = thread::join(
         rt,
@@ -93,8 +76,7 @@ fn facets_by_two<R: Threads + Sync>(
         { down_ties(alloc, c, start, c.vertices.len()) },
         || -> Result<FacetPieces, OutOfMemory>
             requires { (s : Set) × ShowsSet s c.now }
-            ensures facets { IfOk result (λ p. IsFacetParts (complex_of c.entry.now) p.parts) }
-            ensures items { IfOk result (λ p. AreItemTies (complex_of c.entry.now) p.items.items) }
+            ensures { IfOk result (λ p. AreFacetPieces (complex_of c.entry.now) p) }
         { facet_pieces(alloc, c) },
     );
     both(down, facets)
@@ -119,8 +101,7 @@ fn facets_by_three<R: Threads + Sync>(
     requires shows { (s : Set) × ShowsSet s c.now }
     requires within { start ≤ length c.now.vertices }
     ensures down { IfOk result (λ p. AreTiesDown (complex_of c.now) p.0.items) }
-    ensures facets { IfOk result (λ p. IsFacetParts (complex_of c.now) p.1.parts) }
-    ensures items { IfOk result (λ p. AreItemTies (complex_of c.now) p.1.items.items) }
+    ensures pieces { IfOk result (λ p. AreFacetPieces (complex_of c.now) p.1) }
 {
     let (front, rest) = thread::join(
         rt,
@@ -132,23 +113,22 @@ fn facets_by_three<R: Threads + Sync>(
         || -> Result<(Vec<Tie>, FacetPieces), OutOfMemory>
             requires { (s : Set) × ShowsSet s c.now }
             ensures down { IfOk result (λ p. AreDownBetween (complex_of c.entry.now) start (length c.entry.now.vertices) p.0.items) }
-            ensures facets { IfOk result (λ p. IsFacetParts (complex_of c.entry.now) p.1.parts) }
-            ensures items { IfOk result (λ p. AreItemTies (complex_of c.entry.now) p.1.items.items) }
+            ensures pieces { IfOk result (λ p. AreFacetPieces (complex_of c.entry.now) p.1) }
         { facets_by_two(rt, alloc, c, start) },
     );
     let (front, (back, facets)) = both(front, rest)?;
     both(appended(front, back), Ok(facets))
 }
 
-// The pieces, made by four threads: one numbers the sfaces, and two follow the rays down, each those from half of the
+// The parts, made by four threads: one numbers the sfaces, and two follow the rays down, each those from half of the
 // vertices.
-fn pieces_by_four<R: Threads + Sync>(
+fn parts_by_four<R: Threads + Sync>(
     rt: &R,
     alloc: Global,
     c: &Complex,
-) -> Result<Pieces, OutOfMemory>
+) -> Result<Parts, OutOfMemory>
     requires shows { (s : Set) × ShowsSet s c.now }
-    ensures pieces { IfOk result (λ p. ArePieces (complex_of c.now) p.facets.parts p.facets.items.items p.sface_of p.down.items) }
+    ensures parts { IfOk result (λ p. IsParts (complex_of c.now) p) }
 {
     let half = c.vertices.len() / 2;
     // The calling thread starts all others, since one that a new thread starts begins on the processor of its maker.
@@ -162,16 +142,11 @@ fn pieces_by_four<R: Threads + Sync>(
             requires shows { (s : Set) × ShowsSet s c.now }
             requires within { half ≤ length c.now.vertices }
             ensures down { IfOk result (λ p. AreTiesDown (complex_of c.entry.now) p.0.items) }
-            ensures facets { IfOk result (λ p. IsFacetParts (complex_of c.entry.now) p.1.parts) }
-            ensures items { IfOk result (λ p. AreItemTies (complex_of c.entry.now) p.1.items.items) }
+            ensures pieces { IfOk result (λ p. AreFacetPieces (complex_of c.entry.now) p.1) }
         { facets_by_three(rt, alloc, c, half) },
     );
     let (sface_of, (down, facets)) = both(sface_of, rest)?;
-    Ok(Pieces {
-        facets,
-        sface_of,
-        down,
-    })
+    parts_of_pieces(alloc, c, facets, sface_of, down)
 }
 
 // How many threads make the parts.
@@ -197,10 +172,13 @@ pub fn parts_by_threads<R: Threads + Sync>(
     ensures sides_joined { IfOk result (λ p. VolumesAreComponents c.now p) }
     ensures counted { IfOk result (λ p. AreCounted c.now p) }
 {
-    let pieces = match threads_for(c, workers) {
-        1 => return parts(alloc, c),
-        2 => pieces_by_two(rt, alloc, c)?,
-        _ => pieces_by_four(rt, alloc, c)?,
-    };
-    parts_of_pieces(alloc, c, pieces)
+    let crew = threads_for(c, workers);
+    if crew == 1 {
+        return parts(alloc, c);
+    }
+    if crew == 2 {
+        parts_by_two(rt, alloc, c)
+    } else {
+        parts_by_four(rt, alloc, c)
+    }
 }

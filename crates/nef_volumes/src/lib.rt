@@ -7,22 +7,10 @@
 #![tactic(auto)]
 
 mod all;
-mod below;
 mod by_threads;
-mod cells;
-mod connected;
-mod edges;
-mod items;
-mod join;
-mod labels;
-mod links;
 mod numbers;
-mod outside;
-mod pieces;
-mod sface;
-mod shells;
+mod ties;
 
-pub use all::parts;
+pub use all::{joined, parts};
 pub use by_threads::parts_by_threads;
-pub use connected::joined;
 pub use std::alloc::AllocError as OutOfMemory;

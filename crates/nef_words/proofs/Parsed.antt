@@ -7,9 +7,9 @@ use Rattle.clap.specs.declared.error.ErrorKind.{ErrorKind}
 use Rattle.clap.specs.declared.error.ErrorKind.TheVariants.{OutOfMemory}
 use Rattle.clap.proofs.OnLiterals.{clap_on_literals}
 use Rattle.clap.proofs.WalkLemmas.{first_value-rows}
-use Rattle.nef_core.specs.declared.how.BoardKind.{BoardKind}
-use Rattle.nef_core.specs.declared.how.TextVersion.{TextVersion}
-use Rattle.nef_words.specs.declared.options.Options.{Options}
+use Rattle.nef_core.specs.declared.work.BoardKind.{BoardKind}
+use Rattle.nef_core.specs.declared.work.TextVersion.{TextVersion}
+use Rattle.nef_words.specs.declared.words.Options.{Options}
 use Rattle.nef_words.specs.Usage.{usage, given}
 use Rattle.nef_words.specs.Chosen.{stairs_of, options_from, options_of}
 use Rattle.nef_words.specs.Values.{workers_of, board_of, text_of, is_given, options_of_values}

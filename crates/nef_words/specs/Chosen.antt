@@ -3,11 +3,11 @@ use Rattle.std.specs.Prelude.{ℕ, Bool, ◌&&◌, List, [], Some, None, Option,
 use Rattle.nef_space.specs.Limits.{most_stairs}
 use Rattle.clap.specs.Words.{Text, Kinds, fault_of}
 use Rattle.nef_lex.specs.Numbers.{is_digits, decimal_value}
-use Rattle.nef_core.specs.declared.how.BoardKind.{BoardKind}
-use Rattle.nef_core.specs.declared.how.BoardKind.TheVariants.{Lock, Free}
-use Rattle.nef_core.specs.declared.how.TextVersion.{TextVersion}
-use Rattle.nef_core.specs.declared.how.TextVersion.TheVariants.{One, Two}
-use Rattle.nef_words.specs.declared.options.Options.{Options}
+use Rattle.nef_core.specs.declared.work.BoardKind.{BoardKind}
+use Rattle.nef_core.specs.declared.work.BoardKind.TheVariants.{Lock, Free}
+use Rattle.nef_core.specs.declared.work.TextVersion.{TextVersion}
+use Rattle.nef_core.specs.declared.work.TextVersion.TheVariants.{One, Two}
+use Rattle.nef_words.specs.declared.words.Options.{Options}
 use Rattle.nef_words.specs.Usage.{usage, given}
 
 -- the number from 1 to most that one digit or more spell

@@ -2,9 +2,9 @@
 use Rattle.std.specs.Prelude.{ℕ, Bool, List, [], Option, codes, option_map, unwrap_or, bytes_eq}
 use Rattle.std.specs.Borrow.{Bor}
 use Rattle.clap.specs.Words.{Text}
-use Rattle.nef_core.specs.declared.how.BoardKind.{BoardKind}
-use Rattle.nef_core.specs.declared.how.TextVersion.{TextVersion}
-use Rattle.nef_words.specs.declared.options.Options.{Options}
+use Rattle.nef_core.specs.declared.work.BoardKind.{BoardKind}
+use Rattle.nef_core.specs.declared.work.TextVersion.{TextVersion}
+use Rattle.nef_words.specs.declared.words.Options.{Options}
 use Rattle.nef_words.specs.Chosen.{number_to, board_named, version_named, stairs_of, options_from}
 
 -- the number of workers, the board and the version of the text

@@ -4,11 +4,6 @@
 //! are a function of the words.
 #![tactic(auto)]
 
-mod line;
-mod number;
-mod options;
 mod words;
 
-pub use line::line_words;
-pub use options::{DEFAULT_WORKERS, MOST_WORKERS, Options, WordsFault};
-pub use words::read_words;
+pub use words::{DEFAULT_WORKERS, MOST_WORKERS, Options, WordsFault, line_words, read_words};

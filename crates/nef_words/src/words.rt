@@ -1,33 +1,55 @@
-//! Reads the words as one command.
-ghost use Rattle.std.specs.Prelude.{◌≡◌, ◌≤◌, false, [], Some, None, IfOk, IfErr, IfSome, MatchResult, map, string_bytes};
-ghost use Rattle.nef_space.specs.Limits.{most_stairs};
+//! The words of the command line: what they choose, or why they choose nothing.
+
+ghost use Rattle.std.specs.Prelude.{◌≡◌, ◌≤◌, ◌↔◌};
+ghost use Rattle.nef_space.specs.Prelude.{false, [], Some, None, IfOk, IfErr, IfSome, MatchResult, map, string_bytes, IsOkAnd, IsErrAnd, drop, most_stairs, error_kind, InvalidData};
 ghost use Rattle.clap.specs.Words.{fault_of, found_of, matches_of, rows_of, rule_of, HasKind};
 ghost use Rattle.nef_words.specs.Usage.{usage, option_named};
-ghost use Rattle.nef_words.specs.Chosen.{stairs_of, options_of};
+ghost use Rattle.nef_words.specs.Chosen.{number_to, stairs_of, options_of};
 ghost use Rattle.nef_words.specs.Values.{workers_of, board_of, text_of, is_given, options_of_values, text_in};
 
-use crate::number::read_number;
-use crate::options::{DEFAULT_WORKERS, MOST_WORKERS, Options, WordsFault};
 use clap::error::ErrorKind;
 use clap::{Arg, ArgAction, ArgMatches, Command, Error};
 use nef_core::{BoardKind, How, TextVersion};
+use nef_lex::{NumberWord, whole_number};
 use nef_space::MOST_STAIRS;
 use std::alloc::Global;
+use std::io;
 
-// The option of this name, which takes one value.
-fn value_option<'a>(alloc: Global, name: &'a str) -> Arg<'a>
-    ensures rule { rule_of result ≡ option_named ArgAction.Set name.entry.now }
-    ensures local { result.global ≡ false }
-{
-    Arg::new(alloc, name).long(name).action(ArgAction::Set)
+/// The number of workers where the words don't give one.
+pub const DEFAULT_WORKERS: u32 = 1;
+
+/// The greatest number of workers.
+pub const MOST_WORKERS: u32 = 64;
+
+/// How the program is to run.
+#[derive(Debug, Clone, Copy, PartialEq, Eq)]
+pub struct Options {
+    /// By how many workers, 1 to [`MOST_WORKERS`], and over which board.
+    pub how: How,
+    /// The number of boxes of the generated script that is run in place of the input, 1 to
+    /// `MOST_STAIRS` of `nef_space`. It is `None` where no word gives it: then the input is run.
+    pub stairs: Option<u32>,
+    /// The version of the texts that are printed.
+    pub text: TextVersion,
+    /// Whether statements whose operands are done may run at the same time.
+    pub ahead: bool,
 }
 
-// The option of this name, which takes no value.
-fn flag<'a>(alloc: Global, name: &'a str) -> Arg<'a>
-    ensures rule { rule_of result ≡ option_named ArgAction.SetTrue name.entry.now }
+/// Why the words gave no options.
+#[derive(Debug, Clone, Copy, PartialEq, Eq)]
+pub enum WordsFault {
+    /// The words aren't those of the command.
+    Refused,
+    /// There was no memory to read them.
+    OutOfMemory,
+}
+
+// The option of this name, which takes one value (`Set`) or none (`SetTrue`).
+fn option_named<'a>(alloc: Global, name: &'a str, action: ArgAction) -> Arg<'a>
+    ensures rule { rule_of result ≡ option_named action name.entry.now }
     ensures local { result.global ≡ false }
 {
-    Arg::new(alloc, name).long(name).action(ArgAction::SetTrue)
+    Arg::new(alloc, name).long(name).action(action)
 }
 
 // What the words give each option.
@@ -37,18 +59,39 @@ fn matched<'a>(alloc: Global, words: &'a [String]) -> Result<ArgMatches<'a>, Err
 {
     let command = Command::new(alloc, "nef")
         .no_binary_name(true)
-        .arg(value_option(alloc, "workers"))?
-        .arg(value_option(alloc, "board"))?
-        .arg(value_option(alloc, "stairs"))?
-        .arg(value_option(alloc, "text"))?
-        .arg(flag(alloc, "ahead"))?;
+        .arg(option_named(alloc, "workers", ArgAction::Set))?
+        .arg(option_named(alloc, "board", ArgAction::Set))?
+        .arg(option_named(alloc, "stairs", ArgAction::Set))?
+        .arg(option_named(alloc, "text", ArgAction::Set))?
+        .arg(option_named(alloc, "ahead", ArgAction::SetTrue))?;
     command.try_get_matches_from(words)
+}
+
+// The number from 1 to `most` that one or more digits spell, and `None` for any other text. Leading
+// zeros are accepted.
+fn read_number(text: &[u8], most: u32) -> Option<u32>
+    ensures number { result ≡ number_to most text.now }
+    ensures range { IfSome result (λ n. (1 ≤ n) × (n ≤ most)) }
+{
+    // A sign is no digit.
+    if let [b'-', ..] = text {
+        return None;
+    }
+    match whole_number(text) {
+        NumberWord::NotOne | NumberWord::Beyond => None,
+        NumberWord::Value(value) => {
+            if 1 <= value && value <= i64::from(most) {
+                Some(value as u32)
+            } else {
+                None
+            }
+        }
+    }
 }
 
 // The number of workers that a value gives.
 fn workers_of(value: Option<&str>) -> Option<u32>
     ensures workers { result ≡ workers_of (text_in value.entry) }
-    ensures range { IfSome result (λ n. (1 ≤ n) × (n ≤ 64)) }
 {
     match value {
         None => Some(DEFAULT_WORKERS),
@@ -93,10 +136,7 @@ fn text_of(value: Option<&str>) -> Option<TextVersion>
 fn is_given(value: Option<&str>) -> bool
     ensures given { result ≡ is_given (text_in value.entry) }
 {
-    match value {
-        Some("true") => true,
-        Some(_) | None => false,
-    }
+    matches!(value, Some("true"))
 }
 
 // The options that five values choose, where each has its form.
@@ -153,5 +193,31 @@ pub fn read_words(alloc: Global, words: &[String]) -> Result<Options, WordsFault
     match chosen(workers, board, stairs, text, ahead) {
         Some(options) => Ok(options),
         None => Err(WordsFault::Refused),
+    }
+}
+
+// The words but the first, which is the program's name.
+fn after_name(line: &[String]) -> &[String]
+    ensures words { result.now ≡ drop 1 line.now }
+{
+    match line {
+        [_, words @ ..] => words,
+        [] => line,
+    }
+}
+
+/// The words after the program's name, from the words that `std::env::args` gives. `Refused` comes
+/// exactly where some word of the command line isn't text, and `OutOfMemory` where the words can't be
+/// had for another reason.
+pub fn line_words(line: &io::Result<Vec<String>>) -> Result<&[String], WordsFault>
+    ensures words { IfOk result (λ words. IsOkAnd line.now (λ all. words.now ≡ drop 1 all.items)) }
+    ensures refused { (result ≡ Err WordsFault.Refused) ↔ IsErrAnd line.now (λ e. error_kind e ≡ InvalidData) }
+{
+    match line {
+        Ok(all) => Ok(after_name(all)),
+        Err(error) => match error.kind() {
+            io::ErrorKind::InvalidData => Err(WordsFault::Refused),
+            _ => Err(WordsFault::OutOfMemory),
+        },
     }
 }

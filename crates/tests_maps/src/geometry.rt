@@ -1,6 +1,7 @@
 //! What no clause says of planes, points and directions, and each call once.
 
-ghost use Rattle.std.specs.Prelude.{◌↔◌, ◌≤◌, nat_abs, IsTrue};
+ghost use Rattle.std.specs.Prelude.{◌↔◌, ◌≤◌};
+ghost use Rattle.nef_geo.specs.Prelude.{nat_abs, IsTrue};
 
 use crate::words::{check, is_at_most, numbers, parted, way};
 use nef_geo::{

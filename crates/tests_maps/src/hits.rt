@@ -1,10 +1,7 @@
 //! What no clause says of hits on rays from points, and of hits on rays from those.
 
-ghost use Rattle.std.specs.Prelude.{◌↔◌, IsTrue};
-ghost use Rattle.nef_space.specs.Vectors.{IsAtMost, vector};
-ghost use Rattle.nef_geo.specs.Hits.{IsPlaceAtMost};
-ghost use Rattle.nef_geo.specs.Shapes.{hit_place};
-ghost use Rattle.nef_geo.specs.Widths.{upright_limit, upright_weight_limit};
+ghost use Rattle.std.specs.Prelude.{◌↔◌};
+ghost use Rattle.nef_geo.specs.Prelude.{IsTrue, IsAtMost, vector, IsPlaceAtMost, hit_place, upright_limit, upright_weight_limit};
 
 use crate::geometry::{is_order, plane, point};
 use crate::words::{check, is_at_most, numbers, parted, way};

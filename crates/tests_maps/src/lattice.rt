@@ -1,6 +1,7 @@
 //! What maps of three planes combined say of the directions of a small lattice.
 
-ghost use Rattle.std.specs.Prelude.{◌<◌, IfSome};
+ghost use Rattle.std.specs.Prelude.{◌<◌};
+ghost use Rattle.nef_geo.specs.Prelude.{IfSome};
 ghost use Rattle.nef_smap.specs.Maps.{IsLeastMap};
 
 use crate::made::{half, with};

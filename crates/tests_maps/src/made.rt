@@ -1,9 +1,7 @@
 //! Sphere maps made by steps in words.
 
-ghost use Rattle.std.specs.Prelude.{◌≡◌, IsTrue, IfOk, IfSome};
-ghost use Rattle.nef_space.specs.Limits.{normal_limit};
-ghost use Rattle.nef_space.specs.Vectors.{IsAtMost};
-ghost use Rattle.nef_geo.specs.Shapes.{vector_of};
+ghost use Rattle.std.specs.Prelude.{◌≡◌};
+ghost use Rattle.nef_geo.specs.Prelude.{IsTrue, IfOk, IfSome, normal_limit, IsAtMost, vector_of};
 ghost use Rattle.nef_smap.specs.Maps.{IsLeastMap};
 
 use crate::words::{label, normal, op, parted};

@@ -1,9 +1,7 @@
 //! Maps made from planes by overlaying and combining, by interior, closure, boundary and complement; and where directions
 //! lie on them.
 
-ghost use Rattle.nef_space.specs.Limits.{normal_limit};
-ghost use Rattle.nef_space.specs.Vectors.{IsAtMost};
-ghost use Rattle.nef_geo.specs.Shapes.{vector_of};
+ghost use Rattle.nef_geo.specs.Prelude.{normal_limit, IsAtMost, vector_of};
 ghost use Rattle.nef_smap.specs.Maps.{IsLeastMap};
 
 use crate::made::{combined, made};
@@ -11,8 +9,8 @@ use crate::texts::{add_label, add_map, add_numbers, add_raw, add_star};
 use crate::words::{check, normal, op, parted};
 use nef_geo::Dir;
 use nef_smap::{RawStars, SPlace, SphereMap, at, label_at, sfaces, sides, star_at};
-use nef_sover::overlay;
 use nef_star::Op;
+use nef_stopo::overlay;
 use std::alloc::{AllocError, Global};
 use std::process::Abort;
 

@@ -1,9 +1,7 @@
 //! Stars of planes through one axis, what combining them gives, and what is needless in them.
 
-ghost use Rattle.std.specs.Prelude.{◌≡◌, pos, IfOk, IfSome};
-ghost use Rattle.nef_space.specs.Limits.{normal_limit};
-ghost use Rattle.nef_space.specs.Vectors.{IsAtMost, IsNormal, dot};
-ghost use Rattle.nef_geo.specs.Shapes.{vector_of};
+ghost use Rattle.std.specs.Prelude.{◌≡◌};
+ghost use Rattle.nef_geo.specs.Prelude.{pos, IfOk, IfSome, normal_limit, IsAtMost, IsNormal, dot, vector_of};
 ghost use Rattle.nef_star.specs.Stars.{IsStar};
 
 use crate::texts::{add_label, add_labels};
@@ -113,7 +111,7 @@ fn made(alloc: Global, words: &str) -> Option<Star>
 }
 
 fn add_first_ray(text: &mut String, star: &Star) -> Option<()> {
-    add_label(text, star.rays().first()?.mark()).ok()
+    add_label(text, star.rays.as_slice().first()?.mark).ok()
 }
 
 // The answer to a question about the star.
@@ -121,8 +119,8 @@ fn add_answer(text: &mut String, star: &Star, question: &str) -> Option<()>
     requires star { IsStar star.now }
 {
     match question {
-        "sectors" => add_labels(text, star.sectors()).ok(),
-        "rays" => write!(text, "{}", star.rays().len()).ok(),
+        "sectors" => add_labels(text, star.sectors.as_slice()).ok(),
+        "rays" => write!(text, "{}", star.rays.len()).ok(),
         "first ray" => add_first_ray(text, star),
         "straight" => write!(text, "{}", is_straight(star)).ok(),
         "plain" => write!(text, "{}", is_plain(star)).ok(),

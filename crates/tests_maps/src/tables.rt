@@ -1,6 +1,7 @@
 //! The rule's own examples.
 
-ghost use Rattle.std.specs.Prelude.{◌<◌, All, IfSome};
+ghost use Rattle.nef_geo.specs.Prelude.{IfSome};
+ghost use Rattle.std.specs.Prelude.{All, ◌<◌};
 ghost use Rattle.nef_case.specs.Keys.{IsSign};
 
 use crate::words::{check, numbers, parted};

@@ -128,14 +128,14 @@ pub(crate) fn add_numbers(text: &mut String, numbers: &[usize]) -> Result<(), Al
 
 /// Adds the mark of a star, the number of its rays, and its sectors.
 pub(crate) fn add_star(text: &mut String, star: &Star) -> Result<(), AllocError> {
-    write!(text, "{} {} rays", letter(star.mark()), star.rays().len())?;
-    add_labels(text, star.sectors())
+    write!(text, "{} {} rays", letter(star.mark), star.rays.len())?;
+    add_labels(text, star.sectors.as_slice())
 }
 
 fn add_axes(text: &mut String, stars: &[Star]) -> Result<(), AllocError> {
     for star in stars {
         text.push_str(" / t")?;
-        add_way(text, star.axis())?;
+        add_way(text, &star.axis)?;
     }
     Ok(())
 }

@@ -3,10 +3,8 @@
 //! What a row asks is told by `Option` alone: none stands for a row that can't be read, or has no answer. A text made for each
 //! answer, or a failure, would make the tests dear to prove.
 
-ghost use Rattle.std.specs.Prelude.{◌↔◌, IsTrue, IfSome};
-ghost use Rattle.nef_space.specs.Limits.{direction_limit, normal_limit};
-ghost use Rattle.nef_space.specs.Vectors.{IsAtMost, vector};
-ghost use Rattle.nef_geo.specs.Shapes.{vector_of};
+ghost use Rattle.std.specs.Prelude.{◌↔◌};
+ghost use Rattle.nef_geo.specs.Prelude.{IsTrue, IfSome, direction_limit, normal_limit, IsAtMost, vector, vector_of};
 
 use nef_geo::{Dir, Label, up};
 use nef_star::Op;

@@ -1,13 +1,8 @@
 //! Where rays end: `end POINT DIRECTION`. The answer is whether the label changes at the point or just after it, the point,
 //! and the label there or just after it; or `frame`, where the ray begins on the border of the frame.
 
-ghost use Rattle.std.specs.Prelude.{◌≤◌, IsTrue, IfSome};
-ghost use Rattle.nef_space.specs.Limits.{ray_direction_limit, ray_point_limit, ray_weight_limit};
-ghost use Rattle.nef_space.specs.Sets.{Set};
-ghost use Rattle.nef_space.specs.Vectors.{IsAtMost};
-ghost use Rattle.nef_geo.specs.Hits.{IsPlaceAtMost};
-ghost use Rattle.nef_geo.specs.Shapes.{vector_of, place_of};
-ghost use Rattle.nef_complex.specs.Complexes.{ShowsSet};
+ghost use Rattle.std.specs.Prelude.{◌≤◌};
+ghost use Rattle.nef_complex.specs.Prelude.{IsTrue, IfSome, ray_direction_limit, ray_point_limit, ray_weight_limit, Set, IsAtMost, IsPlaceAtMost, vector_of, place_of, ShowsSet};
 
 use crate::tables::check_table;
 use crate::words::{is_within, label_word, numbers, point};

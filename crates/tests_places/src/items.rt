@@ -12,8 +12,7 @@
 //! In the answers to `corner`, `edges` and `planes` a label is one letter, and a number of a point, a direction or a plane
 //! is one letter: `0`, `1`, `-` for -1 and -2048, and `+` for 2048.
 
-ghost use Rattle.nef_space.specs.Sets.{Set};
-ghost use Rattle.nef_complex.specs.Complexes.{ShowsSet};
+ghost use Rattle.nef_complex.specs.Prelude.{Set, ShowsSet};
 
 use crate::words::add_numbers;
 use nef_cand::{candidates, cut_candidates};

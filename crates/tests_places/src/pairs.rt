@@ -5,8 +5,7 @@
 //! - `row POINT`: the numbers of the carriers of their union that hold its vertex at the point, where the rows that are taken
 //!   over from those of the two sets are those that are asked for.
 
-ghost use Rattle.nef_space.specs.Sets.{Set};
-ghost use Rattle.nef_complex.specs.Complexes.{ShowsSet};
+ghost use Rattle.nef_complex.specs.Prelude.{Set, ShowsSet};
 
 use crate::sets::Maker;
 use crate::words::{add_numbers, case_of, check, parted, point};

@@ -9,18 +9,14 @@
 //! - `tie_along CORNER CORNER`, `tie_across CORNER CORNER`: whether one leads from the first corner, by its vertex and its
 //!   item, to the second.
 
-ghost use Rattle.nef_space.specs.Place.{InFrame};
-ghost use Rattle.nef_space.specs.Sets.{Set};
-ghost use Rattle.nef_geo.specs.Shapes.{place_of};
-ghost use Rattle.nef_complex.specs.Complexes.{ShowsSet};
+ghost use Rattle.nef_complex.specs.Prelude.{InFrame, Set, place_of, ShowsSet};
 
 use crate::items::{add_planes, letter};
 use crate::words::{add_truth, inner_point, numbers};
 use nef_classes::{Cell, Tie};
-use nef_complex::{Complex, Corner, OutOfMemory};
+use nef_complex::{Complex, Corner, Cycle, Facet, OutOfMemory, Parts};
 use nef_facets::{FacetParts, across_ties, along_ties, facets};
 use nef_geo::{Label, List, Point};
-use nef_parts::{Cycle, Facet, Parts};
 use nef_volumes::{joined, parts};
 use std::alloc::Global;
 

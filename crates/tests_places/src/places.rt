@@ -7,12 +7,8 @@
 //! - `up POINT`, `down POINT`: the place that the ray from the point meets first.
 //! - `rising POINT`, `falling POINT`: the same of a ray that comes to the point exactly.
 
-ghost use Rattle.std.specs.Prelude.{◌≡◌, ◌⊎◌, IfSome};
-ghost use Rattle.nef_space.specs.Place.{InClosedFrame};
-ghost use Rattle.nef_space.specs.Sets.{Set};
-ghost use Rattle.nef_space.specs.Vectors.{opposite, up};
-ghost use Rattle.nef_geo.specs.Shapes.{vector_of, place_of};
-ghost use Rattle.nef_complex.specs.Complexes.{complex_of, ShowsSet};
+ghost use Rattle.std.specs.Prelude.{◌≡◌, ◌⊎◌};
+ghost use Rattle.nef_complex.specs.Prelude.{IfSome, InClosedFrame, Set, opposite, up, vector_of, place_of, complex_of, ShowsSet};
 ghost use Rattle.nef_locate.specs.Places.{IsPlaceIn};
 
 use crate::words::{add_dir, framed_point, label_word, point};

@@ -8,24 +8,15 @@
 //! - `from PLANE NUMBER`: the same by the call that is given the vertex, which need not lie on the plane.
 //! - `against PLANE NUMBER`: the same, against the plane's second direction.
 
-ghost use Rattle.std.specs.Prelude.{◌≡◌, ℕ, ◌<◌, pos, length, false, IsTrue, IfSome};
-ghost use Rattle.nef_space.specs.Limits.{normal_limit};
-ghost use Rattle.nef_space.specs.Place.{InClosedFrame, form_at};
-ghost use Rattle.nef_space.specs.Sets.{Set};
-ghost use Rattle.nef_space.specs.Vectors.{IsAtMost};
-ghost use Rattle.nef_geo.specs.Hits.{IsPlaceAtMost};
-ghost use Rattle.nef_geo.specs.Shapes.{form_of, vector_of, place_of, hit_place};
-ghost use Rattle.nef_geo.specs.Widths.{upright_limit, upright_weight_limit};
+ghost use Rattle.std.specs.Prelude.{◌≡◌, ◌<◌};
+ghost use Rattle.nef_complex.specs.Prelude.{ℕ, pos, length, false, IsTrue, IfSome, normal_limit, InClosedFrame, form_at, Set, IsAtMost, IsPlaceAtMost, form_of, vector_of, place_of, hit_place, upright_limit, upright_weight_limit, At, IsOnEdges, IsEdgePoint, complex_of, ShowsSet};
 ghost use Rattle.nef_smap.specs.declared.map.SVertex.{SVertex};
-ghost use Rattle.law_sphere.specs.Maps.{At};
-ghost use Rattle.law_complex.specs.Skeleton.{IsOnEdges, IsEdgePoint};
-ghost use Rattle.nef_complex.specs.Complexes.{complex_of, ShowsSet};
 ghost use Rattle.nef_plane.specs.Meets.{HasNoSvertex, IsAlongAxis};
 ghost use Rattle.tests_places.specs.Clear.{IsClearVertex};
 
 use crate::places::{add_edge, add_facet};
 use crate::words::{numbers, plane, point};
-use nef_complex::{Complex, PlaneMeet};
+use nef_complex::{Complex, PlaneMeet, plane_items};
 use nef_geo::{Dir, Hit, Plane, Point, Sign, hit_at, hit_side, plane_axis, plane_dir};
 use nef_locate::{Place, in_facet, locate};
 use nef_plane::{first_along_dir, first_in_plane, is_at_vertex, is_on_edge};
@@ -123,7 +114,7 @@ fn met_from_vertex(
         return None;
     }
     if !looked_up {
-        return Some(first_along_dir(c, h, vertex, &d));
+        return Some(first_along_dir(c, h, plane_items(c, h), vertex, &d));
     }
     if hit_side(h, &p) == Sign::Zero && is_at_vertex(c, vertex, &p) {
         Some(first_in_plane(c, h, &p, &d))
@@ -141,7 +132,7 @@ fn met_against(c: &Complex, h: &Plane, vertex: usize) -> Option<Option<PlaneMeet
     let e = d.back();
     let p = hit_at(&c.vertices.at(vertex).point);
     if has_no_svertex(c, &p, &e) {
-        Some(first_along_dir(c, h, vertex, &e))
+        Some(first_along_dir(c, h, plane_items(c, h), vertex, &e))
     } else {
         None
     }

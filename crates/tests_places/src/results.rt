@@ -1,15 +1,13 @@
 //! The maps of halves at the origin, carriers put together, and classes that links join.
 
-ghost use Rattle.std.specs.Prelude.{◌<◌, IfSome};
-ghost use Rattle.nef_space.specs.Sets.{Set};
-ghost use Rattle.nef_geo.specs.Shapes.{place_of};
-ghost use Rattle.law_sphere.specs.Least.{Cone};
+ghost use Rattle.std.specs.Prelude.{◌<◌};
+ghost use Rattle.nef_complex.specs.Prelude.{IfSome, Set, place_of, Cone};
 ghost use Rattle.nef_smap.specs.Maps.{map_of, IsLeastMap};
 
 use crate::items::{add_planes, letter};
 use crate::words::{add_numbers, case_of, check, oriented, parted};
 use nef_classes::{Link, class_numbers, class_of_each};
-use nef_complex::{Complex, OutOfMemory, PlaneIndex};
+use nef_complex::{Complex, OutOfMemory, PlaneIndex, Table};
 use nef_geo::{Label, List, Plane, Point};
 use nef_result::{add_carrier, copy_carriers, half_map, merge_carriers};
 use nef_smap::{SphereMap, face_map};
@@ -81,11 +79,22 @@ fn of_carriers(alloc: Global, first: usize, second: usize) -> Result<Complex, Ou
     let mut carriers = List::new(alloc);
     carriers.push(Plane::frame(first))?;
     carriers.push(Plane::frame(second))?;
+    let index = PlaneIndex {
+        planes: List::new(alloc),
+        edges: Table::with_rows(alloc, 0, 0)?,
+        vertices: Table::with_rows(alloc, 0, 0)?,
+        at_vertex: Table::with_rows(alloc, 0, 0)?,
+        at_edge: Table::with_rows(alloc, 0, 0)?,
+        on_carrier: List::new(alloc),
+        in_carrier: List::new(alloc),
+        spans: List::new(alloc),
+        clusters: List::new(alloc),
+    };
     Ok(Complex {
         carriers,
         vertices: List::new(alloc),
         edges: List::new(alloc),
-        index: PlaneIndex::empty(alloc),
+        index,
     })
 }
 

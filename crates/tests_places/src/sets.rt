@@ -6,9 +6,7 @@
 //! halves, with `, ` between them: where the form with these four numbers is at most zero, or negative where `open` stands
 //! before the first.
 
-ghost use Rattle.std.specs.Prelude.{IfSome};
-ghost use Rattle.nef_space.specs.Sets.{Set};
-ghost use Rattle.nef_complex.specs.Complexes.{ShowsSet};
+ghost use Rattle.nef_complex.specs.Prelude.{IfSome, Set, ShowsSet};
 
 use crate::words::{oriented, parted};
 use nef_complex::Complex;

@@ -2,9 +2,7 @@
 //! reason for it. Where `free ` stands before the steps of the set, they are worked by two workers over the free board, and
 //! else by one over the board with a lock.
 
-ghost use Rattle.std.specs.Prelude.{IfSome};
-ghost use Rattle.nef_space.specs.Sets.{Set};
-ghost use Rattle.nef_complex.specs.Complexes.{ShowsSet};
+ghost use Rattle.nef_complex.specs.Prelude.{IfSome, Set, ShowsSet};
 
 use crate::ends::add_end;
 use crate::items::{add_all, add_corner_at, add_cut, add_items};

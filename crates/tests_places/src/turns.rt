@@ -5,8 +5,7 @@
 //! - `same_as_empty`, `same_as_full`: whether it shows the empty set, or the whole frame.
 
 ghost use Rattle.std.specs.Prelude.{◌<◌};
-ghost use Rattle.nef_space.specs.Sets.{Set};
-ghost use Rattle.nef_complex.specs.Complexes.{ShowsSet};
+ghost use Rattle.nef_complex.specs.Prelude.{Set, ShowsSet};
 
 use crate::words::{add_truth, numbers, point};
 use nef_complex::{Complex, OutOfMemory};

@@ -3,9 +3,8 @@
 //! That a question can't be read, that nothing answers it, or that memory is wanting is told by `Option` or by the error of
 //! memory alone, and an answer is added to one text. Failures with texts of their own would make the tests dear to prove.
 
-ghost use Rattle.std.specs.Prelude.{◌≤◌, nat_abs, IsTrue, IfSome};
-ghost use Rattle.nef_space.specs.Place.{InClosedFrame, InFrame};
-ghost use Rattle.nef_geo.specs.Shapes.{place_of};
+ghost use Rattle.std.specs.Prelude.{◌≤◌};
+ghost use Rattle.nef_complex.specs.Prelude.{nat_abs, IsTrue, IfSome, InClosedFrame, InFrame, place_of};
 
 use nef_geo::{Dir, HALF_SIDE, Label, Oriented, Plane, Point};
 use std::alloc::AllocError;

@@ -1,6 +1,7 @@
 //! Bytes from sources and into sinks, and reads and writes that fail.
 
-ghost use Rattle.std.specs.Prelude.{◌≡◌, ◌++◌, IfOk};
+ghost use Rattle.std.specs.Prelude.{◌≡◌, ◌++◌};
+ghost use Rattle.nef_geo.specs.Prelude.{IfOk};
 
 use crate::same::{check, check_bytes};
 use nef_io::{

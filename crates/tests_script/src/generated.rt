@@ -68,7 +68,7 @@ fn last_count(script: &Script) -> Option<(u64, usize)> {
 
 // Eleven names for each of the 32 boxes, 31 more for what joins them, and one question.
 fn check_longest(rt: &impl Abort, script: &Script) {
-    check(rt, &script.nodes().len(), &383, "nodes");
+    check(rt, &script.nodes.len(), &383, "nodes");
     check(rt, &script.commands().len(), &384, "commands");
     check(rt, &last_count(script), &Some((384, 382)), "the last count");
 }

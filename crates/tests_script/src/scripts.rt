@@ -223,7 +223,7 @@ fn command_text(alloc: Global, command: &Command) -> Result<String, OutOfMemory>
 
 // How many nodes the script makes, and its commands.
 fn script_text(alloc: Global, script: &Script) -> Result<String, OutOfMemory> {
-    let mut text = format!(in alloc; "{} nodes\n", script.nodes().len())?;
+    let mut text = format!(in alloc; "{} nodes\n", script.nodes.len())?;
     for command in script.commands() {
         text.push_str(command_text(alloc, command)?.as_str())?;
     }
@@ -264,8 +264,8 @@ fn node_text(alloc: Global, node: &Node) -> Result<String, OutOfMemory> {
 
 fn node_of_copies(alloc: Global, number: usize) -> Result<String, Fail> {
     let script = parse(alloc, COPIES.as_bytes())?;
-    if number < script.nodes().len() {
-        Ok(node_text(alloc, script.nodes().get(number))?)
+    if number < script.nodes.len() {
+        Ok(node_text(alloc, script.nodes.get(number))?)
     } else {
         Err("a node".into())
     }
@@ -309,7 +309,7 @@ fn all_turns(alloc: Global) -> Result<String, OutOfMemory> {
 
 fn node_count(alloc: Global, text: &str) -> Result<usize, ScriptFault> {
     let script = parse(alloc, text.as_bytes())?;
-    Ok(script.nodes().len())
+    Ok(script.nodes.len())
 }
 
 // Each of the 48 turns adds one node, and no turn of those adds another.

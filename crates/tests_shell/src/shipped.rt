@@ -1,6 +1,6 @@
 //! The program as it is shipped, over a reader and a writer of std of which some call fails.
 
-ghost use Rattle.std.specs.Prelude.{Some};
+ghost use Rattle.nef_complex.specs.Prelude.{Some};
 
 use crate::runs::{check, folded, owned, unfolded};
 use nef_io::{FromReader, IntoWriter, OpenGate};

@@ -1,15 +1,11 @@
 //! Scripts and what they write, by both boards and any number of workers.
 
-ghost use Rattle.std.specs.Prelude.{IfOk};
-ghost use Rattle.nef_space.specs.Sets.{Set};
-ghost use Rattle.nef_complex.specs.Complexes.{ShowsSet, complex_of};
-ghost use Rattle.nef_parts.specs.Numbers.{IsParts};
+ghost use Rattle.nef_complex.specs.Prelude.{IfOk, Set, ShowsSet, complex_of, IsParts};
 
 use crate::runs::{check, check_rows};
-use nef_complex::Complex;
+use nef_complex::{Complex, Parts};
 use nef_core::TextVersion;
 use nef_ops::constant;
-use nef_parts::Parts;
 use nef_shell::same_text;
 use nef_volumes::parts;
 use std::alloc::{AllocError, Global};

@@ -1,6 +1,6 @@
 use Rattle.std.proofs.Common.{◌≡◌, ◌<◌, ◌+◌, length, subst, sym, ap, ◌∙◌, arith, List, ℕ, get_or, take}
 use Rattle.std.proofs.lemmas.List.{take_all}
-use Rattle.nef_classes.specs.declared.link.Link.{Link}
+use Rattle.nef_classes.specs.declared.forest.Link.{Link}
 use Rattle.nef_classes.specs.Classes.{AreClasses}
 use Rattle.nef_classes.proofs.ClassLists.{is-at_get, take-more, refilled}
 use Rattle.nef_classes.specs.Forest.{HasSameTrees, AreTogether}

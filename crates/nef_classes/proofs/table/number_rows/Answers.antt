@@ -1,6 +1,6 @@
 use Rattle.std.proofs.Common.{◌≡◌, ℕ, List, length, map, subst, sym, ap, ◌∙◌}
 use Rattle.std.specs.Prelude.{IfOk}
-use Rattle.nef_classes.specs.declared.link.Link.{Link}
+use Rattle.nef_classes.specs.declared.forest.Link.{Link}
 use Rattle.nef_classes.specs.Classes.{AreClasses, AreNumbered}
 use Rattle.nef_classes.specs.Tables.{total}
 use Rattle.nef_classes.specs.Forest.{AreRoots}

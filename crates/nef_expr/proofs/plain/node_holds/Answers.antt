@@ -1,10 +1,22 @@
+use Rattle.std.proofs.Common.{true, false}
 use Rattle.nef_geo.specs.Shapes.{place_of}
-use Rattle.nef_expr.proofs.Holding.{half-told, empty-told, full-told, and-told, or-told, diff-told, xor-told, not-told}
+use Rattle.nef_expr.proofs.Holding.{half-minus, half-zero, half-plus, half-told, empty-told, full-told, and-told, or-told, diff-told, xor-told, not-told}
 use Rattle.nef_expr.proofs.plain.node_holds.Goals as goal
 
-pub returns-in-Half : goal.returns-in-Half
-returns-in-Half c =
-    record { told = rw c.in-Half.is (half-told c.args.holding.now c.in-Half.oriented c.in-Half.closed c.half_holds.result (place_of c.args.p.now) c.half_holds.ensures.half) }
+pub returns-in-Minus : goal.returns-in-Minus
+returns-in-Minus c =
+    let p = place_of c.args.p.now in
+    record { told = rw c.in-Half.is (half-told c.args.holding.now c.in-Half.oriented c.in-Half.closed true p (half-minus _ _ p c.in-Minus.ensures.side)) }
+
+pub returns-in-Zero : goal.returns-in-Zero
+returns-in-Zero c =
+    let p = place_of c.args.p.now in
+    record { told = rw c.in-Half.is (half-told c.args.holding.now c.in-Half.oriented c.in-Half.closed c.in-Half.closed p (half-zero _ _ p c.in-Zero.ensures.side)) }
+
+pub returns-in-Plus : goal.returns-in-Plus
+returns-in-Plus c =
+    let p = place_of c.args.p.now in
+    record { told = rw c.in-Half.is (half-told c.args.holding.now c.in-Half.oriented c.in-Half.closed false p (half-plus _ _ p c.in-Plus.ensures.side)) }
 
 pub returns-in-Full : goal.returns-in-Full
 returns-in-Full c = record { told = rw c.in-Full.is (full-told c.args.holding.now (place_of c.args.p.now)) }

@@ -3,13 +3,13 @@ use Rattle.std.proofs.Math.ListN.{length-set}
 use Rattle.nef_smap.proofs.Found.{read}
 use Rattle.nef_classes.proofs.ClassLists.{is-at_get}
 use Rattle.nef_complex.specs.declared.complex.Corner.{Corner}
-use Rattle.nef_parts.specs.declared.parts.Cycle.{Cycle}
+use Rattle.nef_complex.specs.declared.parts.Cycle.{Cycle}
 use Rattle.nef_facets.specs.Orbits.{AreCornersOf, IsCycleOf, AreGrouped}
 use Rattle.nef_facets.proofs.Grouping.{grouped-more}
 use Rattle.nef_facets.proofs.cycles.grouped.Goals as goal
 
-pub number_of-number-requires : goal.number_of-number-requires
-number_of-number-requires c =
+pub number_at-number-requires : goal.number_at-number-requires
+number_at-number-requires c =
     let ks : List Corner = c.args.corners.now in
     let d : Corner = record { vertex = 0; item = 0 } in
     let os : List (List ℕ) = c.args.orbits.now in
@@ -30,7 +30,7 @@ index_mut-requires c =
     let j = c.at.result.now in
     let N = c.requires.numbered in
     let h = N.within i 0 j x (read os os i x refl c.loop-orbit-test.true c.orbit-item.is) c.at.ensures.element in
-    let b = N.below j (get_or ks j d) c.number_of-number.result (is-at_get ks j d h) c.number_of-number.ensures.number in
+    let b = N.below j (get_or ks j d) c.number_at-number.result (is-at_get ks j d h) c.number_at-number.ensures.number in
     let e = c.loop-orbit.invariant.as_many in
     let f = c.loop-orbit.cycles.ok in
     omega arith
@@ -48,8 +48,8 @@ loop-orbit-preserved c =
     let a = read os os i x refl c.loop-orbit-test.true c.orbit-item.is in
     let h = N.within i 0 j x a c.at.ensures.element in
     let at-k = is-at_get ks j d h in
-    let n = c.number_of-number.result in
-    let b = N.below j (get_or ks j d) n at-k c.number_of-number.ensures.number in
+    let n = c.number_at-number.result in
+    let b = N.below j (get_or ks j d) n at-k c.number_at-number.ensures.number in
     let ys : List (List Cycle) = c.loop-orbit.cycles.items in
     let row : List Cycle = c.index_mut.result.now in
     let many = c.loop-orbit.invariant.as_many in
@@ -62,7 +62,7 @@ loop-orbit-preserved c =
       is_first = c.at.ensures.element;
       corner = get_or ks j d;
       is_corner = at-k;
-      number = c.number_of-number.ensures.number;
+      number = c.number_at-number.ensures.number;
     } in
     record {
       as_many = length-set ys n c.push.new.self ∙ many;

@@ -2,7 +2,7 @@ use Rattle.std.proofs.Common.{List, map, sym, subst, ◌↔◌}
 use Rattle.law_complex.specs.Complexes.{Corner}
 use Rattle.nef_complex.specs.Complexes.{complex_of}
 use Rattle.law_links.specs.Links.{FacetLink}
-use Rattle.nef_parts.specs.Numbers.{count_items}
+use Rattle.nef_complex.specs.Numbers.{count_items}
 use Rattle.nef_classes.specs.declared.table.Tie.{Tie}
 use Rattle.nef_classes.specs.Tables.{AreTied, AreTiedWithin}
 use Rattle.nef_facets.specs.Ties.{cell_of}

@@ -6,7 +6,7 @@ use Rattle.nef_smap.specs.Maps.{map_of}
 use Rattle.nef_smap.specs.Sides.{SideSees}
 use Rattle.nef_smap.proofs.Lists.{at-within}
 use Rattle.nef_complex.specs.Complexes.{vertex_of, edge_of, complex_of, corner_of}
-use Rattle.nef_locate.specs.declared.place.Place.{Place}
+use Rattle.nef_locate.specs.declared.point.Place.{Place}
 use Rattle.nef_locate.specs.Places.{IsPlaceIn}
 use Rattle.nef_locate.specs.Rays.{IsSideAbove}
 use Rattle.nef_locate.proofs.EdgeFound.{low-within, low-svertex}

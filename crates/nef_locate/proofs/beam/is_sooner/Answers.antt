@@ -1,20 +1,24 @@
-use Rattle.std.proofs.Common.{Option, IfSome, subst, true, false, ◌≡◌}
+use Rattle.std.proofs.Common.{Option, IfSome, IsTrue, Bool, subst, sym, ◌≡◌, ◌∙◌, ◌↔◌, Ordering, Less, Equal, Greater}
+use Rattle.std.specs.Ordering.{MatchOrdering, is_lt}
+use Rattle.std.proofs.lemmas.Bool.{false≢true}
+use Rattle.nef_space.specs.Place.{Place, SamePlace, IsAhead}
+use Rattle.nef_space.specs.Vectors.{Vector}
 use Rattle.nef_geo.specs.Shapes.{hit_place}
 use Rattle.nef_locate.specs.declared.beam.Met.{Met}
 use Rattle.nef_locate.specs.Rays.{IsReachedMet, IsSooner}
 use Rattle.nef_locate.proofs.RayMeets.{never-same, never-both}
 use Rattle.nef_locate.proofs.beam.is_sooner.Goals as goal
 
-pub returns-in-Equal : goal.returns-in-Equal
-returns-in-Equal c = record {
-  sooner = λ p d i r s.
-      let e = c.in-Equal.ensures.along p d i r (subst (λ (o : Option Met). IfSome o (IsReachedMet p d)) c.in-Some.is s) in
-      (λ t. absurd (let f : false ≡ true = t in cc), λ w. absurd (never-same (hit_place c.args.hit.now) (hit_place c.in-Some.met.at) d (subst (IsSooner d c.args.hit.now) c.in-Some.is w) e));
-}
+-- the lesser of two steps is that of the point ahead of which the other lies
+lesser-ahead : (a b : Place) (d : Vector) (o : Ordering) (t : Bool) → t ≡ is_lt o → MatchOrdering o (IsAhead a d b) (SamePlace a b) (IsAhead b d a) → IsTrue t ↔ IsAhead a d b
+lesser-ahead a b d Less t e m = (λ _. m, λ _. e)
+lesser-ahead a b d Equal t e m = (λ z. absurd (false≢true (sym e ∙ z)), λ w. absurd (never-same a b d w m))
+lesser-ahead a b d Greater t e m = (λ z. absurd (false≢true (sym e ∙ z)), λ w. absurd (never-both a b d w m))
 
-pub returns-in-Greater : goal.returns-in-Greater
-returns-in-Greater c = record {
+pub returns-in-Some : goal.returns-in-Some
+returns-in-Some c = record {
   sooner = λ p d i r s.
-      let e = c.in-Greater.ensures.along p d i r (subst (λ (o : Option Met). IfSome o (IsReachedMet p d)) c.in-Some.is s) in
-      (λ t. absurd (let f : false ≡ true = t in cc), λ w. absurd (never-both (hit_place c.args.hit.now) (hit_place c.in-Some.met.at) d (subst (IsSooner d c.args.hit.now) c.in-Some.is w) e));
+      let m = c.hit_order.ensures.along p d i r (subst (λ (o : Option Met). IfSome o (IsReachedMet p d)) c.in-Some.is s) in
+      let h = lesser-ahead (hit_place c.args.hit.now) (hit_place c.in-Some.met.at) d c.hit_order.result c.is_lt.result c.is_lt.ensures m in
+      (λ t. subst (IsSooner d c.args.hit.now) (sym c.in-Some.is) (h.0 t), λ w. h.1 (subst (IsSooner d c.args.hit.now) c.in-Some.is w));
 }

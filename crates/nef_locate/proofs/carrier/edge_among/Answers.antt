@@ -5,7 +5,7 @@ use Rattle.nef_smap.proofs.SideLists.{at-from_get}
 use Rattle.law_complex.specs.Skeleton.{IsEdgePoint}
 use Rattle.nef_complex.specs.Complexes.{complex_of}
 use Rattle.nef_locate.proofs.EdgeOrder.{number-parted, number-edge, none-later}
-use Rattle.nef_locate.proofs.Reading.{next-all}
+use Rattle.nef_complex.proofs.Reading.{next-all}
 use Rattle.nef_locate.proofs.carrier.edge_among.Goals.{else-next-edge-2-via-then-next-edge-2+else-is_in_line, else-next-edge-2-via-else-next-edge-2}
 use Rattle.nef_locate.proofs.carrier.edge_among.Goals as goal
 

@@ -3,8 +3,10 @@ use Rattle.nef_geo.specs.Shapes.{form_of, hit_place}
 use Rattle.nef_classes.proofs.ClassLists.{is-at_get, is-at_within}
 use Rattle.nef_complex.specs.declared.spans.Span.{Span}
 use Rattle.nef_complex.specs.Complexes.{complex_of}
+use Rattle.nef_complex.proofs.Framed.{skeleton-framed}
+use Rattle.nef_complex.proofs.Outside.{no_span}
+use Rattle.nef_complex.proofs.Spanned.{spanned}
 use Rattle.nef_locate.proofs.Located.{vertex-at}
-use Rattle.nef_locate.proofs.Windows.{no_span, skeleton-framed, spanned}
 use Rattle.nef_locate.proofs.carrier.place_on.Goals as goal
 
 pub returns-then-not-is_framed-clause-none : goal.returns-then-not-is_framed-clause-none

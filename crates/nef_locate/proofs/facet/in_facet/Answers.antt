@@ -12,17 +12,20 @@ use Rattle.nef_locate.proofs.Listed.{flat-item}
 use Rattle.nef_locate.proofs.SamePlanes.{level-back}
 use Rattle.nef_locate.proofs.facet.in_facet.Goals as goal
 
-pub returns-in_err-plane_items-clause-none : goal.returns-in_err-plane_items-clause-none
-returns-in_err-plane_items-clause-none c _ = λ s S F. c.in_err-plane_items.ensures.none refl (flat-item s c.args.c.now S c.args.h.now (hit_place c.args.p.now) c.requires.on F)
+pub returns-in_err-items-clause-none : goal.returns-in_err-items-clause-none
+returns-in_err-items-clause-none c _ = λ s S F. c.in_err-items.ensures.none refl (flat-item s c.args.c.now S c.args.h.now (hit_place c.args.p.now) c.requires.on F)
 
-pub first_in_plane-requires-clause-off : goal.first_in_plane-requires-clause-off
-first_in_plane-requires-clause-off c = inr (λ k e l. c.requires.off (meets_edge k) (e, l))
+pub first_along_axis-requires-clause-items : goal.first_along_axis-requires-clause-items
+first_along_axis-requires-clause-items c = record { edges = c.in_ok-items.ensures.edges; vertices = c.in_ok-items.ensures.vertices }
 
-pub first_in_plane-requires-clause-direction : goal.first_in_plane-requires-clause-direction
-first_in_plane-requires-clause-direction c = inl (inl (SameDirection-turned (plane_axis (normal_of (form_of c.args.h.now))) (vector_of c.plane_axis-axis.result) c.plane_axis-axis.ensures.axis))
+pub first_along_axis-requires-clause-off : goal.first_along_axis-requires-clause-off
+first_along_axis-requires-clause-off c = inr (λ k e l. c.requires.off (meets_edge k) (e, l))
 
-pub first_in_plane-requires-clause-no_svertex : goal.first_in_plane-requires-clause-no_svertex
-first_in_plane-requires-clause-no_svertex c = λ k j v u a e b w. c.requires.off (meets_vertex k) (v, a, e)
+pub first_along_axis-requires-clause-direction : goal.first_along_axis-requires-clause-direction
+first_along_axis-requires-clause-direction c = inl (SameDirection-turned (plane_axis (normal_of (form_of c.args.h.now))) (vector_of c.plane_axis-axis.result) c.plane_axis-axis.ensures.axis)
+
+pub first_along_axis-requires-clause-no_svertex : goal.first_along_axis-requires-clause-no_svertex
+first_along_axis-requires-clause-no_svertex c = λ k j v u a e b w. c.requires.off (meets_vertex k) (v, a, e)
 
 pub returns-in_err-met-clause-none : goal.returns-in_err-met-clause-none
 returns-in_err-met-clause-none c _ = none-met c.args.c.now c.args.h.now (hit_place c.args.p.now) c.requires.on (vector_of c.plane_axis-axis.result) c.plane_axis-axis.result.some c.plane_axis-axis.ensures.in_plane (c.in_err-met.ensures.none refl)

@@ -12,15 +12,15 @@ first_hit-requires-clause-upright c = inr (c.back.ensures.back ∙ ap opposite c
 
 pub returns-clause-place : goal.returns-clause-place
 returns-clause-place c =
-    let C = complex_of c.args.c.now in let p = place_of c.args.p.now in let a = c.side_above-above.result in
+    let C = complex_of c.args.c.now in let p = place_of c.args.p.now in let a = c.side_above-vertex.result in
     let F = subst (λ (d : Vector). IsFirstHit C p d c.in-Some.floor) (c.back.ensures.back ∙ ap opposite c.up.ensures.up) c.in-Some.ensures.some in
-    volume-in C p c.requires.off c.in-Some.floor F a.vertex a.side c.side_above-above.ensures.above
+    volume-in C p c.requires.off c.in-Some.floor F a.0 a.1 c.side_above-vertex.ensures.above
 
 pub returns-clause-at : goal.returns-clause-at
 returns-clause-at c =
-    let C = complex_of c.args.c.now in let p = place_of c.args.p.now in let a = c.side_above-above.result in
+    let C = complex_of c.args.c.now in let p = place_of c.args.p.now in let a = c.side_above-vertex.result in
     let F = subst (λ (d : Vector). IsFirstHit C p d c.in-Some.floor) (c.back.ensures.back ∙ ap opposite c.up.ensures.up) c.in-Some.ensures.some in
-    volume-at C p c.requires.off c.in-Some.floor F a.vertex a.side c.side_above-above.ensures.above
+    volume-at C p c.requires.off c.in-Some.floor F a.0 a.1 c.side_above-vertex.ensures.above
 
 pub unreachable-requires : goal.unreachable-requires
 unreachable-requires c =

@@ -1,4 +1,4 @@
-use Rattle.std.proofs.Common.{ℕ, ◌+◌, ◌<◌, List, IsNone, arith, sym, refl}
+use Rattle.std.proofs.Common.{ℕ, ◌+◌, ◌<◌, List, IsNone, arith, rules, sym, refl}
 use Rattle.nef_space.specs.Lists.{IsAt}
 use Rattle.nef_space.specs.Place.{Place}
 use Rattle.nef_geo.specs.Shapes.{place_of}
@@ -17,6 +17,9 @@ IsUntold p r = IsFar r.side p → IsNone r.label
 
 one-more : (rs : List Region) (p : Place) (n : ℕ) (x : Region) → IsAt rs n x → IsUntold p x → ((k : ℕ) (r : Region) → k < n → At rs k r → IsUntold p r) → (k : ℕ) (r : Region) → k < n + 1 → At rs k r → IsUntold p r
 one-more rs p n x here untold before = all-more (IsUntold p) rs n x (sym (is-at_is rs n x x here)) untold before
+
+pub returns-then-not-in_frame-clause-none : goal.returns-then-not-in_frame-clause-none
+returns-then-not-in_frame-clause-none c none k r a f = absurd (search (rules, c.in_frame.ensures.in_frame.1 f.0, c.if-not-in_frame.true))
 
 pub returns-in-Some-clause-told : goal.returns-in-Some-clause-told
 returns-in-Some-clause-told c C told =

@@ -1,8 +1,34 @@
-use Rattle.std.proofs.Common.{ℤ, w64, sym, subst}
+use Rattle.std.proofs.Common.{ℤ, w64, to_z, of_z, arith, rules, sym, subst}
 use Rattle.std.proofs.lemmas.Int.{to_z-of_z}
-use Rattle.nef_ops.specs.Far.{IsClear}
+use Rattle.nef_geo.specs.Shapes.{place_of}
+use Rattle.nef_geo.specs.declared.point.Point.{Point}
+use Rattle.nef_smap.proofs.Lists.{at-within}
+use Rattle.nef_ops.specs.declared.regions.Side.{Side}
+use Rattle.nef_ops.specs.Far.{IsFar, IsClear}
+use Rattle.nef_ops.proofs.FarLabels.{far-uniform}
+use Rattle.nef_ops.proofs.Lacking.{all-more}
+use Rattle.nef_ops.proofs.regions.region_past.Goals.{else-has-via-then-has+else-in_frame, else-has-via-else-has}
 use Rattle.nef_ops.proofs.regions.region_past.Goals as goal
 
-pub label_past-label-requires-clause-clear : goal.label_past-label-requires-clause-clear
-label_past-label-requires-clause-clear c =
-    subst (λ (e : ℤ). IsClear c.args.c.now (record { axis = c.args.axis; way = c.args.way; end = e })) (sym (to_z-of_z w64 c.args.end c.ranges.end)) c.requires.clear
+-- the side has its end as it is read
+pub returns-then-in_frame-clause-told : goal.returns-then-in_frame-clause-told
+returns-then-in_frame-clause-told c p f s S =
+    let q = place_of c.point-item.result in
+    let side : Side = record { axis = c.args.axis; way = c.args.way; end = to_z w64 (of_z w64 c.args.end) } in
+    let clear : IsClear c.args.c.now side =
+    subst (λ (e : ℤ). IsClear c.args.c.now (record { axis = c.args.axis; way = c.args.way; end = e })) (sym (to_z-of_z w64 c.args.end c.ranges.end)) c.requires.clear in
+    far-uniform s c.args.c.now S side clear q p c.place_label-label.result
+    (c.in_frame.ensures.in_frame.0 c.if-in_frame.true, c.has.ensures.past.0 c.if-has.true) (c.place_label-label.ensures.set s q S c.locate.ensures.at) f
+
+pub loop-point-preserved : goal.loop-point-preserved
+loop-point-preserved c =
+    let p = c.point-item.result in
+    let side : Side = record { axis = c.args.axis; way = c.args.way; end = to_z w64 (of_z w64 c.args.end) } in
+    let off : IsFar side (place_of p) → ⊥ = elim c.else-has.branch [
+      | else-has-via-then-has+else-in_frame w ↦ λ f. absurd (search (rules, w.in_frame.ensures.in_frame.1 f.0, w.if-in_frame.false))
+      | else-has-via-else-has w ↦ λ f. absurd (search (rules, c.has.ensures.past.1 f.1, w.if-has.false))
+    ] in
+    all-more (λ (r : Point). IsFar side (place_of r) → ⊥) c.args.points.now c.loop-point.point-index p c.point-item.is off c.loop-point.invariant
+
+pub returns-clause-none : goal.returns-clause-none
+returns-clause-none c none k p a f = c.loop-point.invariant k p (let l = at-within c.args.points.now k p a in let t = c.loop-point-test.false in omega (arith, l, t)) a f

@@ -1,7 +1,6 @@
 use Rattle.std.proofs.Common.{◌≡◌, List, Some, rules, refl, sym, subst}
 use Rattle.law_sphere.specs.Maps.{At}
 use Rattle.nef_smap.specs.declared.map.SVertex.{SVertex}
-use Rattle.nef_smap.specs.declared.map.SArc.{SArc}
 use Rattle.nef_ops.proofs.Lacking.{map-lacks}
 use Rattle.nef_ops.proofs.share.lacks.Goals as goal
 
@@ -12,6 +11,5 @@ returns c =
     record {
       lacks = λ h. map-lacks c.args.label c.args.map.now
           (λ k v a. c.if-not-svertices_lack.ensures.lacks refl k v (subst (λ (vs : List SVertex). At vs k v) (sym c.as_slice.ensures.all) a))
-          (λ k r a. c.arcs_lack.ensures.lacks h k r (subst (λ (rs : List SArc). At rs k r) (sym c.as_slice-2.ensures.all) a))
-          (c.if-not-sloop_lacks.ensures.lacks refl) own ground;
+          (c.items_lack.ensures.lacks h) own ground;
     }

@@ -1,14 +1,8 @@
 use Rattle.std.proofs.Common.{◌≡◌, ◌∙◌, ap, refl, sym, subst, List, [], ◌∷◌, ◌++◌}
-use Rattle.nef_plan.specs.declared.step.Step.{Step}
+use Rattle.nef_plan.specs.declared.planner.Step.{Step}
 use Rattle.nef_plan.specs.Steps.{AreSteps, IsMade, asked}
 use Rattle.nef_plan.proofs.Growth.{more-same, steps-push, made-push, made-last, asked-push}
 use Rattle.nef_plan.proofs.planner.add_step.Goals as goal
-
-pub returns-clause-steps : goal.returns-clause-steps
-returns-clause-steps c =
-    let old = c.args.plan.now.steps.items in
-    let items : c.push.new.self.items ≡ old ++ c.args.step ∷ [] = c.in_ok-push.ensures.items in
-    subst (AreSteps c.args.plan.now.nodes) (sym items) (steps-push c.args.plan.now.nodes old c.args.step c.requires.steps c.requires.right c.requires.made)
 
 pub returns-clause-grown : goal.returns-clause-grown
 returns-clause-grown c =
@@ -16,6 +10,7 @@ returns-clause-grown c =
     let items : c.push.new.self.items ≡ old ++ c.args.step ∷ [] = c.in_ok-push.ensures.items in
     record {
       nodes = more-same c.args.plan.now.nodes c.args.plan.now.nodes refl;
+      steps = subst (AreSteps c.args.plan.now.nodes) (sym items) (steps-push c.args.plan.now.nodes old c.args.step c.requires.steps c.requires.right c.requires.made);
       made = λ k made. subst (λ (z : List Step). IsMade z k) (sym items) (made-push old c.args.step k made);
       asked = ap asked items ∙ asked-push old c.args.step;
     }

@@ -1,7 +1,7 @@
 use Rattle.std.proofs.Common.{◌<◌, [], length, arith}
 use Rattle.nef_plan.specs.declared.row.Bound.TheVariants.{Made, Deferred}
 use Rattle.nef_plan.specs.Rows.{IsRowOf}
-use Rattle.nef_plan.proofs.Bounds.{planned-set, on-set, on-trans, bound-here, set-grown}
+use Rattle.nef_plan.proofs.Bounds.{on-set, on-trans, bound-here, set-grown}
 use Rattle.nef_plan.proofs.planner.bind_row.Goals as goal
 use Rattle.nef_plan.proofs.planner.bind_row.Goals.{In_ok-row}
 
@@ -10,10 +10,9 @@ row-here : (c : In_ok-row) → IsRowOf c.row_of.new.plan c.in_ok-row.row c.args.
 row-here c =
     let now = c.in_ok-row.ensures in
     let need = c.requires in
-    let operation = c.args.operation in
     let more = now.goes_on.grown.nodes.as_many in
     now.row c.args.node (omega (arith, need.within, more))
-    (set-grown c.args.plan.now c.row_of.new.plan [] c.args.bounds.now operation.kind operation.first operation.second c.args.node now.goes_on.grown need.planned need.first need.second need.within need.set)
+    (set-grown c.args.plan.now c.row_of.new.plan [] c.args.bounds.now c.args.kind c.args.first c.args.second c.args.node now.goes_on.grown need.planned need.first need.second need.within need.set)
 
 -- and the node has a place
 place-here : (c : In_ok-row) → c.args.node < length c.row_of.new.bounds
@@ -25,34 +24,24 @@ settle-requires-clause-ready c = (row-here (goal.at.settle-requires-clause-ready
 pub finish-requires-clause-row : goal.finish-requires-clause-row
 finish-requires-clause-row c = row-here (goal.at.finish-requires-clause-row c).In_ok-row
 
-pub returns-in_ok-settle-clause-planned : goal.returns-in_ok-settle-clause-planned
-returns-in_ok-settle-clause-planned c =
-    let at = (goal.at.returns-in_ok-settle-clause-planned c).In_ok-row in
-    let now = c.in_ok-settle.ensures in
-    planned-set c.row_of.new.plan c.settle.new.plan [] c.row_of.new.bounds c.args.node (Deferred c.settle.new.row) c.in_ok-row.ensures.planned now.steps now.grown (place-here at) (now.row c.args.node (row-here at))
-
 pub returns-in_ok-settle-clause-goes_on : goal.returns-in_ok-settle-clause-goes_on
 returns-in_ok-settle-clause-goes_on c =
     let at = (goal.at.returns-in_ok-settle-clause-goes_on c).In_ok-row in
+    let now = c.in_ok-settle.ensures in
     let middle = c.row_of.new in
     on-trans c.args.plan.now middle.plan c.settle.new.plan c.args.bounds.now middle.bounds _ [] [] c.in_ok-row.ensures.goes_on
-    (on-set middle.plan c.settle.new.plan [] middle.bounds c.args.node (Deferred c.settle.new.row) c.in_ok-settle.ensures.grown (place-here at) tt)
+    (on-set middle.plan c.settle.new.plan [] middle.bounds c.args.node (Deferred c.settle.new.row) c.in_ok-row.ensures.goes_on.planned now.grown (place-here at) tt (now.row c.args.node (row-here at)))
 
 pub returns-in_ok-settle-clause-bound : goal.returns-in_ok-settle-clause-bound
 returns-in_ok-settle-clause-bound c = bound-here c.row_of.new.bounds c.args.node (Deferred c.settle.new.row) (place-here (goal.at.returns-in_ok-settle-clause-bound c).In_ok-row) tt
 
-pub returns-in_ok-finish-clause-planned : goal.returns-in_ok-finish-clause-planned
-returns-in_ok-finish-clause-planned c =
-    let at = (goal.at.returns-in_ok-finish-clause-planned c).In_ok-row in
-    let now = c.in_ok-finish.ensures in
-    planned-set c.row_of.new.plan c.finish.new.plan [] c.row_of.new.bounds c.args.node Made c.in_ok-row.ensures.planned now.steps now.grown (place-here at) now.ready
-
 pub returns-in_ok-finish-clause-goes_on : goal.returns-in_ok-finish-clause-goes_on
 returns-in_ok-finish-clause-goes_on c =
     let at = (goal.at.returns-in_ok-finish-clause-goes_on c).In_ok-row in
+    let now = c.in_ok-finish.ensures in
     let middle = c.row_of.new in
     on-trans c.args.plan.now middle.plan c.finish.new.plan c.args.bounds.now middle.bounds _ [] [] c.in_ok-row.ensures.goes_on
-    (on-set middle.plan c.finish.new.plan [] middle.bounds c.args.node Made c.in_ok-finish.ensures.grown (place-here at) tt)
+    (on-set middle.plan c.finish.new.plan [] middle.bounds c.args.node Made c.in_ok-row.ensures.goes_on.planned now.grown (place-here at) tt now.ready)
 
 pub returns-in_ok-finish-clause-bound : goal.returns-in_ok-finish-clause-bound
 returns-in_ok-finish-clause-bound c = bound-here c.row_of.new.bounds c.args.node Made (place-here (goal.at.returns-in_ok-finish-clause-bound c).In_ok-row) tt

@@ -1,11 +1,9 @@
 use Rattle.std.proofs.Common.{[], length}
 use Rattle.nef_plan.specs.Rows.{HasGrown, IsRowOf}
-use Rattle.nef_plan.specs.Steps.{AreSteps}
 use Rattle.nef_plan.proofs.planner.finish.Given as goal
 
 abbrev pub invariant-loop-plan : goal.invariant-loop-plan
 invariant-loop-plan l = record {
-  steps : AreSteps l.plan.nodes l.plan.steps.items;
   grown : HasGrown l.initial.plan l.plan [];
   row : IsRowOf l.plan l.row l.node;
 }

@@ -15,23 +15,26 @@ returns-in-Some-clause-row c k within is =
     let longer = c.add.new.self in
     let added = c.in_ok-add.ensures in
     let (like, of) = c.in_ok-row.ensures.row row c.in-Some.is in
-    let second : longer.last.node ≡ c.args.operation.second = ap (λ (p : Part). p.node) added.last in
-    let same = combined-same row.kind c.args.operation.kind (node_set plan.nodes c.args.operation.first) (node_set plan.nodes c.args.operation.second) like in
-    row-added plan row longer c.args.operation.first k added.kind added.others
+    let second : longer.last.node ≡ c.args.second = ap (λ (p : Part). p.node) added.last in
+    let same = combined-same row.kind c.args.kind (node_set plan.nodes c.args.first) (node_set plan.nodes c.args.second) like in
+    row-added plan row longer c.args.first k added.kind added.others
     (subst (IsReady plan) (sym second) c.in_ok-demand.ensures.ready)
     within
-    (is ∙ sym same ∙ ap (λ (n : ℕ). combined row.kind (node_set plan.nodes c.args.operation.first) (node_set plan.nodes n)) (sym second))
-    (of plan c.in_ok-demand.ensures.planned)
+    (is ∙ sym same ∙ ap (λ (n : ℕ). combined row.kind (node_set plan.nodes c.args.first) (node_set plan.nodes n)) (sym second))
+    (of plan c.in_ok-demand.ensures.goes_on.planned)
+
+pub demand-requires-2-clause-planned : goal.demand-requires-2-clause-planned
+demand-requires-2-clause-planned c = c.in_ok-demand.ensures.goes_on.planned
 
 pub offset_bounds-hints-first : goal.offset_bounds-hints-first
 offset_bounds-hints-first c =
-    let place = bound-place c.args.bounds.now c.args.operation.first c.requires.first in
-    let within : c.args.operation.first < length c.args.hints.now = omega (arith, place, c.requires.hints) in
+    let place = bound-place c.args.bounds.now c.args.first c.requires.first in
+    let within : c.args.first < length c.args.hints.now = omega (arith, place, c.requires.hints) in
     search rules
 
 pub bounds-hints-first : goal.bounds-hints-first
 bounds-hints-first c =
-    let place = bound-place c.args.bounds.now c.args.operation.first c.requires.first in
+    let place = bound-place c.args.bounds.now c.args.first c.requires.first in
     omega (arith, place, c.requires.hints)
 
 pub returns-clause-goes_on : goal.returns-clause-goes_on
@@ -42,5 +45,5 @@ returns-clause-goes_on c =
 pub returns-clause-row : goal.returns-clause-row
 returns-clause-row c =
     let plan = c.demand-2.new.plan in
-    let second = ready-grown c.demand.new.plan plan [] c.args.operation.second c.in_ok-demand-2.ensures.goes_on.grown c.in_ok-demand.ensures.ready in
+    let second = ready-grown c.demand.new.plan plan [] c.args.second c.in_ok-demand-2.ensures.goes_on.grown c.in_ok-demand.ensures.ready in
     IfOk-weaker c.begun.result _ _ (λ r row k within is. row plan k within c.in_ok-demand-2.ensures.ready second is) c.begun.ensures.row

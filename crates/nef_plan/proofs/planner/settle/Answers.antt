@@ -3,14 +3,16 @@ use Rattle.nef_plan.proofs.Growth.{grown-refl, grown-trans}
 use Rattle.nef_plan.proofs.planner.settle.Goals as goal
 
 pub loop-plan-init : goal.loop-plan-init
-loop-plan-init c = record { steps = c.requires.steps; grown = grown-refl c.args.plan.now; ready = c.requires.ready; row = λ k row. row }
+loop-plan-init c = record { grown = grown-refl c.args.plan.now c.requires.steps; ready = c.requires.ready; row = λ k row. row }
+
+pub join_last-requires-clause-steps : goal.join_last-requires-clause-steps
+join_last-requires-clause-steps c = c.loop-plan.invariant.grown.steps
 
 pub loop-plan-preserved : goal.loop-plan-preserved
 loop-plan-preserved c =
     let so_far = c.loop-plan.invariant in
     let now = c.in_ok-join_last.ensures in
     record {
-      steps = now.steps;
       grown = grown-trans c.args.plan.now c.loop-plan.plan c.join_last.new.plan [] [] so_far.grown now.grown;
       ready = now.ready;
       row = λ k row. now.row k (so_far.row k row);

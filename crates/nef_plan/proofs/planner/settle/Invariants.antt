@@ -1,11 +1,9 @@
 use Rattle.std.proofs.Common.{ℕ, [], length}
 use Rattle.nef_plan.specs.Rows.{AreReady, HasGrown, IsRowOf, parts}
-use Rattle.nef_plan.specs.Steps.{AreSteps}
 use Rattle.nef_plan.proofs.planner.settle.Given as goal
 
 abbrev pub invariant-loop-plan : goal.invariant-loop-plan
 invariant-loop-plan l = record {
-  steps : AreSteps l.plan.nodes l.plan.steps.items;
   grown : HasGrown l.initial.plan l.plan [];
   ready : AreReady l.plan l.row.kind (parts l.row);
   row : (k : ℕ) → IsRowOf l.initial.plan l.initial.row k → IsRowOf l.plan l.row k;

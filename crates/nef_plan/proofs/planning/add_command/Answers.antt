@@ -1,13 +1,51 @@
-use Rattle.std.proofs.Common.{◌∙◌, ap, sym, subst, length, arith}
+use Rattle.std.proofs.Common.{◌≡◌, ◌∙◌, ℕ, true, false, List, [], ◌∷◌, filter, ap, refl, sym, subst, length, arith}
 use Rattle.std.proofs.lemmas.Option.{slice_get_within}
+use Rattle.std.proofs.lemmas.Result.{on_ok_weaker}
 use Rattle.law_turns.specs.Turned.{turned_set}
 use Rattle.nef_expr.proofs.Operands.{names-wider}
 use Rattle.nef_expr.proofs.Sets.{each-set}
 use Rattle.nef_expr.proofs.Turns.{node-turned}
-use Rattle.nef_script.specs.Commands.{TurnsRight}
+use Rattle.nef_expr.specs.declared.nodes.Node.{Node}
+use Rattle.nef_script.specs.declared.script.Command.{Command}
+use Rattle.nef_script.specs.declared.script.Command.TheVariants.{Bind, Turn, Has, Joined, Ray, Same, Count, Print}
+use Rattle.nef_script.specs.Commands.{LooksAt, TurnsRight}
 use Rattle.nef_script.specs.Meaning.{IsWithin}
-use Rattle.nef_plan.proofs.Growth.{set-more}
+use Rattle.nef_plan.specs.Rows.{GoesOn}
+use Rattle.nef_plan.specs.Steps.{AsksAbout, IsTurnedFrom, is_question}
+use Rattle.nef_plan.proofs.Growth.{set-more, within-wider}
 use Rattle.nef_plan.proofs.planning.add_command.Goals as goal
+
+-- a command that binds nothing asks a question
+is-question : (c : Command) → ((line n : ℕ) → c ≡ Bind line n → ⊥) → ((line n j t : ℕ) → c ≡ Turn line n j t → ⊥) → is_question c ≡ true
+is-question (Bind line n) binds turns = absurd (binds line n refl)
+is-question (Turn line n j t) binds turns = absurd (turns line n j t refl)
+is-question (Has line n p) binds turns = refl
+is-question (Joined line n p q) binds turns = refl
+is-question (Ray line n p d) binds turns = refl
+is-question (Same line i j) binds turns = refl
+is-question (Count line n) binds turns = refl
+is-question (Print line n name) binds turns = refl
+
+question-alone : (c : Command) → is_question c ≡ true → filter is_question (c ∷ []) ≡ c ∷ []
+question-alone (Bind line n) asks = absurd (let f : false ≡ true = asks in cc)
+question-alone (Turn line n j t) asks = absurd (let f : false ≡ true = asks in cc)
+question-alone (Has line n p) asks = refl
+question-alone (Joined line n p q) asks = refl
+question-alone (Ray line n p d) asks = refl
+question-alone (Same line i j) asks = refl
+question-alone (Count line n) asks = refl
+question-alone (Print line n name) asks = refl
+
+-- it looks at what it asks about
+asked-looks : (nodes : List Node) (c : Command) (k : ℕ) → AsksAbout c k → LooksAt nodes c k
+asked-looks nodes (Bind line n) k asks = absurd asks
+asked-looks nodes (Turn line n j t) k asks = absurd asks
+asked-looks nodes (Has line n p) k asks = asks
+asked-looks nodes (Joined line n p q) k asks = asks
+asked-looks nodes (Ray line n p d) k asks = asks
+asked-looks nodes (Same line i j) k asks = asks
+asked-looks nodes (Count line n) k asks = asks
+asked-looks nodes (Print line n name) k asks = asks
 
 pub bind-requires-clause-set : goal.bind-requires-clause-set
 bind-requires-clause-set c =
@@ -19,8 +57,14 @@ bind-requires-clause-set c =
     let names = names-wider k (length nodes) made (omega (arith, within)) c.get.ensures.operands in
     more.sets k within ∙ each-set nodes k made c.get.ensures.node c.get.ensures.operands ∙ sym (set-more nodes c.args.plan.now.nodes made more names)
 
-pub bind_turned-requires-clause-turned : goal.bind_turned-requires-clause-turned
-bind_turned-requires-clause-turned c =
+pub bind_made-requires-clause-looks : goal.bind_made-requires-clause-looks
+bind_made-requires-clause-looks c k looks = c.requires.looks k (subst (λ (z : Command). LooksAt c.args.nodes.now z k) (sym c.in-Turn.is) looks)
+
+pub bind_made-requires-clause-makes : goal.bind_made-requires-clause-makes
+bind_made-requires-clause-makes c = refl
+
+pub bind_made-requires-clause-right : goal.bind_made-requires-clause-right
+bind_made-requires-clause-right c =
     let nodes = c.args.nodes.now in
     let more = c.requires.more in
     let node = c.in-Turn.node in
@@ -28,9 +72,24 @@ bind_turned-requires-clause-turned c =
     let turn = c.in-Turn.turn in
     let within = subst (IsWithin (length nodes)) c.in-Turn.is c.requires.within in
     let turned = subst (TurnsRight nodes) c.in-Turn.is c.requires.turned in
-    record {
+    let is : IsTurnedFrom c.args.plan.now.nodes node from turn = record {
       within = omega (arith, within.0, more.as_many);
       operand = omega (arith, within.1, more.as_many);
       turn = within.2;
       set = more.sets node within.0 ∙ node-turned nodes c.len-count.ensures.ordered turn from node turned ∙ ap (turned_set turn) (sym (more.sets from within.1));
-    }
+    } in
+    is
+
+pub add_bound-requires-clause-looks : goal.add_bound-requires-clause-looks
+add_bound-requires-clause-looks c k asks = c.requires.looks k (asked-looks c.args.nodes.now c.args.command.now k asks)
+
+pub add_bound-requires-clause-right : goal.add_bound-requires-clause-right
+add_bound-requires-clause-right c = (
+  is-question c.args.command.now c.in_default.not-Bind c.in_default.not-Turn,
+  within-wider (length c.args.nodes.now) (length c.args.plan.now.nodes) c.args.command.now c.requires.more.as_many c.requires.within,
+)
+
+pub returns-in_default-clause-goes_on : goal.returns-in_default-clause-goes_on
+returns-in_default-clause-goes_on c =
+    let alone = question-alone c.args.command.now (is-question c.args.command.now c.in_default.not-Bind c.in_default.not-Turn) in
+    on_ok_weaker c.add_bound.result (λ on. subst (GoesOn c.args.plan.now c.args.bounds.now c.add_bound.new.plan c.add_bound.new.bounds) (sym alone) on) c.add_bound.ensures.goes_on

@@ -21,7 +21,7 @@ loop-command-preserved c =
     let next : take (now + 1) items ≡ take now items ++ item ∷ [] = take_more items now item c.loop-command-test.true ∙ ap (λ (z : Command). take now items ++ z ∷ []) (sym c.command-item.is) in
     let questions : filter is_question (take (now + 1) items) ≡ filter is_question (take now items) ++ filter is_question (item ∷ []) = ap (filter is_question) next ∙ filter-append is_question (take now items) (item ∷ []) in
     record {
-      planned = added.planned;
+      planned = added.goes_on.planned;
       goes_on = subst (GoesOn c.args.plan.now c.args.bounds.now new.plan new.bounds) (sym questions)
           (on-trans c.args.plan.now c.loop-command.plan new.plan c.args.bounds.now c.loop-command.bounds new.bounds _ _ so_far.goes_on added.goes_on);
       bound = λ i k d below at binds. elim (cases_lt i now) [

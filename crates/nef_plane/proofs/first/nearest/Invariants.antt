@@ -1,9 +1,10 @@
 use Rattle.std.specs.Prelude.{ℕ, ◌<◌}
+use Rattle.nef_space.specs.Lists.{IsAt}
 use Rattle.nef_complex.specs.Complexes.{complex_of}
-use Rattle.nef_plane.specs.Asked.{IsNth, meet_at}
+use Rattle.nef_plane.specs.Asked.{meet_at}
 use Rattle.nef_plane.specs.Meets.{IsNearest, met_of, AtMeet}
 use Rattle.nef_plane.proofs.first.nearest.Given as goal
 
 abbrev pub invariant-loop-place : goal.invariant-loop-place
 invariant-loop-place g l = IsNearest (met_of g.R.At.Stepped.reach) (g.R.PlaneRay.start l.ray) (g.R.PlaneRay.way l.ray)
-    (λ m q. (i : ℕ) × (i < l.place) × ((k : ℕ) × IsNth l.asked i k × AtMeet (complex_of l.c) (g.R.PlaneRay.plane l.ray) (g.R.PlaneRay.way l.ray) (meet_at l.kind k) m q)) l.best
+    (λ m q. (i : ℕ) × (i < l.place) × ((k : ℕ) × IsAt l.numbers i k × AtMeet (complex_of l.c) (g.R.PlaneRay.plane l.ray) (g.R.PlaneRay.way l.ray) (meet_at l.kind k) m q)) l.best

@@ -1,4 +1,4 @@
-use Rattle.std.proofs.Common.{◌≡◌, ℕ, length, get_or, arith, rules, refl}
+use Rattle.std.proofs.Common.{◌≡◌, ◌∙◌, ℕ, length, get_or, arith, rules, refl, sym}
 use Rattle.std.proofs.lemmas.Option.{slice_get_read}
 use Rattle.nef_space.specs.Place.{form_at}
 use Rattle.nef_geo.specs.Shapes.{place_of, hit_place, form_of}
@@ -10,8 +10,8 @@ use Rattle.nef_complex.proofs.ListedHolders.{listed-more, holder-holds, all-hold
 use Rattle.nef_complex.proofs.Reading.{got-at}
 use Rattle.nef_plane.proofs.places.sides_with.Goals as goal
 
-pub returns-then-not-is_beside : goal.returns-then-not-is_beside
-returns-then-not-is_beside c = record {
+pub returns-then-ne : goal.returns-then-ne
+returns-then-ne c = record {
   sides = λ a H.
       let hs = c.args.carriers.now in
       let ns = c.args.holders.now in
@@ -21,7 +21,10 @@ returns-then-not-is_beside c = record {
       let at_n = is-at_get ns n 0 c.loop-number-test.true in
       let here = slice_get_read hs (length hs) k g refl (c.requires.within n k at_n) c.index-carriers-number.is in (
         λ h. absurd (not_true h),
-        λ A. absurd (search (rules, c.is_beside.ensures.beside.1 (A k g (got-at hs k g here) (holder-holds hs a a ns H n k g at_n here).0), c.if-not-is_beside.true)),
+        λ A.
+            let at_g = A k g (got-at hs k g here) (holder-holds hs a a ns H n k g at_n here).0 in
+            let differ : c.hit_side.result ≡ c.side.result → ⊥ = search (rules, c.if-ne.true) in
+            absurd (differ (c.hit_side.ensures.side ∙ at_g ∙ sym c.side.ensures.side)),
       );
 }
 
@@ -33,8 +36,9 @@ loop-number-preserved c =
     let k : ℕ = get_or ns n 0 in
     let g = c.index-carriers-number.result in
     let at_n = is-at_get ns n 0 c.loop-number-test.true in
+    let same : c.hit_side.result ≡ c.side.result = search (rules, c.if-ne.false) in
     listed-more hs ns n k g (λ (h : Plane). sign_of (form_at (form_of h) (hit_place c.args.q.now)) ≡ sign_of (form_at (form_of h) (place_of c.args.b.now))) at_n
-    (slice_get_read hs (length hs) k g refl (c.requires.within n k at_n) c.index-carriers-number.is) c.loop-number.invariant (c.is_beside.ensures.beside.0 (search (rules, c.if-not-is_beside.false)))
+    (slice_get_read hs (length hs) k g refl (c.requires.within n k at_n) c.index-carriers-number.is) c.loop-number.invariant (sym c.hit_side.ensures.side ∙ same ∙ c.side.ensures.side)
 
 pub returns : goal.returns
 returns c = record {

@@ -1,6 +1,6 @@
 use Rattle.std.proofs.Common.{◌≡◌, [], ◌∷◌, ◌∙◌, arith, subst, ℕ, length}
 use Rattle.std.proofs.lemmas.List.{length-append}
-use Rattle.nef_pool.proofs.Kept.{kept_next, right_next}
+use Rattle.nef_pool.proofs.Rights.{right_next}
 use Rattle.nef_pool.proofs.pool.filled.Goals as goal
 
 pub loop-slot-preserved : goal.loop-slot-preserved
@@ -13,5 +13,4 @@ loop-slot-preserved g c =
     let fit = subst (λ (k : ℕ). g.J.Job.right c.args.job.now k c.in_ok-out.out) same c.in_ok-out.ensures.right in (
       omega (arith, length-append c.loop-slot.yielded (c.in-Some.slot ∷ [])),
       rw c.in_ok-push.ensures.items (right_next (g.J.Job.right c.args.job.now) c.loop-slot.outs.items c.in_ok-out.out i.1 fit),
-      rw c.in_ok-push.ensures.items (kept_next c.loop-slot.yielded c.loop-slot.outs.items c.in-Some.slot c.in_ok-out.out (omega arith) i.2 c.in_ok-out.ensures.kept),
     )

@@ -2,7 +2,4 @@ use Rattle.std.proofs.Common.{◌≡◌, ℕ, Some, slice_get, length, vec_len}
 use Rattle.nef_pool.proofs.pool.filled.Given as goal
 
 abbrev pub invariant-loop-slot : goal.invariant-loop-slot
-invariant-loop-slot g l =
-    (vec_len l.outs ≡ length l.yielded)
-    × ((i : ℕ) (out : _) → slice_get l.outs.items i ≡ Some out → g.J.Job.right l.job i out)
-    × ((i : ℕ) (out : _) → slice_get l.yielded i ≡ Some (Some out) → slice_get l.outs.items i ≡ Some out)
+invariant-loop-slot g l = (vec_len l.outs ≡ length l.yielded) × ((i : ℕ) (out : _) → slice_get l.outs.items i ≡ Some out → g.J.Job.right l.job i out)

@@ -5,7 +5,7 @@ use Rattle.nef_geo.specs.Shapes.{place_of, vector_of, hit_place}
 use Rattle.nef_smap.proofs.Lists.{at-within}
 use Rattle.nef_complex.proofs.Reading.{read-at}
 use Rattle.nef_complex.specs.Complexes.{ShowsSet}
-use Rattle.nef_ray.specs.declared.crossed.Crossed.{Crossed}
+use Rattle.nef_ray.specs.declared.ray.Crossed.{Crossed}
 use Rattle.nef_ray.specs.declared.ray.RayEnd.{RayEnd}
 use Rattle.nef_ray.specs.declared.ray.RayStart.{RayStart}
 use Rattle.nef_ray.specs.Changes.{IsHitOf, IsUnchangedOn, IsChangeOf}

@@ -1,12 +1,10 @@
-use Rattle.std.proofs.Common.{Some, ap, ◌∙◌, arith, length}
+use Rattle.std.proofs.Common.{Some, ap, ◌∙◌, arith}
 use Rattle.std.proofs.lemmas.List.Elements.{All-pop, All-push}
 use Rattle.nef_sched.specs.declared.pass.RoundPass.{RoundPass}
-use Rattle.nef_sched.specs.declared.worked.Worked.{Worked}
-use Rattle.nef_sched.specs.Rounds.{Belongs, total_parts}
+use Rattle.nef_sched.specs.Rounds.{Belongs, total_parts, total_worked}
 use Rattle.nef_sched.specs.Results.{AreFitting}
-use Rattle.nef_sched.specs.Workers.{total_worked}
 use Rattle.nef_sched.proofs.Steps.{parts_snoc}
-use Rattle.nef_sched.proofs.Outs.{worked_none, worked_both, worked_snoc}
+use Rattle.nef_sched.proofs.Outs.{worked_both, worked_snoc}
 use Rattle.nef_sched.proofs.ahead.gathered.Goals as goal
 
 pub loop-pass-preserved : goal.loop-pass-preserved
@@ -14,8 +12,8 @@ loop-pass-preserved g c =
     let t = c.args.stage.now in
     let i = c.loop-pass.invariant in
     let last = c.in-Some.ensures.items in
-    let own = All-pop (λ (w : Worked _). Belongs c.args.round.now w.pass) _ _ (Some c.in-Some.field-0) last i.worked in
-    let fit = All-pop (λ (w : Worked _). AreFitting (g.T.Stage.size t) (g.T.Stage.fits t) c.args.numbers.now w.outs.items) _ _ (Some c.in-Some.field-0) last i.outs in
+    let own = All-pop (λ (w : RoundPass × _). Belongs c.args.round.now w.0) _ _ (Some (c.in-Some.pass, c.in-Some.outs)) last i.worked in
+    let fit = All-pop (λ (w : RoundPass × _). AreFitting (g.T.Stage.size t) (g.T.Stage.fits t) c.args.numbers.now w.1.items) _ _ (Some (c.in-Some.pass, c.in-Some.outs)) last i.outs in
     let e = c.push_reserved.ensures in
     let more = ap total_parts e.items ∙ parts_snoc _ _ in
     let less = ap total_worked last ∙ worked_snoc _ _ in
@@ -29,3 +27,8 @@ loop-pass-preserved g c =
       parts = omega arith;
       room = omega (arith, e.len, e.capacity, c.in-Some.ensures.len, room);
     }
+
+pub keep_outs-requires-clause-each : goal.keep_outs-requires-clause-each
+keep_outs-requires-clause-each g c κs within =
+    let t = c.args.stage.now in
+    (All-pop (λ (w : RoundPass × _). AreFitting (g.T.Stage.size t) (g.T.Stage.fits t) c.args.numbers.now w.1.items) _ _ (Some (c.in-Some.pass, c.in-Some.outs)) c.in-Some.ensures.items c.loop-pass.invariant.outs).1

@@ -1,29 +1,51 @@
-use Rattle.std.proofs.Common.{arith, sym, subst, slice_index_or}
+use Rattle.std.proofs.Common.{◌∙◌, ap, arith, sym, subst, slice_index_or}
+use Rattle.std.specs.Prelude.{not}
 use Rattle.nef_sched.specs.Results.{IsKept}
-use Rattle.nef_sched.proofs.Outs.{all_next, any_default, ready_after, times_at, worked_among, worked_both, worked_none}
+use Rattle.nef_sched.proofs.Outs.{all_next, any_default, kept_found, kept_here, ready_after, times_at, worked_both, worked_none, worked_set}
+use Rattle.nef_sched.proofs.ahead.work_rest.Goals.{then-is_none+in_ok-out, else-is_none}
 use Rattle.nef_sched.proofs.ahead.work_rest.Goals as goal
 
 pub loop-number-init : goal.loop-number-init
 loop-number-init g c = record { worked = worked_none _ _ _ _ c.requires.ready.sound; there = λ k low. absurd (omega arith) }
 
-pub work_one-requires-clause-needs : goal.work_one-requires-clause-needs
-work_one-requires-clause-needs g c κs within = (ready_after _ _ _ _ _ _ _ _ c.requires.ready c.loop-number.invariant.worked).each c.loop-number.number-index 0 c.loop-number-test.true
+pub work-requires-clause-number : goal.work-requires-clause-number
+work-requires-clause-number g c = ((ready_after _ _ _ _ _ _ _ _ c.requires.ready c.loop-number.invariant.worked).each c.loop-number.number-index 0 c.loop-number-test.true).0
+
+pub work-requires-clause-workable : goal.work-requires-clause-workable
+work-requires-clause-workable g c = c.requires.workable
+
+pub work-requires-clause-there : goal.work-requires-clause-there
+work-requires-clause-there g c = ((ready_after _ _ _ _ _ _ _ _ c.requires.ready c.loop-number.invariant.worked).each c.loop-number.number-index 0 c.loop-number-test.true).1
 
 pub loop-number-preserved : goal.loop-number-preserved
 loop-number-preserved g c =
     let i = c.loop-number.invariant in
-    let e = c.in_ok-work_one.ensures in
-    let some = times_at c.args.numbers.now c.loop-number.number-index 0 c.loop-number-test.true in
-    record {
-      worked = worked_both _ _ _ _ _ _ i.worked (worked_among _ _ _ _ _ _ some e.worked);
-      there = all_next (λ k. IsKept c.work_one.new.done.list.items (slice_index_or c.args.numbers.now k 0)) c.loop-number.number-index (λ k low. e.worked.still _ (i.there k low)) e.there;
-    }
+    let numbers = c.args.numbers.now in
+    let place = c.loop-number.number-index in
+    let n = slice_index_or numbers place 0 in
+    let list = c.loop-number.done.list.items in
+    let some = times_at numbers place 0 c.loop-number-test.true in
+    let within = ((ready_after _ _ _ _ _ _ _ _ c.requires.ready i.worked).each place 0 c.loop-number-test.true).0 in
+    let len = i.worked.sound.0 in
+    elim c.if-is_none.branch [
+      | then-is_none+in_ok-out w ↦
+          let made = worked_set _ _ _ list n w.in_ok-out.out w.in_ok-out.ensures some i.worked.sound in
+          rw (w.done-is, w.set.ensures.set) (record {
+            worked = worked_both _ _ _ _ _ _ i.worked made;
+            there = all_next (λ k. IsKept _ (slice_index_or numbers k 0)) place (λ k low. made.still _ (i.there k low)) (kept_here list n w.in_ok-out.out (omega (arith, within, len)));
+          })
+      | else-is_none w ↦
+          rw w.done-is (record {
+            worked = i.worked;
+            there = all_next (λ k. IsKept list (slice_index_or numbers k 0)) place i.there
+                (kept_found (λ out. out.now) c.get.result list n c.get.ensures (c.is_none.ensures ∙ ap not w.if-is_none.false));
+          })
+    ]
 
 pub returns-clause-there : goal.returns-clause-there
 returns-clause-there g c k d low =
     let end = c.loop-number-test.false in
     subst (IsKept c.loop-number.done.list.items) (sym (any_default c.args.numbers.now k d low)) (c.loop-number.invariant.there k (omega arith))
 
-pub returns-in_err-work_one-clause-worked : goal.returns-in_err-work_one-clause-worked
-returns-in_err-work_one-clause-worked g c =
-    worked_both _ _ _ _ _ _ c.loop-number.invariant.worked (worked_among _ _ _ _ _ _ (times_at c.args.numbers.now c.loop-number.number-index 0 c.loop-number-test.true) c.in_err-work_one.ensures.worked)
+pub returns-in_err-out-clause-worked : goal.returns-in_err-out-clause-worked
+returns-in_err-out-clause-worked g c = c.loop-number.invariant.worked

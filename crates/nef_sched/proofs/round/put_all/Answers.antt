@@ -1,6 +1,6 @@
 use Rattle.std.proofs.Common.{ℕ, Some, ap, sym, ◌∙◌, slice_index_or}
 use Rattle.std.proofs.lemmas.List.{take_more}
-use Rattle.nef_sched.specs.declared.view.View.{View}
+use Rattle.nef_sched.specs.declared.pass.View.{View}
 use Rattle.nef_sched.specs.Counts.{times}
 use Rattle.nef_sched.specs.Views.{put, whole}
 use Rattle.nef_sched.proofs.Steps.{puts, sees, not_before, never_full}

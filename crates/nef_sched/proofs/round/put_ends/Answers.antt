@@ -1,5 +1,5 @@
 use Rattle.std.proofs.Common.{ap}
-use Rattle.nef_sched.specs.declared.view.View.{View}
+use Rattle.nef_sched.specs.declared.pass.View.{View}
 use Rattle.nef_sched.proofs.Steps.{puts_end, sees, never_full_of_ends}
 use Rattle.nef_sched.proofs.round.put_ends.Goals as goal
 

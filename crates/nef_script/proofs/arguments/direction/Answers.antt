@@ -3,7 +3,7 @@ use Rattle.nef_space.specs.Limits.{direction_limit, ray_direction_limit}
 use Rattle.nef_space.specs.Vectors.{vector, IsAtMost, IsZero, SameDirection}
 use Rattle.nef_geo.specs.Shapes.{vector_of}
 use Rattle.nef_script.specs.Outcome.{IsRead, both, some_fails, is_direction, are_zero}
-use Rattle.nef_script.specs.declared.fault.ScriptKind.TheVariants as kind
+use Rattle.nef_script.specs.declared.script.ScriptKind.TheVariants as kind
 use Rattle.nef_script.specs.Table.{Coefficient}
 use Rattle.nef_script.proofs.Firsts.{IsRead-three, IsRead-unless, place-number, zeros-none}
 use Rattle.nef_script.proofs.Values.{passed, same_vector, zero-are, not-zero}

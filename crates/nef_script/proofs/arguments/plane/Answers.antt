@@ -5,7 +5,7 @@ use Rattle.nef_space.specs.Vectors.{IsZero}
 use Rattle.nef_geo.specs.Reading.{IsInRange, IsPositiveMultiple}
 use Rattle.nef_geo.specs.Shapes.{given_form}
 use Rattle.nef_script.specs.Outcome.{IsRead, both, some_fails, is_normal, are_zero}
-use Rattle.nef_script.specs.declared.fault.ScriptKind.TheVariants as kind
+use Rattle.nef_script.specs.declared.script.ScriptKind.TheVariants as kind
 use Rattle.nef_script.specs.Table.{Coefficient}
 use Rattle.nef_script.proofs.Firsts.{IsRead-four, IsRead-unless, place-number, zeros-none}
 use Rattle.nef_script.proofs.Values.{passed, same_form, same_vector, zero-are, not-zero}

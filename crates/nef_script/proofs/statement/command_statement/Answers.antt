@@ -4,9 +4,9 @@ use Rattle.nef_script.specs.Names.{pointed}
 use Rattle.nef_script.specs.Meaning.{IsNode}
 use Rattle.nef_script.specs.Checks.{command_test}
 use Rattle.nef_script.specs.Outcome.{IsRead, IsStatement}
-use Rattle.nef_script.specs.declared.table.Verb.{Verb}
-use Rattle.nef_script.specs.declared.table.Verb.TheVariants as verb
-use Rattle.nef_script.specs.declared.fault.ScriptKind.{ScriptKind}
+use Rattle.nef_script.specs.declared.arguments.Verb.{Verb}
+use Rattle.nef_script.specs.declared.arguments.Verb.TheVariants as verb
+use Rattle.nef_script.specs.declared.script.ScriptKind.{ScriptKind}
 use Rattle.nef_script.specs.declared.statement.Statement.{Statement}
 use Rattle.nef_script.proofs.Firsts.{IsRead-binds}
 use Rattle.nef_script.proofs.Nodes.{IsNode-Empty, IsNode-Full, IsNode-And, IsNode-Or, IsNode-Diff, IsNode-Xor, IsNode-Not, IsNode-Int, IsNode-Cl, IsNode-Bd, IsNode-Reg}

@@ -3,7 +3,7 @@ use Rattle.nef_script.specs.Checks.{command_test}
 use Rattle.nef_script.specs.Outcome.{IsRead, IsStatement}
 use Rattle.nef_script.specs.declared.statement.Statement.TheVariants as statement
 use Rattle.nef_expr.specs.declared.nodes.Node.TheVariants as node
-use Rattle.nef_script.specs.declared.table.Verb.TheVariants as verb
+use Rattle.nef_script.specs.declared.arguments.Verb.TheVariants as verb
 use Rattle.nef_script.proofs.Firsts.{IsRead-both, IsRead-made, IsRead-returned, is-new}
 use Rattle.nef_script.proofs.CommandTests as tests
 use Rattle.nef_script.proofs.Shapes.{word_at, six_words}

@@ -3,7 +3,7 @@ use Rattle.nef_script.specs.Checks.{command_test}
 use Rattle.nef_script.specs.Outcome.{IsRead, IsStatement}
 use Rattle.nef_script.specs.declared.script.Command.TheVariants.{Has}
 use Rattle.nef_script.specs.declared.statement.Statement.TheVariants.{Ask}
-use Rattle.nef_script.specs.declared.table.Verb.TheVariants as verb
+use Rattle.nef_script.specs.declared.arguments.Verb.TheVariants as verb
 use Rattle.nef_script.proofs.Firsts.{IsRead-both, IsRead-made, IsRead-returned}
 use Rattle.nef_script.proofs.CommandTests.{of-Has}
 use Rattle.nef_script.proofs.Shapes.{word_at, five_words}

@@ -1,6 +1,6 @@
 use Rattle.std.proofs.Common.{◌≡◌, ℕ, ◌<◌, Some, length, slice_get}
-use Rattle.nef_sched.specs.Marks.{IsMarked}
-use Rattle.nef_plan.specs.declared.step.Step.{Step}
+use Rattle.nef_sched.specs.Results.{IsMarked}
+use Rattle.nef_plan.specs.declared.planner.Step.{Step}
 use Rattle.nef_shell.specs.Bindings.{Asks, IsAskedAbout}
 use Rattle.nef_shell.proofs.ahead.asked_about.Given as goal
 

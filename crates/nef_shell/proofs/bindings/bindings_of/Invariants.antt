@@ -1,5 +1,5 @@
 use Rattle.std.proofs.Common.{◌≡◌, ℕ, ◌<◌, Some, length, slice_get}
-use Rattle.nef_plan.specs.declared.step.Step.{Step}
+use Rattle.nef_plan.specs.declared.planner.Step.{Step}
 use Rattle.nef_plan.specs.Steps.{Makes}
 use Rattle.nef_shell.specs.Bindings.{AreBindings, AreNumbered, IsBound}
 use Rattle.nef_shell.proofs.bindings.bindings_of.Given as goal

@@ -23,8 +23,8 @@ pub work_steps-requires-clause-held : goal.work_steps-requires-clause-held
 work_steps-requires-clause-held g c κs within =
     let made = c.in_ok-sets.ensures in
     let sets = c.in_ok-sets.sets in
-    subst (λ z. AreHeld c.args.text z sets.list.items sets.parts.items sets.texts.items) (sym made.nodes) (record {
+    subst (λ z. AreHeld c.args.means.now.options.text z sets.list.items sets.parts.items sets.texts.items) (sym made.nodes) (record {
       shown = subst (λ z. AreShown c.args.nodes.now z.items) (sym made.list) c.in_ok-list.ensures.first.shown;
       parts_of = made.parts;
-      texts_of = made.texts c.args.text;
+      texts_of = made.texts c.args.means.now.options.text;
     })

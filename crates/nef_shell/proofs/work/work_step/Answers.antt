@@ -6,12 +6,8 @@ use Rattle.nef_plan.specs.Steps.{LooksAt, Makes}
 use Rattle.nef_shell.specs.Operations.{AreHeld, IsGone, IsKept}
 use Rattle.nef_shell.proofs.Asked.{asks-needs}
 use Rattle.nef_shell.proofs.Complexes.{stays-kept}
-use Rattle.nef_shell.proofs.Held.{held-bound}
 use Rattle.nef_shell.proofs.Outputs.{ends-before}
 use Rattle.nef_shell.proofs.work.work_step.Goals as goal
-
-pub bind_step-requires-clause-shown : goal.bind_step-requires-clause-shown
-bind_step-requires-clause-shown g c κs within = c.requires.held.shown
 
 pub returns-in_err-bind_step-clause-ends : goal.returns-in_err-bind_step-clause-ends
 returns-in_err-bind_step-clause-ends g c =
@@ -26,16 +22,14 @@ write_piece-requires-clause-kept g c κs within k asks =
     let old = c.args.sets.now in
     let mid = c.bind_step.new.sets in
     let did = c.in_ok-bind_step.ensures in
-    let kept = c.requires.due.kept k (asks-needs c.args.ahead c.args.step.now k asks) in
+    let kept = c.requires.due.kept k (asks-needs c.args.means.now.options.ahead c.args.step.now k asks) in
     subst (λ z. IsKept z mid.list.items k) (sym (ap (λ z. z.now) did.nodes)) (stays-kept old.nodes.now _ old.list.items mid.list.items k did.bound kept)
 
 pub write_piece-requires-clause-held : goal.write_piece-requires-clause-held
 write_piece-requires-clause-held g c κs within =
-    let old = c.args.sets.now in
     let mid = c.bind_step.new.sets in
     let did = c.in_ok-bind_step.ensures in
-    let held = held-bound c.args.text old.nodes.now _ old.list.items mid.list.items old.parts.items old.texts.items did.bound did.shown c.requires.held in
-    rw (did.parts, did.texts) (subst (λ z. AreHeld c.args.text z mid.list.items old.parts.items old.texts.items) (sym (ap (λ z. z.now) did.nodes)) held)
+    subst (λ z. AreHeld c.args.means.now.options.text z mid.list.items mid.parts.items mid.texts.items) (sym (ap (λ z. z.now) did.nodes)) did.held
 
 pub returns-in_err-write_piece-clause-ends : goal.returns-in_err-write_piece-clause-ends
 returns-in_err-write_piece-clause-ends g c =
@@ -77,8 +71,8 @@ returns-clause-held g c =
     let wrote = c.in_ok-write_piece.ensures in
     let end = c.write_piece.new.sets in
     let new = c.release.new.self in
-    let before = subst (λ z. AreHeld c.args.text z.now end.list.items end.parts.items end.texts.items) (sym wrote.nodes) (rw wrote.list wrote.held) in
-    subst (λ z. AreHeld c.args.text z.now new.list.items new.parts.items new.texts.items) (c.release.ensures.nodes ∙ wrote.nodes ∙ did.nodes) (c.release.ensures.held c.args.text before)
+    let before = subst (λ z. AreHeld c.args.means.now.options.text z.now end.list.items end.parts.items end.texts.items) (sym wrote.nodes) (rw wrote.list wrote.held) in
+    subst (λ z. AreHeld c.args.means.now.options.text z.now new.list.items new.parts.items new.texts.items) (c.release.ensures.nodes ∙ wrote.nodes ∙ did.nodes) (c.release.ensures.held c.args.means.now.options.text before)
 
 pub returns-clause-kept : goal.returns-clause-kept
 returns-clause-kept g c k far kept =

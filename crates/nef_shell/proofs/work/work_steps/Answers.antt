@@ -13,7 +13,7 @@ use Rattle.nef_shell.proofs.work.work_steps.Goals as goal
 pub work_step-requires-clause-held : goal.work_step-requires-clause-held
 work_step-requires-clause-held g c scopes within =
     let sets = c.loop-now.sets in
-    subst (λ z. AreHeld c.args.text z sets.list.items sets.parts.items sets.texts.items) (sym c.loop-now.invariant.nodes) c.loop-now.invariant.held
+    subst (λ z. AreHeld c.args.means.now.options.text z sets.list.items sets.parts.items sets.texts.items) (sym c.loop-now.invariant.nodes) c.loop-now.invariant.held
 
 pub work_step-requires-clause-due : goal.work_step-requires-clause-due
 work_step-requires-clause-due g c scopes inside =
@@ -22,7 +22,7 @@ work_step-requires-clause-due g c scopes inside =
     let now = c.loop-now.now in
     let so_far = c.loop-now.invariant in
     let at : slice_get steps now ≡ Some item = slice_get_read steps _ now item refl (omega arith) c.index-steps-now.is in
-    subst (λ z. IsDue c.args.ahead z c.loop-now.sets.list.items item) (sym so_far.nodes) (record {
+    subst (λ z. IsDue c.args.means.now.options.ahead z c.loop-now.sets.list.items item) (sym so_far.nodes) (record {
       right = c.requires.steps.right now item at;
       kept = λ k needs. elim (so_far.kept now item (omega arith) at k needs) [
         | inl kept ↦ kept
@@ -71,7 +71,7 @@ returns-in_err-work_step-clause-ends g c =
       done = tt;
       quiet = tt;
       stopped = rw p.2 (rw so_far.quiet at ends.stopped);
-      front = front-at c.args.text c.args.sets.now.nodes.now c.args.steps.now c.loop-now.now c.index-steps-now.result _ _ _ output.0 (omega arith) c.index-steps-now.is output.1 output.2 ends.front;
+      front = front-at c.args.means.now.options.text c.args.sets.now.nodes.now c.args.steps.now c.loop-now.now c.index-steps-now.result _ _ _ output.0 (omega arith) c.index-steps-now.is output.1 output.2 ends.front;
     })
 
 pub returns-in_err-work_step-clause-lean : goal.returns-in_err-work_step-clause-lean
@@ -94,14 +94,14 @@ loop-now-preserved g c =
       quiet = ends.quiet ∙ so_far.quiet;
       written = (
         so_far.written.0 ++ done.0,
-        output-next c.args.text c.args.sets.now.nodes.now steps now item so_far.written.0 done.0 c.loop-now-test.true c.index-steps-now.is so_far.written.1 done.1,
+        output-next c.args.means.now.options.text c.args.sets.now.nodes.now steps now item so_far.written.0 done.0 c.loop-now-test.true c.index-steps-now.is so_far.written.1 done.1,
         grows-more _ _ _ _ _ so_far.written.2 done.2,
       );
       nodes = ap (λ z. z.now) stepped.nodes ∙ same;
       lean = stepped.lean;
       only = λ zero. absurd (omega arith);
       kept = λ i d later found k needs.
-          let last = c.requires.last i k d found (needs-looks c.args.ahead d k needs) in
+          let last = c.requires.last i k d found (needs-looks c.args.means.now.options.ahead d k needs) in
           let far : now < slice_index c.args.uses.now k = omega (arith, last) in
           elim (so_far.kept i d (omega arith) found k needs) [
             | inl kept ↦ inl (subst (λ z. IsKept z new.list.items k) same (stepped.kept k far (subst (λ z. IsKept z old.list.items k) (sym same) kept)))
@@ -114,7 +114,7 @@ loop-now-preserved g c =
                   inl (subst (λ z. IsKept z new.list.items k) same (stepped.bound k far e (subst (λ z. Makes z k) is makes)))
             ]
           ];
-      held = subst (λ z. AreHeld c.args.text z new.list.items new.parts.items new.texts.items) same stepped.held;
+      held = subst (λ z. AreHeld c.args.means.now.options.text z new.list.items new.parts.items new.texts.items) same stepped.held;
     }
 
 pub loop-now-init : goal.loop-now-init
@@ -124,7 +124,7 @@ loop-now-init g c = record {
   nodes = refl;
   lean = λ k within below. absurd (omega arith);
   only = λ zero. c.requires.first.only;
-  kept = λ i s later at k needs. elim (needs-first _ _ c.args.ahead _ c.requires.steps c.requires.first i s at k needs) [
+  kept = λ i s later at k needs. elim (needs-first _ _ c.args.means.now.options.ahead _ c.requires.steps c.requires.first i s at k needs) [
     | inl kept ↦ inl kept
     | inr (e, j, d, low, seen, makes) ↦ inr (e, j, d, omega arith, low, seen, makes)
   ];

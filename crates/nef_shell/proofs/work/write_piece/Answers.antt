@@ -16,12 +16,12 @@ returns-in_err-put_all-clause-ends g c =
       done = tt;
       quiet = tt;
       stopped = c.in_err-put_all.ensures.failed;
-      front = (1, piece_bytes c.in_ok-piece.piece, one-output c.args.text c.args.sets.now.nodes.now c.in-Ask.command.now (piece_bytes c.in_ok-piece.piece) c.in_ok-piece.ensures.piece, rw (← c.as_bytes.ensures.bytes) c.in_err-put_all.ensures.part);
+      front = (1, piece_bytes c.in_ok-piece.piece, one-output c.args.options.now.text c.args.sets.now.nodes.now c.in-Ask.command.now (piece_bytes c.in_ok-piece.piece) c.in_ok-piece.ensures.piece, rw (← c.as_bytes.ensures.bytes) c.in_err-put_all.ensures.part);
     })
 
 pub returns-clause-ends : goal.returns-clause-ends
 returns-clause-ends g c = rw c.in-Ask.is (record {
-  done = (piece_bytes c.in_ok-piece.piece, one-output c.args.text c.args.sets.now.nodes.now c.in-Ask.command.now (piece_bytes c.in_ok-piece.piece) c.in_ok-piece.ensures.piece, rw (← c.as_bytes.ensures.bytes) c.in_ok-put_all.ensures.ok);
+  done = (piece_bytes c.in_ok-piece.piece, one-output c.args.options.now.text c.args.sets.now.nodes.now c.in-Ask.command.now (piece_bytes c.in_ok-piece.piece) c.in_ok-piece.ensures.piece, rw (← c.as_bytes.ensures.bytes) c.in_ok-put_all.ensures.ok);
   quiet = c.in_ok-put_all.ensures.quiet;
   stopped = tt;
   front = tt;

@@ -5,4 +5,4 @@ use Rattle.std.proofs.Common.{◌∙◌}
 use Rattle.nef_smap.proofs.meets.item_values.Goals as goal
 
 pub returns-clause-small : goal.returns-clause-small
-returns-clause-small c = c.values.ensures.small normal_limit (subst (IsAtMost normal_limit) (sym (c.wide.ensures.wide ∙ c.normal.ensures.normal)) c.requires.normal)
+returns-clause-small c = c.form_values.ensures.small normal_limit (subst (IsAtMost normal_limit) (sym (c.wide.ensures.wide ∙ c.normal.ensures.normal)) c.requires.normal)

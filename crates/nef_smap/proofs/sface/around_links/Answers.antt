@@ -1,11 +1,11 @@
 use Rattle.std.proofs.Common.{◌≡◌, ◌+◌, List, arith, refl, sym, ap, ◌∙◌, subst, rules, Option, Some, None, is_some, true, false, Vec, Global}
 use Rattle.nef_space.specs.declared.label.Label.{Label}
-use Rattle.nef_classes.specs.declared.link.Link.{Link}
+use Rattle.nef_classes.specs.declared.forest.Link.{Link}
 use Rattle.nef_smap.specs.Maps.{map_of, svertex_of}
 use Rattle.nef_smap.specs.SideNumbers.{one_if}
 use Rattle.nef_smap.specs.JoinLinks.{AreArounds}
 use Rattle.nef_smap.proofs.Joining.{svertex-listed}
-use Rattle.nef_smap.proofs.LinkLists.{arounds-none, arounds-more, arounds-pass, arounds-start, arounds-next}
+use Rattle.nef_smap.proofs.LinkLists.{around-of_below, arounds-none, arounds-more, arounds-pass, arounds-start, arounds-next}
 use Rattle.nef_smap.proofs.sface.around_links.Goals as goal
 use Rattle.nef_smap.proofs.sface.around_links.Goals.{then-is_some+in_ok-push, else-is_some}
 
@@ -22,12 +22,8 @@ loop-number-init c =
     let M = map_of c.args.map.now in
     record { all_links = subst (λ (ls : List Link). AreArounds M 0 ls) (sym {A = List Link} c.new-links.ensures.items) (arounds-none M); side_number = sym (arounds-start M.svertices); few_sides = omega arith }
 
-pub join_around-requires-clause-around : goal.join_around-requires-clause-around
-join_around-requires-clause-around c =
-    let v = c.at.result.now in
-    let some : is_some v.around ≡ true = search rules in
-    let m = some-of v.around some in
-    (svertex_of v, m.0, svertex-listed c.args.map.now.svertices c.loop-number.number v c.at.ensures.element, m.1)
+pub join_below-requires-clause-number : goal.join_below-requires-clause-number
+join_below-requires-clause-number c = omega (arith, c.loop-number-test.true, c.len-number-end.ensures.len)
 
 pub overflow_add-side : goal.overflow_add-side
 overflow_add-side c = omega (arith, c.loop-number.invariant.few_sides, c.loop-number-test.true, c.len-number-end.type_inv)
@@ -51,7 +47,7 @@ loop-number-preserved c =
           let one : one_if v.around ≡ 1 = ap one_if m.1 in
           let items = ap (λ (x : Vec Link Global). x.items) w.links-is ∙ w.in_ok-push.ensures.items in
           record {
-            all_links = subst (λ (ls : List Link). AreArounds M (n + 1) ls) (sym {A = List Link} items) (arounds-more M n c.loop-number.links.items w.join_around.result w.join_around.ensures.joins c.loop-number.invariant.all_links);
+            all_links = subst (λ (ls : List Link). AreArounds M (n + 1) ls) (sym {A = List Link} items) (arounds-more M n c.loop-number.links.items (record { first = c.loop-number.side; second = w.join_below.result.first }) (around-of_below M n c.loop-number.side (svertex_of v) m.0 w.join_below.result a m.1 side w.join_below.ensures.joins) c.loop-number.invariant.all_links);
             side_number = omega (arith, w.side-is, next, one, side);
             few_sides = omega (arith, w.side-is, few);
           }

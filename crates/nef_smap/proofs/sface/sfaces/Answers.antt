@@ -2,7 +2,7 @@ use Rattle.std.proofs.Common.{◌≡◌, ℕ, ◌+◌, List, length, take, arith
 use Rattle.std.proofs.lemmas.Result.{IfOk-weaker}
 use Rattle.nef_space.specs.Vectors.{up}
 use Rattle.nef_geo.proofs.InPlane.{up-direction}
-use Rattle.nef_classes.specs.declared.link.Link.{Link}
+use Rattle.nef_classes.specs.declared.forest.Link.{Link}
 use Rattle.nef_smap.specs.Maps.{map_of}
 use Rattle.nef_smap.specs.Sides.{sides_of}
 use Rattle.nef_classes.specs.Classes.{AreWithin, AreClasses, AreNumbered}

@@ -1,18 +1,16 @@
-use Rattle.std.proofs.Common.{sym, ap, ◌∙◌}
-use Rattle.nef_space.specs.Vectors.{opposite}
+use Rattle.std.proofs.Common.{get_or, sym, ap, ◌∙◌}
 use Rattle.nef_geo.specs.Shapes.{vector_of}
-use Rattle.nef_geo.specs.declared.dir.Dir.{Dir}
 use Rattle.nef_spair.proofs.TwoEnds.{two-of}
 use Rattle.nef_spair.proofs.along.are_two_ends.Goals as goal
 
 pub returns-then-kept-eq2 : goal.returns-then-kept-eq2
 returns-then-kept-eq2 c =
-    let kept = c.args.kept.now in let a = c.index-kept-0.result in let b = c.index-kept-1.result in
+    let kept = c.args.kept.now in let a = get_or kept 0 c.index-kept-0.result in let b = get_or kept 1 c.index-kept-1.result in
     record {
       ends = λ h. record {
         first = a;
         second = b;
-        two = two-of kept a b c.if-kept-eq2.true c.index-kept-0.is c.index-kept-1.is;
-        opposite = ap vector_of (sym (c.is_same.ensures.same.0 h ∙ c.axis-then-kept-eq2.ensures.axis)) ∙ c.back.ensures.back ∙ ap (λ (d : Dir). opposite (vector_of d)) c.axis.ensures.axis;
+        two = two-of kept a b c.if-kept-eq2.true (ap (get_or kept 0) c.index-kept-0.is) (ap (get_or kept 1) c.index-kept-1.is);
+        opposite = ap vector_of (sym (c.is_same.ensures.same.0 h)) ∙ c.back.ensures.back;
       };
     }

@@ -1,4 +1,4 @@
-use Rattle.std.proofs.Common.{◌+◌, List, length, Vec, Global, arith, sym, ap, subst, ◌∙◌}
+use Rattle.std.proofs.Common.{◌+◌, List, length, get_or, Vec, Global, arith, sym, ap, subst, ◌∙◌}
 use Rattle.law_sphere.specs.Maps.{At}
 use Rattle.law_sphere.proofs.Lists.{at-one}
 use Rattle.nef_star.specs.declared.star.Ray.{Ray}
@@ -6,37 +6,38 @@ use Rattle.nef_star.specs.declared.star.Star.{Star}
 use Rattle.nef_star.specs.Stars.{IsStar}
 use Rattle.nef_star.proofs.Needed.{true_or_false}
 use Rattle.nef_smap.specs.declared.map.SArc.{SArc}
+use Rattle.nef_smap.proofs.Lists.{get-at}
 use Rattle.nef_spair.specs.Arcs.{AreArcs}
 use Rattle.nef_spair.proofs.Places.{index-at, all-at}
 use Rattle.nef_spair.proofs.Leaving.{arcs-past, arcs-more, arcs-next}
 use Rattle.nef_spair.proofs.along.push_arcs.Goals as goal
-use Rattle.nef_spair.proofs.along.push_arcs.Goals.{then-ahead+in_ok-push, else-ahead}
+use Rattle.nef_spair.proofs.along.push_arcs.Goals.{then-ray+in_ok-push, else-ray}
 
 pub arc_along-requires-clause-ray : goal.arc_along-requires-clause-ray
 arc_along-requires-clause-ray c =
-    let kept = c.args.kept.now in let s = c.index-kept-from.result in let r = c.ray-item.result in let n = c.loop-number.number in
-    let ray = index-at c.rays-ray-items.result.now n r c.loop-number-test.true c.ray-item.is in
+    let kept = c.args.kept.now in let s = get_or kept c.args.from c.index-kept-from.result in let r = c.ray-item.result in let n = c.loop-number.number in
+    let ray = index-at c.as_slice-ray-items.result.now n r c.loop-number-test.true c.ray-item.is in
     λ t a.
-    let e = at-one kept c.args.from s t (index-at kept c.args.from s c.requires.within c.index-kept-from.is) a in
-    subst (λ (x : Star). At x.rays.items n r) e (subst (λ (l : List Ray). At l n r) c.rays-ray-items.ensures.rays ray)
+    let e = at-one kept c.args.from s t (get-at kept c.args.from c.index-kept-from.result c.requires.within) a in
+    subst (λ (x : Star). At x.rays.items n r) e (subst (λ (l : List Ray). At l n r) c.as_slice-ray-items.ensures.value ray)
 
 pub loop-number-preserved : goal.loop-number-preserved
 loop-number-preserved c =
-    let kept = c.args.kept.now in let s = c.index-kept-from.result in let r = c.ray-item.result in let i = c.args.from in let n = c.loop-number.number in
+    let kept = c.args.kept.now in let s = get_or kept c.args.from c.index-kept-from.result in let r = c.ray-item.result in let i = c.args.from in let n = c.loop-number.number in
     let arcs = c.loop-number.arcs.items in let inv = c.loop-number.invariant in
-    let star = index-at kept i s c.requires.within c.index-kept-from.is in
-    let ray = subst (λ (l : List Ray). At l n r) c.rays-ray-items.ensures.rays (index-at c.rays-ray-items.result.now n r c.loop-number-test.true c.ray-item.is) in
-    elim c.if-ahead.branch [
-      | then-ahead+in_ok-push w ↦
+    let star = get-at kept i c.index-kept-from.result c.requires.within in
+    let ray = subst (λ (l : List Ray). At l n r) c.as_slice-ray-items.ensures.value (index-at c.as_slice-ray-items.result.now n r c.loop-number-test.true c.ray-item.is) in
+    elim c.if-ray.branch [
+      | then-ray+in_ok-push w ↦
           let e = w.arc_along.ensures in let star = all-at IsStar kept c.requires.stars w.arc_along.result.source e.along.star e.along.has_star in
           subst (AreArcs kept i (n + 1)) (sym {A = List SArc} (ap (λ (v : Vec SArc Global). v.items) w.arcs-is ∙ w.in_ok-push.ensures.items)) (arcs-more kept i n arcs inv w.arc_along.result e.arc e.source e.along star.turned)
-      | else-ahead w ↦
+      | else-ray w ↦
           subst (AreArcs kept i (n + 1)) (sym {A = List SArc} (ap (λ (v : Vec SArc Global). v.items) w.arcs-is))
-          (arcs-past kept i n arcs inv s r star ray (λ t. true_or_false (sym t ∙ sym c.ahead.ensures.ahead ∙ w.if-ahead.false)))
+          (arcs-past kept i n arcs inv s r star ray (λ t. true_or_false (sym t ∙ w.if-ray.false)))
     ]
 
 pub returns : goal.returns
 returns c =
-    let kept = c.args.kept.now in let s = c.index-kept-from.result in
-    let a = index-at kept c.args.from s c.requires.within c.index-kept-from.is in
-    record { arcs = arcs-next kept c.args.from c.loop-number.number c.loop-number.arcs.items s a (let e = ap length c.rays-ray-items.ensures.rays in let f = c.loop-number-test.false in omega (arith, e, f)) c.loop-number.invariant }
+    let kept = c.args.kept.now in let s = get_or kept c.args.from c.index-kept-from.result in
+    let a = get-at kept c.args.from c.index-kept-from.result c.requires.within in
+    record { arcs = arcs-next kept c.args.from c.loop-number.number c.loop-number.arcs.items s a (let e = ap length c.as_slice-ray-items.ensures.value in let f = c.loop-number-test.false in omega (arith, e, f)) c.loop-number.invariant }

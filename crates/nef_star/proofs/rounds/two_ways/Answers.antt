@@ -1,5 +1,12 @@
-use Rattle.std.proofs.Common.{◌<◌, length, arith, refl}
+use Rattle.std.proofs.Common.{ℕ, ◌<◌, length, arith, refl, sym, subst, ◌∙◌}
 use Rattle.std.proofs.lemmas.Option.{slice_get_read}
+use Rattle.nef_space.specs.Limits.{svertex_limit}
+use Rattle.nef_space.specs.Lists.{IsAt}
+use Rattle.nef_space.specs.Vectors.{IsAtMost}
+use Rattle.nef_geo.specs.Shapes.{vector_of}
+use Rattle.nef_geo.specs.declared.dir.Dir.{Dir}
+use Rattle.nef_star.specs.Rounds.{End}
+use Rattle.nef_star.specs.Stars.{IsRay}
 use Rattle.nef_star.proofs.TwoWays.{two-whole}
 use Rattle.nef_star.proofs.rounds.two_ways.Goals as goal
 
@@ -10,4 +17,8 @@ returns-clause-whole c =
     let second : 1 < length ends = omega (arith, n) in
     let at_first = slice_get_read ends (length ends) 0 c.index-ends-0.result refl first c.index-ends-0.is in
     let at_second = slice_get_read ends (length ends) 1 c.index-ends-1.result refl second c.index-ends-1.is in
-    two-whole ends _ c.index-ends-0.result c.index-ends-1.result n at_first at_second (c.requires.two.apart _ _ at_first at_second) c.requires.small c.requires.rays c.in_ok-rays.ensures.items c.in_ok-sectors.ensures.items
+    let axis = sym {A = Dir} c.of.ensures.axis in
+    two-whole ends c.of.result c.index-ends-0.result c.index-ends-1.result n at_first at_second (c.requires.two.apart _ _ at_first at_second)
+    (subst (λ (d : Dir). IsAtMost svertex_limit (vector_of d)) axis c.requires.small)
+    (subst (λ (d : Dir). (k : ℕ) (e : End) → IsAt ends k e → IsRay (vector_of d) e.0) axis c.requires.rays)
+    (c.of.ensures.rays ∙ c.in_ok-rays.ensures.items) (c.of.ensures.sectors ∙ c.in_ok-sectors.ensures.items)

@@ -1,5 +1,5 @@
 -- The turned map, from its parts.
-use Rattle.std.proofs.Common.{◌≡◌, ℕ, List, [], length, Option, Some, None, refl, sym, subst}
+use Rattle.std.proofs.Common.{◌≡◌, ℕ, List, [], map, length, Option, Some, None, refl, sym, subst}
 use Rattle.std.specs.Prelude.{IfSome}
 use Rattle.nef_space.specs.Vectors.{IsNormal}
 use Rattle.nef_geo.specs.Shapes.{vector_of}
@@ -7,10 +7,10 @@ use Rattle.nef_smap.specs.declared.map.SVertex.{SVertex}
 use Rattle.nef_smap.specs.declared.map.SArc.{SArc}
 use Rattle.nef_smap.specs.declared.map.SLoop.{SLoop}
 use Rattle.nef_smap.specs.declared.map.SphereMap.{SphereMap}
-use Rattle.nef_turn.specs.declared.moved.Moved.{Moved}
+use Rattle.nef_turn.specs.declared.maps.Moved.{Moved}
 use Rattle.nef_turn.specs.Images.{AreImages, AreApart}
-use Rattle.nef_turn.specs.Turning.{AreWithin, AreNumbers, HaveSameNumber, IsOfMoved, Renumbers, AreTurnedArcs}
-use Rattle.nef_turn.proofs.MovedSvertices.{moved-within, renumbers}
+use Rattle.nef_turn.specs.Turning.{AreWithin, AreNumbers, HaveSameNumber, svertex_in, IsOfMoved, Renumbers, AreTurnedArcs}
+use Rattle.nef_turn.proofs.MovedSvertices.{images-mapped, moved-within, renumbers}
 use Rattle.nef_turn.proofs.MadeMaps.{IsMade, made-lists, made-ordered}
 use Rattle.nef_turn.proofs.maps.turned_map.Goals as goal
 
@@ -36,7 +36,7 @@ turned_arcs-requires c =
     let ns = c.in_ok-numbers.numbers.items in let ws = c.in_ok-svertices.svertices.items in
     let N = subst (λ (l : List Moved). AreNumbers (length l) l ns) c.as_slice.ensures.value c.in_ok-numbers.ensures.numbers in
     let count = subst (λ (l : List Moved). length ns ≡ length l) c.as_slice.ensures.value c.in_ok-numbers.ensures.count in
-    let I = subst (λ (l : List Moved). AreImages IsOfMoved (length l) l ws) c.as_slice-2.ensures.value c.in_ok-svertices.ensures.svertices in
+    let I = images-mapped us ws (subst (λ (l : List Moved). ws ≡ map svertex_in l) c.as_slice-2.ensures.value c.in_ok-svertices.ensures.svertices) in
     record {
       shaped = c.requires.map.sphere_map.valid.shaped;
       numbers = subst (Renumbers k m.svertices) (sym {A = List ℕ} c.as_slice-3.ensures.value) (renumbers k m.svertices us ns c.in_ok-moved.ensures.moved N ws I count);
@@ -47,7 +47,7 @@ returns c =
     let k = c.args.turn.now.number in let m = c.args.map.now in let us = c.in_ok-moved.moved.items in
     let ns = c.in_ok-numbers.numbers.items in let ws = c.in_ok-svertices.svertices.items in
     let N = subst (λ (l : List Moved). AreNumbers (length l) l ns) c.as_slice.ensures.value c.in_ok-numbers.ensures.numbers in
-    let I = subst (λ (l : List Moved). AreImages IsOfMoved (length l) l ws) c.as_slice-2.ensures.value c.in_ok-svertices.ensures.svertices in
+    let I = images-mapped us ws (subst (λ (l : List Moved). ws ≡ map svertex_in l) c.as_slice-2.ensures.value c.in_ok-svertices.ensures.svertices) in
     let T = subst (λ (l : List ℕ). AreTurnedArcs k l m.arcs c.in_ok-arcs.arcs.items) c.as_slice-3.ensures.value c.in_ok-arcs.ensures.turned in
     let sloop = c.turned_sloop.result in
     let n : SphereMap = record { mark = m.mark; svertices = c.from_vec.result; arcs = c.from_vec-2.result; sloop = sloop; ground = m.ground } in

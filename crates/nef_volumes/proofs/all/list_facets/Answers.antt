@@ -1,24 +1,47 @@
-use Rattle.std.proofs.Common.{ℕ, List, [], ◌∷◌, ◌++◌, length, sym, subst, rules}
+use Rattle.std.proofs.Common.{ℕ, List, [], ◌∷◌, ◌++◌, length, refl, sym, subst, rules}
 use Rattle.std.proofs.lemmas.Iterator.Adapters.{YieldsList-from_vec}
 use Rattle.std.proofs.lemmas.Iterator.Consumers.{YieldsList-turn}
 use Rattle.nef_space.specs.Lists.{IsAt}
-use Rattle.nef_space.specs.declared.label.Label.{Label}
-use Rattle.nef_geo.specs.declared.plane.Plane.{Plane}
 use Rattle.nef_classes.proofs.ClassLists.{is-at_get}
 use Rattle.nef_complex.specs.Complexes.{complex_of}
-use Rattle.nef_parts.specs.declared.parts.Cycle.{Cycle}
-use Rattle.nef_parts.specs.declared.parts.Facet.{Facet}
+use Rattle.nef_complex.specs.declared.parts.Cycle.{Cycle}
+use Rattle.nef_complex.specs.declared.parts.Facet.{Facet}
 use Rattle.nef_volumes.specs.Parts.{AreFacetsOf}
+use Rattle.nef_volumes.proofs.AllParts.{some-cycle, some-corner, first-item, beside-first}
 use Rattle.nef_volumes.proofs.FacetLists.{facets-more}
 use Rattle.nef_volumes.proofs.all.list_facets.Goals as goal
 
-pub facet-requires-clause-first : goal.facet-requires-clause-first
-facet-requires-clause-first c =
+pub at-cycle-requires : goal.at-cycle-requires
+at-cycle-requires c =
     let all = c.args.cycles in
     let own = c.in-Some.own in
-    let n = length c.loop-own.yielded in
     let t = YieldsList-turn (YieldsList-from_vec {s = c.into_iter-own-iterator.result} all (search rules) (search rules)) c.loop-own.yielded c.loop-own.own-iterator c.loop-own.yielded_by c.next.result c.next.new.self own c.in-Some.is c.next.ensures.steps in
-    c.requires.first n own (subst (λ (xs : List Cycle). IsAt all n xs) (sym t.1) (is-at_get all n own t.0))
+    let first = c.requires.first (length c.loop-own.yielded) own (subst (λ (xs : List Cycle). IsAt all (length c.loop-own.yielded) xs) (sym t.1) (is-at_get all (length c.loop-own.yielded) own t.0)) in
+    record { within = some-cycle (complex_of c.args.c.now) own first }
+
+pub at-requires : goal.at-requires
+at-requires c =
+    let all = c.args.cycles in
+    let own = c.in-Some.own in
+    let t = YieldsList-turn (YieldsList-from_vec {s = c.into_iter-own-iterator.result} all (search rules) (search rules)) c.loop-own.yielded c.loop-own.own-iterator c.loop-own.yielded_by c.next.result c.next.new.self own c.in-Some.is c.next.ensures.steps in
+    let first = c.requires.first (length c.loop-own.yielded) own (subst (λ (xs : List Cycle). IsAt all (length c.loop-own.yielded) xs) (sym t.1) (is-at_get all (length c.loop-own.yielded) own t.0)) in
+    record { within = some-corner (complex_of c.args.c.now) own first c.at-cycle.result.now c.at-cycle.ensures.element }
+
+pub volume_at-pos-requires-clause-corner : goal.volume_at-pos-requires-clause-corner
+volume_at-pos-requires-clause-corner c =
+    let all = c.args.cycles in
+    let own = c.in-Some.own in
+    let t = YieldsList-turn (YieldsList-from_vec {s = c.into_iter-own-iterator.result} all (search rules) (search rules)) c.loop-own.yielded c.loop-own.own-iterator c.loop-own.yielded_by c.next.result c.next.new.self own c.in-Some.is c.next.ensures.steps in
+    let first = c.requires.first (length c.loop-own.yielded) own (subst (λ (xs : List Cycle). IsAt all (length c.loop-own.yielded) xs) (sym t.1) (is-at_get all (length c.loop-own.yielded) own t.0)) in
+    first-item (complex_of c.args.c.now) own first c.at-cycle.result.now c.at.result.now c.at-cycle.ensures.element c.at.ensures.element
+
+pub volume_at-neg-requires-clause-corner : goal.volume_at-neg-requires-clause-corner
+volume_at-neg-requires-clause-corner c =
+    let all = c.args.cycles in
+    let own = c.in-Some.own in
+    let t = YieldsList-turn (YieldsList-from_vec {s = c.into_iter-own-iterator.result} all (search rules) (search rules)) c.loop-own.yielded c.loop-own.own-iterator c.loop-own.yielded_by c.next.result c.next.new.self own c.in-Some.is c.next.ensures.steps in
+    let first = c.requires.first (length c.loop-own.yielded) own (subst (λ (xs : List Cycle). IsAt all (length c.loop-own.yielded) xs) (sym t.1) (is-at_get all (length c.loop-own.yielded) own t.0)) in
+    first-item (complex_of c.args.c.now) own first c.at-cycle.result.now c.at.result.now c.at-cycle.ensures.element c.at.ensures.element
 
 pub loop-own-preserved : goal.loop-own-preserved
 loop-own-preserved c =
@@ -29,10 +52,9 @@ loop-own-preserved c =
     let ys = c.loop-own.yielded in
     let fs = c.loop-own.facets in
     let own = c.in-Some.own in
-    let f = c.facet.result in
     let n = c.len-number.ensures.len in
     subst (λ (gs : List Facet). AreFacetsOf C rows planes marks (ys ++ own ∷ []) gs) (sym c.in_ok-push.ensures.ok)
-    (facets-more C rows planes marks ys fs own f c.loop-own.invariant
-    (subst (λ (h : Plane). IsAt planes (length fs) h) (sym c.facet.ensures.plane) (subst (λ (k : ℕ). IsAt planes k c.at-plane.result.now) n c.at-plane.ensures.element))
-    (subst (λ (h : Label). IsAt marks (length fs) h) (sym c.facet.ensures.mark) (subst (λ (k : ℕ). IsAt marks k c.at-mark.result.now) n c.at-mark.ensures.element))
-    c.facet.ensures.cycles c.facet.ensures.beside)
+    (facets-more C rows planes marks ys fs own _ c.loop-own.invariant
+    (subst (λ (k : ℕ). IsAt planes k c.at-plane.result.now) n c.at-plane.ensures.element)
+    (subst (λ (k : ℕ). IsAt marks k c.at-mark.result.now) n c.at-mark.ensures.element) refl
+    (beside-first C rows own c.at-cycle.result.now c.at.result.now c.volume_at-pos.result c.volume_at-neg.result c.at-cycle.ensures.element c.at.ensures.element c.volume_at-pos.ensures.volume c.volume_at-neg.ensures.volume))

@@ -2,8 +2,8 @@ use Rattle.std.proofs.Common.{◌≡◌, List, ◌++◌, length, sym, subst}
 use Rattle.std.proofs.lemmas.Result.{IfOk-at_ok}
 use Rattle.nef_classes.specs.declared.table.Tie.{Tie}
 use Rattle.nef_complex.specs.Complexes.{complex_of}
-use Rattle.nef_facets.specs.Facets.{IsFacetParts}
-use Rattle.nef_volumes.specs.Ties.{AreItemTies, AreDownBetween, AreTiesDown}
+use Rattle.nef_volumes.specs.Parts.{AreFacetPieces}
+use Rattle.nef_volumes.specs.Ties.{AreDownBetween, AreTiesDown}
 use Rattle.nef_volumes.proofs.BothFound.{first-found, second-found}
 use Rattle.nef_volumes.proofs.DownTies.{down-appended, down-all}
 use Rattle.nef_volumes.proofs.by_threads.facets_by_three.Goals as goal
@@ -22,6 +22,5 @@ returns g c =
     let r = c.both-2.result in
     record {
       down = first-found r c.appended.result (λ v. v.items ≡ ts ++ us) (λ v. AreTiesDown C v.items) c.both-2.ensures.first c.appended.ensures.items (λ v e. subst (λ (xs : List Tie). AreTiesDown C xs) (sym e) all);
-      facets = second-found r _ (λ p. IsFacetParts C p.parts) c.both-2.ensures.second (IfOk-at_ok (λ p. IsFacetParts C p.1.parts) found.second rest.1.0);
-      items = second-found r _ (λ p. AreItemTies C p.items.items) c.both-2.ensures.second (IfOk-at_ok (λ p. AreItemTies C p.1.items.items) found.second rest.1.1);
+      pieces = second-found r _ (λ p. AreFacetPieces C p) c.both-2.ensures.second (IfOk-at_ok (λ p. AreFacetPieces C p.1) found.second rest.1);
     }

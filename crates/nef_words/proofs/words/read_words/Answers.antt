@@ -1,7 +1,7 @@
 use Rattle.std.proofs.Common.{◌≡◌, ◌∙◌, refl, Result, Err}
-use Rattle.nef_words.specs.declared.options.Options.{Options}
-use Rattle.nef_words.specs.declared.options.WordsFault.{WordsFault}
-use Rattle.nef_words.specs.declared.options.WordsFault.TheVariants.{Refused, OutOfMemory}
+use Rattle.nef_words.specs.declared.words.Options.{Options}
+use Rattle.nef_words.specs.declared.words.WordsFault.{WordsFault}
+use Rattle.nef_words.specs.declared.words.WordsFault.TheVariants.{Refused, OutOfMemory}
 use Rattle.nef_words.proofs.Parsed.{refuses, chosen_is}
 use Rattle.nef_words.proofs.words.read_words.Goals as goal
 use Rattle.nef_words.proofs.words.read_words.Goals.{in-OutOfMemory, in_default}

@@ -6,8 +6,12 @@ use Rattle.nef_geo.specs.declared.sign.Sign.TheVariants.{Zero}
 use Rattle.nef_geo.proofs.Signs.{zero_sign}
 use Rattle.nef_complex.proofs.Reading.{got-at}
 use Rattle.law_sphere.proofs.Compare.{SameDirection-turned}
+use Rattle.nef_plane.proofs.Listed.{are-items}
 use Rattle.tests_places.proofs.Directions.{no-svertex_at}
 use Rattle.tests_places.proofs.rays.met_from_vertex.Goals as goal
+
+pub first_along_dir-requires-clause-items : goal.first_along_dir-requires-clause-items
+first_along_dir-requires-clause-items c = are-items c.args.c.now (form_of c.args.h.now) c.plane_items.result c.plane_items.ensures.edges c.plane_items.ensures.vertices
 
 pub first_along_dir-requires-clause-no_svertex : goal.first_along_dir-requires-clause-no_svertex
 first_along_dir-requires-clause-no_svertex c =

@@ -3,7 +3,7 @@ use Rattle.std.proofs.Common.{◌≡◌, ℕ, ◌<◌, ◌++◌, [], ◌∷◌, 
 use Rattle.std.specs.Prelude.{slice_get, slice_index_or}
 use Rattle.std.proofs.lemmas.Option.{slice_get_read}
 use Rattle.nef_expr.specs.declared.nodes.Node.{Node}
-use Rattle.nef_expr.specs.declared.origin.Origin.{Origin}
+use Rattle.nef_expr.specs.declared.table.Origin.{Origin}
 use Rattle.nef_expr.specs.Nodes.{NamesBelow}
 use Rattle.nef_expr.specs.Turns.{TurnOf}
 use Rattle.nef_expr.specs.Table.{Table, IsTable, IsOfOrigin, HasOrigin, IsCopyOf, origin}

@@ -5,4 +5,8 @@ use Rattle.nef_free.proofs.board.FreeBoard.new.Goals as goal
 pub vacant-requires : goal.vacant-requires
 vacant-requires g c =
     let more = c.in-Some.ensures.1 in
-    rw (c.as_slice.ensures.value, c.in_ok-words.ensures.items, more) (opens _ _ _ (let a = c.in_ok-words.ensures.few in let b = c.ranges.seats.fits in omega arith) c.requires)
+    let items = c.in_ok-words.ensures.items_if_clones_equal (λ y h. h) in
+    let len = c.in_ok-words.ensures.len in
+    let ok = c.in_ok-words.words.ok in
+    let small = c.in_ok-words.words.small in
+    rw (c.as_slice.ensures.value, items, more) (opens _ _ _ (let b = c.ranges.seats.fits in omega arith) c.requires)

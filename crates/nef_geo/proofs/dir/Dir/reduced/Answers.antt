@@ -8,12 +8,12 @@ use Rattle.nef_geo.proofs.dir.Dir.reduced.Goals as goal
 
 pub invariant_of-result : goal.invariant_of-result
 invariant_of-result c =
-    let r = c.lowest_terms-lowest.result in
-    let fx : FitsSigned w64 c.lowest_terms-lowest.result.x = search rules in let fy : FitsSigned w64 c.lowest_terms-lowest.result.y = search rules in
-    let fz : FitsSigned w64 c.lowest_terms-lowest.result.z = search rules in let fw : FitsSigned w64 c.lowest_terms-lowest.result.w = search rules in
+    let r = c.lowest_terms-x.result in
+    let fx : FitsSigned w64 c.lowest_terms-x.result.0 = search rules in let fy : FitsSigned w64 c.lowest_terms-x.result.1 = search rules in
+    let fz : FitsSigned w64 c.lowest_terms-x.result.2 = search rules in let fw : FitsSigned w64 c.lowest_terms-x.result.3 = search rules in
     let f0 : FitsSigned w64 (pos 0) = search rules in
-    let h = IsReduced-kept c.args.x c.args.y c.args.z (pos 0) r.x r.y r.z r.w c.ranges.x c.ranges.y c.ranges.z f0 fx fy fz fw c.lowest_terms-lowest.ensures.reduced in
-    let s : IsStretched (vector c.args.x c.args.y c.args.z) (vector (to_z w64 (of_z w64 r.x)) (to_z w64 (of_z w64 r.y)) (to_z w64 (of_z w64 r.z))) =
+    let h = IsReduced-kept c.args.x c.args.y c.args.z (pos 0) r.0 r.1 r.2 r.3 c.ranges.x c.ranges.y c.ranges.z f0 fx fy fz fw c.lowest_terms-x.ensures.reduced in
+    let s : IsStretched (vector c.args.x c.args.y c.args.z) (vector (to_z w64 (of_z w64 r.0)) (to_z w64 (of_z w64 r.1)) (to_z w64 (of_z w64 r.2))) =
     record { factor = h.factor; positive = h.positive; x_is = h.x_is; y_is = h.y_is; z_is = h.z_is } in
     record {
       x_small = part_small direction_limit h.factor c.args.x _ h.positive h.x_is c.requires.small.of_x;
@@ -25,12 +25,12 @@ invariant_of-result c =
 
 pub returns : goal.returns
 returns c =
-    let r = c.lowest_terms-lowest.result in
-    let fx : FitsSigned w64 c.lowest_terms-lowest.result.x = search rules in let fy : FitsSigned w64 c.lowest_terms-lowest.result.y = search rules in
-    let fz : FitsSigned w64 c.lowest_terms-lowest.result.z = search rules in let fw : FitsSigned w64 c.lowest_terms-lowest.result.w = search rules in
+    let r = c.lowest_terms-x.result in
+    let fx : FitsSigned w64 c.lowest_terms-x.result.0 = search rules in let fy : FitsSigned w64 c.lowest_terms-x.result.1 = search rules in
+    let fz : FitsSigned w64 c.lowest_terms-x.result.2 = search rules in let fw : FitsSigned w64 c.lowest_terms-x.result.3 = search rules in
     let f0 : FitsSigned w64 (pos 0) = search rules in
-    let h = IsReduced-kept c.args.x c.args.y c.args.z (pos 0) r.x r.y r.z r.w c.ranges.x c.ranges.y c.ranges.z f0 fx fy fz fw c.lowest_terms-lowest.ensures.reduced in
+    let h = IsReduced-kept c.args.x c.args.y c.args.z (pos 0) r.0 r.1 r.2 r.3 c.ranges.x c.ranges.y c.ranges.z f0 fx fy fz fw c.lowest_terms-x.ensures.reduced in
     let a = vector c.args.x c.args.y c.args.z in
-    let s : IsStretched a (vector (to_z w64 (of_z w64 r.x)) (to_z w64 (of_z w64 r.y)) (to_z w64 (of_z w64 r.z))) =
+    let s : IsStretched a (vector (to_z w64 (of_z w64 r.0)) (to_z w64 (of_z w64 r.1)) (to_z w64 (of_z w64 r.2))) =
     record { factor = h.factor; positive = h.positive; x_is = h.x_is; y_is = h.y_is; z_is = h.z_is } in
     record { stretched = s; same = SameDirection-stretched a _ s (IsDirection-part a _ s c.requires.some); size = λ k l. IsAtMost-part k a _ s l }

@@ -6,10 +6,10 @@ use Rattle.nef_geo.proofs.point.Point.of.Goals as goal
 
 pub invariant_of-result : goal.invariant_of-result
 invariant_of-result c =
-    let r = c.lowest_terms-lowest.result in
-    let fx : FitsSigned w64 c.lowest_terms-lowest.result.x = search rules in let fy : FitsSigned w64 c.lowest_terms-lowest.result.y = search rules in
-    let fz : FitsSigned w64 c.lowest_terms-lowest.result.z = search rules in let fw : FitsSigned w64 c.lowest_terms-lowest.result.w = search rules in
-    let h = IsReduced-kept c.args.x c.args.y c.args.z c.args.w r.x r.y r.z r.w c.ranges.x c.ranges.y c.ranges.z c.ranges.w fx fy fz fw c.lowest_terms-lowest.ensures.reduced in
+    let r = c.lowest_terms-x.result in
+    let fx : FitsSigned w64 c.lowest_terms-x.result.0 = search rules in let fy : FitsSigned w64 c.lowest_terms-x.result.1 = search rules in
+    let fz : FitsSigned w64 c.lowest_terms-x.result.2 = search rules in let fw : FitsSigned w64 c.lowest_terms-x.result.3 = search rules in
+    let h = IsReduced-kept c.args.x c.args.y c.args.z c.args.w r.0 r.1 r.2 r.3 c.ranges.x c.ranges.y c.ranges.z c.ranges.w fx fy fz fw c.lowest_terms-x.ensures.reduced in
     record {
       x_small = part_small point_limit h.factor c.args.x _ h.positive h.x_is c.requires.x_small;
       y_small = part_small point_limit h.factor c.args.y _ h.positive h.y_is c.requires.y_small;
@@ -21,8 +21,8 @@ invariant_of-result c =
 
 pub returns : goal.returns
 returns c =
-    let r = c.lowest_terms-lowest.result in
-    let fx : FitsSigned w64 c.lowest_terms-lowest.result.x = search rules in let fy : FitsSigned w64 c.lowest_terms-lowest.result.y = search rules in
-    let fz : FitsSigned w64 c.lowest_terms-lowest.result.z = search rules in let fw : FitsSigned w64 c.lowest_terms-lowest.result.w = search rules in
-    let h = IsReduced-kept c.args.x c.args.y c.args.z c.args.w r.x r.y r.z r.w c.ranges.x c.ranges.y c.ranges.z c.ranges.w fx fy fz fw c.lowest_terms-lowest.ensures.reduced in
+    let r = c.lowest_terms-x.result in
+    let fx : FitsSigned w64 c.lowest_terms-x.result.0 = search rules in let fy : FitsSigned w64 c.lowest_terms-x.result.1 = search rules in
+    let fz : FitsSigned w64 c.lowest_terms-x.result.2 = search rules in let fw : FitsSigned w64 c.lowest_terms-x.result.3 = search rules in
+    let h = IsReduced-kept c.args.x c.args.y c.args.z c.args.w r.0 r.1 r.2 r.3 c.ranges.x c.ranges.y c.ranges.z c.ranges.w fx fy fz fw c.lowest_terms-x.ensures.reduced in
     record { same = λ positive. SamePlace-reduced c.args.x c.args.y c.args.z c.args.w _ _ _ _ positive _ h }

@@ -1,26 +1,33 @@
-use Rattle.std.proofs.Common.{rules}
-use Rattle.nef_geo.specs.Shapes.{form_of, vector_of}
-use Rattle.nef_plane.specs.Courses.{IsCourse}
-use Rattle.nef_plane.specs.Ends.{MeetLiesIn}
-use Rattle.nef_plane.proofs.Choosing.{some-at}
-use Rattle.nef_plane.proofs.Listed.{lies-serves, met-serves}
+use Rattle.std.proofs.Common.{inl, inr, rules, subst}
+use Rattle.std.specs.Option.{MatchOption}
+use Rattle.nef_geo.specs.Shapes.{form_of, vector_of, place_of}
+use Rattle.nef_classes.proofs.ClassLists.{is-at_one}
+use Rattle.nef_complex.specs.declared.complex.Vertex.{Vertex}
+use Rattle.nef_plane.specs.Meets.{AreOpposite}
+use Rattle.nef_plane.specs.Parting.{ray_form}
+use Rattle.nef_plane.proofs.Listed.{lies-serves, lies-has}
 use Rattle.nef_plane.proofs.Passed.{off-course}
 use Rattle.nef_plane.proofs.along.VertexRayPlaneRay.may_meet.Goals as goal
 
-pub returns-in-Some : goal.returns-in-Some
-returns-in-Some c =
-    let ray = c.args.self.now in let S = c.requires.shows in let C = c.args.c.now in let m = c.args.meet in let h = form_of ray.plane.now in let d = vector_of ray.direction.now in let x = c.in-Some.course in
-    let H = some-at (λ y. MeetLiesIn C h m) c.args.course.now x (search rules) c.requires.held in
+pub ends_of-low-requires-clause-within : goal.ends_of-low-requires-clause-within
+ends_of-low-requires-clause-within c = lies-has c.args.c.now (form_of c.args.self.now.plane.now) c.args.meet c.requires.lies
+
+pub returns-then-not-may_reach : goal.returns-then-not-may_reach
+returns-then-not-may_reach c =
+    let ray = c.args.self.now in let S = c.requires.shows in let C = c.args.c.now in let m = c.args.meet in let n = c.ends_of-low.result in
     record {
-      told = λ t. lies-serves C h m H;
-      off = λ f. off-course S.0 C S.1.shows ray.plane.now ray.start.now d ray.direction.now.some x (some-at (IsCourse C.vertices h ray.start.now d) c.args.course.now x (search rules) c.requires.guide) m
-          c.ends_of-low.result.0 c.ends_of-low.result.1 c.ends_of-low.ensures.ends H (c.may_meet_between.ensures.off f);
+      told = λ t. lies-serves C (form_of ray.plane.now) m c.requires.lies;
+      off = λ f. off-course S.0 C S.1.shows ray.plane.now ray.start.now (vector_of ray.direction.now) ray.direction.now.some c.args.course.now c.requires.guide m n.0 n.1 c.ends_of-low.ensures.ends c.requires.lies
+          (inl (c.may_reach.ensures.passed (λ x. absurd (search (rules, x, c.if-not-may_reach.true)))));
     }
 
-pub returns-in-None : goal.returns-in-None
-returns-in-None c =
-    let ray = c.args.self.now in let C = c.args.c.now in
+pub returns : goal.returns
+returns c =
+    let ray = c.args.self.now in let S = c.requires.shows in let C = c.args.c.now in let m = c.args.meet in let n = c.ends_of-low.result in
+    let p = ray.start.now in let o = c.args.course.now.normal in let a = c.at.result.now in let b = c.at-2.result.now in
     record {
-      told = c.is_vertex_or_lies_in.ensures.lies.0;
-      off = λ f m q w x. f (c.is_vertex_or_lies_in.ensures.lies.1 (met-serves C (form_of ray.plane.now) (vector_of ray.direction.now) m q c.args.meet x));
+      told = λ t. lies-serves C (form_of ray.plane.now) m c.requires.lies;
+      off = λ f. off-course S.0 C S.1.shows ray.plane.now p (vector_of ray.direction.now) ray.direction.now.some c.args.course.now c.requires.guide m n.0 n.1 c.ends_of-low.ensures.ends c.requires.lies (inr (λ u v i j.
+          subst (λ (y : Vertex). MatchOption o ⊥ (λ k. AreOpposite (ray_form k p) (place_of u.point) (place_of y.point) → ⊥)) (is-at_one C.vertices n.1 b v c.at-2.ensures.element j)
+          (subst (λ (x : Vertex). MatchOption o ⊥ (λ k. AreOpposite (ray_form k p) (place_of x.point) (place_of b.point) → ⊥)) (is-at_one C.vertices n.0 a u c.at.ensures.element i) (c.may_pass.ensures.beside f))));
     }

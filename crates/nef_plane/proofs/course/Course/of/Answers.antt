@@ -1,18 +1,21 @@
-use Rattle.std.proofs.Common.{sym, refl}
+use Rattle.std.proofs.Common.{◌≡◌, ℕ, pos, negsuc, List, length, true, false, ◌⊎◌, inl, inr, sym, ◌∙◌, refl}
+use Rattle.nef_space.specs.Place.{Place, Form, InClosedFrame}
+use Rattle.nef_space.specs.Vectors.{Vector}
 use Rattle.nef_geo.specs.Shapes.{form_of, place_of, vector_of}
-use Rattle.nef_plane.proofs.Close.{first-all, past-all}
+use Rattle.nef_complex.specs.declared.complex.Vertex.{Vertex}
+use Rattle.nef_plane.specs.Courses.{IsFirst, IsPast, IsBeside, shifted_form}
+use Rattle.nef_plane.proofs.Close.{ahead-beyond, ahead-short, first-all, past-all}
 use Rattle.nef_plane.proofs.Passed.{start-framed, first-forward, past-back}
 use Rattle.nef_plane.proofs.course.Course.of.Goals as goal
 
-pub past_number-requires-clause-start : goal.past_number-requires-clause-start
-past_number-requires-clause-start c =
-    let S = c.requires.shows in let ray = c.args.ray.now in
-    start-framed S.0 c.args.c.now S.1.shows ray.plane.now ray.start.now (vector_of ray.direction.now) c.requires.holds.0 c.args.start c.requires.start
+-- what is beside the line is beyond all that the ray meets, or nothing is known
+past-beside : (vs : List Vertex) (h : Form) (p : Place) (d : Vector) (n m : ℕ) → InClosedFrame p → m ≡ length vs → IsBeside vs h p d (pos 1) false n ⊎ (n ≡ m) → IsPast vs h p d n
+past-beside vs h p d n m i e (inl b) = (shifted_form h p (pos 1), ahead-short vs h p d (pos 1) b.close i refl, b.far)
+past-beside vs h p d n m i e (inr f) = past-all vs h p d n (f ∙ e)
 
-pub first_number-requires-clause-start : goal.first_number-requires-clause-start
-first_number-requires-clause-start c =
-    let S = c.requires.shows in let ray = c.args.ray.now in
-    start-framed S.0 c.args.c.now S.1.shows ray.plane.now ray.start.now (vector_of ray.direction.now) c.requires.holds.0 c.args.start c.requires.start
+first-beside : (vs : List Vertex) (h : Form) (p : Place) (d : Vector) (n : ℕ) → InClosedFrame p → IsBeside vs h p d (negsuc 0) true n ⊎ (n ≡ 0) → IsFirst vs h p d n
+first-beside vs h p d n i (inl b) = (shifted_form h p (negsuc 0), ahead-beyond vs h p d (negsuc 0) b.close i refl, b.short)
+first-beside vs h p d n i (inr f) = first-all vs h p d n f
 
 pub returns-in-Plus : goal.returns-in-Plus
 returns-in-Plus c =
@@ -21,7 +24,7 @@ returns-in-Plus c =
       course = record {
         holds = c.requires.holds;
         first = first-forward S.0 c.args.c.now S.1.shows ray.plane.now ray.start.now (vector_of ray.direction.now) c.requires.holds.0 c.args.start c.requires.start (sym c.in-Plus.ensures.sweep);
-        past = c.past_number.ensures.past;
+        past = past-beside c.args.c.now.vertices (form_of ray.plane.now) (place_of ray.start.now) (vector_of ray.direction.now) c.number_beside.result c.len-count.result (start-framed S.0 c.args.c.now S.1.shows ray.plane.now ray.start.now (vector_of ray.direction.now) c.requires.holds.0 c.args.start c.requires.start) c.len-count.ensures.len c.number_beside.ensures.beside;
         across = c.normal_beside-normal.ensures.across;
       };
     }
@@ -32,7 +35,7 @@ returns-in-Minus c =
     record {
       course = record {
         holds = c.requires.holds;
-        first = c.first_number.ensures.first;
+        first = first-beside c.args.c.now.vertices (form_of ray.plane.now) (place_of ray.start.now) (vector_of ray.direction.now) c.number_beside-in-Minus.result (start-framed S.0 c.args.c.now S.1.shows ray.plane.now ray.start.now (vector_of ray.direction.now) c.requires.holds.0 c.args.start c.requires.start) c.number_beside-in-Minus.ensures.beside;
         past = past-back S.0 c.args.c.now S.1.shows ray.plane.now ray.start.now (vector_of ray.direction.now) c.requires.holds.0 c.args.start c.requires.start (sym c.in-Minus.ensures.sweep);
         across = c.normal_beside-normal.ensures.across;
       };

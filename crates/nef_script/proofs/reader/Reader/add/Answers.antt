@@ -6,8 +6,8 @@ use Rattle.nef_expr.proofs.Operands.{names-from}
 use Rattle.nef_script.specs.Meaning.{IsQuestion}
 use Rattle.nef_script.specs.Outcome.{IsStatement}
 use Rattle.nef_script.specs.Reading.{state, AddsWords}
-use Rattle.nef_script.specs.declared.table.Verb.{Verb}
-use Rattle.nef_script.specs.declared.table.Verb.TheVariants as verb
+use Rattle.nef_script.specs.declared.arguments.Verb.{Verb}
+use Rattle.nef_script.specs.declared.arguments.Verb.TheVariants as verb
 use Rattle.nef_script.specs.declared.script.Command.TheVariants as command
 use Rattle.nef_script.proofs.Adding.{AddsWords-node, AddsWords-turn, AddsWords-ask}
 use Rattle.nef_script.proofs.Looking.{node-operands}

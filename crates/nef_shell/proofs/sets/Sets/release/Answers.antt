@@ -1,11 +1,20 @@
-use Rattle.std.proofs.Common.{arith, inl, inr}
+use Rattle.std.proofs.Common.{◌≡◌, ◌∙◌, ◌<◌, ap, arith, sym, inl, inr, length, IfSome, Some}
 use Rattle.nef_shell.proofs.sets.Sets.release.Goals as goal
+use Rattle.nef_shell.proofs.sets.Sets.release.Goals.{in-Some, in-None}
 
 pub release_one-requires-clause-within : goal.release_one-requires-clause-within
 release_one-requires-clause-within c = (c.looked_at-first.ensures.within c.args.self.now.nodes.now c.requires.right).0
 
 pub release_one-requires-2-clause-within : goal.release_one-requires-2-clause-within
 release_one-requires-2-clause-within c = rw c.release_one.ensures.nodes (c.looked_at-first.ensures.within c.args.self.now.nodes.now c.requires.right).1
+
+pub release_one-requires-3-clause-within : goal.release_one-requires-3-clause-within
+release_one-requires-3-clause-within c =
+    let below : IfSome c.match-bound.node (λ k. k < length c.args.self.now.nodes.now) = elim c.match-bound.branch [
+      | in-Some w ↦ rw w.node-is w.in-Some.ensures.bound.within
+      | in-None w ↦ rw w.node-is tt
+    ] in
+    rw (c.release_one-2.ensures.nodes, c.release_one.ensures.nodes) below
 
 pub returns-clause-lean : goal.returns-clause-lean
 returns-clause-lean c k within used =
@@ -19,7 +28,12 @@ returns-clause-lean c k within used =
           | inl first ↦ three.stays k (two.stays k (one.gone k first (omega arith)))
           | inr second ↦ three.stays k (two.gone k second (omega arith))
         ]
-        | inr binds ↦ three.gone k ((c.bound_node.ensures.bound k).0 binds) (omega arith)
+        | inr binds ↦
+            let named : c.match-bound.node ≡ Some k = elim c.match-bound.branch [
+              | in-Some w ↦ w.node-is ∙ ap Some (sym ((w.in-Some.ensures.bound.binds k).0 binds))
+              | in-None w ↦ absurd (c.bound.ensures.question w.in-None.is k binds)
+            ] in
+            three.gone k named (omega arith)
       ]
     ]
 

@@ -1,8 +1,7 @@
-use Rattle.std.proofs.Common.{◌≡◌, ap, arith, length, sym, subst, Some}
+use Rattle.std.proofs.Common.{◌≡◌, ap, arith, length, subst, Some}
 use Rattle.std.specs.Prelude.{slice_get}
 use Rattle.std.proofs.lemmas.Option.{slice_get_within}
 use Rattle.nef_core.proofs.Places.{get_set_here}
-use Rattle.nef_shell.specs.Operations.{AreTextsOf}
 use Rattle.nef_shell.proofs.Held.{made-put, text-written}
 use Rattle.nef_shell.proofs.sets.Sets.work_text.Goals as goal
 
@@ -21,7 +20,7 @@ pub returns-then-is_there-clause-has : goal.returns-then-is_there-clause-has
 returns-then-is_there-clause-has g c =
     let old = c.args.self.now in
     let there = c.is_there.ensures.there c.if-is_there.true in
-    (there.0, there.1, text-written c.args.version old.nodes.now old.list.items old.parts.items old.texts.items c.args.node there.0 c.requires.held there.1)
+    (there.0, there.1, text-written c.args.options.now.text old.nodes.now old.list.items old.parts.items old.texts.items c.args.node there.0 c.requires.held there.1)
 
 pub put_at-requires : goal.put_at-requires
 put_at-requires g c =
@@ -62,9 +61,8 @@ returns-clause-held g c =
     let complex = c.get_with_parts.result.0.now in
     let at : slice_get old.list.items c.args.node ≡ Some (Some complex) = subst (λ z. slice_get z.items c.args.node ≡ Some (Some complex)) did.list c.get_with_parts.ensures.at in
     let within = slice_get_within old.list.items c.args.node _ at in
-    let texts = subst (λ z. AreTextsOf c.args.version old.list.items z.items) (sym did.texts) c.requires.held.texts_of in
     record {
       shown = c.requires.held.shown;
-      parts_of = did.parts;
-      texts_of = let ok = old.list.ok in let fine = mid.texts.ok in rw c.put_at.ensures.put (made-put _ old.list.items mid.texts.items c.args.node complex c.in_ok-text.text (omega arith) at c.in_ok-text.ensures.of_complex texts);
+      parts_of = did.held.parts_of;
+      texts_of = let ok = old.list.ok in let fine = mid.texts.ok in rw c.put_at.ensures.put (made-put _ old.list.items mid.texts.items c.args.node complex c.in_ok-text.text (omega arith) at c.in_ok-text.ensures.of_complex did.held.texts_of);
     }

@@ -1,5 +1,0 @@
-use Rattle.nef_board.proofs.Runs.{runs}
-use Rattle.nef_board.proofs.laws.board_runs.Goals as goal
-
-pub returns : goal.returns
-returns g c work jobs seats s b kept home = runs (g.J.Job.right work) jobs seats s b kept home

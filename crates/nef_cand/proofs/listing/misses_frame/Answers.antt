@@ -1,0 +1,22 @@
+use Rattle.std.proofs.Common.{nat_abs, ap, ◌∙◌, lit≤}
+use Rattle.std.proofs.lemmas.Bool.{leb-true}
+use Rattle.nef_space.specs.Place.{normal_of}
+use Rattle.nef_geo.specs.Shapes.{form_of}
+use Rattle.nef_geo.proofs.Products.{kept}
+use Rattle.law_sphere.proofs.Vectors.{normal-direction}
+use Rattle.nef_cand.proofs.Missing.{misses, number-fits, lengthened}
+use Rattle.nef_cand.proofs.MissedFrame.{missing}
+use Rattle.nef_cand.proofs.listing.misses_frame.Goals as goal
+
+pub returns : goal.returns
+returns c =
+    let h = c.args.h.now in
+    let a = c.unsigned_abs.ensures.value ∙ ap nat_abs (kept c.a.result (number-fits _ _ _ c.a.ensures.a h.a_small (lit≤ tt)) ∙ c.a.ensures.a) in
+    let b = c.unsigned_abs-2.ensures.value ∙ ap nat_abs (kept c.b.result (number-fits _ _ _ c.b.ensures.b h.b_small (lit≤ tt)) ∙ c.b.ensures.b) in
+    let e = c.unsigned_abs-3.ensures.value ∙ ap nat_abs (kept c.c.result (number-fits _ _ _ c.c.ensures.c h.c_small (lit≤ tt)) ∙ c.c.ensures.c) in
+    let side = c.unsigned_abs-4.ensures.value in
+    let d = c.unsigned_abs-5.ensures.value ∙ ap nat_abs (kept c.d.result (number-fits _ _ _ c.d.ensures.d h.d_small (lit≤ tt)) ∙ c.d.ensures.d) in
+    record {
+      misses = λ t. misses (form_of h) (lengthened c.unsigned_abs.result c.unsigned_abs-2.result c.unsigned_abs-3.result c.unsigned_abs-4.result c.unsigned_abs-5.result _ _ _ _ a b e side d (leb-true _ _ t));
+      apart = λ t y i on. missing (form_of h) (lengthened c.unsigned_abs.result c.unsigned_abs-2.result c.unsigned_abs-3.result c.unsigned_abs-4.result c.unsigned_abs-5.result _ _ _ _ a b e side d (leb-true _ _ t)) (normal-direction (normal_of (form_of h)) h.normal) y i on;
+    }

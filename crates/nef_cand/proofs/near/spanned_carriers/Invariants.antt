@@ -1,5 +1,0 @@
-use Rattle.nef_cand.specs.Near.{AreSpannedCarriers}
-use Rattle.nef_cand.proofs.near.spanned_carriers.Given as goal
-
-abbrev pub invariant-loop-number : goal.invariant-loop-number
-invariant-loop-number l = record { carriers : AreSpannedCarriers l.c l.number l.near.items }

@@ -1,7 +1,0 @@
-use Rattle.std.proofs.Common.{◌≡◌, ◌++◌, take}
-use Rattle.std.specs.List.{flat_map}
-use Rattle.nef_parts.specs.Text.{vertex_text}
-use Rattle.nef_canon.proofs.maps.add_vertices.Given as goal
-
-abbrev pub invariant-loop-v : goal.invariant-loop-v
-invariant-loop-v l = l.text.items ≡ l.fn.text.items ++ flat_map vertex_text (take l.v-index l.vertices)

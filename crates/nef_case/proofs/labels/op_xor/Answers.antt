@@ -1,9 +1,0 @@
-use Rattle.std.proofs.Common.{◌≡◌, length, pos, rules}
-use Rattle.nef_case.specs.Labels.{xor_of}
-use Rattle.nef_case.proofs.Tables.{number_is_plain}
-use Rattle.nef_case.proofs.labels.op_xor.Goals as goal
-
-pub returns : goal.returns
-returns c =
-    let long : length c.args.key.now ≡ 2 = search rules in
-    record { label = number_is_plain (pos 0) 2 xor_of _ c.new.result.rows.now c.args.key.now c.at.result c.at.type_inv c.new.ensures.rows c.at.ensures.row tt long c.requires.signs }

@@ -1,0 +1,9 @@
+use Rattle.std.proofs.Common.{◌≡◌, length, pos, rules}
+use Rattle.nef_case.specs.Labels.{interior_of}
+use Rattle.nef_case.proofs.Tables.{number_is_plain}
+use Rattle.nef_case.proofs.table.arc_interior.Goals as goal
+
+pub returns : goal.returns
+returns c =
+    let long : length c.args.key.now ≡ 3 = search rules in
+    record { label = number_is_plain (pos 0) 3 interior_of _ c.new.result.rows.now c.args.key.now c.at.result c.at.type_inv c.new.ensures.rows c.at.ensures.row tt long c.requires.signs }

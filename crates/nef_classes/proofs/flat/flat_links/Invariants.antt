@@ -1,6 +1,0 @@
-use Rattle.std.proofs.Common.{◌≡◌, map, take}
-use Rattle.nef_classes.specs.Flat.{flat_tie}
-use Rattle.nef_classes.proofs.flat.flat_links.Given as goal
-
-abbrev pub invariant-loop-tie : goal.invariant-loop-tie
-invariant-loop-tie l = l.links.items ≡ map (flat_tie l.counts) (take l.tie-index l.ties)

@@ -1,6 +1,0 @@
-use Rattle.std.proofs.Common.{take}
-use Rattle.nef_classes.proofs.ClassLists.{IsNumberedTo}
-use Rattle.nef_classes.proofs.numbering.class_numbers.Given as goal
-
-abbrev pub invariant-loop-number : goal.invariant-loop-number
-invariant-loop-number l = IsNumberedTo (take l.number l.roots) l.numbers.items l.next

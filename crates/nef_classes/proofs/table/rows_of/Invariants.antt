@@ -1,0 +1,7 @@
+use Rattle.std.proofs.Common.{◌≡◌, take}
+use Rattle.nef_classes.specs.Tables.{total, HasCounts}
+use Rattle.nef_classes.specs.Flat.{AreCut}
+use Rattle.nef_classes.proofs.table.rows_of.Given as goal
+
+abbrev pub invariant-loop-count : goal.invariant-loop-count
+invariant-loop-count l = (l.start ≡ total (take l.count-index l.counts)) × HasCounts (take l.count-index l.counts) l.rows × AreCut (take l.count-index l.counts) l.numbers l.rows

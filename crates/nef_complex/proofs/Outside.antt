@@ -1,0 +1,29 @@
+-- Carriers whose span doesn't meet a window: what they hold of the skeleton lies outside the window.
+use Rattle.std.proofs.Common.{◌≡◌, ℕ, pos, List}
+use Rattle.nef_space.specs.Lists.{IsAt}
+use Rattle.nef_space.specs.Place.{Place, form_at, InClosedFrame}
+use Rattle.nef_space.specs.Sets.{Set}
+use Rattle.nef_geo.specs.Shapes.{form_of}
+use Rattle.nef_geo.specs.declared.plane.Plane.{Plane}
+use Rattle.law_complex.specs.Laws.{IsSkeletonIn}
+use Rattle.nef_complex.specs.declared.complex.Complex.{Complex}
+use Rattle.nef_complex.specs.declared.spans.Span.{Span}
+use Rattle.nef_complex.specs.Complexes.{complex_of, ShowsSet, LiesOutside}
+use Rattle.nef_complex.specs.Index.{IsSpanOn, AreSpans, AreSpanned}
+use Rattle.nef_complex.specs.Spans.{IsInSpan}
+use Rattle.nef_complex.proofs.Framed.{skeleton-framed}
+use Rattle.nef_complex.proofs.Spanned.{spanned}
+
+-- what is read of a list of spans where it ends
+abbrev pub no_span : Span
+no_span = record { x = record { low = pos 0; high = pos 0 }; y = record { low = pos 0; high = pos 0 }; z = record { low = pos 0; high = pos 0 } }
+
+module _ (c : Complex) (span window : Span) (off : (y : Place) → IsInSpan span y → IsInSpan window y → ⊥) where
+  outside : (h : Plane) → IsSpanOn c.vertices (form_of h) span → (s : Set) (y : Place) → ShowsSet s c → form_at (form_of h) y ≡ pos 0 → IsSkeletonIn s (complex_of c) (form_of h) y → InClosedFrame y × (IsInSpan window y → ⊥)
+  outside h B s y S on i = (skeleton-framed s c S (form_of h) y i, off y (spanned s c S (form_of h) span B y on i))
+
+  pub carrier-outside : (spans : List Span) → AreSpans c.carriers c.vertices spans → (k : ℕ) → IsAt spans k span → LiesOutside c window k
+  carrier-outside spans A k b h a = outside h (A.each k h span a b)
+
+  pub all-outside : (has : ℕ → Type 0) → AreSpanned c.carriers c.vertices has span → (k : ℕ) → has k → LiesOutside c window k
+  all-outside has A k o h a = outside h (A.each k h o a)

@@ -1,8 +1,0 @@
-use Rattle.std.specs.Prelude.{List}
-use Rattle.nef_complex.specs.declared.complex.Edge.{Edge}
-use Rattle.nef_complex.specs.Index.{AreCarrierEdges}
-use Rattle.nef_complex.proofs.IndexSteps.{IsIndexTo}
-use Rattle.nef_complex.proofs.indexing.index_of.Given as goal
-
-abbrev pub invariant-loop-number : goal.invariant-loop-number
-invariant-loop-number l = (es : List Edge) → AreCarrierEdges l.carriers l.vertices es l.in_carrier → IsIndexTo l.carriers l.number l.vertices es l.index

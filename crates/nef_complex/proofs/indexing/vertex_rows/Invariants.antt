@@ -1,0 +1,9 @@
+use Rattle.std.specs.Prelude.{ℕ, List}
+use Rattle.nef_geo.specs.Shapes.{place_of}
+use Rattle.nef_complex.specs.declared.complex.Vertex.{Vertex}
+use Rattle.nef_complex.specs.Index.{AreHolders}
+use Rattle.nef_complex.proofs.Numbered.{AreRowsTo}
+use Rattle.nef_complex.proofs.indexing.vertex_rows.Given as goal
+
+abbrev pub invariant-loop-vertex : goal.invariant-loop-vertex
+invariant-loop-vertex l = AreRowsTo (λ (v : Vertex) (ns : List ℕ). AreHolders l.carriers (place_of v.point) (place_of v.point) ns) l.vertices l.vertex-index l.rows

@@ -1,0 +1,14 @@
+use Rattle.std.proofs.Common.{ℕ, ◌+◌, List, length, refl, sym}
+use Rattle.std.proofs.lemmas.Bool.{ltb-true}
+use Rattle.std.proofs.lemmas.Option.{slice_get_read}
+use Rattle.nef_geo.specs.declared.plane.Plane.{Plane}
+use Rattle.nef_complex.proofs.sorted_carriers.goes_on.Goals as goal
+
+pub returns-in-Some : goal.returns-in-Some
+returns-in-Some c =
+    let hs : List Plane = c.args.carriers.now in
+    let k : ℕ = c.args.number in
+    let g : Plane = c.index-carriers-number.result in
+    let h : Plane = c.in-Some.next.now in
+    let next = slice_get_read hs (length hs) (k + 1) h refl (ltb-true (k + 1) (length hs) (sym c.in-Some.ensures.lookup.0)) c.in-Some.ensures.lookup.1 in
+    record { on = λ t. (g, h, slice_get_read hs (length hs) k g refl c.requires.within c.index-carriers-number.is, next, c.same_normal.ensures.same t) }

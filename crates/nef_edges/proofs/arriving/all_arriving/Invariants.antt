@@ -1,5 +1,0 @@
-use Rattle.nef_edges.specs.EdgeEnds.{AreArriving, IsBefore}
-use Rattle.nef_edges.proofs.arriving.all_arriving.Given as goal
-
-abbrev pub invariant-loop-i : goal.invariant-loop-i
-invariant-loop-i l = record { added : AreArriving l.vertices (IsBefore l.i 0) l.ends.items }

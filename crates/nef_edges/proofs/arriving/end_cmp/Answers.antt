@@ -1,0 +1,12 @@
+use Rattle.std.proofs.Common.{rules, ap, ◌∙◌, Ordering}
+use Rattle.std.specs.Ordering.{ordering_then, nat_cmp}
+use Rattle.nef_geo.proofs.Orders.{then-both}
+use Rattle.nef_edges.specs.Order.{dir_order, moment_order}
+use Rattle.nef_edges.proofs.arriving.end_cmp.Goals as goal
+
+pub returns : goal.returns
+returns c =
+    let a = c.args.a.now in let b = c.args.b.now in
+    let m = ordering_then (dir_order a.dir b.dir) (moment_order a b) in
+    let v = nat_cmp a.vertex b.vertex in
+    record { order = then-both c.key_cmp.result m v c.then_with.result _ c.then_with.ensures (λ p. search rules) ∙ ap (λ (o : Ordering). ordering_then (ordering_then o m) v) c.key_cmp.ensures.order }

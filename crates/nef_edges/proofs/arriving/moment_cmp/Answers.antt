@@ -1,0 +1,19 @@
+use Rattle.std.proofs.Common.{ap, ◌∙◌, Ordering}
+use Rattle.std.specs.Ordering.{ordering_then}
+use Rattle.nef_edges.specs.Order.{moment_of, ratio_order}
+use Rattle.nef_edges.proofs.Products.{ratio-is}
+use Rattle.nef_edges.proofs.arriving.moment_cmp.Goals as goal
+
+pub returns : goal.returns
+returns c =
+    let a = c.args.a.now in let b = c.args.b.now in let n = c.product-n.result in let m = c.product-m.result in
+    let en = c.product-n.ensures in let em = c.product-m.ensures in
+    let x = ratio-is a b (λ h. (moment_of h).x) n.0 m.0 c.ratio_cmp.result en.x em.x en.x_small em.x_small c.ratio_cmp.ensures.order in
+    let y = ratio-is a b (λ h. (moment_of h).y) n.1 m.1 c.ratio_cmp-2.result en.y em.y en.y_small em.y_small c.ratio_cmp-2.ensures.order in
+    let z = ratio-is a b (λ h. (moment_of h).z) n.2 m.2 c.ratio_cmp-3.result en.z em.z en.z_small em.z_small c.ratio_cmp-3.ensures.order in
+    let k = ratio_order (λ h. (moment_of h).x) a b in
+    let l = ordering_then k (ratio_order (λ h. (moment_of h).y) a b) in
+    record {
+      order = c.then-2.ensures ∙ ap (λ (o : Ordering). ordering_then o c.ratio_cmp-3.result) (c.then.ensures ∙ ap (λ (o : Ordering). ordering_then o c.ratio_cmp-2.result) x ∙ ap (ordering_then k) y)
+          ∙ ap (ordering_then l) z;
+    }

@@ -1,0 +1,9 @@
+use Rattle.std.proofs.Common.{length, sym, subst}
+use Rattle.nef_expr.specs.Nodes.{NamesBelow, IsOrdered}
+use Rattle.nef_expr.proofs.Tables.{ordered-push}
+use Rattle.nef_expr.proofs.nodes.Nodes.push.Goals as goal
+
+pub invariant_of-self-2 : goal.invariant_of-self-2
+invariant_of-self-2 c =
+    let s = c.self.inside in let n = c.args.node in
+    subst IsOrdered (sym c.in_ok-push.ensures.items) (ordered-push s.list.items n c.self.invariant (subst (λ ns. NamesBelow (length ns) n) (sym c.self.view_is) c.requires.operands))

@@ -1,8 +1,0 @@
-use Rattle.std.proofs.Common.{[]}
-use Rattle.nef_complex.specs.Complexes.{complex_of}
-use Rattle.nef_facets.specs.Ties.{IsTieAcross, Any, Adds}
-use Rattle.nef_facets.proofs.Adding.{AnyBelow}
-use Rattle.nef_facets.proofs.across.across_ties.Given as goal
-
-abbrev pub invariant-loop-vertex : goal.invariant-loop-vertex
-invariant-loop-vertex l = record { added : Adds (AnyBelow (λ i. Any (IsTieAcross (complex_of l.c) i)) l.vertex) [] l.ties.items }

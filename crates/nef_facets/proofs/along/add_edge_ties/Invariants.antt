@@ -1,8 +1,0 @@
-use Rattle.nef_smap.specs.Maps.{map_of}
-use Rattle.nef_complex.specs.Complexes.{edge_of}
-use Rattle.nef_facets.specs.Ties.{IsTieOfEdge, Adds}
-use Rattle.nef_facets.proofs.Adding.{AnyBelow}
-use Rattle.nef_facets.proofs.along.add_edge_ties.Given as goal
-
-abbrev pub invariant-loop-item : goal.invariant-loop-item
-invariant-loop-item l = record { added : Adds (AnyBelow (IsTieOfEdge (edge_of l.edge) (map_of l.low) (map_of l.high)) l.item) l.fn.ties.items l.ties.items }

@@ -1,8 +1,0 @@
-use Rattle.std.proofs.Common.{[]}
-use Rattle.nef_complex.specs.Complexes.{complex_of}
-use Rattle.nef_facets.specs.Ties.{IsTieAlong, Adds}
-use Rattle.nef_facets.proofs.Adding.{AnyBelow}
-use Rattle.nef_facets.proofs.along.along_ties.Given as goal
-
-abbrev pub invariant-loop-edge : goal.invariant-loop-edge
-invariant-loop-edge l = record { added : Adds (AnyBelow (IsTieAlong (complex_of l.c)) l.edge-index) [] l.ties.items }

@@ -1,6 +1,0 @@
-use Rattle.std.proofs.Common.{◌≡◌, ◌++◌, ◌≤◌}
-use Rattle.nef_facets.specs.Corners.{corners_at}
-use Rattle.nef_facets.proofs.corners.add_corners.Given as goal
-
-abbrev pub invariant-loop-item : goal.invariant-loop-item
-invariant-loop-item l = record { added : l.corners.items ≡ l.fn.corners.items ++ corners_at l.vertex l.item; within : l.item ≤ l.count }

@@ -1,0 +1,6 @@
+use Rattle.nef_complex.specs.Complexes.{complex_of}
+use Rattle.nef_facets.proofs.Nexts.{AreAdded}
+use Rattle.nef_facets.proofs.cycles.add_next.Given as goal
+
+abbrev pub invariant-loop-number : goal.invariant-loop-number
+invariant-loop-number l = AreAdded (complex_of l.c) l.corners l.from.vertex l.from.svertex l.number l.fn.next.items l.next.items

@@ -1,0 +1,9 @@
+use Rattle.nef_space.specs.declared.label.Label.{Label}
+use Rattle.nef_complex.specs.declared.complex.Corner.{Corner}
+use Rattle.nef_complex.specs.Complexes.{complex_of, corner_of}
+use Rattle.nef_facets.specs.Facets.{IsMarkAt}
+use Rattle.nef_facets.proofs.Lists.{AreEach}
+use Rattle.nef_facets.proofs.parts.marks.Given as goal
+
+abbrev pub invariant-loop-corner : goal.invariant-loop-corner
+invariant-loop-corner l = AreEach (λ (m : Label) (k : Corner). IsMarkAt (complex_of l.c) m (corner_of k)) l.corner-index l.marks l.corners

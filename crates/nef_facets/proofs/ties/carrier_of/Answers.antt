@@ -1,0 +1,88 @@
+use Rattle.std.proofs.Common.{◌≡◌, ◌↔◌, ℕ, pos, get_or, arith, sym, ◌∙◌, subst}
+use Rattle.nef_arc.proofs.SignNumbers.{not_true}
+use Rattle.nef_space.specs.Place.{form_at, normal_of}
+use Rattle.nef_space.specs.Vectors.{Vector, SameDirection}
+use Rattle.nef_geo.specs.Shapes.{form_of, place_of, vector_of}
+use Rattle.nef_geo.specs.declared.plane.Plane.{Plane}
+use Rattle.law_sphere.specs.Maps.{At, item_normal}
+use Rattle.law_sphere.proofs.Compare.{SameDirection-turned, SameDirection-trans}
+use Rattle.law_sphere.proofs.Lists.{at-one}
+use Rattle.nef_smap.specs.Items.{item_of}
+use Rattle.nef_complex.specs.declared.complex.Vertex.{Vertex}
+use Rattle.nef_complex.proofs.Reading.{none-more}
+use Rattle.nef_edges.proofs.Places.{some-at, at-some, at-read, get-at, at-within}
+use Rattle.nef_complex.specs.Complexes.{corner_of}
+use Rattle.nef_facets.proofs.ItemCarriers.{CarriesWith, none-carried, none-held}
+use Rattle.nef_facets.proofs.ItemCarriers.{vertex-within, item-within, of-item}
+use Rattle.nef_facets.proofs.ties.carrier_of.Goals as goal
+
+-- a test of one of two like directions is one of the other
+of-like : {T : Type 0} (n d e : Vector) → SameDirection n d → (T ↔ SameDirection d e) → (T ↔ SameDirection n e)
+of-like n d e w f = (λ t. SameDirection-trans n d e w (f.0 t), λ p. f.1 (SameDirection-trans d n e (SameDirection-turned n d w) p))
+
+pub at-vertex-requires : goal.at-vertex-requires
+at-vertex-requires c = record { within = vertex-within c.args.c.now (corner_of c.args.k.now) c.requires.corner }
+
+pub item_at-item-requires : goal.item_at-item-requires
+item_at-item-requires c = record { within = item-within c.args.c.now (corner_of c.args.k.now) c.requires.corner c.at-vertex.result.now (some-at c.args.c.now.vertices c.args.k.now.vertex c.at-vertex.result.now c.at-vertex.ensures.element) }
+
+pub vertex_holders-holders-requires-clause-within : goal.vertex_holders-holders-requires-clause-within
+vertex_holders-holders-requires-clause-within c = vertex-within c.args.c.now (corner_of c.args.k.now) c.requires.corner
+
+pub loop-number-init : goal.loop-number-init
+loop-number-init c = λ j k l. absurd (omega (arith, l))
+
+pub at-h-requires : goal.at-h-requires
+at-h-requires c =
+    let hs = c.args.c.now.carriers in
+    let ns = c.vertex_holders-holders.result.now in
+    let i = c.loop-number.number-index in
+    let g = get_or ns i 0 in
+    let r = (c.vertex_holders-holders.ensures.holders c.at-vertex.result.now c.at-vertex.ensures.element).each i g (at-some ns i g (get-at ns i 0 c.loop-number-test.true)) in
+    record { within = at-within hs g r.0 (some-at hs g r.0 r.1) }
+
+pub returns-then-is_same : goal.returns-then-is_same
+returns-then-is_same c =
+    let u = c.at-vertex.result.now in
+    let a = some-at c.args.c.now.vertices c.args.k.now.vertex u c.at-vertex.ensures.element in
+    let hs = c.args.c.now.carriers in
+    let ns = c.vertex_holders-holders.result.now in
+    let i = c.loop-number.number-index in
+    let g = get_or ns i 0 in
+    let r = (c.vertex_holders-holders.ensures.holders u c.at-vertex.ensures.element).each i g (at-some ns i g (get-at ns i 0 c.loop-number-test.true)) in
+    let e = at-one hs g r.0 c.at-h.result.now (some-at hs g r.0 r.1) (some-at hs g c.at-h.result.now c.at-h.ensures.element) in
+    let h = form_of c.at-h.result.now in
+    let on = subst (λ (f : Plane). form_at (form_of f) (place_of u.point) ≡ pos 0) e r.2.0 in
+    record {
+      plane = (
+        c.at-h.result.now,
+        c.at-h.ensures.element,
+        of-item c.args.c.now (corner_of c.args.k.now) c.requires.corner u a (λ v x. (form_at h v.point ≡ pos 0) × SameDirection (normal_of h) (item_normal x)) (item_of c.item_at-item.result) c.item_at-item.ensures.item
+            (on, subst (λ (n : Vector). SameDirection (normal_of h) n) c.normal-normal.ensures.normal ((of-like (normal_of h) (vector_of c.plane_normal.result) (vector_of c.normal-normal.result.now) c.plane_normal.ensures.normal c.is_same.ensures.direction).0 c.if-is_same.true)),
+      );
+    }
+
+pub loop-number-preserved : goal.loop-number-preserved
+loop-number-preserved c =
+    let hs = c.args.c.now.carriers in
+    let ns = c.vertex_holders-holders.result.now in
+    let i = c.loop-number.number-index in
+    let g = get_or ns i 0 in
+    let vs = c.args.c.now.vertices in
+    let n = vector_of c.normal-normal.result.now in
+    let h = c.at-h.result.now in
+    none-more (λ (k : ℕ). (u : Vertex) × At vs c.args.k.now.vertex u × CarriesWith c.args.c.now (place_of u.point) n k) ns i g c.loop-number-test.true (sym (at-read ns i g g (get-at ns i 0 c.loop-number-test.true))) c.loop-number.invariant
+    (λ (u, a, w). not_true (sym c.if-is_same.false ∙ (of-like (normal_of (form_of h)) (vector_of c.plane_normal.result) n c.plane_normal.ensures.normal c.is_same.ensures.direction).1
+    (subst (λ (k : Plane). SameDirection (normal_of (form_of k)) n) (at-one hs g w.0 h (some-at hs g w.0 w.1) (some-at hs g h c.at-h.ensures.element)) w.2.1)))
+
+pub unreachable-requires : goal.unreachable-requires
+unreachable-requires c =
+    let S = c.requires.shows in
+    let u = c.at-vertex.result.now in
+    let a = some-at c.args.c.now.vertices c.args.k.now.vertex u c.at-vertex.ensures.element in
+    let p = place_of u.point in
+    let n = vector_of c.normal-normal.result.now in
+    let ns = c.vertex_holders-holders.result.now in
+    none-carried S.0 c.args.c.now (corner_of c.args.k.now) u (item_of c.item_at-item.result) n S.1.shows c.requires.corner a c.item_at-item.ensures.item (sym c.normal-normal.ensures.normal)
+    (none-held c.args.c.now p n ns (c.vertex_holders-holders.ensures.holders u c.at-vertex.ensures.element)
+    (λ j k b w. c.loop-number.invariant j k (let l = at-within ns j k b in let f = c.loop-number-test.false in omega arith) b (u, a, w)))

@@ -1,5 +1,0 @@
-use Rattle.nef_lex.proofs.WordLaws.{words_of_spaced, spaced_words}
-use Rattle.nef_lex.proofs.laws.word_laws.Goals as goal
-
-pub returns : goal.returns
-returns c = record { words_of_spaced = words_of_spaced; spaced_words = spaced_words }

@@ -1,7 +1,0 @@
-use Rattle.std.proofs.Common.{◌≡◌, ◌≤◌, take}
-use Rattle.nef_space.specs.Limits.{number_limit}
-use Rattle.nef_lex.specs.Numbers.{decimal_value}
-use Rattle.nef_lex.proofs.number.magnitude.Given as goal
-
-abbrev pub invariant-loop-b : goal.invariant-loop-b
-invariant-loop-b l = (l.value ≡ decimal_value (take l.b-index l.digits)) × (l.value ≤ number_limit)

@@ -1,0 +1,10 @@
+use Rattle.std.proofs.Common.{◌-◌, ◌≤◌, length}
+use Rattle.nef_geo.specs.Shapes.{hit_place}
+use Rattle.nef_locate.proofs.HitOrder.{AreBefore, AreAfter}
+use Rattle.nef_locate.proofs.carrier.find_among.Given as goal
+
+abbrev pub invariant-loop-low : goal.invariant-loop-low
+invariant-loop-low l = (l.low ≤ l.high) × (l.high ≤ length l.numbers) × AreBefore l.c.vertices l.numbers (hit_place l.q) l.low × AreAfter l.c.vertices l.numbers (hit_place l.q) l.high
+
+abbrev pub decreases-loop-low : goal.decreases-loop-low
+decreases-loop-low l = l.high - l.low

@@ -1,6 +1,0 @@
-use Rattle.std.proofs.Common.{◌*◌}
-use Rattle.nef_locate.specs.Halves.{AreHalves}
-use Rattle.nef_locate.proofs.edge.half_circles.Given as goal
-
-abbrev pub invariant-loop-arc : goal.invariant-loop-arc
-invariant-loop-arc l = AreHalves l.map.arcs l.svertex (2 * l.arc-index) l.halves.items

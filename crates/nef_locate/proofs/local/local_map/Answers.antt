@@ -1,6 +1,0 @@
-use Rattle.std.proofs.lemmas.Result.{IfOk-weaker}
-use Rattle.nef_geo.specs.Shapes.{place_of}
-use Rattle.nef_locate.proofs.local.local_map.Goals as goal
-
-pub returns-clause-cone : goal.returns-clause-cone
-returns-clause-cone c = IfOk-weaker c.place_map.result _ _ (λ m k s S. k s (place_of c.args.p.now) S c.locate.ensures.at) c.place_map.ensures.cone

@@ -1,0 +1,250 @@
+//! The operations: halves of the frame, the whole frame and the empty set, complement, interior, closure, boundary and
+//! regularisation of a set, and combinations of two.
+
+ghost use Rattle.std.specs.Prelude.{◌≡◌, ◌+◌, ◌-◌, ◌^◌};
+ghost use Rattle.nef_complex.specs.Prelude.{length, min, IfOk, Set, given_form, ShowsSet, Place, Cone};
+ghost use Rattle.nef_cand.specs.Candidates.{AreFramed};
+ghost use Rattle.nef_ops.specs.Nodes.{constant_set, unary_set};
+ghost use Rattle.nef_ops.specs.Rights.{IsRight};
+ghost use Rattle.nef_smap.specs.Maps.{map_of, IsSphereMap, IsLeastMap};
+ghost use Rattle.nef_cand.specs.Points.{points_of};
+ghost use Rattle.nef_stopo.specs.Sets.{op_set};
+ghost use Rattle.nef_core.specs.Work.{combination_work};
+
+use crate::OutOfMemory;
+use crate::finished::complex_by_jobs;
+use crate::local::BinaryJob;
+use crate::regions::regions_of;
+use nef_cand::{cut_candidates, named_points, near_candidates_by_threads, vertex_points};
+use nef_complex::Complex;
+use nef_core::{BoardKind, How, Job, Work};
+use nef_geo::{Label, Oriented, Point};
+use nef_io::Gate;
+use nef_locate::local_map;
+use nef_result::{CandidateMap, add_carrier, copy_carriers, frame, half_map, merge_carriers};
+use nef_smap::SphereMap;
+use nef_star::Op;
+use nef_stopo::{boundary, closure, complement, interior};
+use std::alloc::Global;
+use std::sync::Wait;
+use std::thread::Threads;
+
+// The least map of the half at each point. The complex is that of the whole frame.
+#[derive(Drop)]
+struct HalfJob<'a> {
+    whole: &'a Complex,
+    points: &'a [Point],
+    oriented: &'a Oriented,
+    closed: bool,
+}
+
+impl<'a> Job for HalfJob<'a> {
+    type Out = CandidateMap;
+
+    ghost count = { λ j. length j.points.now };
+
+    ghost right = { λ j i m. IsRight (Set.half (given_form j.oriented.now) j.closed) j.points.now i m.map };
+
+    ghost workable = { λ j. ShowsSet Set.full j.whole.now × AreFramed j.points.now };
+
+    fn jobs(&self) -> u64 {
+        self.points.len() as u64
+    }
+
+    fn work(&self, alloc: Global, job: u64) -> Result<CandidateMap, OutOfMemory> {
+        let point = &self.points[job as usize];
+        let whole = local_map(alloc, self.whole, point)?;
+        let map = half_map(alloc, whole, self.oriented, self.closed, point)?;
+        Ok(CandidateMap::new(map))
+    }
+}
+
+/// The complex of a half of the frame, as `half` makes it, from the complex of the whole frame, which a caller that makes
+/// many halves has made once.
+pub fn half_within<R: Threads + Wait + Sync, G: Gate + Sync>(
+    rt: &R,
+    alloc: Global,
+    whole: &Complex,
+    oriented: &Oriented,
+    closed: bool,
+    how: &How,
+    gate: &G,
+) -> Result<Complex, OutOfMemory>
+    requires whole { ShowsSet Set.full whole.now }
+    ensures shows { IfOk result (λ c. ShowsSet (Set.half (given_form oriented.now) closed) c) }
+{
+    let plane = oriented.plane();
+    let listed = cut_candidates(alloc, whole, &plane)?;
+    let points = listed.as_slice();
+    let job = HalfJob {
+        whole,
+        points,
+        oriented,
+        closed,
+    };
+    let work = Work::LightJobs(how.board, job.jobs());
+    let carriers = add_carrier(alloc, whole, &plane)?;
+    let complex = complex_by_jobs(
+        rt, alloc, &job, work, points, carriers, whole, whole, how, gate,
+    )?;
+    Ok(complex)
+}
+
+/// The complex of a half of the frame: where the given form is negative, or where it is at most zero if the half is
+/// closed. One job for each candidate, in their order, is worked over the board that `how` names, by `how.workers` workers,
+/// or by fewer where the jobs don't pay for so many and the gate holds none back; the gate is told of each
+/// job before it begins. `OutOfMemory` says that memory was wanted and not found.
+pub fn half<R: Threads + Wait + Sync, G: Gate + Sync>(
+    rt: &R,
+    alloc: Global,
+    oriented: &Oriented,
+    closed: bool,
+    how: &How,
+    gate: &G,
+) -> Result<Complex, OutOfMemory>
+    ensures shows { IfOk result (λ c. ShowsSet (Set.half (given_form oriented.now) closed) c) }
+{
+    let whole = frame(alloc, Label::In)?;
+    half_within(rt, alloc, &whole, oriented, closed, how, gate)
+}
+
+/// The complex of the whole frame where `full` is true, and of the empty set otherwise. `OutOfMemory` says that memory
+/// was wanted and not found.
+pub fn constant(alloc: Global, full: bool) -> Result<Complex, OutOfMemory>
+    ensures shows { IfOk result (λ c. ShowsSet (constant_set full) c) }
+{
+    if full {
+        frame(alloc, Label::In)
+    } else {
+        frame(alloc, Label::Not)
+    }
+}
+
+/// An operation on one set.
+#[derive(Debug, Clone, Copy, PartialEq, Eq)]
+pub enum UnaryOp {
+    /// The complement within the frame.
+    Not,
+    /// The interior within the frame.
+    Int,
+    /// The closure within the frame.
+    Cl,
+    /// The boundary: the closure without the interior.
+    Bd,
+    /// The regularisation: the closure of the interior.
+    Reg,
+}
+
+// The least map of what the operation makes of a set, from the set's map.
+fn changed(alloc: Global, map: &SphereMap, op: UnaryOp) -> Result<SphereMap, OutOfMemory>
+    requires map { IsSphereMap map.now }
+    ensures least { IfOk result IsLeastMap }
+    ensures cone { IfOk result (λ m. (s : Set) (p : Place) → Cone (map_of map.now) s p → Cone (map_of m) (unary_set op s) p) }
+{
+    match op {
+        UnaryOp::Not => complement(alloc, map),
+        UnaryOp::Int => interior(alloc, map),
+        UnaryOp::Cl => closure(alloc, map),
+        UnaryOp::Bd => boundary(alloc, map),
+        UnaryOp::Reg => {
+            let inside = interior(alloc, map)?;
+            let map = closure(alloc, &inside)?;
+            Ok(map)
+        }
+    }
+}
+
+// The least map of what the operation makes of the set of a complex, at each vertex.
+#[derive(Drop)]
+struct UnaryJob<'a> {
+    op: UnaryOp,
+    complex: &'a Complex,
+}
+
+impl<'a> Job for UnaryJob<'a> {
+    type Out = CandidateMap;
+
+    ghost count = { λ j. length j.complex.now.vertices };
+
+    ghost right = { λ j i m. (s : Set) → ShowsSet s j.complex.now → IsRight (unary_set j.op s) (points_of j.complex.now) i m.map };
+
+    ghost workable = { λ j. (s : Set) × ShowsSet s j.complex.now };
+
+    fn jobs(&self) -> u64 {
+        self.complex.vertices.len() as u64
+    }
+
+    fn work(&self, alloc: Global, job: u64) -> Result<CandidateMap, OutOfMemory> {
+        let vertex = self.complex.vertices.at(job as usize);
+        let map = changed(alloc, &vertex.map, self.op)?;
+        Ok(CandidateMap::new(map))
+    }
+}
+
+/// The complex of what the operation makes of the set of a complex. Its vertices are among those of the set. One job for
+/// each of these, in their order, is worked over the board that `how` names, by `how.workers` workers, or by fewer where
+/// the jobs don't pay for so many and the gate holds none back; the gate is told of each job before it begins.
+/// `OutOfMemory` says that memory was wanted and not found.
+pub fn unary<R: Threads + Wait + Sync, G: Gate + Sync>(
+    rt: &R,
+    alloc: Global,
+    op: UnaryOp,
+    a: &Complex,
+    how: &How,
+    gate: &G,
+) -> Result<Complex, OutOfMemory>
+    requires shows { (s : Set) × ShowsSet s a.now }
+    ensures shows { IfOk result (λ c. (s : Set) → ShowsSet s a.now → ShowsSet (unary_set op s) c) }
+{
+    let points = vertex_points(alloc, a)?;
+    let job = UnaryJob { op, complex: a };
+    let work = Work::HeavyJobs(job.jobs());
+    let carriers = copy_carriers(alloc, a)?;
+    let points = points.as_slice();
+    let complex = complex_by_jobs(rt, alloc, &job, work, points, carriers, a, a, how, gate)?;
+    Ok(complex)
+}
+
+// What the jobs cost.
+fn work_of(a: &Complex, b: &Complex, jobs: u64, board: BoardKind) -> Work
+    ensures work { result ≡ combination_work board jobs (min (length a.now.carriers) (length b.now.carriers)) (min (length a.now.vertices + length b.now.vertices) (2 ^ 64 - 1)) }
+{
+    let carriers = a.carriers.len().min(b.carriers.len());
+    let vertices = a.vertices.len().saturating_add(b.vertices.len());
+    Work::of_combination(board, jobs, carriers, vertices)
+}
+
+/// The complex of the combination of the sets of two complexes. One job for each near candidate, in their order, is worked over
+/// the board that `how` names, by `how.workers` workers, or by fewer where the jobs don't pay for so many and the gate
+/// holds none back; the gate is told of each job before it begins. `OutOfMemory` says that memory was wanted and not found.
+pub fn binary<R: Threads + Wait + Sync, G: Gate + Sync>(
+    rt: &R,
+    alloc: Global,
+    op: Op,
+    a: &Complex,
+    b: &Complex,
+    how: &How,
+    gate: &G,
+) -> Result<Complex, OutOfMemory>
+    requires first { (s : Set) × ShowsSet s a.now }
+    requires second { (t : Set) × ShowsSet t b.now }
+    ensures shows { IfOk result (λ c. (s t : Set) → ShowsSet s a.now → ShowsSet t b.now → ShowsSet (op_set op s t) c) }
+{
+    let listed = near_candidates_by_threads(rt, alloc, a, b, how.workers)?;
+    let points = named_points(alloc, listed.as_slice())?;
+    let points = points.as_slice();
+    let far_first = regions_of(a, points);
+    let far_second = regions_of(b, points);
+    let job = BinaryJob {
+        op,
+        first: a,
+        second: b,
+        far_first: &far_first,
+        far_second: &far_second,
+        listed: listed.as_slice(),
+    };
+    let work = work_of(a, b, job.jobs(), how.board);
+    let carriers = merge_carriers(alloc, a, b)?;
+    let complex = complex_by_jobs(rt, alloc, &job, work, points, carriers, a, b, how, gate)?;
+    Ok(complex)
+}

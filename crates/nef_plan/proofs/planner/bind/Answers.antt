@@ -1,0 +1,17 @@
+use Rattle.std.proofs.Common.{refl, length}
+use Rattle.nef_expr.proofs.Operands.{names-from}
+use Rattle.nef_plan.proofs.Growth.{made-grown, more-same}
+use Rattle.nef_plan.proofs.Bounds.{bound-node}
+use Rattle.nef_plan.proofs.planner.bind.Goals as goal
+
+pub bind_made-requires-clause-looks : goal.bind_made-requires-clause-looks
+bind_made-requires-clause-looks c k looks = c.requires.operands k looks
+
+pub bind_made-requires-clause-makes : goal.bind_made-requires-clause-makes
+bind_made-requires-clause-makes c = refl
+
+pub bind_made-requires-clause-right : goal.bind_made-requires-clause-right
+bind_made-requires-clause-right c =
+    let old = c.args.plan.now in
+    let names = names-from (length old.nodes) c.args.made (λ k is. bound-node old c.args.bounds.now k c.requires.planned (c.requires.operands k is)) in
+    made-grown old.nodes old.nodes c.args.node c.args.made (more-same old.nodes old.nodes refl) c.requires.within names c.requires.set

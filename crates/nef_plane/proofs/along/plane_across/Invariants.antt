@@ -1,9 +1,0 @@
-use Rattle.std.specs.Prelude.{◌≡◌, pos}
-use Rattle.nef_space.specs.Place.{slope}
-use Rattle.nef_geo.specs.Shapes.{form_of, vector_of}
-use Rattle.nef_geo.specs.declared.plane.Plane.{Plane}
-use Rattle.nef_complex.proofs.ListedHolders.{AllListed}
-use Rattle.nef_plane.proofs.along.plane_across.Given as goal
-
-abbrev pub invariant-loop-number : goal.invariant-loop-number
-invariant-loop-number l = AllListed l.carriers l.holders l.number-index (λ (g : Plane). slope (form_of g) (vector_of l.d) ≡ pos 0)

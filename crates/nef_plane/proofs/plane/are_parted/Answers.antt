@@ -1,0 +1,11 @@
+use Rattle.std.proofs.Common.{IsTrue, ◌↔◌, arith, rules}
+use Rattle.std.proofs.lemmas.Grind.{common_steps}
+use Rattle.nef_geo.specs.Shapes.{form_of, place_of, hit_place}
+use Rattle.nef_plane.specs.Meets.{sweep_form, AreOpposite}
+use Rattle.nef_plane.proofs.plane.are_parted.Goals as goal
+
+opposite : (c : goal.After-eq) → IsTrue c.eq.result ↔ AreOpposite (sweep_form (form_of c.args.ray.now.plane.now) (hit_place c.args.ray.now.start.now)) (place_of c.args.a.now) (place_of c.args.b.now)
+opposite c = first_of (search rules, grind (arith, common_steps))
+
+pub returns : goal.returns
+returns c = record { opposite = opposite c }

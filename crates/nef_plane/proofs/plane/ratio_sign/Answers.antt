@@ -1,0 +1,43 @@
+use Rattle.std.proofs.Common.{ℕ, ℤ, ◌≤◌, nat_abs, List, [], ◌∷◌, w64, ap, ◌∙◌, subst}
+use mir.Syntax.{w128}
+use Rattle.nef_space.specs.Limits.{point_limit, weight_limit}
+use Rattle.nef_space.proofs.Machine.{Code, load, wrap, ◌⊟◌, ◌⊠◌, Limited, exact_of, fits_of, size_of}
+use Rattle.nef_geo.specs.Signs.{sign_of}
+use Rattle.nef_geo.specs.Widths.{upright_limit, upright_weight_limit, ratio_limit}
+use Rattle.nef_plane.proofs.plane.ratio_sign.Goals as goal
+
+-- the bounds of x, w, y, v
+abbrev sizes : List ℕ
+sizes = point_limit ∷ weight_limit ∷ upright_limit ∷ upright_weight_limit ∷ []
+
+abbrev first : Code
+first = wrap w128 (wrap w64 (load 0)) ⊠ wrap w128 (load 3)
+
+abbrev second : Code
+second = wrap w128 (load 2) ⊠ wrap w128 (wrap w64 (load 1))
+
+abbrev difference : Code
+difference = wrap w128 first ⊟ wrap w128 second
+
+limits : (x w y v : ℤ) → nat_abs x ≤ point_limit → nat_abs w ≤ weight_limit → nat_abs y ≤ upright_limit → nat_abs v ≤ upright_weight_limit → Limited sizes (x ∷ w ∷ y ∷ v ∷ [])
+limits x w y v a b e f = (a, (b, (e, (f, tt))))
+
+pub overflow_mul-x : goal.overflow_mul-x
+overflow_mul-x c = let r = c.requires in let a = c.args in fits_of sizes (a.x ∷ a.w ∷ a.y ∷ a.v ∷ []) w128 first (limits a.x a.w a.y a.v r.x_small r.w_small r.y_small r.v_small) tt
+
+pub overflow_mul-y : goal.overflow_mul-y
+overflow_mul-y c = let r = c.requires in let a = c.args in fits_of sizes (a.x ∷ a.w ∷ a.y ∷ a.v ∷ []) w128 second (limits a.x a.w a.y a.v r.x_small r.w_small r.y_small r.v_small) tt
+
+pub overflow_sub-x : goal.overflow_sub-x
+overflow_sub-x c = let r = c.requires in let a = c.args in fits_of sizes (a.x ∷ a.w ∷ a.y ∷ a.v ∷ []) w128 difference (limits a.x a.w a.y a.v r.x_small r.w_small r.y_small r.v_small) tt
+
+pub returns-clause-sign : goal.returns-clause-sign
+returns-clause-sign c =
+    let r = c.requires in let a = c.args in
+    c.of.ensures.sign ∙ ap sign_of (exact_of sizes (a.x ∷ a.w ∷ a.y ∷ a.v ∷ []) (wrap w128 difference) (limits a.x a.w a.y a.v r.x_small r.w_small r.y_small r.v_small) tt)
+
+pub returns-clause-width : goal.returns-clause-width
+returns-clause-width c =
+    let r = c.requires in let a = c.args in
+    let l = limits a.x a.w a.y a.v r.x_small r.w_small r.y_small r.v_small in
+    subst (λ (n : ℤ). nat_abs n ≤ ratio_limit) (exact_of sizes (a.x ∷ a.w ∷ a.y ∷ a.v ∷ []) (wrap w128 difference) l tt) (size_of sizes (a.x ∷ a.w ∷ a.y ∷ a.v ∷ []) ratio_limit (wrap w128 difference) l tt tt)

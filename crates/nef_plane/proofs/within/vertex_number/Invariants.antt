@@ -1,8 +1,0 @@
-use Rattle.std.specs.Prelude.{ℕ, ◌<◌}
-use Rattle.nef_geo.specs.Shapes.{hit_place}
-use Rattle.law_complex.specs.Skeleton.{IsVertexPoint}
-use Rattle.nef_complex.specs.Complexes.{complex_of}
-use Rattle.nef_plane.proofs.within.vertex_number.Given as goal
-
-abbrev pub invariant-loop-number : goal.invariant-loop-number
-invariant-loop-number l = (k : ℕ) → k < l.number → IsVertexPoint (complex_of l.c) k (hit_place l.p) → ⊥

@@ -1,5 +1,0 @@
-use Rattle.nef_result.proofs.EachCorner.{corners-vertices, corners-shown}
-use Rattle.nef_result.proofs.laws.corner_laws.Goals as goal
-
-pub returns : goal.returns
-returns c = record { vertices = corners-vertices; shown = corners-shown }

@@ -1,0 +1,7 @@
+use Rattle.std.proofs.Common.{◌≡◌, map, take}
+use Rattle.nef_geo.specs.Shapes.{form_of}
+use Rattle.nef_result.specs.Planes.{sorted_sides}
+use Rattle.nef_result.proofs.whole.sorted_planes.Given as goal
+
+abbrev pub invariant-loop-k : goal.invariant-loop-k
+invariant-loop-k l = record { taken : map form_of l.planes ≡ take l.k sorted_sides }

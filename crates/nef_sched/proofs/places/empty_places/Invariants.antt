@@ -1,9 +1,0 @@
-use Rattle.std.proofs.Common.{◌≡◌, ◌≤◌, ℕ, Some, slice_get, vec_len, vec_capacity}
-use Rattle.nef_sched.proofs.places.empty_places.Given as goal
-
-abbrev pub invariant-loop : goal.invariant-loop
-invariant-loop g l = record {
-  len : vec_len l.list ≡ l.counter;
-  room : l.count ≤ vec_capacity l.list;
-  empty : (k : ℕ) (x : _) → slice_get l.list.items k ≡ Some (Some x) → ⊥;
-}

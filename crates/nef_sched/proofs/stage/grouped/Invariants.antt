@@ -1,0 +1,9 @@
+use Rattle.std.proofs.Common.{◌≡◌, ℕ, Some, length, slice_get}
+use Rattle.nef_sched.specs.Plans.{IsGroup}
+use Rattle.nef_sched.proofs.stage.grouped.Given as goal
+
+abbrev pub invariant-loop-number : goal.invariant-loop-number
+invariant-loop-number l = record {
+  len : length l.list ≡ length l.rounds;
+  each : (r : ℕ) (group : _) → slice_get l.list r ≡ Some group → IsGroup l.number l.rounds r group.items;
+}

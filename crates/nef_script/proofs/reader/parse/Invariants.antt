@@ -1,0 +1,7 @@
+use Rattle.nef_lex.specs.Lines.{lines_of}
+use Rattle.nef_script.specs.Reading.{state}
+use Rattle.nef_script.specs.Progress.{HasRead}
+use Rattle.nef_script.proofs.reader.parse.Given as goal
+
+abbrev pub invariant-loop-line : goal.invariant-loop-line
+invariant-loop-line l = (goal.iterator-loop-line).can_next l.line-iterator × (goal.iterator-loop-line).is_finite l.line-iterator × HasRead (lines_of l.bytes) l.line-iterator (state l.reader.names l.reader.bound.items l.reader.sets l.reader.commands)

@@ -1,0 +1,16 @@
+use Rattle.std.proofs.Common.{◌≡◌, [], ◌∷◌, ◌++◌, length, ◌∙◌, ap, sym, subst, arith, None}
+use Rattle.std.specs.List.{position}
+use Rattle.std.specs.Str.{bytes_eq}
+use Rattle.std.proofs.lemmas.Grind.{common_steps}
+use Rattle.std.proofs.lemmas.List.{map-append}
+use Rattle.nef_script.specs.Names.{pointed, HasPlaces}
+use Rattle.nef_script.proofs.Bound.{HasPlaces-push}
+use Rattle.nef_script.proofs.script.Names.push.Goals as goal
+
+pub invariant_of-self-2 : goal.invariant_of-self-2
+invariant_of-self-2 c =
+    let last : c.len.result ≡ length (pointed c.self.inside.order.items) = grind (arith, common_steps) in
+    let new = subst (λ names. position (bytes_eq c.args.name.now) names ≡ None) (sym c.self.view_is) c.requires.new in
+    let items : c.push_reserved.new.self.items ≡ c.self.inside.order.items ++ c.args.name ∷ [] = c.push_reserved.ensures.items ∙ ap (λ xs. xs ++ c.args.name ∷ []) c.reserve.ensures.items in
+    let seen : pointed c.push_reserved.new.self.items ≡ pointed c.self.inside.order.items ++ c.args.name.now ∷ [] = ap pointed items ∙ map-append (λ w. w.now) c.self.inside.order.items (c.args.name ∷ []) in
+    subst (HasPlaces c.insert.new.self) (sym seen) (HasPlaces-push c.self.inside.places c.insert.new.self (pointed c.self.inside.order.items) c.args.name.now c.len.result c.in_ok-insert.ensures.updates last c.self.invariant new)

@@ -1,9 +1,0 @@
-use Rattle.std.proofs.Common.{refl}
-use Rattle.std.proofs.lemmas.Iterator.{items_from_collect}
-use Rattle.std.proofs.lemmas.Iterator.Adapters.{YieldsList-from_vec}
-use Rattle.nef_shell.proofs.entry.collected.Goals as goal
-
-pub returns-in_ok-collect-in-Ok : goal.returns-in_ok-collect-in-Ok
-returns-in_ok-collect-in-Ok c =
-    let items = items_from_collect c.collect.result c.collect.ensures.ran (YieldsList-from_vec _ refl c.in-Ok.args.rest.ok.0) in
-    record { words = rw c.in-Ok.is (rw c.in_ok-collect-in-Ok.was at items); memory = λ failed. rw c.in-Ok.is refl }

@@ -1,0 +1,30 @@
+use Rattle.std.proofs.Common.{List, true, false, sym, subst}
+use Rattle.std.proofs.lemmas.Bool.{eqb-true, eq-eqb}
+use lib.Dec.{eqb}
+use Rattle.nef_space.specs.Lists.{IsAt}
+use Rattle.law_sphere.specs.Maps.{At}
+use Rattle.nef_smap.specs.declared.map.SArc.{SArc}
+use Rattle.nef_smap.proofs.Lists.{get-at}
+use Rattle.nef_smap.proofs.SideLists.{get-from_at}
+use Rattle.nef_smap.proofs.NeighbourhoodEnds.{ray-is, ends-none, ends-more, ends-all}
+use Rattle.nef_smap.proofs.locate.arc_ends.Goals as goal
+
+pub loop-arc-init : goal.loop-arc-init
+loop-arc-init c = ends-none c.args.map.now.arcs c.args.svertex _ c.new-ends.ensures.items
+
+pub loop-arc-preserved : goal.loop-arc-preserved
+loop-arc-preserved c =
+    let a = c.arc-item.result in
+    let k = c.args.svertex in
+    let x = c.of-ahead.ensures in
+    let y = c.of-back.ensures in
+    let arcs = c.as_slice-arc-items.result.now in
+    let n = c.loop-arc.arc-index in
+    let listed = get-from_at arcs n a (subst (At arcs n) (sym c.arc-item.is) (get-at arcs n a c.loop-arc-test.true)) in
+    let here = subst (λ (x : List SArc). IsAt x n a) c.as_slice-arc-items.ensures.all listed in
+    rw (c.in_ok-push_if-2.ensures.pushed, c.in_ok-push_if.ensures.pushed, ray-is c.of-ahead.result a.normal true a.mark x.normal x.ahead x.mark, ray-is c.of-back.result a.normal false a.mark y.normal y.ahead y.mark)
+    (ends-more c.args.map.now.arcs c.loop-arc.arc-index k c.loop-arc.ends.items a (eqb a.source k) (eqb a.target k) here c.loop-arc.invariant
+    (eqb-true a.source k, eq-eqb a.source k) (eqb-true a.target k, eq-eqb a.target k))
+
+pub returns : goal.returns
+returns c = let l = c.loop-arc-test.false in record { ends = ends-all c.args.map.now.arcs c.loop-arc.arc-index c.args.svertex c.loop-arc.ends.items (rw c.as_slice-arc-items.ensures.all at l) c.loop-arc.invariant }

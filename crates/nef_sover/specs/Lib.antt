@@ -1,4 +1,0 @@
-pub mod Tracks
-pub mod Axes
-pub mod Circles
-pub mod Merged

@@ -1,6 +1,0 @@
-use Rattle.nef_spair.specs.Pieces.{IsBareCircle}
-use Rattle.nef_spair.proofs.Circles.{NoneUpTo}
-use Rattle.nef_spair.proofs.circle.bare_circle.Given as goal
-
-abbrev pub invariant-loop-circle : goal.invariant-loop-circle
-invariant-loop-circle l = NoneUpTo (IsBareCircle l.kept) l.circles l.circle-index

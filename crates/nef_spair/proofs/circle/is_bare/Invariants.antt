@@ -1,6 +1,0 @@
-use Rattle.nef_geo.specs.Shapes.{vector_of}
-use Rattle.nef_spair.proofs.Circles.{NoneUpTo, IsLevel}
-use Rattle.nef_spair.proofs.circle.is_bare.Given as goal
-
-abbrev pub invariant-loop-star : goal.invariant-loop-star
-invariant-loop-star l = NoneUpTo (IsLevel (vector_of l.normal)) l.kept l.star-index

@@ -1,6 +1,0 @@
-use Rattle.nef_spair.specs.Pieces.{IsDropped}
-use Rattle.nef_spair.proofs.Circles.{NoneUpTo}
-use Rattle.nef_spair.proofs.sorting.are_all_kept.Given as goal
-
-abbrev pub invariant-loop-star : goal.invariant-loop-star
-invariant-loop-star l = NoneUpTo IsDropped l.stars l.star-index

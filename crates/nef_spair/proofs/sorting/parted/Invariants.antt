@@ -1,5 +1,0 @@
-use Rattle.nef_spair.specs.Pieces.{IsDropped, AreOthers, AreCircles}
-use Rattle.nef_spair.proofs.sorting.parted.Given as goal
-
-abbrev pub invariant-loop-star : goal.invariant-loop-star
-invariant-loop-star l = record { kept : AreOthers IsDropped l.yielded l.kept.items; circles : AreCircles l.yielded l.circles.items }

@@ -1,9 +1,0 @@
-use Rattle.nef_star.specs.Stars.{IsTurned, IsKept}
-use Rattle.nef_star.proofs.Needed.{IsSeen}
-use Rattle.nef_star.proofs.needless.drop_needless.Given as goal
-
-abbrev pub invariant-loop-unseen : goal.invariant-loop-unseen
-invariant-loop-unseen l = record { turned : IsTurned l.star; kept : IsKept l.fn.star l.star; seen : IsSeen l.unseen l.star }
-
-abbrev pub decreases-loop-unseen : goal.decreases-loop-unseen
-decreases-loop-unseen l = l.unseen

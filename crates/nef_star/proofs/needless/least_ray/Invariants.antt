@@ -1,6 +1,0 @@
-use Rattle.std.proofs.Common.{◌<◌, length}
-use Rattle.nef_star.proofs.RayOrder.{LeastOf}
-use Rattle.nef_star.proofs.needless.least_ray.Given as goal
-
-abbrev pub invariant-loop-k : goal.invariant-loop-k
-invariant-loop-k l = record { within : l.least < length l.rays; least : LeastOf l.rays l.least l.k }

@@ -1,0 +1,5 @@
+use Rattle.nef_star.specs.Stars.{AreNeeded}
+use Rattle.nef_star.proofs.rays.is_simple.Given as goal
+
+abbrev pub invariant-loop-k : goal.invariant-loop-k
+invariant-loop-k l = record { needed : AreNeeded l.k l.star }

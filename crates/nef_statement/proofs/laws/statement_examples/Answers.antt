@@ -1,8 +1,0 @@
-use Rattle.std.proofs.Common.{refl}
-use Rattle.nef_statement.proofs.laws.statement_examples.Goals as goal
-
-pub returns-clause-denoted : goal.returns-clause-denoted
-returns-clause-denoted z = refl
-
-pub returns-clause-told : goal.returns-clause-told
-returns-clause-told z = refl

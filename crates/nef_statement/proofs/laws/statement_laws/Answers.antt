@@ -1,9 +1,0 @@
-use Rattle.nef_statement.proofs.Stated.{statement}
-use Rattle.nef_statement.proofs.Walk.{nodes-denote}
-use Rattle.nef_statement.proofs.laws.statement_laws.Goals as goal
-
-pub returns-clause-states : goal.returns-clause-states
-returns-clause-states z = statement
-
-pub returns-clause-denotes : goal.returns-clause-denotes
-returns-clause-denotes z = nodes-denote

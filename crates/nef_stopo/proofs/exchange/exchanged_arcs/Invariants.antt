@@ -1,7 +1,0 @@
-use Rattle.law_border.specs.Marks.{exchanged_arc}
-use Rattle.nef_smap.specs.Maps.{arc_of}
-use Rattle.nef_stopo.proofs.Written.{AreWritten}
-use Rattle.nef_stopo.proofs.exchange.exchanged_arcs.Given as goal
-
-abbrev pub invariant-loop-arc : goal.invariant-loop-arc
-invariant-loop-arc l = AreWritten arc_of exchanged_arc l.arc-index l.fn.arcs l.arc-items

@@ -1,6 +1,0 @@
-use Rattle.nef_stopo.specs.Labels.{topology_of}
-use Rattle.nef_stopo.proofs.Marking.{IsMarkedUpTo}
-use Rattle.nef_stopo.proofs.stars.remarked_rays.Given as goal
-
-abbrev pub invariant-loop-k : goal.invariant-loop-k
-invariant-loop-k l = IsMarkedUpTo (topology_of l.topology) l.star l.k l.rays.items l.before

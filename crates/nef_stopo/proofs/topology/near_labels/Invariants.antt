@@ -1,0 +1,6 @@
+use Rattle.std.proofs.Common.{◌≡◌, take}
+use Rattle.nef_stopo.specs.Labels.{nearby_of}
+use Rattle.nef_stopo.proofs.topology.near_labels.Given as goal
+
+abbrev pub invariant-loop-label : goal.invariant-loop-label
+invariant-loop-label l = l.near ≡ nearby_of (take l.label-index l.labels)

@@ -1,0 +1,6 @@
+use Rattle.nef_turn.specs.Images.{AreImages}
+use Rattle.nef_turn.specs.Turning.{IsArcImage}
+use Rattle.nef_turn.proofs.maps.turned_arcs.Given as goal
+
+abbrev pub invariant-loop-arc : goal.invariant-loop-arc
+invariant-loop-arc l = record { images : AreImages (IsArcImage l.turn.number l.numbers) l.arc-index l.map.arcs l.images.items }

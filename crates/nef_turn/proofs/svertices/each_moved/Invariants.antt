@@ -1,6 +1,0 @@
-use Rattle.nef_turn.specs.Images.{AreImages}
-use Rattle.nef_turn.specs.Turning.{IsMoved}
-use Rattle.nef_turn.proofs.svertices.each_moved.Given as goal
-
-abbrev pub invariant-loop-old : goal.invariant-loop-old
-invariant-loop-old l = record { images : AreImages (IsMoved l.turn.number) l.old l.svertices l.images.items }

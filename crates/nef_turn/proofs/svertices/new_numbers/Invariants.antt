@@ -1,6 +1,0 @@
-use Rattle.std.proofs.Common.{◌≡◌, length}
-use Rattle.nef_turn.specs.Turning.{AreNumbers}
-use Rattle.nef_turn.proofs.svertices.new_numbers.Given as goal
-
-abbrev pub invariant-loop-new : goal.invariant-loop-new
-invariant-loop-new l = record { count : length l.numbers.items ≡ length l.svertices; numbers : AreNumbers l.new l.svertices l.numbers.items }

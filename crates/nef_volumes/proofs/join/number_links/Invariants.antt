@@ -1,8 +1,0 @@
-use Rattle.nef_classes.specs.declared.link.Link.{Link}
-use Rattle.nef_classes.specs.declared.table.Tie.{Tie}
-use Rattle.nef_classes.specs.Tables.{IsCellNumber}
-use Rattle.nef_facets.proofs.Lists.{AreEach}
-use Rattle.nef_volumes.proofs.join.number_links.Given as goal
-
-abbrev pub invariant-loop-tie : goal.invariant-loop-tie
-invariant-loop-tie l = AreEach (λ (k : Link) (t : Tie). IsCellNumber l.rows t.first k.first × IsCellNumber l.rows t.second k.second) l.tie-index l.links.items l.ties

@@ -1,6 +1,0 @@
-use Rattle.nef_facets.proofs.Lists.{AreEach}
-use Rattle.nef_volumes.specs.Joining.{IsRenumbered}
-use Rattle.nef_volumes.proofs.join.renumbered.Given as goal
-
-abbrev pub invariant-loop-row : goal.invariant-loop-row
-invariant-loop-row l = AreEach (IsRenumbered l.numbers) l.row-index l.renumbered l.rows

@@ -1,7 +1,0 @@
-use Rattle.std.proofs.Common.{ℕ}
-use Rattle.nef_space.specs.Lists.{IsAt}
-use Rattle.nef_facets.proofs.Lists.{AreEach}
-use Rattle.nef_volumes.proofs.join.renumbered_row.Given as goal
-
-abbrev pub invariant-loop-number : goal.invariant-loop-number
-invariant-loop-number l = AreEach (λ (n m : ℕ). IsAt l.numbers m n) l.number-index l.renumbered l.row

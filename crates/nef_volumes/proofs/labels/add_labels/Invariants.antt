@@ -1,6 +1,0 @@
-use Rattle.nef_smap.specs.Maps.{map_of}
-use Rattle.nef_volumes.specs.Labels.{AreLabelsTo}
-use Rattle.nef_volumes.proofs.labels.add_labels.Given as goal
-
-abbrev pub invariant-loop-side : goal.invariant-loop-side
-invariant-loop-side l = AreLabelsTo (map_of l.map) l.row l.initial.labels.items l.side l.labels.items

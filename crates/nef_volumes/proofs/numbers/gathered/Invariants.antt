@@ -1,0 +1,5 @@
+use Rattle.nef_volumes.specs.Shells.{AreGathered}
+use Rattle.nef_volumes.proofs.numbers.gathered.Given as goal
+
+abbrev pub invariant-loop-vertex : goal.invariant-loop-vertex
+invariant-loop-vertex l = AreGathered l.rows l.vertex 0 l.lists.items

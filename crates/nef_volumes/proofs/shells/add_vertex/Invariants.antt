@@ -1,5 +1,0 @@
-use Rattle.nef_volumes.specs.Shells.{AreGathered}
-use Rattle.nef_volumes.proofs.shells.add_vertex.Given as goal
-
-abbrev pub invariant-loop-side : goal.invariant-loop-side
-invariant-loop-side l = AreGathered l.rows l.vertex l.side l.lists.items

@@ -1,5 +1,0 @@
-use Rattle.nef_volumes.specs.Shells.{AreGathered}
-use Rattle.nef_volumes.proofs.shells.gathered.Given as goal
-
-abbrev pub invariant-loop-vertex : goal.invariant-loop-vertex
-invariant-loop-vertex l = AreGathered l.rows l.vertex 0 l.lists.items

@@ -1,6 +1,0 @@
-use Rattle.std.proofs.Common.{◌≡◌, length}
-use Rattle.nef_volumes.specs.Shells.{AreShellsOf}
-use Rattle.nef_volumes.proofs.shells.volume_shells.Given as goal
-
-abbrev pub invariant-loop-sides : goal.invariant-loop-sides
-invariant-loop-sides l = record { as_many : length l.shells.items ≡ l.count; held : AreShellsOf l.volume_of l.yielded l.shells.items }

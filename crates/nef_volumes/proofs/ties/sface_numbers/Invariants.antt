@@ -1,0 +1,6 @@
+use Rattle.nef_complex.specs.Complexes.{complex_of}
+use Rattle.nef_volumes.proofs.SfaceTies.{AreSfacesTo}
+use Rattle.nef_volumes.proofs.ties.sface_numbers.Given as goal
+
+abbrev pub invariant-loop-vertex : goal.invariant-loop-vertex
+invariant-loop-vertex l = AreSfacesTo (complex_of l.c) l.vertex l.rows

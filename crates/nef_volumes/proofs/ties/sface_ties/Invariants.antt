@@ -1,0 +1,6 @@
+use Rattle.nef_complex.specs.Complexes.{complex_of}
+use Rattle.nef_volumes.proofs.SfaceTies.{AreTiedBelow}
+use Rattle.nef_volumes.proofs.ties.sface_ties.Given as goal
+
+abbrev pub invariant-loop-vertex : goal.invariant-loop-vertex
+invariant-loop-vertex l = AreTiedBelow (complex_of l.c) l.vertex l.ties.items
