@@ -22,7 +22,7 @@ use Rattle.nef_edges.proofs.Places.{at-within, at-before, at-last, at-more, at-m
 use Rattle.nef_edges.proofs.Rays.{ahead-normal}
 
 -- one more element that is above all others
-order-more : {A : Type 0} (Below : A → A → Type 0) (xs : List A) (y : A) → InOrder Below xs → ((k : ℕ) (x : A) → At xs k x → Below x y) → InOrder Below (xs ++ y ∷ [])
+pub order-more : {A : Type 0} (Below : A → A → Type 0) (xs : List A) (y : A) → InOrder Below xs → ((k : ℕ) (x : A) → At xs k x → Below x y) → InOrder Below (xs ++ y ∷ [])
 order-more {A} Below xs y o f i k x z l a b = by (at-more xs y i x a) (at-more xs y k z b)
   where
     by : At xs i x ⊎ ((i ≡ length xs) × (y ≡ x)) → At xs k z ⊎ ((k ≡ length xs) × (y ≡ z)) → Below x z

@@ -7,7 +7,7 @@ use Rattle.nef_geo.specs.Shapes.{form_of}
 use Rattle.nef_geo.specs.declared.plane.Plane.{Plane}
 use Rattle.law_sphere.specs.Maps.{At, Shaped}
 use Rattle.law_sphere.specs.Least.{InOrder}
-use Rattle.law_complex.specs.Complexes.{Vertex as PlainVertex, Edges}
+use Rattle.law_complex.specs.Complexes.{Vertex as PlainVertex, Complex as PlainComplex, Edges}
 use Rattle.law_complex.specs.Shows.{Shows}
 use Rattle.nef_complex.specs.declared.complex.Complex.{Complex}
 use Rattle.nef_complex.specs.declared.complex.Vertex.{Vertex}
@@ -17,7 +17,7 @@ use Rattle.nef_complex.specs.Index.{IsIndexOf, HasHolders, AreHeld, AreInOrder, 
 use Rattle.nef_complex.proofs.Carried.{items-held}
 use Rattle.nef_edges.specs.Pairs.{AreJoined}
 use Rattle.nef_edges.proofs.Existing.{edges-exist}
-use Rattle.nef_edges.proofs.Partners.{partner}
+use Rattle.nef_edges.proofs.Partners.{partner, partner-back}
 use Rattle.nef_edges.proofs.Places.{at-some, some-at, at-map, map-at, at-within}
 
 -- the list of the edges as it is read
@@ -38,7 +38,8 @@ module _ (s : Set) (carriers : List Plane) (vertices : List Vertex) (V : AreVert
   pub are-joined : AreJoined (map vertex_of vertices)
   are-joined =
       let es = edges-exist (map vertex_of vertices) ordered shaped in
-      record { ordered = ordered; shaped = shaped; joined = partner s (record { carriers = map form_of carriers; vertices = map vertex_of vertices; edges = es.0 }) (V.shown es.0 es.1) }
+      let C : PlainComplex = record { carriers = map form_of carriers; vertices = map vertex_of vertices; edges = es.0 } in
+      record { ordered = ordered; shaped = shaped; joined = partner s C (V.shown es.0 es.1); arrived = partner-back s C (V.shown es.0 es.1) }
 
   pub carriers-ordered : AreInOrder carriers
   carriers-ordered i j g h l a b =

@@ -9,3 +9,6 @@ pub mod Next
 pub mod Partners
 pub mod Added
 pub mod Joined
+pub mod Matched
+pub mod Checked
+pub mod Walked

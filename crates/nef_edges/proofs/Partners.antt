@@ -1,12 +1,13 @@
 -- The next end that arrives is the partner of one that leads on.
-use Rattle.std.proofs.Common.{◌≡◌, ℕ, ◌<◌, List, length, map, arith, refl, sym, ap, subst, ◌∙◌, inl, inr, ◌⊎◌, ⊎_elim, Ordering, Less, Equal, Greater}
+use Rattle.std.proofs.Common.{◌≡◌, ℕ, ◌<◌, pos, neg_ℤ, List, length, map, arith, refl, sym, ap, subst, ◌∙◌, inl, inr, ◌⊎◌, ⊎_elim, Ordering, Less, Equal, Greater}
 use Rattle.std.proofs.lemmas.Bool.{cases_lt}
+use Rattle.std.proofs.lemmas.Int.{ints}
 use Rattle.std.specs.Ordering.{MatchOrdering, nat_cmp, ordering_then}
 use Rattle.std.specs.Cmp.{tied_back}
 use Rattle.std.proofs.lemmas.Cmp.{ranked}
 use Rattle.nef_space.specs.Place.{toward}
 use Rattle.nef_space.specs.Sets.{Set}
-use Rattle.nef_space.specs.Vectors.{opposite, IsNormal, IsZero, cross, SameDirection, IsOpposite}
+use Rattle.nef_space.specs.Vectors.{Vector, opposite, IsNormal, IsZero, cross, SameDirection, IsOpposite}
 use Rattle.nef_geo.specs.Shapes.{place_of, vector_of}
 use Rattle.nef_geo.specs.declared.dir.Dir.{Dir}
 use Rattle.nef_geo.proofs.Unique.{same_directions_equal}
@@ -23,7 +24,7 @@ use Rattle.nef_complex.specs.Complexes.{vertex_of}
 use Rattle.nef_edges.specs.declared.edge_end.EdgeEnd.{EdgeEnd}
 use Rattle.nef_edges.specs.Order.{line_order}
 use Rattle.nef_edges.specs.EdgeEnds.{IsBefore, IsArriving, AreArriving, IsAfter, IsNext}
-use Rattle.nef_edges.specs.Pairs.{IsFrom, AreJoined}
+use Rattle.nef_edges.specs.Pairs.{IsFrom, IsTo, AreJoined}
 use Rattle.nef_edges.proofs.Lines.{OnOneLine, tied-line, line-tied, StandsBetween, stands-between, line_total}
 use Rattle.nef_edges.proofs.Places.{at-within, at-map, map-at}
 use Rattle.nef_edges.proofs.Rays.{normal-kept, ahead-normal, middle-between, to_opposite, from_opposite, opposites-same}
@@ -43,6 +44,31 @@ partner s C S i a v u l m up = by (svertex-edge s C S i a v u l m)
     by : (n : ℕ) × (e : PlainEdge) × At C.edges n e × (((e.low ≡ i) × (e.low_svertex ≡ a)) ⊎ ((e.high ≡ i) × (e.high_svertex ≡ a))) → (e : PlainEdge) × IsFrom C.vertices i a e
     by (n, e, b, inl c) = (e, (S.edges.edges n e b, c.0, c.1))
     by (n, e, b, inr c) = absurd (higher e (S.edges.edges n e b) c.0 c.1)
+
+-- one that leads to earlier points is the higher end
+turned-normal : (d : Vector) → IsNormal d → IsNormal (opposite d) → ⊥
+turned-normal d n m =
+    let a = n.first in let b = m.first in
+    let x : d.x ≡ pos 0 = omega (arith, ints, a, b) in let x' : neg_ℤ d.x ≡ pos 0 = omega (arith, ints, a, b) in
+    let g = n.second x in let h = m.second x' in
+    let y : d.y ≡ pos 0 = omega (arith, ints, g, h) in let y' : neg_ℤ d.y ≡ pos 0 = omega (arith, ints, g, h) in
+    let i = n.third x y in let j = m.third x' y' in
+    omega (arith, ints, i, j)
+
+pub partner-back : (s : Set) (C : PlainComplex) → Shows s C → (j b : ℕ) (w : PlainVertex) (t : MapVertex) → At C.vertices j w → At w.map.svertices b t → IsNormal (opposite t.dir) → (e : PlainEdge) × IsTo C.vertices j b e
+partner-back s C S j b w t l m down = by (svertex-edge s C S j b w t l m)
+  where
+    -- an edge leads on from there
+    lower : (e : PlainEdge) → IsEdge C.vertices e → e.low ≡ j → e.low_svertex ≡ b → ⊥
+    lower e E h k =
+        let v = at-one C.vertices j E.low_vertex w (subst (λ n. At C.vertices n E.low_vertex) h E.is_low) l in
+        let u = at-one w.map.svertices b E.low_end t (subst (λ (x : PlainVertex). At x.map.svertices b E.low_end) v (subst (λ n. At E.low_vertex.map.svertices n E.low_end) k E.leaves)) m in
+        let n = ahead-normal E.low_vertex.point E.high_vertex.point E.low_end.dir (S.ordered e.low e.high E.low_vertex E.high_vertex E.upward E.is_low E.is_high) E.ahead in
+        turned-normal t.dir (subst (λ (x : MapVertex). IsNormal x.dir) u n) down
+
+    by : (n : ℕ) × (e : PlainEdge) × At C.edges n e × (((e.low ≡ j) × (e.low_svertex ≡ b)) ⊎ ((e.high ≡ j) × (e.high_svertex ≡ b))) → (e : PlainEdge) × IsTo C.vertices j b e
+    by (n, e, a, inl c) = absurd (lower e (S.edges.edges n e a) c.0 c.1)
+    by (n, e, a, inr c) = (e, (S.edges.edges n e a, c.0, c.1))
 
 nat-greater : (x y : ℕ) → y < x → nat_cmp x y ≡ Greater
 nat-greater x y h = by (nat_cmp x y) (ranked x y (nat_cmp x y) refl)

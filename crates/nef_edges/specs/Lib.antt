@@ -3,3 +3,4 @@ pub mod Moments
 pub mod Order
 pub mod EdgeEnds
 pub mod Pairs
+pub mod Matched

@@ -1,7 +1,7 @@
 -- Vertices whose svertices are ends of edges, and the edges from some of them.
 use Rattle.std.specs.Prelude.{◌≡◌, ℕ, List, map}
 use Rattle.nef_space.specs.Place.{IsPlaceBelow}
-use Rattle.nef_space.specs.Vectors.{IsNormal}
+use Rattle.nef_space.specs.Vectors.{opposite, IsNormal}
 use Rattle.law_sphere.specs.Maps.{At, MapVertex, Shaped}
 use Rattle.law_sphere.specs.Least.{InOrder}
 use Rattle.law_complex.specs.Complexes.{Vertex as PlainVertex, Edge as PlainEdge, IsEdge, IsEdgeBelow}
@@ -13,11 +13,16 @@ use Rattle.nef_complex.specs.Complexes.{vertex_of, edge_of}
 abbrev pub IsFrom : List PlainVertex → ℕ → ℕ → PlainEdge → Type 0
 IsFrom vs i a e = IsEdge vs e × (e.low ≡ i) × (e.low_svertex ≡ a)
 
--- sorted vertices, each svertex of which that leads to later points is the lower end of an edge
+-- the edge arrives at svertex b of vertex j
+abbrev pub IsTo : List PlainVertex → ℕ → ℕ → PlainEdge → Type 0
+IsTo vs j b e = IsEdge vs e × (e.high ≡ j) × (e.high_svertex ≡ b)
+
+-- sorted vertices, each svertex of which that leads to later points is the lower end of an edge, and each other one the higher end
 pub record AreJoined (vs : List PlainVertex) : Type 0 where
   pub ordered : InOrder (λ u v. IsPlaceBelow u.point v.point) vs
   pub shaped : (k : ℕ) (v : PlainVertex) → At vs k v → Shaped v.map
   pub joined : (i a : ℕ) (v : PlainVertex) (u : MapVertex) → At vs i v → At v.map.svertices a u → IsNormal u.dir → (e : PlainEdge) × IsFrom vs i a e
+  pub arrived : (j b : ℕ) (w : PlainVertex) (t : MapVertex) → At vs j w → At w.map.svertices b t → IsNormal (opposite t.dir) → (e : PlainEdge) × IsTo vs j b e
 
 -- the edges from the svertices that count, in order
 pub record AreEdges (vs : List Vertex) (Counts : ℕ → ℕ → Type 0) (es : List Edge) : Type 0 where

@@ -114,7 +114,7 @@ fn moment_cmp(a: &EdgeEnd, b: &EdgeEnd) -> Ordering
 }
 
 // Compares two lines with one key.
-fn line_cmp(a: &EdgeEnd, b: &EdgeEnd) -> Ordering
+pub(crate) fn line_cmp(a: &EdgeEnd, b: &EdgeEnd) -> Ordering
     ensures order { result ≡ ordering_then (dir_order a.now.dir b.now.dir) (moment_order a.now b.now) }
 {
     a.dir.cmp(&b.dir).then_with(|| moment_cmp(a, b))
@@ -129,7 +129,7 @@ fn tied_cmp(a: &EdgeEnd, b: &EdgeEnd) -> Ordering
 }
 
 // Compares the keys of two ends' lines.
-fn key_cmp(a: &EdgeEnd, b: &EdgeEnd) -> Ordering
+pub(crate) fn key_cmp(a: &EdgeEnd, b: &EdgeEnd) -> Ordering
     ensures order { result ≡ int_cmp a.now.key b.now.key }
 {
     a.key.cmp(&b.key)

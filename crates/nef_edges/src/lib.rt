@@ -7,7 +7,10 @@
 
 mod arriving;
 mod edge_end;
+mod guessed;
+mod laws;
 mod pairing;
 
+pub use laws::matching_laws;
 pub use pairing::{pair, pair_from};
 pub use std::alloc::AllocError as OutOfMemory;

@@ -1,0 +1,66 @@
+-- Edges that are told by guesses, each of which is checked alone.
+use Rattle.std.specs.Prelude.{◌≡◌, ℕ, ◌<◌, ◌+◌, ◌-◌, ◌^◌, min, List, map, get_or, Bool, true}
+use Rattle.nef_space.specs.Place.{toward}
+use Rattle.nef_space.specs.Vectors.{cross, IsZero, IsNormal, IsOpposite}
+use Rattle.law_sphere.specs.Maps.{At, MapVertex}
+use Rattle.law_sphere.specs.Least.{InOrder}
+use Rattle.law_complex.specs.Complexes.{Vertex, Edge, IsEdgeBelow, Edges}
+use Rattle.nef_geo.specs.Shapes.{place_of, vector_of}
+use Rattle.nef_smap.specs.declared.map.SVertex.{SVertex}
+use Rattle.nef_complex.specs.declared.complex.Vertex.{Vertex as ProgramVertex}
+use Rattle.nef_complex.specs.declared.complex.Edge.{Edge as ProgramEdge}
+use Rattle.nef_complex.specs.Complexes.{vertex_of, edge_of}
+use Rattle.nef_edges.specs.Pairs.{AreJoined}
+
+-- the edge joins a svertex that leads to later points with one of a later vertex that leads back along the same line: other vertices may lie between
+pub record IsMatched (vs : List Vertex) (e : Edge) : Type 0 where
+  pub low_vertex : Vertex
+  pub high_vertex : Vertex
+  pub low_end : MapVertex
+  pub high_end : MapVertex
+  pub is_low : At vs e.low low_vertex
+  pub is_high : At vs e.high high_vertex
+  pub leaves : At low_vertex.map.svertices e.low_svertex low_end
+  pub arrives : At high_vertex.map.svertices e.high_svertex high_end
+  pub upward : e.low < e.high
+  pub leading : IsNormal low_end.dir
+  pub on_line : IsZero (cross (toward low_vertex.point high_vertex.point) low_end.dir)
+  pub back : IsOpposite low_end.dir high_end.dir
+  pub mark : e.mark ≡ low_end.mark
+
+-- the ends of such an edge as the program has them
+pub record AreMatchedEnds (v : ProgramVertex) (s : SVertex) (w : ProgramVertex) (t : SVertex) : Type 0 where
+  pub leading : IsNormal (vector_of s.dir)
+  pub on_line : IsZero (cross (toward (place_of v.point) (place_of w.point)) (vector_of s.dir))
+  pub back : IsOpposite (vector_of s.dir) (vector_of t.dir)
+
+-- one matched edge from each svertex that leads to later points, in order, and no two to one svertex
+pub record AreMatched (vs : List Vertex) (es : List Edge) : Type 0 where
+  pub each : (k : ℕ) (e : Edge) → At es k e → IsMatched vs e
+  pub all : (i a : ℕ) (v : Vertex) (u : MapVertex) → At vs i v → At v.map.svertices a u → IsNormal u.dir → (k : ℕ) × (e : Edge) × At es k e × (e.low ≡ i) × (e.low_svertex ≡ a)
+  pub once : (k l : ℕ) (e f : Edge) → At es k e → At es l f → e.high ≡ f.high → e.high_svertex ≡ f.high_svertex → k ≡ l
+  pub ordered : InOrder IsEdgeBelow es
+
+-- then nothing lies between their ends: these are the edges
+abbrev pub MatchedAreEdges : Type 0
+MatchedAreEdges = (vs : List Vertex) (es : List Edge) → AreJoined vs → AreMatched vs es → Edges vs es
+
+-- and the edges are matched, so that the right guesses pass
+abbrev pub EdgesAreMatched : Type 0
+EdgesAreMatched = (vs : List Vertex) (es : List Edge) → AreJoined vs → Edges vs es → AreMatched vs es
+
+-- ---- edges that are checked svertex by svertex
+-- the matched edges from the svertices that count
+pub record AreMatchedFrom (vs : List ProgramVertex) (Counts : ℕ → ℕ → Type 0) (es : List ProgramEdge) : Type 0 where
+  pub each : (k : ℕ) (e : ProgramEdge) → At es k e → IsMatched (map vertex_of vs) (edge_of e) × Counts e.low e.low_svertex
+  pub all : (i a : ℕ) (v : ProgramVertex) (s : SVertex) → At vs i v → At v.map.svertices a s → IsNormal (vector_of s.dir) → Counts i a → (k : ℕ) × (e : ProgramEdge) × At es k e × (e.low ≡ i) × (e.low_svertex ≡ a)
+  pub once : (k l : ℕ) (e f : ProgramEdge) → At es k e → At es l f → e.high ≡ f.high → e.high_svertex ≡ f.high_svertex → k ≡ l
+  pub ordered : InOrder (λ e f. IsEdgeBelow (edge_of e) (edge_of f)) es
+
+-- the mark at which svertex t of vertex j is told as taken, where the marks of a vertex begin at a number
+abbrev pub slot_of : List ℕ → ℕ → ℕ → ℕ
+slot_of starts j t = min (get_or starts j 0 + t) (2 ^ 64 - 1)
+
+-- the marks at the higher ends of all edges are set
+abbrev pub AreTaken : List ℕ → List Bool → List ProgramEdge → Type 0
+AreTaken starts marks es = (k : ℕ) (e : ProgramEdge) → At es k e → At marks (slot_of starts e.high e.high_svertex) true
