@@ -1,1 +1,7 @@
 pub mod Parsed
+pub mod Examples
+pub mod Walked
+pub mod Turns
+pub mod Waits
+pub mod Rows
+pub mod Law

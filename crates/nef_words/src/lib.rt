@@ -4,6 +4,8 @@
 //! are a function of the words.
 #![tactic(auto)]
 
+mod laws;
 mod words;
 
+pub use laws::words_laws;
 pub use words::{DEFAULT_WORKERS, MOST_WORKERS, Options, WordsFault, line_words, read_words};
