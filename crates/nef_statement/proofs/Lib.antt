@@ -10,4 +10,6 @@ pub mod Moved
 pub mod Walk
 pub mod One
 pub mod Runs
+pub mod RayPoints
+pub mod SomeOutput
 pub mod Stated

@@ -7,6 +7,7 @@ use Rattle.nef_statement.specs.Texts.{IsText}
 use Rattle.nef_statement.proofs.Alike.{same-self}
 use Rattle.nef_statement.proofs.One.{said-one, said-front}
 use Rattle.nef_statement.proofs.Runs.{same-output, same-status}
+use Rattle.nef_statement.proofs.SomeOutput.{some-output}
 use Rattle.nef_statement.proofs.Texts.{text-says, one-text}
 
 text-one : (version : TextVersion) (s : Set) (x y : List ℕ) → IsText version s x → IsText version s y → x ≡ y
@@ -17,6 +18,7 @@ statement =
     record {
       one_text = one-text;
       text_says = text-says;
+      some_output = some-output;
       one_output = λ version lines. said-one (IsText version) (text-one version) [] lines;
       one_front = λ version lines count. said-front (IsText version) (text-one version) [] lines count;
       same_output = same-output IsText text-one;

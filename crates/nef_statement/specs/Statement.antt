@@ -73,6 +73,8 @@ pub record Statement (Text : TextVersion → Set → List ℕ → Type 0) : Type
   -- two texts of one version are equal exactly where their sets are the same, and a text tells its set
   pub one_text : (version : TextVersion) (s t : Set) (x y : List ℕ) → Text version s x → Text version t y → (x ≡ y) ↔ SameSet s t
   pub text_says : (version : TextVersion) (s : Set) (x : List ℕ) → Text version s x → TextSays version s x
+  -- an accepted script has an output: of each of its lines something is said
+  pub some_output : (version : TextVersion) (bytes : List ℕ) → IsAccepted bytes → (x : List ℕ) × AreSaid (Text version) [] (lines_of bytes) x
   -- lines say one output, and the first of them a front of it
   pub one_output : (version : TextVersion) (lines : List (List ℕ)) (x y : List ℕ) → AreSaid (Text version) [] lines x → AreSaid (Text version) [] lines y → x ≡ y
   pub one_front : (version : TextVersion) (lines : List (List ℕ)) (count : ℕ) (x y : List ℕ) → AreSaid (Text version) [] lines x → AreSaid (Text version) [] (take count lines) y → (rest : List ℕ) × (x ≡ y ++ rest)
