@@ -19,7 +19,7 @@ use Rattle.nef_spair.specs.Kinds.{IsVertex as IsVertexMap}
 use Rattle.nef_spair.specs.declared.answer.Kind.TheVariants.{Vertex as vertex_kind}
 use Rattle.nef_spair.proofs.OneKind.{fits}
 use Rattle.nef_smap.proofs.Lists.{contains-at}
-use Rattle.nef_stopo.proofs.Places.{some-at as element-at}
+use Rattle.nef_smap.proofs.SideLists.{at-some as element-at}
 use Rattle.nef_edges.proofs.Places.{at-within, some-at, map-at, at-map, at-before, at-last, at-more}
 use Rattle.law_complex.specs.Complexes.{Vertex as PlainVertex}
 use Rattle.nef_complex.specs.Complexes.{vertex_of, AreVerticesOf}

@@ -1,7 +1,3 @@
-pub mod Tracks
-pub mod Axes
-pub mod Circles
-pub mod Merged
 pub mod Labels
 pub mod Made
 pub mod Stars

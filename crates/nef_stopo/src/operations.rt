@@ -17,10 +17,10 @@ ghost use Rattle.nef_star.specs.Stars.{star_of, IsStar};
 ghost use Rattle.nef_stopo.specs.Stars.{AreMarked, AreRemarked};
 
 use crate::OutOfMemory;
-use crate::overlaid::overlay;
 use crate::topology::{Nearby, Topology, near_map, near_star};
 use nef_geo::{Label, List};
 use nef_smap::{RawStars, SArc, SVertex, SphereMap, star_at};
+use nef_sover::overlay;
 use nef_spair::build;
 use nef_star::{Op, Ray, Star};
 use std::alloc::Global;

@@ -9,8 +9,8 @@ use crate::texts::{add_label, add_map, add_numbers, add_raw, add_star};
 use crate::words::{check, normal, op, parted};
 use nef_geo::Dir;
 use nef_smap::{RawStars, SPlace, SphereMap, at, label_at, sfaces, sides, star_at};
+use nef_sover::overlay;
 use nef_star::Op;
-use nef_stopo::overlay;
 use std::alloc::{AllocError, Global};
 use std::process::Abort;
 

@@ -1,0 +1,12 @@
+pub mod Places
+pub mod TrackLists
+pub mod Sorted
+pub mod Adding
+pub mod Meets
+pub mod Crossed
+pub mod Bare
+pub mod Lone
+pub mod StarsMerged
+pub mod Sloops
+pub mod SloopMaps
+pub mod CrossedStars

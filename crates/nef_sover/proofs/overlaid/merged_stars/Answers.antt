@@ -1,0 +1,34 @@
+use Rattle.std.proofs.Common.{◌+◌, List, take, sym, subst}
+use Rattle.nef_star.specs.declared.star.Star.{Star}
+use Rattle.nef_star.specs.Ops.{op_label}
+use Rattle.nef_smap.specs.Maps.{map_of}
+use Rattle.nef_sover.specs.declared.axes.Axis.{Axis}
+use Rattle.nef_sover.specs.Merged.{IsMergedAt, AreMerged}
+use Rattle.nef_smap.proofs.Lists.{at-contains}
+use Rattle.nef_sover.proofs.Places.{read-at, zip-more, zip-all}
+use Rattle.nef_sover.proofs.overlaid.merged_stars.Goals as goal
+
+pub merged_star-requires-clause-small : goal.merged_star-requires-clause-small
+merged_star-requires-clause-small c =
+    let i = c.loop-axis.axis-index in let d = c.axis-item.result in
+    c.requires.axes.small d (at-contains c.args.axes.now i d (read-at c.args.axes.now i d c.loop-axis-test.true c.axis-item.is))
+
+pub merged_star-requires-clause-placed : goal.merged_star-requires-clause-placed
+merged_star-requires-clause-placed c =
+    let i = c.loop-axis.axis-index in let d = c.axis-item.result in
+    c.requires.axes.placed d (at-contains c.args.axes.now i d (read-at c.args.axes.now i d c.loop-axis-test.true c.axis-item.is))
+
+pub loop-axis-preserved : goal.loop-axis-preserved
+loop-axis-preserved c =
+    let A = map_of c.args.a.now in let B = map_of c.args.b.now in
+    let i = c.loop-axis.axis-index in let d = c.axis-item.result in let here = read-at c.args.axes.now i d c.loop-axis-test.true c.axis-item.is in
+    record {
+      merged = subst (λ (ts : List Star). AreMerged A B (op_label c.args.op) (take (i + 1) c.args.axes.now) ts) (sym c.in_ok-push.ensures.ok)
+          (zip-more (λ (t : Star) (e : Axis). IsMergedAt A B (op_label c.args.op) e.dir t) c.loop-axis.stars c.args.axes.now i c.in_ok-merged_star.field-0 d c.loop-axis.invariant.merged here c.in_ok-merged_star.ensures.merged);
+    }
+
+pub returns : goal.returns
+returns c = record {
+  merged = let A = map_of c.args.a.now in let B = map_of c.args.b.now in
+      zip-all (λ (t : Star) (e : Axis). IsMergedAt A B (op_label c.args.op) e.dir t) c.loop-axis.stars c.args.axes.now c.loop-axis.axis-index c.loop-axis-test.false c.loop-axis.invariant.merged;
+}

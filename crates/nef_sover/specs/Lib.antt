@@ -1,0 +1,4 @@
+pub mod Tracks
+pub mod Axes
+pub mod Circles
+pub mod Merged

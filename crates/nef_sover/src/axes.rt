@@ -1,0 +1,170 @@
+//! The axes of an overlay: the svertices of both maps, and the directions in which their items cross.
+
+ghost use Rattle.std.specs.Prelude.{◌≡◌, ◌↔◌, ◌<◌};
+ghost use Rattle.nef_geo.specs.Prelude.{length, IsTrue, IfOk, OnOk, normal_limit, svertex_limit, IsAtMost, vector_of};
+ghost use Rattle.law_sphere.specs.Maps.{At, Item as PlainItem, items};
+ghost use Rattle.nef_smap.specs.Maps.{map_of, IsSphereMap};
+ghost use Rattle.nef_sover.specs.Tracks.{normal_of, number_of, LiesOn, IsTrackOf, AreTracks, AreSmall};
+ghost use Rattle.nef_sover.specs.Axes.{Adds, AreAxes, IsOnSvertex, IsMeet, IsMeetAlong, MeetsOne, MeetsSome};
+
+use crate::OutOfMemory;
+use nef_arc::{Arc, strictly_on};
+use nef_geo::{Dir, cross};
+use nef_smap::{Item, SLoop, SphereMap};
+use std::alloc::Global;
+
+/// A direction of an overlay. Where an item of the one map crosses one of the other there, `crossed` tells their numbers,
+/// so that no map needs to be searched for the direction.
+#[derive(Debug, Clone, Copy, PartialEq, Eq)]
+pub(crate) struct Axis {
+    pub(crate) dir: Dir,
+    pub(crate) crossed: Option<(usize, usize)>,
+}
+
+// The directions of an item, with its number: an arc with the directions of its ends, which are looked up once, or a
+// sloop.
+#[derive(Debug, Clone, Copy, PartialEq, Eq)]
+enum Track {
+    Arc(usize, Arc),
+    Sloop(usize, SLoop),
+}
+
+impl Track {
+    // The normal of the great circle that the item lies on.
+    fn normal(&self) -> &Dir
+        ensures normal { vector_of result.now ≡ normal_of self.now }
+    {
+        match self {
+            Track::Arc(_, arc) => &arc.normal,
+            Track::Sloop(_, circle) => &circle.normal,
+        }
+    }
+
+    // Whether the direction is on the sloop, or strictly on the arc.
+    fn holds(&self, d: &Dir) -> bool
+        ensures on { IsTrue result ↔ LiesOn self.now (vector_of d.now) }
+    {
+        match self {
+            Track::Arc(_, arc) => strictly_on(arc, d),
+            Track::Sloop(_, circle) => circle.holds(d),
+        }
+    }
+
+    // The number of the item.
+    fn number(&self) -> usize
+        ensures number { result ≡ number_of self.now }
+    {
+        match self {
+            Track::Arc(number, _) | Track::Sloop(number, _) => *number,
+        }
+    }
+}
+
+// The directions of the item with this number.
+fn track_at(map: &SphereMap, number: usize) -> Track
+    requires map { IsSphereMap map.now }
+    requires within { number < length (items (map_of map.now)) }
+    ensures track { (x : PlainItem) × At (items (map_of map.now)) number x × IsTrackOf (map_of map.now) result x }
+{
+    match map.item_at(number) {
+        Item::Arc(arc) => Track::Arc(number, map.great_arc(&arc)),
+        Item::Loop(circle) => Track::Sloop(number, circle),
+    }
+}
+
+// The directions of the map's items, by their numbers.
+fn tracks_of(alloc: Global, map: &SphereMap) -> Result<Vec<Track>, OutOfMemory>
+    requires map { IsSphereMap map.now }
+    ensures tracks { IfOk result (λ v. AreTracks (map_of map.now) v.items) }
+    ensures small { IfOk result (λ v. AreSmall v.items) }
+{
+    let mut tracks = Vec::with_capacity(alloc, map.item_count())?;
+    for number in 0..map.item_count() {
+        tracks.push(track_at(map, number))?;
+    }
+    Ok(tracks)
+}
+
+// Adds the directions of the svertices.
+fn add_svertices(axes: &mut Vec<Axis>, map: &SphereMap) -> Result<(), OutOfMemory>
+    requires map { IsSphereMap map.now }
+    ensures added { OnOk result (Adds (IsOnSvertex (map_of map.now)) axes.old.items axes.new.items) }
+{
+    for svertex in map.svertices.as_slice() {
+        axes.push(Axis {
+            dir: svertex.dir,
+            crossed: None,
+        })?;
+    }
+    Ok(())
+}
+
+// Adds the direction if both items hold it.
+fn add_common(axes: &mut Vec<Axis>, x: &Track, y: &Track, d: Dir) -> Result<(), OutOfMemory>
+    requires small { IsAtMost svertex_limit (vector_of d) }
+    ensures added { OnOk result (Adds (IsMeetAlong x.now y.now (vector_of d)) axes.old.items axes.new.items) }
+{
+    if x.holds(&d) && y.holds(&d) {
+        axes.push(Axis {
+            dir: d,
+            crossed: Some((x.number(), y.number())),
+        })?;
+    }
+    Ok(())
+}
+
+// Adds the directions that both items hold, if their normals aren't parallel. Their great circles then meet in two
+// opposite directions.
+fn add_meets(axes: &mut Vec<Axis>, x: &Track, y: &Track) -> Result<(), OutOfMemory>
+    requires x_small { IsAtMost normal_limit (normal_of x.now) }
+    requires y_small { IsAtMost normal_limit (normal_of y.now) }
+    ensures added { OnOk result (Adds (IsMeet x.now y.now) axes.old.items axes.new.items) }
+{
+    let Some(ahead) = cross(x.normal(), y.normal()) else {
+        return Ok(());
+    };
+    add_common(axes, x, y, ahead)?;
+    add_common(axes, x, y, ahead.back())
+}
+
+// Adds the directions in which the item meets one of the others.
+fn add_meets_with(axes: &mut Vec<Axis>, x: &Track, ys: &[Track]) -> Result<(), OutOfMemory>
+    requires x_small { IsAtMost normal_limit (normal_of x.now) }
+    requires ys_small { AreSmall ys.now }
+    ensures added { OnOk result (Adds (MeetsOne x.now ys.now) axes.old.items axes.new.items) }
+{
+    for y in ys {
+        add_meets(axes, x, y)?;
+    }
+    Ok(())
+}
+
+// Adds the directions in which one of the first items meets one of the others.
+fn add_crossings(axes: &mut Vec<Axis>, xs: &[Track], ys: &[Track]) -> Result<(), OutOfMemory>
+    requires xs_small { AreSmall xs.now }
+    requires ys_small { AreSmall ys.now }
+    ensures added { OnOk result (Adds (MeetsSome xs.now ys.now) axes.old.items axes.new.items) }
+{
+    for x in xs {
+        add_meets_with(axes, x, ys)?;
+    }
+    Ok(())
+}
+
+/// The directions of the svertices of both maps and those in which an item of the first meets an item of the second
+/// with another normal, in increasing order, once each. Where two items meet, their numbers come along.
+pub(crate) fn axes_of(alloc: Global, a: &SphereMap, b: &SphereMap) -> Result<Vec<Axis>, OutOfMemory>
+    requires first { IsSphereMap a.now }
+    requires second { IsSphereMap b.now }
+    ensures axes { IfOk result (λ v. AreAxes (map_of a.now) (map_of b.now) v.items) }
+{
+    let xs = tracks_of(alloc, a)?;
+    let ys = tracks_of(alloc, b)?;
+    let mut axes = Vec::new(alloc);
+    add_svertices(&mut axes, a)?;
+    add_svertices(&mut axes, b)?;
+    add_crossings(&mut axes, xs.as_slice(), ys.as_slice())?;
+    axes.sort_unstable_by_key(|axis| axis.dir);
+    axes.dedup_by_key(|axis| axis.dir);
+    Ok(axes)
+}

@@ -1,7 +1,0 @@
-use Rattle.nef_stopo.specs.declared.axes.Track.{Track}
-use Rattle.nef_stopo.specs.Axes.{Adds, MeetsOne}
-use Rattle.nef_stopo.proofs.Adding.{AnyFirst}
-use Rattle.nef_stopo.proofs.axes.add_crossings.Given as goal
-
-abbrev pub invariant-loop-x : goal.invariant-loop-x
-invariant-loop-x l = record { added : Adds (AnyFirst (λ (x : Track). MeetsOne x l.ys) l.xs l.x-index) l.fn.axes.items l.axes.items }

@@ -1,6 +1,0 @@
-use Rattle.nef_stopo.specs.Axes.{Adds, IsMeet}
-use Rattle.nef_stopo.proofs.Adding.{AnyFirst}
-use Rattle.nef_stopo.proofs.axes.add_meets_with.Given as goal
-
-abbrev pub invariant-loop-y : goal.invariant-loop-y
-invariant-loop-y l = record { added : Adds (AnyFirst (IsMeet l.x) l.ys l.y-index) l.fn.axes.items l.axes.items }

@@ -1,6 +1,0 @@
-use Rattle.nef_smap.specs.Maps.{map_of}
-use Rattle.nef_stopo.proofs.TrackLists.{AreFirst}
-use Rattle.nef_stopo.proofs.axes.tracks_of.Given as goal
-
-abbrev pub invariant-loop-number : goal.invariant-loop-number
-invariant-loop-number l = AreFirst (map_of l.map) l.number l.tracks.items
