@@ -97,7 +97,7 @@ module _ (p q : Point) (d : Vector) where
   Level w v = ((q.y *ℤ w -ℤ p.y *ℤ v) *ℤ d.z -ℤ (q.z *ℤ w -ℤ p.z *ℤ v) *ℤ d.y ≡ pos 0) × ((q.z *ℤ w -ℤ p.z *ℤ v) *ℤ d.x -ℤ (q.x *ℤ w -ℤ p.x *ℤ v) *ℤ d.z ≡ pos 0)
       × ((q.x *ℤ w -ℤ p.x *ℤ v) *ℤ d.y -ℤ (q.y *ℤ w -ℤ p.y *ℤ v) *ℤ d.x ≡ pos 0)
 
-  to-level : Level p.w q.w → IsZero (cross (toward (place_of p) (place_of q)) d)
+  pub to-level : Level p.w q.w → IsZero (cross (toward (place_of p) (place_of q)) d)
   to-level z = subst (λ w. Level w (pos (nat_abs q.w))) (sym (pos_size p.w p.proper)) (subst (λ v. Level p.w v) (sym (pos_size q.w q.proper)) z)
 
   from-level : IsZero (cross (toward (place_of p) (place_of q)) d) → Level p.w q.w

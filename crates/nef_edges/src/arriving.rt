@@ -114,7 +114,7 @@ fn moment_cmp(a: &EdgeEnd, b: &EdgeEnd) -> Ordering
 }
 
 // Compares two lines with one key.
-pub(crate) fn line_cmp(a: &EdgeEnd, b: &EdgeEnd) -> Ordering
+fn line_cmp(a: &EdgeEnd, b: &EdgeEnd) -> Ordering
     ensures order { result ≡ ordering_then (dir_order a.now.dir b.now.dir) (moment_order a.now b.now) }
 {
     a.dir.cmp(&b.dir).then_with(|| moment_cmp(a, b))
@@ -129,14 +129,14 @@ fn tied_cmp(a: &EdgeEnd, b: &EdgeEnd) -> Ordering
 }
 
 // Compares the keys of two ends' lines.
-pub(crate) fn key_cmp(a: &EdgeEnd, b: &EdgeEnd) -> Ordering
+fn key_cmp(a: &EdgeEnd, b: &EdgeEnd) -> Ordering
     ensures order { result ≡ int_cmp a.now.key b.now.key }
 {
     a.key.cmp(&b.key)
 }
 
 // Compares the lines of two ends, and then the numbers of their vertices.
-fn end_cmp(a: &EdgeEnd, b: &EdgeEnd) -> Ordering
+pub(crate) fn end_cmp(a: &EdgeEnd, b: &EdgeEnd) -> Ordering
     ensures order { result ≡ end_order a.now b.now }
 {
     key_cmp(a, b).then_with(|| tied_cmp(a, b))

@@ -89,9 +89,9 @@ fn product_sum(point: &Point, dir: &Dir) -> i128
     x + 61 * y + 3721 * z
 }
 
-// The key of the line through the point along the direction: a whole number that is the same for all points of the line, and
-// that few others have. It is a sum of the numbers of the moment, rounded down.
-fn line_key(point: &Point, dir: &Dir) -> i64
+/// The key of the line through the point along the direction: a whole number that is the same for all points of the line, and
+/// that few others have. It is a sum of the numbers of the moment, rounded down.
+pub(crate) fn line_key(point: &Point, dir: &Dir) -> i64
     ensures key { result ≡ key_of point.now dir.now }
 {
     whole(product_sum(point, dir), point.w())

@@ -1,34 +1,95 @@
-//! Edges that are told by guesses, each checked alone.
+//! Edges by guesses, each of which is checked alone.
 
-ghost use Rattle.std.specs.Prelude.{◌≡◌, ◌<◌, ◌+◌, true};
-ghost use Rattle.std.specs.declared.cmp.Ordering.TheVariants.{Equal};
-ghost use Rattle.nef_complex.specs.Prelude.{ℕ, length, map, IsTrue, IfSome, IfOk, OnOk, At, vertex_of, edge_of, Edges};
-ghost use Rattle.nef_edges.specs.Order.{line_order};
+ghost use Rattle.std.specs.Prelude.{◌≡◌, ◌<◌, ◌≤◌, ◌+◌, ◌-ℤ◌, ◌*ℤ◌, true};
+ghost use Rattle.nef_complex.specs.Prelude.{ℕ, length, map, nat_abs, direction_limit, point_limit, IsTrue, IfSome, IfOk, OnOk, At, vertex_of, edge_of, Edges, place_of};
+ghost use Rattle.nef_space.specs.Limits.{weight_limit};
+ghost use Rattle.nef_space.specs.Place.{toward};
+ghost use Rattle.nef_space.specs.Vectors.{cross, IsZero};
+ghost use Rattle.nef_geo.specs.Shapes.{vector_of};
+ghost use Rattle.nef_edges.specs.Widths.{way_limit};
 ghost use Rattle.nef_edges.specs.Matched.{IsMatched, AreMatchedEnds, AreMatchedFrom, AreTaken, slot_of};
 ghost use Rattle.nef_edges.specs.EdgeEnds.{IsBefore};
 ghost use Rattle.nef_edges.specs.Pairs.{AreJoined};
 
 use crate::OutOfMemory;
-use crate::arriving::{key_cmp, line_cmp};
-use crate::edge_end::EdgeEnd;
+use crate::guesses::{Guesses, slot};
 use nef_complex::{Edge, Vertex};
+use nef_geo::{Dir, Point};
 use nef_smap::SVertex;
 use std::alloc::Global;
 
-// Whether two ends lie on one line.
-fn is_one_line(a: &EdgeEnd, b: &EdgeEnd) -> bool
-    ensures line { IsTrue result → line_order a.now b.now ≡ Equal }
+// The difference of b/v and a/w, times both denominators.
+fn difference(a: i64, w: i64, b: i64, v: i64) -> i128
+    requires a_small { nat_abs a ≤ point_limit }
+    requires w_small { nat_abs w ≤ weight_limit }
+    requires b_small { nat_abs b ≤ point_limit }
+    requires v_small { nat_abs v ≤ weight_limit }
+    ensures difference { result ≡ b *ℤ w -ℤ a *ℤ v }
+    ensures small { nat_abs result ≤ way_limit }
 {
-    key_cmp(a, b).is_eq() && line_cmp(a, b).is_eq()
+    b as i128 * w as i128 - a as i128 * v as i128
+}
+
+// The numbers of q - p, times both denominators.
+fn way(p: &Point, q: &Point) -> (i128, i128, i128)
+    ensures x { result.0 ≡ q.now.x *ℤ p.now.w -ℤ p.now.x *ℤ q.now.w }
+    ensures y { result.1 ≡ q.now.y *ℤ p.now.w -ℤ p.now.y *ℤ q.now.w }
+    ensures z { result.2 ≡ q.now.z *ℤ p.now.w -ℤ p.now.z *ℤ q.now.w }
+    ensures x_small { nat_abs result.0 ≤ way_limit }
+    ensures y_small { nat_abs result.1 ≤ way_limit }
+    ensures z_small { nat_abs result.2 ≤ way_limit }
+{
+    (
+        difference(p.x(), p.w(), q.x(), q.w()),
+        difference(p.y(), p.w(), q.y(), q.w()),
+        difference(p.z(), p.w(), q.z(), q.w()),
+    )
+}
+
+fn scaled(n: i128, m: i64) -> i128
+    requires n_small { nat_abs n ≤ way_limit }
+    requires m_small { nat_abs m ≤ direction_limit }
+    ensures scaled { result ≡ n *ℤ m }
+{
+    n * m as i128
+}
+
+// Whether a : b = e : f.
+fn is_flat(a: i128, b: i128, e: i64, f: i64) -> bool
+    requires a_small { nat_abs a ≤ way_limit }
+    requires b_small { nat_abs b ≤ way_limit }
+    requires e_small { nat_abs e ≤ direction_limit }
+    requires f_small { nat_abs f ≤ direction_limit }
+    ensures flat { IsTrue result → a *ℤ f ≡ b *ℤ e }
+{
+    scaled(a, f) == scaled(b, e)
+}
+
+// Whether q lies on the line through p along the direction: the product of q - p and the direction is zero.
+fn is_along(p: &Point, dir: &Dir, q: &Point) -> bool
+    ensures along { IsTrue result → IsZero (cross (toward (place_of p.now) (place_of q.now)) (vector_of dir.now)) }
+{
+    let u = way(p, q);
+    if !is_flat(u.1, u.2, dir.y(), dir.z()) {
+        return false;
+    }
+    if !is_flat(u.2, u.0, dir.z(), dir.x()) {
+        return false;
+    }
+    is_flat(u.0, u.1, dir.x(), dir.y())
 }
 
 // Whether the svertex of the first point leads to later points, and the one of the second back along the same line.
 fn is_matched(low: &Vertex, from: &SVertex, high: &Vertex, to: &SVertex) -> bool
     ensures matched { IsTrue result → AreMatchedEnds low.now from.now high.now to.now }
 {
-    let first = EdgeEnd::of(low.point, from.dir, 0, 0);
-    let second = EdgeEnd::of(high.point, to.dir.back(), 0, 0);
-    from.dir.is_normal() && is_one_line(&first, &second)
+    if !from.dir.is_normal() {
+        return false;
+    }
+    if !from.dir.is_same(&to.dir.back()) {
+        return false;
+    }
+    is_along(&low.point, &from.dir, &high.point)
 }
 
 /// The edge with these ends, where they are matched.
@@ -61,24 +122,6 @@ pub(crate) fn matched_edge(
     None
 }
 
-/// The end at which an edge may arrive: a vertex with one of its svertices.
-#[derive(Debug, Clone, Copy, PartialEq, Eq)]
-pub struct Guess {
-    pub vertex: usize,
-    pub svertex: usize,
-}
-
-// The number of the mark of a svertex.
-fn slot(starts: &[usize], vertex: usize, svertex: usize) -> usize
-    ensures slot { result ≡ slot_of starts.now vertex svertex }
-{
-    let start = match starts.get(vertex) {
-        Some(start) => *start,
-        None => 0,
-    };
-    start.saturating_add(svertex)
-}
-
 // Sets a mark. Says whether there is one that wasn't set.
 fn take(marks: &mut Vec<bool>, slot: usize) -> bool
     ensures free { IsTrue result → At marks.old.items slot true → ⊥ }
@@ -99,7 +142,7 @@ fn taken_edge(
     vertices: &[Vertex],
     low: usize,
     low_svertex: usize,
-    guess: &Guess,
+    guesses: &Guesses,
 ) -> Option<Edge>
     ensures matched { IfSome result (λ e. IsMatched (map vertex_of vertices.now) (edge_of e)) }
     ensures low { IfSome result (λ e. e.low ≡ low) }
@@ -108,6 +151,7 @@ fn taken_edge(
     ensures taken { IfSome result (λ e. At marks.new.items (slot_of starts.now e.high e.high_svertex) true) }
     ensures kept { (k : ℕ) → At marks.old.items k true → At marks.new.items k true }
 {
+    let guess = guesses.at(low, low_svertex)?;
     let edge = matched_edge(vertices, low, low_svertex, guess.vertex, guess.svertex)?;
     if take(marks, slot(starts, edge.high, edge.high_svertex)) {
         return Some(edge);
@@ -123,17 +167,14 @@ fn add_guess(
     vertices: &[Vertex],
     i: usize,
     k: usize,
-    guesses: &[Guess],
+    guesses: &Guesses,
 ) -> Result<bool, OutOfMemory>
     requires before { AreMatchedFrom vertices.now (IsBefore i k) edges.old.items }
     requires taken { AreTaken starts.now marks.old.items edges.old.items }
     ensures added { IfOk result (λ right. IsTrue right → AreMatchedFrom vertices.now (IsBefore i (k + 1)) edges.new.items) }
     ensures taken { IfOk result (λ right. IsTrue right → AreTaken starts.now marks.new.items edges.new.items) }
 {
-    if edges.len() >= guesses.len() {
-        return Ok(false);
-    }
-    match taken_edge(marks, starts, vertices, i, k, &guesses[edges.len()]) {
+    match taken_edge(marks, starts, vertices, i, k, guesses) {
         Some(edge) => {
             edges.push(edge)?;
             Ok(true)
@@ -149,7 +190,7 @@ fn add_guessed(
     starts: &[usize],
     vertices: &[Vertex],
     i: usize,
-    guesses: &[Guess],
+    guesses: &Guesses,
 ) -> Result<bool, OutOfMemory>
     requires within { i < length vertices.now }
     requires before { AreMatchedFrom vertices.now (IsBefore i 0) edges.old.items }
@@ -169,39 +210,20 @@ fn add_guessed(
     Ok(true)
 }
 
-// Where the marks of each vertex begin, and how many there are. Were they wrong, right guesses would be refused.
-fn mark_starts(alloc: Global, vertices: &[Vertex]) -> Result<(Vec<usize>, usize), OutOfMemory> {
-    let mut starts = Vec::with_capacity(alloc, vertices.len())?;
-    let mut count: usize = 0;
-    for vertex in vertices {
-        starts.push(count)?;
-        count = count.saturating_add(vertex.map.svertices.as_slice().len());
-    }
-    Ok((starts, count))
-}
-
-/// All edges of the vertices, in order, by guesses: one for each svertex that leads to later points, in order. `None` says
-/// that they don't match.
+/// All edges of the vertices, in order, by guesses. `None` says that one is missing or wrong.
 pub(crate) fn edges_guessed(
     alloc: Global,
     vertices: &[Vertex],
-    guesses: &[Guess],
+    guesses: &Guesses,
 ) -> Result<Option<Vec<Edge>>, OutOfMemory>
     requires joined { AreJoined (map vertex_of vertices.now) }
     ensures edges { IfOk result (λ o. IfSome o (λ v. Edges (map vertex_of vertices.now) (map edge_of v.items))) }
 {
-    let (starts, count) = mark_starts(alloc, vertices)?;
-    let mut marks = vec![in alloc; false; count]?;
-    let mut edges = Vec::with_capacity(alloc, guesses.len())?;
+    let starts = guesses.starts();
+    let mut marks = vec![in alloc; false; guesses.len()]?;
+    let mut edges = Vec::with_capacity(alloc, guesses.len() / 2)?;
     for i in 0..vertices.len() {
-        let right = add_guessed(
-            &mut edges,
-            &mut marks,
-            starts.as_slice(),
-            vertices,
-            i,
-            guesses,
-        )?;
+        let right = add_guessed(&mut edges, &mut marks, starts, vertices, i, guesses)?;
         if !right {
             return Ok(None);
         }

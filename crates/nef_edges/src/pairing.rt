@@ -9,6 +9,8 @@ ghost use Rattle.nef_edges.specs.Pairs.{AreJoined, AreEdges};
 use crate::OutOfMemory;
 use crate::arriving::{next_after, sorted_arriving};
 use crate::edge_end::EdgeEnd;
+use crate::guessed::edges_guessed;
+use crate::guesses::guesses_from;
 use nef_complex::{Complex, Edge, SortedCarriers, Table, Vertex, vertex_rows, vertex_rows_from};
 use nef_geo::{List, Plane};
 use std::alloc::Global;
@@ -57,12 +59,38 @@ fn edges_of(alloc: Global, vertices: &[Vertex]) -> Result<Vec<Edge>, OutOfMemory
     Ok(edges)
 }
 
-// As `pair`, where for each vertex the numbers of the carriers that hold it are given.
+// Below so many vertices all ends are sorted sooner than guesses are made and checked.
+const GUESSED_FROM: usize = 64;
+
+// As `edges_of`, for vertices most of whose edges are edges of these complexes.
+fn edges_from(
+    alloc: Global,
+    vertices: &[Vertex],
+    sources: &[&Complex],
+) -> Result<Vec<Edge>, OutOfMemory>
+    requires joined { AreJoined (map vertex_of vertices.now) }
+    ensures edges { IfOk result (λ v. Edges (map vertex_of vertices.now) (map edge_of v.items)) }
+{
+    if vertices.len() < GUESSED_FROM {
+        return edges_of(alloc, vertices);
+    }
+    let Some(guesses) = guesses_from(alloc, vertices, sources)? else {
+        return edges_of(alloc, vertices);
+    };
+    match edges_guessed(alloc, vertices, &guesses)? {
+        Some(edges) => Ok(edges),
+        None => edges_of(alloc, vertices),
+    }
+}
+
+// As `pair`, where for each vertex the numbers of the carriers that hold it are given, and most edges are edges of these
+// complexes.
 fn pair_held(
     alloc: Global,
     carriers: List<Plane>,
     vertices: List<Vertex>,
     at_vertex: Table,
+    sources: &[&Complex],
 ) -> Result<Complex, OutOfMemory>
     requires vertices { (s : Set) × AreVerticesOf s carriers vertices }
     requires holders { AreVertexHolders carriers vertices at_vertex }
@@ -70,7 +98,7 @@ fn pair_held(
     ensures edges { IfOk result (λ c. Edges (map vertex_of c.vertices) (map edge_of c.edges)) }
     ensures shows { IfOk result (λ c. (s : Set) → AreVerticesOf s carriers vertices → ShowsSet s c) }
 {
-    let edges = List::from_vec(edges_of(alloc, vertices.as_slice())?);
+    let edges = List::from_vec(edges_from(alloc, vertices.as_slice(), sources)?);
     Complex::of(alloc, carriers, vertices, edges, at_vertex)
 }
 
@@ -89,10 +117,11 @@ pub fn pair(
 {
     let carriers = SortedCarriers::of(alloc, carriers)?;
     let rows = vertex_rows(alloc, &carriers, vertices.as_slice())?;
-    pair_held(alloc, carriers.into_planes(), vertices, rows)
+    pair_held(alloc, carriers.into_planes(), vertices, rows, &[])
 }
 
-/// As `pair`, for a set that is made of those of two complexes: what these say of their vertices is taken over.
+/// As `pair`, for a set that is made of those of two complexes: what these say of their vertices is taken over, and their
+/// edges are tried first.
 pub fn pair_from(
     alloc: Global,
     carriers: List<Plane>,
@@ -109,5 +138,11 @@ pub fn pair_from(
 {
     let carriers = SortedCarriers::of(alloc, carriers)?;
     let rows = vertex_rows_from(alloc, &carriers, vertices.as_slice(), first, second)?;
-    pair_held(alloc, carriers.into_planes(), vertices, rows)
+    pair_held(
+        alloc,
+        carriers.into_planes(),
+        vertices,
+        rows,
+        &[first, second],
+    )
 }

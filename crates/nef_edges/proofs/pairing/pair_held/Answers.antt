@@ -5,8 +5,8 @@ use Rattle.nef_edges.specs.Pairs.{AreJoined}
 use Rattle.nef_edges.proofs.Joined.{are-joined, paired-edges, carriers-ordered, all-held, have-ends, shows-set}
 use Rattle.nef_edges.proofs.pairing.pair_held.Goals as goal
 
-pub edges_of-requires : goal.edges_of-requires
-edges_of-requires c = record {
+pub edges_from-requires : goal.edges_from-requires
+edges_from-requires c = record {
   joined = subst (λ (vs : List Vertex). AreJoined (map vertex_of vs)) (sym c.as_slice.ensures.all) (are-joined c.requires.vertices.0 c.args.carriers c.args.vertices c.requires.vertices.1);
 }
 
@@ -17,13 +17,13 @@ pub of-requires-clause-held : goal.of-requires-clause-held
 of-requires-clause-held c =
     let V = c.requires.vertices in
     all-held V.0 c.args.carriers c.args.vertices V.1 c.from_vec-edges.result
-    (paired-edges c.args.vertices c.as_slice.result.now c.in_ok-edges_of.field-0.items c.from_vec-edges.result c.as_slice.ensures.all c.from_vec-edges.ensures.all c.in_ok-edges_of.ensures.edges)
+    (paired-edges c.args.vertices c.as_slice.result.now c.in_ok-edges_from.field-0.items c.from_vec-edges.result c.as_slice.ensures.all c.from_vec-edges.ensures.all c.in_ok-edges_from.ensures.edges)
 
 pub of-requires-clause-ends : goal.of-requires-clause-ends
 of-requires-clause-ends c =
     let V = c.requires.vertices in
     have-ends V.0 c.args.carriers c.args.vertices V.1 c.from_vec-edges.result
-    (paired-edges c.args.vertices c.as_slice.result.now c.in_ok-edges_of.field-0.items c.from_vec-edges.result c.as_slice.ensures.all c.from_vec-edges.ensures.all c.in_ok-edges_of.ensures.edges)
+    (paired-edges c.args.vertices c.as_slice.result.now c.in_ok-edges_from.field-0.items c.from_vec-edges.result c.as_slice.ensures.all c.from_vec-edges.ensures.all c.in_ok-edges_from.ensures.edges)
 
 if-all : {A D : Type 0} (P Q R T : A → Type 0) → ((x : A) → P x → Q x → R x → T x) → (r : Result A D) → IfOk r P → IfOk r Q → IfOk r R → IfOk r T
 if-all P Q R T f (Ok x) p q r = f x p q r
@@ -31,5 +31,5 @@ if-all P Q R T f (Err e) p q r = tt
 
 pub returns-clause-shows : goal.returns-clause-shows
 returns-clause-shows c =
-    let E = paired-edges c.args.vertices c.as_slice.result.now c.in_ok-edges_of.field-0.items c.from_vec-edges.result c.as_slice.ensures.all c.from_vec-edges.ensures.all c.in_ok-edges_of.ensures.edges in
+    let E = paired-edges c.args.vertices c.as_slice.result.now c.in_ok-edges_from.field-0.items c.from_vec-edges.result c.as_slice.ensures.all c.from_vec-edges.ensures.all c.in_ok-edges_from.ensures.edges in
     if-all _ _ _ _ (λ d k i h s V. shows-set s c.args.carriers c.args.vertices V c.from_vec-edges.result E d k.0 k.1 k.2 i h) c.of.result c.of.ensures.kept c.of.ensures.index c.of.ensures.holders

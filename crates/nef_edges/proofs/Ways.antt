@@ -1,0 +1,82 @@
+-- The way from one point to another, times both denominators, as the machine works it; and whether it goes along a direction.
+use Rattle.std.proofs.Common.{◌≡◌, ℕ, ◌≤◌, ℤ, pos, ◌-ℤ◌, ◌*ℤ◌, nat_abs, List, [], ◌∷◌, w64, to_z, of_z, FitsSigned, arith, sym, ap, subst, ◌∙◌}
+use Rattle.std.proofs.lemmas.Int.{ints}
+use mir.Syntax.{w128}
+use Rattle.nef_space.specs.Limits.{direction_limit, point_limit, weight_limit}
+use Rattle.nef_space.specs.Place.{toward}
+use Rattle.nef_space.specs.Vectors.{cross, IsZero}
+use Rattle.nef_space.proofs.Machine.{Code, load, wrap, run, ◌⊟◌, ◌⊠◌, Limited, fits_of, exact_of, size_of}
+use Rattle.nef_geo.specs.Shapes.{place_of, vector_of}
+use Rattle.nef_geo.specs.declared.dir.Dir.{Dir}
+use Rattle.nef_geo.specs.declared.point.Point.{Point}
+use Rattle.nef_edges.specs.Widths.{way_limit}
+use Rattle.nef_edges.proofs.Lines.{to-level}
+
+abbrev wide : ℕ → Code
+wide i = wrap w128 (wrap w64 (load i))
+
+-- ---- `b as i128 * w as i128 - a as i128 * v as i128`
+module _ (a w b v : ℤ) (ha : nat_abs a ≤ point_limit) (hw : nat_abs w ≤ weight_limit) (hb : nat_abs b ≤ point_limit) (hv : nat_abs v ≤ weight_limit) where
+  abbrev way : Code
+  way = wrap w128 (wide 2 ⊠ wide 1) ⊟ wrap w128 (wide 0 ⊠ wide 3)
+
+  abbrev way-sizes : List ℕ
+  way-sizes = point_limit ∷ weight_limit ∷ point_limit ∷ weight_limit ∷ []
+
+  way-limited : Limited way-sizes (a ∷ w ∷ b ∷ v ∷ [])
+  way-limited = (ha, (hw, (hb, (hv, tt))))
+
+  pub way-fits : FitsSigned w128 (run (a ∷ w ∷ b ∷ v ∷ []) way)
+  way-fits = fits_of way-sizes (a ∷ w ∷ b ∷ v ∷ []) w128 way way-limited tt
+
+  pub way-exact : run (a ∷ w ∷ b ∷ v ∷ []) (wrap w128 way) ≡ b *ℤ w -ℤ a *ℤ v
+  way-exact = exact_of way-sizes (a ∷ w ∷ b ∷ v ∷ []) (wrap w128 way) way-limited tt
+
+  pub way-small : nat_abs (run (a ∷ w ∷ b ∷ v ∷ []) (wrap w128 way)) ≤ way_limit
+  way-small = size_of way-sizes (a ∷ w ∷ b ∷ v ∷ []) way_limit (wrap w128 way) way-limited tt tt
+
+-- ---- `n * m as i128`
+module _ (n m : ℤ) (hn : nat_abs n ≤ way_limit) (hm : nat_abs m ≤ direction_limit) where
+  abbrev times : Code
+  times = wrap w128 (load 0) ⊠ wide 1
+
+  pub times-fits : FitsSigned w128 (run (n ∷ m ∷ []) times)
+  times-fits = fits_of (way_limit ∷ direction_limit ∷ []) (n ∷ m ∷ []) w128 times (hn, (hm, tt)) tt
+
+  pub times-exact : run (n ∷ m ∷ []) (wrap w128 times) ≡ n *ℤ m
+  times-exact = exact_of (way_limit ∷ direction_limit ∷ []) (n ∷ m ∷ []) (wrap w128 times) (hn, (hm, tt)) tt
+
+-- ---- numbers that pass through their type
+pub kept : (n : ℤ) → nat_abs n ≤ way_limit → to_z w128 (of_z w128 n) ≡ n
+kept n h = exact_of (way_limit ∷ []) (n ∷ []) (wrap w128 (load 0)) (h, tt) tt
+
+pub number-kept : (n : ℤ) → nat_abs n ≤ direction_limit → to_z w64 (of_z w64 n) ≡ n
+number-kept n h = exact_of (direction_limit ∷ []) (n ∷ []) (wrap w64 (load 0)) (h, tt) tt
+
+-- ---- where the product of the way and a direction is zero
+level-from : (m n e f : ℤ) → m *ℤ f ≡ n *ℤ e → m *ℤ f -ℤ n *ℤ e ≡ pos 0
+level-from m n e f h = omega (arith, ints, h)
+
+pub along-line : (p q : Point) (d : Dir) (x y z : ℤ) → x ≡ q.x *ℤ p.w -ℤ p.x *ℤ q.w → y ≡ q.y *ℤ p.w -ℤ p.y *ℤ q.w → z ≡ q.z *ℤ p.w -ℤ p.z *ℤ q.w → y *ℤ d.z ≡ z *ℤ d.y → z *ℤ d.x ≡ x *ℤ d.z → x *ℤ d.y ≡ y *ℤ d.x
+    → IsZero (cross (toward (place_of p) (place_of q)) (vector_of d))
+along-line p q d x y z ex ey ez a b c = to-level p q (vector_of d) (pair y z _ _ ey ez d.y d.z a, pair z x _ _ ez ex d.z d.x b, pair x y _ _ ex ey d.x d.y c)
+  where
+    pair : (m n m' n' : ℤ) → m ≡ m' → n ≡ n' → (e f : ℤ) → m *ℤ f ≡ n *ℤ e → m' *ℤ f -ℤ n' *ℤ e ≡ pos 0
+    pair m n m' n' h k e f g = subst (λ i. i *ℤ f -ℤ n' *ℤ e ≡ pos 0) h (subst (λ j. m *ℤ f -ℤ j *ℤ e ≡ pos 0) k (level-from m n e f g))
+
+-- the same of numbers that have passed through their types
+pub along-read : (p q : Point) (d : Dir) (x y z dy dz dz' dx dx' dy' : ℤ) → x ≡ q.x *ℤ p.w -ℤ p.x *ℤ q.w → y ≡ q.y *ℤ p.w -ℤ p.y *ℤ q.w → z ≡ q.z *ℤ p.w -ℤ p.z *ℤ q.w → nat_abs x ≤ way_limit → nat_abs y ≤ way_limit → nat_abs z ≤ way_limit
+    → dy ≡ d.y → dz ≡ d.z → dz' ≡ d.z → dx ≡ d.x → dx' ≡ d.x → dy' ≡ d.y
+    → to_z w128 (of_z w128 y) *ℤ to_z w64 (of_z w64 dz) ≡ to_z w128 (of_z w128 z) *ℤ to_z w64 (of_z w64 dy)
+    → to_z w128 (of_z w128 z) *ℤ to_z w64 (of_z w64 dx) ≡ to_z w128 (of_z w128 x) *ℤ to_z w64 (of_z w64 dz')
+    → to_z w128 (of_z w128 x) *ℤ to_z w64 (of_z w64 dy') ≡ to_z w128 (of_z w128 y) *ℤ to_z w64 (of_z w64 dx')
+    → IsZero (cross (toward (place_of p) (place_of q)) (vector_of d))
+along-read p q d x y z dy dz dz' dx dx' dy' ex ey ez hx hy hz fy fz fz' fx fx' fy' a b c =
+    along-line p q d x y z ex ey ez (read y z dy dz d.y d.z hy hz fy fz d.y_small d.z_small a) (read z x dz' dx d.z d.x hz hx fz' fx d.z_small d.x_small b) (read x y dx' dy' d.x d.y hx hy fx' fy' d.x_small d.y_small c)
+  where
+    read : (m n e f g h : ℤ) → nat_abs m ≤ way_limit → nat_abs n ≤ way_limit → e ≡ g → f ≡ h → nat_abs g ≤ direction_limit → nat_abs h ≤ direction_limit
+        → to_z w128 (of_z w128 m) *ℤ to_z w64 (of_z w64 f) ≡ to_z w128 (of_z w128 n) *ℤ to_z w64 (of_z w64 e) → m *ℤ h ≡ n *ℤ g
+    read m n e f g h hm hn i j hg hh r =
+        let k : to_z w64 (of_z w64 f) ≡ h = ap (λ l. to_z w64 (of_z w64 l)) j ∙ number-kept h hh in
+        let k' : to_z w64 (of_z w64 e) ≡ g = ap (λ l. to_z w64 (of_z w64 l)) i ∙ number-kept g hg in
+        ap (λ l. l *ℤ h) (sym (kept m hm)) ∙ ap (λ l. to_z w128 (of_z w128 m) *ℤ l) (sym k) ∙ r ∙ ap (λ l. to_z w128 (of_z w128 n) *ℤ l) k' ∙ ap (λ l. l *ℤ g) (kept n hn)
