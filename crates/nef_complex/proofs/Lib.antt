@@ -21,3 +21,5 @@ pub mod Outside
 pub mod Walking
 pub mod SamePoints
 pub mod TakenRows
+pub mod Peaked
+pub mod Rising

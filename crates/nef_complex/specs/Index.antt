@@ -16,6 +16,7 @@ use Rattle.nef_complex.specs.declared.groups.Cluster.{Cluster}
 use Rattle.nef_complex.specs.declared.groups.Group.{Group}
 use Rattle.nef_complex.specs.Spans.{IsInSpan}
 use Rattle.nef_complex.specs.Planes.{HoldsBoth}
+use Rattle.nef_complex.specs.Peaks.{HavePeaks}
 
 -- the plane is that of an item of some vertex
 abbrev pub HasItemIn : List Vertex → Form → Type 0
@@ -120,7 +121,7 @@ pub record AreClusters (hs : List Plane) (vs : List Vertex) (clusters : List Clu
   pub groups : (i j : ℕ) (q : Cluster) (g : Group) → IsAt clusters i q → IsAt q.groups j g → AreSpanned hs vs (IsInGroup g) g.span
   pub all : (k : ℕ) → k < length hs → StandsIn IsInCluster clusters k
 
--- the index names the carriers that hold each vertex and each edge, and what each carrier holds and where that lies; and it has the carriers in clusters
+-- the index names the carriers that hold each vertex and each edge, and what each carrier holds and where that lies; it has the carriers in clusters, and the peaks of rows of edges
 pub record HasHolders (hs : List Plane) (vs : List Vertex) (es : List Edge) (x : PlaneIndex) : Type 0 where
   pub at_vertex : AreVertexHolders hs vs x.at_vertex
   pub at_edge : AreEdgeHolders hs vs es x.at_edge
@@ -128,6 +129,8 @@ pub record HasHolders (hs : List Plane) (vs : List Vertex) (es : List Edge) (x :
   pub in_carrier : AreCarrierEdges hs vs es x.in_carrier
   pub spans : AreSpans hs vs x.spans
   pub clusters : AreClusters hs vs x.clusters
+  pub peaks : HavePeaks es x.in_carrier x.peaks
+  pub plane_peaks : HavePeaks es x.edges x.plane_peaks
 
 -- the carriers hold each item: some carrier has its normal and holds its vertex
 abbrev pub AreHeld : List Plane → List Vertex → Type 0

@@ -1,6 +1,7 @@
 pub mod Complexes
 pub mod Planes
 pub mod Spans
+pub mod Peaks
 pub mod Index
 pub mod Indexing
 pub mod Runs

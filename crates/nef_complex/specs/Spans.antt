@@ -28,3 +28,11 @@ IsNarrower s t = AreNarrower s.x t.x × AreNarrower s.y t.y × AreNarrower s.z t
 -- the bounds are at most as large as a point's coordinates
 abbrev pub AreSmall : Bounds → Type 0
 AreSmall b = (nat_abs b.low ≤ point_limit) × (nat_abs b.high ≤ point_limit)
+
+-- some number may lie within both
+abbrev pub HaveCommon : Bounds → Bounds → Type 0
+HaveCommon a b = (a.low ≤ℤ b.high) × (b.low ≤ℤ a.high)
+
+-- so it is for each coordinate
+abbrev pub DoOverlap : Span → Span → Type 0
+DoOverlap s t = HaveCommon s.x t.x × HaveCommon s.y t.y × HaveCommon s.z t.z

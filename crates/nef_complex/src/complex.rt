@@ -9,6 +9,7 @@ ghost use Rattle.nef_complex.specs.Complexes.{complex_of, AreSorted, AreBelow, A
 ghost use Rattle.nef_complex.specs.declared.complex.Edge.{Edge as EdgeValue};
 ghost use Rattle.nef_complex.specs.declared.complex.Vertex.{Vertex as VertexValue};
 ghost use Rattle.nef_complex.specs.Index.{HasItemIn, LiesOn, EdgeLiesIn, AreNumbersWith, AreHolders, AreHoldersAlong, AreSpans, AreClusters};
+ghost use Rattle.nef_complex.specs.Peaks.{ArePeaks};
 
 use crate::groups::Cluster;
 use crate::spans::Span;
@@ -90,7 +91,8 @@ pub fn vertex_at(c: &Complex, p: &Point) -> Option<usize>
 /// of the edges that lie in it and those of the vertices on it, in increasing order. Besides, for each vertex the numbers
 /// of the carriers that hold it, and for each edge those of the carriers that hold both of its ends, in increasing order;
 /// and for each carrier the numbers of the vertices on it, those of the edges in it, and a span of these vertices; and the
-/// carriers in clusters of groups of such as lie close to one another.
+/// carriers in clusters of groups of such as lie close to one another. The long ones of the rows of edges in a carrier and
+/// in a plane have peaks.
 #[derive(Debug, Drop)]
 pub struct PlaneIndex {
     pub planes: List<Plane>,
@@ -102,13 +104,16 @@ pub struct PlaneIndex {
     pub in_carrier: List<List<usize>>,
     pub spans: List<Span>,
     pub clusters: List<Cluster>,
+    pub peaks: Table,
+    pub plane_peaks: Table,
 }
 
-/// The numbers of the edges that lie in a plane, and of the vertices on it, in increasing order.
+/// The numbers of the edges that lie in a plane, and of the vertices on it, in increasing order; and the peaks of the edges.
 #[derive(Debug, Clone, Copy)]
 pub struct PlaneItems<'a> {
     pub edges: &'a [usize],
     pub vertices: &'a [usize],
+    pub peaks: &'a [usize],
 }
 
 /// The edges and vertices of the plane, by halving. `None` comes exactly where no vertex has an item in the plane.
@@ -117,12 +122,14 @@ pub fn plane_items<'a>(c: &'a Complex, h: &Plane) -> Option<PlaneItems<'a>>
     ensures item { IfSome result (λ r. HasItemIn c.now.vertices (form_of h.now)) }
     ensures edges { IfSome result (λ r. AreNumbersWith (EdgeLiesIn c.now.vertices c.now.edges (form_of h.now)) r.edges.now) }
     ensures vertices { IfSome result (λ r. AreNumbersWith (LiesOn c.now.vertices (form_of h.now)) r.vertices.now) }
+    ensures peaks { IfSome result (λ r. ArePeaks c.now.edges r.edges.now r.peaks.now) }
     ensures none { IsNone result → HasItemIn c.now.vertices (form_of h.now) → ⊥ }
 {
     match c.index.planes.as_slice().binary_search(h) {
         Ok(number) => Some(PlaneItems {
             edges: c.index.edges.row(number),
             vertices: c.index.vertices.row(number),
+            peaks: c.index.plane_peaks.row_or_none(number),
         }),
         Err(_place) => None,
     }
@@ -152,10 +159,12 @@ pub fn carrier_items<'a>(c: &'a Complex, number: usize) -> PlaneItems<'a>
     requires within { number < length c.now.carriers }
     ensures edges { (h : Plane) → IsAt c.now.carriers number h → AreNumbersWith (EdgeLiesIn c.now.vertices c.now.edges (form_of h)) result.edges.now }
     ensures vertices { (h : Plane) → IsAt c.now.carriers number h → AreNumbersWith (LiesOn c.now.vertices (form_of h)) result.vertices.now }
+    ensures peaks { ArePeaks c.now.edges result.edges.now result.peaks.now }
 {
     PlaneItems {
         edges: c.index.in_carrier.at(number).as_slice(),
         vertices: c.index.on_carrier.at(number).as_slice(),
+        peaks: c.index.peaks.row_or_none(number),
     }
 }
 

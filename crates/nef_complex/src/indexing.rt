@@ -4,11 +4,13 @@ ghost use Rattle.std.specs.Prelude.{◌≡◌, ◌↔◌, ◌<◌};
 ghost use Rattle.nef_geo.specs.Prelude.{List as Sequence, length, IsTrue, IfOk, ℕ, OnOk, form_of, place_of, IsAt, Place};
 ghost use Rattle.nef_complex.specs.declared.complex.Edge.{Edge};
 ghost use Rattle.nef_complex.specs.Index.{HasItemIn, LiesOn, AreNumbersWith, ArePlaneRows, IsIndexOf, HasHolders, AreHeld, AreInOrder, HaveEnds, AreVertexHolders, AreCarrierVertices, AreCarrierEdges, AreWithin, AreHolders, AreEdgeHolders};
+ghost use Rattle.nef_complex.specs.Peaks.{HavePeaks};
 ghost use Rattle.nef_complex.specs.Indexing.{AreOnce, AreRowsOfOnce, HaveOneMore, HasNumber};
 
 use crate::OutOfMemory;
 use crate::complex::{Complex, Edge, PlaneIndex, Vertex};
 use crate::groups::clusters_of;
+use crate::peaks::peaks_of;
 use crate::sorted_carriers::{SortedCarriers, holds};
 use crate::spans::spans_of;
 use crate::table::Table;
@@ -123,33 +125,37 @@ fn has_item(h: &Plane, vertices: &[Vertex], on: &[usize]) -> bool
 }
 
 // The planes of all items, each of which is a carrier, and for each of them the numbers of the edges in it and of the vertices
-// on it. The vertices and edges of each carrier are given.
+// on it; and the peaks of these edges. The vertices, edges and peaks of each carrier are given.
 fn plane_rows(
     alloc: Global,
     carriers: &[Plane],
     vertices: &[Vertex],
     on_carrier: &List<List<usize>>,
     in_carrier: &List<List<usize>>,
-) -> Result<(List<Plane>, Table, Table), OutOfMemory>
+    peaks: &Table,
+) -> Result<(List<Plane>, Table, Table, Table), OutOfMemory>
     requires ordered { AreInOrder carriers.now }
     requires held { AreHeld carriers.now vertices.now }
     requires on { AreCarrierVertices carriers.now vertices.now on_carrier.now }
     requires within { length in_carrier.now ≡ length carriers.now }
     ensures rows { IfOk result (λ r. (es : Sequence Edge) → AreCarrierEdges carriers.now vertices.now es in_carrier.now → ArePlaneRows vertices.now es r.0 r.1 r.2) }
+    ensures peaks { IfOk result (λ r. (es : Sequence Edge) → HavePeaks es in_carrier.now peaks.now → HavePeaks es r.1 r.3) }
 {
     let mut planes = List::new(alloc);
     let mut in_plane = Table::with_rows(alloc, carriers.len(), ON_CARRIER)?;
     let mut on_plane = Table::with_rows(alloc, carriers.len(), ON_CARRIER)?;
+    let mut plane_peaks = Table::with_rows(alloc, 0, 0)?;
     for (number, h) in carriers.iter().enumerate() {
         let on = on_carrier.at(number).as_slice();
         let within = in_carrier.at(number).as_slice();
         if has_item(h, vertices, on) {
+            plane_peaks.set_next(in_plane.len(), peaks.row_or_none(number))?;
             planes.push(*h)?;
             in_plane.push(within)?;
             on_plane.push(on)?;
         }
     }
-    Ok((planes, in_plane, on_plane))
+    Ok((planes, in_plane, on_plane, plane_peaks))
 }
 
 impl Complex {
@@ -181,12 +187,14 @@ impl Complex {
         let on_carrier = transposed(alloc, &at_vertex, carriers.len())?;
         let in_carrier = transposed(alloc, &at_edge, carriers.len())?;
         let spans = spans_of(alloc, vertices.as_slice(), on_carrier.as_slice())?;
-        let (planes, in_plane, on_plane) = plane_rows(
+        let peaks = peaks_of(alloc, edges.as_slice(), &in_carrier)?;
+        let (planes, in_plane, on_plane, plane_peaks) = plane_rows(
             alloc,
             carriers.as_slice(),
             vertices.as_slice(),
             &on_carrier,
             &in_carrier,
+            &peaks,
         )?;
         let clusters = clusters_of(alloc, spans.as_slice())?;
         let index = PlaneIndex {
@@ -199,6 +207,8 @@ impl Complex {
             in_carrier,
             spans,
             clusters,
+            peaks,
+            plane_peaks,
         };
         Ok(Complex {
             carriers,

@@ -8,6 +8,7 @@ mod complex;
 mod groups;
 mod indexing;
 mod parts;
+mod peaks;
 mod sorted_carriers;
 mod spans;
 mod table;

@@ -4,7 +4,7 @@ ghost use Rattle.std.specs.Prelude.{◌≡◌, ◌*ℤ◌, ◌<ℤ◌, ◌≤ℤ
 ghost use Rattle.nef_geo.specs.Prelude.{ℕ, pos, nat_abs, List as Sequence, length, IsTrue, IfOk, point_limit, IsAt, Place, place_of};
 ghost use Rattle.nef_complex.specs.declared.complex.Vertex.{Vertex};
 ghost use Rattle.nef_complex.specs.Index.{AreWithin};
-ghost use Rattle.nef_complex.specs.Spans.{IsInSpan, AreInSpan, AreNarrower, IsNarrower, AreSmall};
+ghost use Rattle.nef_complex.specs.Spans.{IsInSpan, AreInSpan, AreNarrower, IsNarrower, AreSmall, HaveCommon, DoOverlap};
 ghost use Rattle.nef_complex.specs.Indexing.{AreAlone, AreNarrowerListed};
 
 use crate::OutOfMemory;
@@ -99,13 +99,14 @@ impl Span {
 
 // Whether some number may lie within both.
 fn overlap(bounds: &Bounds, others: &Bounds) -> bool
-    ensures overlap { IsTrue result ↔ ((bounds.now.low ≤ℤ others.now.high) × (others.now.low ≤ℤ bounds.now.high)) }
+    ensures overlap { IsTrue result ↔ HaveCommon bounds.now others.now }
 {
     bounds.low <= others.high && others.low <= bounds.high
 }
 
-/// Whether the spans may have a point in common.
+/// Whether the spans may have a point in common: they overlap in each coordinate.
 pub fn may_meet(span: &Span, other: &Span) -> bool
+    ensures overlap { IsTrue result ↔ DoOverlap span.now other.now }
     ensures meets { (y : Place) → IsInSpan span.now y → IsInSpan other.now y → IsTrue result }
 {
     if !overlap(&span.z, &other.z) {

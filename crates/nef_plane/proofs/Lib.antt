@@ -20,3 +20,4 @@ mod AxisSizes
 pub mod Close
 pub mod Shifting
 pub mod Rising
+pub mod Below

@@ -20,6 +20,7 @@ use Rattle.nef_complex.specs.declared.complex.PlaneMeet.TheVariants.{AtVertex, A
 use Rattle.nef_complex.specs.declared.complex.PlaneItems.{PlaneItems}
 use Rattle.nef_complex.specs.Complexes.{vertex_of, edge_of, complex_of}
 use Rattle.nef_complex.specs.Index.{LiesOn, EdgeLiesIn, AreNumbersWith}
+use Rattle.nef_complex.specs.Peaks.{ArePeaks}
 use Rattle.nef_complex.specs.Planes.{HoldsBoth}
 use Rattle.nef_complex.proofs.Ends.{vertex-same}
 use Rattle.nef_plane.specs.Asked.{meet_at, count_in, AreItems}
@@ -102,12 +103,8 @@ count-has c t n k e l m f = subst (HasMeet c) (sym f) (by t (subst (λ (i : ℕ)
     by KindVertex l = l
     by KindEdge l = l
 
--- what is listed lies in the plane
-pub listed-lies : (c : Complex) (h : Form) (t : Kind) (ns : List ℕ) → AreNumbersWith (λ k. MeetLiesIn c h (meet_at t k)) ns → (i k : ℕ) → IsAt ns i k → (m : ProgramMeet) → m ≡ meet_at t k → MeetLiesIn c h m
-listed-lies c h t ns A i k a m e = subst (MeetLiesIn c h) (sym e) (A.each i k a)
-
--- what is listed for a plane, if anything is, are its edges and its vertices
+-- what is listed for a plane, if anything is, are its edges with their peaks and its vertices
 pub are-items : (c : Complex) (h : Form) (o : Option PlaneItems) → IfSome o (λ (r : PlaneItems). AreNumbersWith (EdgeLiesIn c.vertices c.edges h) r.edges.now) → IfSome o (λ (r : PlaneItems). AreNumbersWith (LiesOn c.vertices h) r.vertices.now)
-    → IfSome o (AreItems c h)
-are-items c h None e v = tt
-are-items c h (Some r) e v = record { edges = e; vertices = v }
+    → IfSome o (λ (r : PlaneItems). ArePeaks c.edges r.edges.now r.peaks.now) → IfSome o (AreItems c h)
+are-items c h None e v p = tt
+are-items c h (Some r) e v p = record { edges = e; vertices = v; peaks = p }

@@ -121,3 +121,31 @@ module _ {X : Type 0} (seen : X → Encounter) (p : Place) (d : Vector) where
         (λ m q w (k, x).
         let a = f k m q w x in
         ⊎_elim (λ t. (a.0, t, (k, a.1, x))) (λ t. absurd (missed a.0 k (omega (arith, l, t)) a.1 m q w x)) (cases_lt a.0 i)) A
+
+    -- ---- from a place on
+    abbrev pub From : ℕ → PlaneMeet → Place → Type 0
+    From i m q = (j : ℕ) × (i ≤ j) × InPlace j m q
+
+    -- where none is met from a place on, there is no nearest of those
+    pub asked-none : (n : ℕ) → ((j k : ℕ) → n ≤ j → IsAt ns j k → IsMissed p d (R k)) → IsNearest seen p d (From n) None
+    asked-none n off = λ m q w (j, t, (k, l, x)). off j k t l m q w x
+
+    -- with what is met of the one before, the nearest of one more
+    pub asked-before : (i n k : ℕ) (a b r o : Option X) → o ≡ r → n ≡ i + 1 → IsAt ns i k → NearerOf a b r → IsNearest seen p d (From n) a → IsNearest seen p d (R k) b → IsNearest seen p d (From i) o
+    asked-before i n k a b r o e f l M A B = subst (IsNearest seen p d (From i)) (sym e)
+        (nearest-as (λ m q. From n m q ⊎ R k m q) (From i) r
+        (λ m q. ⊎_elim (λ (x : From n m q). let t = x.1 in (x.0, omega (arith, t, f), x.2)) (λ (x : R k m q). (i, omega arith, (k, l, x))))
+        (λ m q w (j, t, (h, g, x)).
+        ⊎_elim (λ u. inr (subst (λ z. R z m q) (is-at_one ns i h k (subst (λ z. IsAt ns z h) (sym u) g) l) x)) (λ u. inl (j, omega (arith, u, f), (h, g, x))) (eq-or-lt_of_le {n = i} {m = j} t))
+        (nearest-either (From n) (R k) a b r M A B))
+
+    -- those before that aren't met are passed over
+    pub asked-over : (i n : ℕ) (a o : Option X) → o ≡ a → i ≤ n → ((j k : ℕ) → i ≤ j → j < n → IsAt ns j k → IsMissed p d (R k)) → IsNearest seen p d (From n) a → IsNearest seen p d (From i) o
+    asked-over i n a o e le off A = subst (IsNearest seen p d (From i)) (sym e)
+        (nearest-as (From n) (From i) a
+        (λ m q (j, t, x). (j, omega (arith, t, le), x))
+        (λ m q w (j, t, (k, l, x)). ⊎_elim (λ u. absurd (off j k t u l m q w x)) (λ u. (j, u, (k, l, x))) (cases_lt j n)) A)
+
+    -- where each that is met ahead is listed, the nearest from the first place on is the nearest of all
+    pub asked-each : (n : ℕ) (o : Option X) → n ≡ 0 → ((k : ℕ) (m : PlaneMeet) (q : Place) → IsAhead p d q → R k m q → (j : ℕ) × IsAt ns j k) → IsNearest seen p d (From n) o → IsNearest seen p d (Any R) o
+    asked-each n o e f A = nearest-as (From n) (Any R) o (λ m q (j, t, (k, l, x)). (k, x)) (λ m q w (k, x). let a = f k m q w x in (a.0, omega (arith, e), (k, a.1, x))) A

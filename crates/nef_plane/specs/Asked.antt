@@ -1,20 +1,20 @@
 -- What lies in a plane, and the vertices or edges that are asked whether a ray meets them.
-use Rattle.std.specs.Prelude.{ℕ, ◌<◌, ◌≤◌, List, length}
-use Rattle.nef_space.specs.Lists.{IsAt}
+use Rattle.std.specs.Prelude.{ℕ, length}
 use Rattle.nef_space.specs.Place.{Form}
 use Rattle.nef_complex.specs.declared.complex.Complex.{Complex}
 use Rattle.nef_complex.specs.declared.complex.PlaneMeet.{PlaneMeet}
 use Rattle.nef_complex.specs.declared.complex.PlaneMeet.TheVariants.{AtVertex, AtEdge}
 use Rattle.nef_complex.specs.declared.complex.PlaneItems.{PlaneItems}
 use Rattle.nef_complex.specs.Index.{LiesOn, EdgeLiesIn, AreNumbersWith}
-use Rattle.nef_plane.specs.Ends.{AreEnds}
+use Rattle.nef_complex.specs.Peaks.{ArePeaks}
 use Rattle.nef_plane.specs.declared.first.Kind.{Kind}
 use Rattle.nef_plane.specs.declared.first.Kind.TheVariants.{Vertex, Edge}
 
--- the lists name the edges in the plane and the vertices on it
+-- the lists name the edges in the plane and the vertices on it, and have the peaks of these edges
 pub record AreItems (c : Complex) (h : Form) (items : PlaneItems) : Type 0 where
   pub edges : AreNumbersWith (EdgeLiesIn c.vertices c.edges h) items.edges.now
   pub vertices : AreNumbersWith (LiesOn c.vertices h) items.vertices.now
+  pub peaks : ArePeaks c.edges items.edges.now items.peaks.now
 
 -- the vertex or the edge with number k
 abbrev pub meet_at : Kind → ℕ → PlaneMeet
@@ -25,11 +25,3 @@ meet_at Edge k = AtEdge k
 abbrev pub count_in : Complex → Kind → ℕ
 count_in c Vertex = length c.vertices
 count_in c Edge = length c.edges
-
--- the first end of each before place n is below the limit
-abbrev pub IsBelow : Complex → Kind → List ℕ → ℕ → ℕ → Type 0
-IsBelow c t ns limit n = (i k u v : ℕ) → i < n → IsAt ns i k → AreEnds c (meet_at t k) u v → u < limit
-
--- the first end of each from place n on is at the limit or beyond
-abbrev pub IsBeyond : Complex → Kind → List ℕ → ℕ → ℕ → Type 0
-IsBeyond c t ns limit n = (i k u v : ℕ) → n ≤ i → IsAt ns i k → AreEnds c (meet_at t k) u v → limit ≤ u

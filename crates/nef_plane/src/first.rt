@@ -1,14 +1,13 @@
 //! What a ray meets first of the vertices and edges that it is asked about.
 
 ghost use Rattle.std.specs.Prelude.{◌≡◌, ◌<◌, ◌≤◌};
-ghost use Rattle.nef_complex.specs.Prelude.{ℕ, length, IsTrue, IfSome, Place, Form, SamePlace, IsAhead, Set, Vector, IsDirection, complex_of, ShowsSet, AreNumbersWith, MatchOrdering};
+ghost use Rattle.nef_complex.specs.Prelude.{ℕ, length, IsTrue, IfSome, Place, Form, SamePlace, IsAhead, Set, Vector, IsDirection, complex_of, ShowsSet, AreNumbersWith, LiesOn, IsAt, MatchOrdering};
 ghost use Rattle.nef_complex.specs.declared.complex.Complex.{Complex as ComplexValue};
 ghost use Rattle.nef_complex.specs.declared.complex.PlaneMeet.{PlaneMeet as PlaneMeetValue};
-ghost use Rattle.nef_plane.specs.Asked.{meet_at, count_in, AreItems, IsBelow, IsBeyond};
+ghost use Rattle.nef_plane.specs.Asked.{meet_at, count_in, AreItems};
 ghost use Rattle.nef_plane.specs.Ends.{HasMeet, MeetLiesIn, AreEnds};
-ghost use Rattle.nef_plane.specs.Meets.{HoldsRay, AtMeet, AtSome, AtVertexOrEdge, IsMissed, IsNearest, met_of, Reach, reach_of, far_reach_of, IsReachedAt, IsReachedMet, IsNearer};
+ghost use Rattle.nef_plane.specs.Meets.{HoldsRay, AtMeet, AtSome, AtSomeVertex, AtSomeEdge, AtVertexOrEdge, IsMissed, IsNearest, met_of, Reach, reach_of, far_reach_of, IsReachedAt, IsReachedMet, IsNearer};
 
-use crate::places::ends_of;
 use nef_complex::{Complex, PlaneItems, PlaneMeet};
 use nef_geo::{FarHit, Hit, far_order, hit_order};
 use std::cmp::Ordering;
@@ -139,55 +138,63 @@ impl Kind {
     }
 }
 
-// How many of the listed numbers have their first end below the limit, by halving. They stand in order of it.
-fn count_before(c: &Complex, kind: Kind, numbers: &[usize], limit: usize) -> usize
-    requires shows { (s : Set) × ShowsSet s c.now }
-    requires listed { (h : Form) × AreNumbersWith (λ k. MeetLiesIn c.now h (meet_at kind k)) numbers.now }
+// How many of the numbers, which stand in increasing order, are below the limit, by halving.
+fn count_below(numbers: &[usize], limit: usize) -> usize
+    requires ordered { (i j k l : ℕ) → i < j → IsAt numbers.now i k → IsAt numbers.now j l → k < l }
     ensures within { result ≤ length numbers.now }
-    ensures below { IsBelow c.now kind numbers.now limit result }
-    ensures beyond { IsBeyond c.now kind numbers.now limit result }
+    ensures below { (i k : ℕ) → i < result → IsAt numbers.now i k → k < limit }
+    ensures beyond { (i k : ℕ) → result ≤ i → IsAt numbers.now i k → limit ≤ k }
 {
-    let mut low = 0;
-    let mut high = numbers.len();
-    while low < high {
-        let middle = low + (high - low) / 2;
-        let (end, _) = ends_of(c, kind.at(numbers[middle]));
-        if end < limit {
-            low = middle + 1;
-        } else {
-            high = middle;
-        }
-    }
-    high
+    numbers.partition_point(|number| *number < limit)
 }
 
-// The first that the ray meets of the vertices of the plane, or of its edges that aren't along the ray. They have the listed
-// numbers. Where the ray meets an edge along it, it meets an end of that edge sooner.
-fn nearest<R: PlaneRay>(
+// The first that the ray meets of the vertices of the plane, which have the listed numbers.
+fn nearest_vertex<R: PlaneRay>(
     ray: &R,
     c: &Complex,
     guide: &R::Guide,
-    kind: Kind,
     numbers: &[usize],
 ) -> Option<Met<R::At>>
     requires shows { (s : Set) × ShowsSet s c.now }
     requires guide { R.guided ray.now c.now guide.now }
-    requires listed { AreNumbersWith (λ k. MeetLiesIn c.now (R.plane ray.now) (meet_at kind k)) numbers.now }
-    ensures nearest { IsNearest (met_of R.At.reach) (R.start ray.now) (R.way ray.now) (AtSome (complex_of c.now) (R.plane ray.now) (R.way ray.now) kind) result }
+    requires listed { AreNumbersWith (LiesOn c.now.vertices (R.plane ray.now)) numbers.now }
+    ensures nearest { IsNearest (met_of R.At.reach) (R.start ray.now) (R.way ray.now) (AtSomeVertex (complex_of c.now)) result }
 {
     let mut best = None;
-    // only vertices are passed over at the beginning: their numbers are those of both their ends, while the second ends of
-    // edges stand in no order
-    let first = match kind {
-        Kind::Vertex => count_before(c, kind, numbers, ray.first(c, guide)),
-        Kind::Edge => 0,
-    };
-    let end = count_before(c, kind, numbers, ray.past(c, guide));
+    let first = count_below(numbers, ray.first(c, guide));
+    let end = count_below(numbers, ray.past(c, guide));
     for place in first..end {
-        let meet = kind.at(numbers[place]);
+        let meet = PlaneMeet::AtVertex(numbers[place]);
         if ray.may_meet(c, guide, meet) {
             best = nearer(best, ray.met(c, meet));
         }
+    }
+    best
+}
+
+// The first that the ray meets of the edges of the plane that aren't along the ray. Where it meets an edge along it, it meets an
+// end of that edge sooner. Edges are asked from the last that may be met to the first, since peaks tell of those before.
+fn nearest_edge<R: PlaneRay>(
+    ray: &R,
+    c: &Complex,
+    guide: &R::Guide,
+    items: &PlaneItems,
+) -> Option<Met<R::At>>
+    requires shows { (s : Set) × ShowsSet s c.now }
+    requires guide { R.guided ray.now c.now guide.now }
+    requires items { AreItems c.now (R.plane ray.now) items.now }
+    ensures nearest { IsNearest (met_of R.At.reach) (R.start ray.now) (R.way ray.now) (AtSomeEdge (complex_of c.now) (R.plane ray.now) (R.way ray.now)) result }
+{
+    let mut best = None;
+    let first = ray.first(c, guide);
+    let count = items.edges_before(c, ray.past(c, guide));
+    let mut place = items.last_reaching(c, count, first);
+    while 0 < place {
+        let meet = PlaneMeet::AtEdge(items.edges[place - 1]);
+        if ray.may_meet(c, guide, meet) {
+            best = nearer(best, ray.met(c, meet));
+        }
+        place = items.last_reaching(c, place - 1, first);
     }
     best
 }
@@ -204,12 +211,13 @@ pub(crate) fn nearest_met<R: PlaneRay>(
     requires items { AreItems c.now (R.plane ray.now) items }
     ensures nearest { IsNearest (met_of R.At.reach) (R.start ray.now) (R.way ray.now) (AtVertexOrEdge (complex_of c.now) (R.plane ray.now) (R.way ray.now)) result }
 {
-    let vertex = nearest(ray, c, guide, Kind::Vertex, items.vertices);
-    let edge = nearest(ray, c, guide, Kind::Edge, items.edges);
+    let vertex = nearest_vertex(ray, c, guide, items.vertices);
+    let edge = nearest_edge(ray, c, guide, &items);
     nearer(vertex, edge)
 }
 
-// As `nearest`, of all vertices or edges of the complex, which are so many, where no list names those in the plane.
+// The first that the ray meets of all vertices of the complex, or of all its edges in the plane that aren't along the ray, where
+// no list names those in the plane. There are so many of these vertices or edges.
 fn nearest_of_all<R: PlaneRay>(ray: &R, c: &Complex, kind: Kind, count: usize) -> Option<Met<R::At>>
     requires shows { (s : Set) × ShowsSet s c.now }
     requires count { count ≡ count_in c.now kind }

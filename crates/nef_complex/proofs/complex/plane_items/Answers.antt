@@ -3,6 +3,7 @@ use Rattle.std.proofs.lemmas.Option.{slice_get_within}
 use Rattle.nef_space.specs.Lists.{IsAt}
 use Rattle.nef_geo.specs.declared.plane.Plane.{Plane}
 use Rattle.nef_complex.specs.Index.{AreInOrder}
+use Rattle.nef_complex.proofs.Peaked.{row-peaks}
 use Rattle.nef_complex.proofs.PlaneSearch.{planes-rise, plane-there, no-plane}
 use Rattle.nef_complex.proofs.complex.plane_items.Goals as goal
 
@@ -56,3 +57,8 @@ returns-in-Ok-clause-vertices c =
     let n = c.in-Ok.number in
     let a = subst (λ (gs : List Plane). IsAt gs n h) c.as_slice.ensures.all (plane-there c.as_slice.result.now h n c.in-Ok.ensures.bound (c.in-Ok.ensures.ok h)) in
     x.vertices n h c.row-in-Ok.result.now a c.row-in-Ok.ensures.row
+
+pub returns-in-Ok-clause-peaks : goal.returns-in-Ok-clause-peaks
+returns-in-Ok-clause-peaks c =
+    let C = c.args.c.now in
+    row-peaks C.edges C.index.edges C.index.plane_peaks c.in-Ok.number c.row.result.now c.row_or_none.result.now c.requires.shows.1.holders.plane_peaks c.row.ensures.row c.row_or_none.ensures.row

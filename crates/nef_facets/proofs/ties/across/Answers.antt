@@ -30,7 +30,7 @@ pub carrier_items-requires : goal.carrier_items-requires
 carrier_items-requires c = record { shows = c.requires.shows; within = is-at_within c.args.c.now.carriers c.carrier_of-carrier.result c.at-h.result.now c.at-h.ensures.element }
 
 pub first_along_dir-requires-clause-items : goal.first_along_dir-requires-clause-items
-first_along_dir-requires-clause-items c = record { edges = c.carrier_items.ensures.edges c.at-h.result.now c.at-h.ensures.element; vertices = c.carrier_items.ensures.vertices c.at-h.result.now c.at-h.ensures.element }
+first_along_dir-requires-clause-items c = record { edges = c.carrier_items.ensures.edges c.at-h.result.now c.at-h.ensures.element; vertices = c.carrier_items.ensures.vertices c.at-h.result.now c.at-h.ensures.element; peaks = c.carrier_items.ensures.peaks }
 
 pub first_along_dir-requires-clause-within : goal.first_along_dir-requires-clause-within
 first_along_dir-requires-clause-within c = vertex-within c.args.c.now (corner_of c.args.k.now) c.requires.corner

@@ -17,10 +17,10 @@ if-some (Some x) P Q f h = f x h
 if-some None P Q f h = h
 
 pub first_along_dir-requires-clause-items : goal.first_along_dir-requires-clause-items
-first_along_dir-requires-clause-items c = are-items c.args.c.now (form_of c.args.h.now) c.plane_items-items.result c.plane_items-items.ensures.edges c.plane_items-items.ensures.vertices
+first_along_dir-requires-clause-items c = are-items c.args.c.now (form_of c.args.h.now) c.plane_items-items.result c.plane_items-items.ensures.edges c.plane_items-items.ensures.vertices c.plane_items-items.ensures.peaks
 
 pub first_along_axis-requires-clause-items : goal.first_along_axis-requires-clause-items
-first_along_axis-requires-clause-items c = are-items c.args.c.now (form_of c.args.h.now) c.plane_items-items.result c.plane_items-items.ensures.edges c.plane_items-items.ensures.vertices
+first_along_axis-requires-clause-items c = are-items c.args.c.now (form_of c.args.h.now) c.plane_items-items.result c.plane_items-items.ensures.edges c.plane_items-items.ensures.vertices c.plane_items-items.ensures.peaks
 
 pub first_along_dir-requires-clause-small : goal.first_along_dir-requires-clause-small
 first_along_dir-requires-clause-small c = within-small (complex_of c.args.c.now) (hit_place c.args.p.now) c.args.h.now c.args.d.now c.requires.direction

@@ -9,6 +9,8 @@ use Rattle.nef_complex.specs.declared.groups.Group.{Group}
 use Rattle.nef_complex.specs.Index.{AreHeld, AreSpans, StandsIn, IsInGroup, IsInCluster, AreClusters, AreNumbersWith, AreWithin, AreVertexHolders, AreEdgeHolders, AreCarrierVertices, AreCarrierEdges, ArePlaneRows}
 use Rattle.nef_complex.specs.Indexing.{AreRowsOfOnce, HasNumber, IsWide}
 use Rattle.nef_complex.proofs.Grouped.{carrier-clusters}
+use Rattle.nef_complex.specs.Peaks.{HavePeaks}
+use Rattle.nef_complex.proofs.Peaked.{rows-edges}
 use Rattle.nef_complex.proofs.Spanning.{AreSpansOf, rows-within, carrier-spans}
 use Rattle.nef_complex.proofs.Turned.{vertices-once, edges-once, carrier-vertices, carrier-edges}
 use Rattle.nef_complex.proofs.complex.Complex.of.Goals as goal
@@ -53,23 +55,30 @@ spans_of-requires c =
           (sym c.as_slice-5.ensures.all) (sym c.as_slice-4.ensures.all) (rows-within hs vs table O);
     }
 
+pub peaks_of-requires : goal.peaks_of-requires
+peaks_of-requires c =
+    let hs = c.args.carriers in let vs = c.args.vertices in let es = c.args.edges in let rows = c.in_ok-at_edge.at_edge in let table = c.in_ok-in_carrier.in_carrier in
+    let E = at-edges _ hs _ vs _ es rows c.as_slice.ensures.all c.as_slice-2.ensures.all c.as_slice-3.ensures.all c.in_ok-at_edge.ensures.rows in
+    let W = carrier-edges hs vs es c.requires.ends rows E table (c.in_ok-in_carrier.ensures.as_many ∙ c.len-2.ensures.len) c.in_ok-in_carrier.ensures.transposed in
+    record { within = subst (λ (xs : List Edge). (i : ℕ) (ns : List ℕ) → IsAt table i ns → AreWithin xs ns) (sym c.as_slice-6.ensures.all) (rows-edges hs vs es table W) }
+
 pub plane_rows-requires-clause-held : goal.plane_rows-requires-clause-held
-plane_rows-requires-clause-held c = of-two AreHeld c.args.carriers c.as_slice-6.result.now c.args.vertices c.as_slice-7.result.now (sym c.as_slice-6.ensures.all) (sym c.as_slice-7.ensures.all) c.requires.held
+plane_rows-requires-clause-held c = of-two AreHeld c.args.carriers c.as_slice-7.result.now c.args.vertices c.as_slice-8.result.now (sym c.as_slice-7.ensures.all) (sym c.as_slice-8.ensures.all) c.requires.held
 
 pub plane_rows-requires-clause-on : goal.plane_rows-requires-clause-on
 plane_rows-requires-clause-on c =
     let hs = c.args.carriers in let vs = c.args.vertices in let rows = c.args.at_vertex in let table = c.in_ok-on_carrier.on_carrier in
     let V = c.requires.rows in
     let O = on-carriers hs vs rows c.len.result table c.len.ensures.len V c.in_ok-on_carrier.ensures.as_many c.in_ok-on_carrier.ensures.transposed in
-    of-two (λ g u. AreCarrierVertices g u table) hs c.as_slice-6.result.now vs c.as_slice-7.result.now (sym c.as_slice-6.ensures.all) (sym c.as_slice-7.ensures.all) O
+    of-two (λ g u. AreCarrierVertices g u table) hs c.as_slice-7.result.now vs c.as_slice-8.result.now (sym c.as_slice-7.ensures.all) (sym c.as_slice-8.ensures.all) O
 
 pub returns-clause-index : goal.returns-clause-index
 returns-clause-index c =
     let hs = c.args.carriers in let vs = c.args.vertices in let es = c.args.edges in let rows = c.in_ok-at_edge.at_edge in let table = c.in_ok-in_carrier.in_carrier in
     let E = at-edges _ hs _ vs _ es rows c.as_slice.ensures.all c.as_slice-2.ensures.all c.as_slice-3.ensures.all c.in_ok-at_edge.ensures.rows in
     let W = carrier-edges hs vs es c.requires.ends rows E table (c.in_ok-in_carrier.ensures.as_many ∙ c.len-2.ensures.len) c.in_ok-in_carrier.ensures.transposed in
-    at-vertices c.as_slice-7.result.now vs es _ _ _ c.as_slice-7.ensures.all
-    (c.in_ok-planes.ensures.rows es (of-two (λ g u. AreCarrierEdges g u es table) hs c.as_slice-6.result.now vs c.as_slice-7.result.now (sym c.as_slice-6.ensures.all) (sym c.as_slice-7.ensures.all) W))
+    at-vertices c.as_slice-8.result.now vs es _ _ _ c.as_slice-8.ensures.all
+    (c.in_ok-planes.ensures.rows es (of-two (λ g u. AreCarrierEdges g u es table) hs c.as_slice-7.result.now vs c.as_slice-8.result.now (sym c.as_slice-7.ensures.all) (sym c.as_slice-8.ensures.all) W))
 
 pub returns-clause-holders : goal.returns-clause-holders
 returns-clause-holders c =
@@ -84,4 +93,14 @@ returns-clause-holders c =
     let many = subst (λ (xs : List (List ℕ)). length ss ≡ length xs) c.as_slice-5.ensures.all c.in_ok-spans.ensures.as_many in
     let all = of-two (λ (xs : List (List ℕ)) (us : List Vertex). AreSpansOf us xs ss) c.as_slice-5.result.now table c.as_slice-4.result.now vs c.as_slice-5.ensures.all c.as_slice-4.ensures.all c.in_ok-spans.ensures.spanned in
     let S = carrier-spans hs vs table O ss many all in
-    record { at_vertex = V; at_edge = E; on_carrier = O; in_carrier = W; spans = S; clusters = in-clusters hs vs c.as_slice-8.result.now ss c.in_ok-clusters.clusters c.as_slice-8.ensures.all S c.in_ok-clusters.ensures.wide c.in_ok-clusters.ensures.groups c.in_ok-clusters.ensures.all }
+    let P = subst (λ (xs : List Edge). HavePeaks xs etable c.in_ok-peaks.peaks) c.as_slice-6.ensures.all c.in_ok-peaks.ensures.peaks in
+    record {
+      at_vertex = V;
+      at_edge = E;
+      on_carrier = O;
+      in_carrier = W;
+      spans = S;
+      clusters = in-clusters hs vs c.as_slice-9.result.now ss c.in_ok-clusters.clusters c.as_slice-9.ensures.all S c.in_ok-clusters.ensures.wide c.in_ok-clusters.ensures.groups c.in_ok-clusters.ensures.all;
+      peaks = P;
+      plane_peaks = c.in_ok-planes.ensures.peaks es P;
+    }

@@ -1,0 +1,103 @@
+-- Greatest upper ends of edges, in blocks and in tables.
+use Rattle.std.proofs.Common.{◌≡◌, ℕ, ◌+◌, ◌*◌, ◌<◌, ◌≤◌, List, [], ◌∷◌, ◌++◌, length, length-append, arith, ap, refl, sym, ◌∙◌, ◌⊎◌, inl, inr, ⊎_elim, subst}
+use Rattle.std.proofs.lemmas.Bool.{cases_lt}
+use Rattle.nef_space.specs.Lists.{IsAt}
+use Rattle.nef_classes.proofs.ClassLists.{less-or-last, is-at_one, is-at_some, is-at_within, is-at_last, Either, earlier, last, is-at_either}
+use Rattle.nef_geo.specs.declared.plane.Plane.{Plane}
+use Rattle.nef_complex.specs.declared.complex.Edge.{Edge}
+use Rattle.nef_complex.specs.declared.complex.Vertex.{Vertex}
+use Rattle.nef_complex.specs.Index.{AreCarrierEdges, AreWithin}
+use Rattle.nef_complex.specs.Peaks.{block_start, EndBelow, ArePeaks, HavePeaks}
+
+module _ (es : List Edge) (ns : List ℕ) where
+  pub end-none : (first past n : ℕ) → past ≤ first → EndBelow es ns first past n
+  end-none first past n le j k e l m a b = absurd (omega (arith, le, l, m))
+
+  -- of the edges before and after a place
+  pub end-join : (first place past n m : ℕ) → EndBelow es ns first place n → EndBelow es ns place past m → n ≤ m → EndBelow es ns first past m
+  end-join first place past n m E F le j k e l o a b = ⊎_elim
+      (λ t. let h = E j k e l t a b in omega (arith, h, le)) (λ t. F j k e t o a b) (cases_lt j place)
+
+  -- of fewer edges, or below a greater number
+  pub end-within : (first place past n m : ℕ) → first ≤ place → n ≤ m → EndBelow es ns first past n → EndBelow es ns place past m
+  end-within first place past n m le o E j k e l t a b = let h = E j k e (omega (arith, le, l)) t a b in omega (arith, h, o)
+
+  pub end-at : (a b c d n : ℕ) → a ≡ c → b ≡ d → EndBelow es ns a b n → EndBelow es ns c d n
+  end-at a b c d n f g E j k e l m x y = E j k e (omega (arith, l, f)) (omega (arith, m, g)) x y
+
+  -- the greatest so far that grows to take in a peak, or another number
+  pub end-either : (first place past n m r : ℕ) → EndBelow es ns first place (n + 1) → EndBelow es ns place past (m + 1) → n ≤ r → m ≤ r → EndBelow es ns first past (r + 1)
+  end-either first place past n m r E F le o =
+      end-join first place past (r + 1) (r + 1) (end-within first first place (n + 1) (r + 1) (omega arith) (omega (arith, le)) E) (end-within place place past (m + 1) (r + 1) (omega arith) (omega (arith, o)) F) (omega arith)
+
+  pub peaks-none : ArePeaks es ns []
+  peaks-none i p a = cc
+
+  pub peaks-more : (ps : List ℕ) (p : ℕ) → ArePeaks es ns ps → EndBelow es ns (8 * block_start (length ps + 1)) (8 * (length ps + 1)) (p + 1) → ArePeaks es ns (ps ++ p ∷ [])
+  peaks-more ps p A E i q a = by (is-at_either ps i q p a)
+    where
+      by : Either ps i q p → EndBelow es ns (8 * block_start (i + 1)) (8 * (i + 1)) (q + 1)
+      by (earlier b) = A i q b
+      by (last e f) = subst (λ n. EndBelow es ns (8 * block_start (n + 1)) (8 * (n + 1)) (q + 1)) (sym e) (subst (λ n. EndBelow es ns (8 * block_start (length ps + 1)) (8 * (length ps + 1)) (n + 1)) (sym f) E)
+
+-- ---- tables
+abbrev pub IsRowOf : List (List ℕ) → ℕ → List ℕ → ℕ → List ℕ → Type 0
+IsRowOf old number row i ns = IsAt old i ns ⊎ (ns ≡ []) ⊎ ((i ≡ number) × (ns ≡ row))
+
+-- with a row at its number, the peaks of that row of edges
+pub have-more : (es : List Edge) (rows old new : List (List ℕ)) (number : ℕ) (ns ps : List ℕ) → HavePeaks es rows old → IsAt rows number ns → ArePeaks es ns ps → ((i : ℕ) (qs : List ℕ) → IsAt new i qs → IsRowOf old number ps i qs) → HavePeaks es rows new
+have-more es rows old new number ns ps H at P rule i ms qs a b = ⊎_elim
+    (λ c. H i ms qs a c)
+    (⊎_elim
+    (λ e. subst (ArePeaks es ms) (sym e) (peaks-none es ms))
+    (λ e.
+    let same : ns ≡ ms = is-at_one rows number ns ms at (subst (λ x. IsAt rows x ms) e.0 a) in
+    subst (ArePeaks es ms) (sym e.1) (subst (λ x. ArePeaks es x ps) same P)))
+    (rule i qs b)
+
+-- with one row of edges more
+pub have-row : (es : List Edge) (rows table : List (List ℕ)) (ns : List ℕ) → HavePeaks es rows table → length table ≤ length rows → HavePeaks es (rows ++ ns ∷ []) table
+have-row es rows table ns H le i ms qs a b = by (is-at_either rows i ms ns a)
+  where
+    by : Either rows i ms ns → ArePeaks es ms qs
+    by (earlier c) = H i ms qs c b
+    by (last e f) = let l = is-at_within table i qs b in absurd (omega (arith, le, l, e))
+
+pub have-none : (es : List Edge) (rows table : List (List ℕ)) → table ≡ [] → HavePeaks es rows table
+have-none es rows table e i ns ps a b = let l = is-at_within table i ps b in absurd (subst (λ (t : List (List ℕ)). i < length t → ⊥) (sym e) (λ m. omega (arith, m)) l)
+
+pub have-same : (es : List Edge) (rows rows2 table table2 : List (List ℕ)) → rows2 ≡ rows → table2 ≡ table → HavePeaks es rows table → HavePeaks es rows2 table2
+have-same es rows rows2 table table2 e f H = subst (λ (t : List (List ℕ)). HavePeaks es t table2) (sym e) (subst (λ (t : List (List ℕ)). HavePeaks es rows t) (sym f) H)
+
+-- the row that was read of a table, or none, has the peaks
+pub row-peaks : (es : List Edge) (rows table : List (List ℕ)) (i : ℕ) (ns ps : List ℕ) → HavePeaks es rows table → IsAt rows i ns → IsAt table i ps ⊎ (ps ≡ []) → ArePeaks es ns ps
+row-peaks es rows table i ns ps H a = ⊎_elim (λ b. H i ns ps a b) (λ e. subst (ArePeaks es ns) (sym e) (peaks-none es ns))
+
+-- with one row of edges more, and its peaks at that row's number
+pub have-next : (es : List Edge) (rows old new : List (List ℕ)) (ns ps : List ℕ) → HavePeaks es rows old → length old ≤ length rows → ArePeaks es ns ps → ((i : ℕ) (qs : List ℕ) → IsAt new i qs → IsRowOf old (length rows) ps i qs) → HavePeaks es (rows ++ ns ∷ []) new
+have-next es rows old new ns ps H le P rule = have-more es (rows ++ ns ∷ []) old new (length rows) ns ps (have-row es rows old ns H le) (is-at_last rows ns) P rule
+
+-- the numbers of the edges in a carrier are numbers of edges
+pub rows-edges : (hs : List Plane) (vs : List Vertex) (es : List Edge) (rows : List (List ℕ)) → AreCarrierEdges hs vs es rows → (i : ℕ) (ns : List ℕ) → IsAt rows i ns → AreWithin es ns
+rows-edges hs vs es rows W i ns a j k b =
+    let h = is-at_some hs i (let l = is-at_within rows i ns a in let m = W.as_many in omega (arith, l, m)) in
+    let L = (W.each i h.0 ns h.1 a).each j k b in
+    is-at_within es k L.0 L.1
+
+-- ---- a table with a row at its number
+pub row-fills : (old new : List (List ℕ)) (i : ℕ) (ns : List ℕ) → new ≡ old ++ [] ∷ [] → IsAt new i ns → IsAt old i ns ⊎ (ns ≡ [])
+row-fills old new i ns e a = by (is-at_either old i ns [] (subst (λ (t : List (List ℕ)). IsAt t i ns) e a))
+  where
+    by : Either old i ns [] → IsAt old i ns ⊎ (ns ≡ [])
+    by (earlier b) = inl b
+    by (last l f) = inr f
+
+pub row-last : (old new : List (List ℕ)) (number : ℕ) (row : List ℕ) → new ≡ old ++ row ∷ [] → length old ≡ number → (i : ℕ) (ns : List ℕ) → IsAt new i ns → IsAt old i ns ⊎ ((i ≡ number) × (ns ≡ row))
+row-last old new number row e n i ns a = by (is-at_either old i ns row (subst (λ (t : List (List ℕ)). IsAt t i ns) e a))
+  where
+    by : Either old i ns row → IsAt old i ns ⊎ ((i ≡ number) × (ns ≡ row))
+    by (earlier b) = inl b
+    by (last l f) = inr (l ∙ n, f)
+
+pub row-length : (old new : List (List ℕ)) (row : List ℕ) → new ≡ old ++ row ∷ [] → length new ≡ length old + 1
+row-length old new row e = ap (length {A = List ℕ}) e ∙ length-append old (row ∷ [])

@@ -1,0 +1,159 @@
+//! Rows of edges, by the numbers of the vertices at their ends. The edges of a row stand in order of their lower ends, but their
+//! upper ends stand in no order: peaks tell of many edges at once that all of them end before a vertex.
+//!
+//! Peaks are a binary indexed tree of greatest upper ends. Source: Fenwick, "A New Data Structure for Cumulative Frequency
+//! Tables", Software: Practice and Experience 24, 1994.
+
+ghost use Rattle.std.specs.Prelude.{◌≡◌, ◌<◌, ◌≤◌, ◌+◌, ◌*◌, ◌⊎◌};
+ghost use Rattle.nef_geo.specs.Prelude.{ℕ, [], length, IfSome, IfOk, OnOk, List as Sequence, IsAt, Set};
+ghost use Rattle.nef_space.specs.Place.{Form};
+ghost use Rattle.nef_complex.specs.declared.complex.Edge.{Edge as EdgeValue};
+ghost use Rattle.nef_complex.specs.Complexes.{ShowsSet};
+ghost use Rattle.nef_complex.specs.Index.{AreWithin, AreNumbersWith, EdgeLiesIn};
+ghost use Rattle.nef_complex.specs.Peaks.{block_start, EndBelow, ArePeaks, HavePeaks};
+
+use crate::OutOfMemory;
+use crate::complex::{Complex, Edge, PlaneItems};
+use crate::table::Table;
+use nef_geo::List;
+use std::alloc::Global;
+
+// So many edges are a block.
+const BLOCK: usize = 8;
+
+// Rows of fewer edges have no peaks.
+const LEAST_WITH_PEAKS: usize = 32;
+
+// Where the last of the first `count` blocks begin that one peak tells of.
+fn start_of_last(count: usize) -> usize
+    requires some { 0 < count }
+    ensures start { result ≡ block_start count }
+    ensures before { result < count }
+{
+    count & (count - 1)
+}
+
+// A number that no upper end of the edges at these places of the row exceeds.
+fn greatest_end(edges: &[Edge], numbers: &[usize], first: usize, past: usize) -> usize
+    requires within { AreWithin edges.now numbers.now }
+    requires past { past ≤ length numbers.now }
+    ensures greatest { EndBelow edges.now numbers.now first past (result + 1) }
+{
+    let mut greatest = 0;
+    for place in first..past {
+        greatest = edges[numbers[place]].high.max(greatest);
+    }
+    greatest
+}
+
+// The peak after these, where `own` is the greatest upper end of the next block alone.
+fn next_peak(peaks: &[usize], own: usize) -> usize
+    ensures peak { (es : Sequence EdgeValue) (ns : Sequence ℕ) → ArePeaks es ns peaks.now → EndBelow es ns (8 * length peaks.now) (8 * (length peaks.now + 1)) (own + 1) → EndBelow es ns (8 * block_start (length peaks.now + 1)) (8 * (length peaks.now + 1)) (result + 1) }
+{
+    let start = start_of_last(peaks.len() + 1);
+    let mut first = peaks.len();
+    let mut peak = own;
+    while start < first {
+        peak = peaks[first - 1].max(peak);
+        first = start_of_last(first);
+    }
+    peak
+}
+
+// Puts the peaks of the row into the list, in place of what it had.
+fn put_peaks(edges: &[Edge], numbers: &[usize], peaks: &mut Vec<usize>) -> Result<(), OutOfMemory>
+    requires within { AreWithin edges.now numbers.now }
+    ensures peaks { OnOk result (ArePeaks edges.now numbers.now peaks.new.items) }
+{
+    peaks.clear();
+    if numbers.len() < LEAST_WITH_PEAKS {
+        return Ok(());
+    }
+    for block in 0..numbers.len() / BLOCK {
+        let own = greatest_end(edges, numbers, BLOCK * block, BLOCK * block + BLOCK);
+        peaks.push(next_peak(peaks.as_slice(), own))?;
+    }
+    Ok(())
+}
+
+/// For each row of edges its peaks; the last rows, where they have no peaks, are left out. `OutOfMemory` says that memory was
+/// wanted and not found.
+pub(crate) fn peaks_of(
+    alloc: Global,
+    edges: &[Edge],
+    rows: &List<List<usize>>,
+) -> Result<Table, OutOfMemory>
+    requires within { (i : ℕ) (ns : Sequence ℕ) → IsAt rows.now i ns → AreWithin edges.now ns }
+    ensures peaks { IfOk result (HavePeaks edges.now rows.now) }
+{
+    let mut table = Table::with_rows(alloc, 0, 0)?;
+    let mut peaks = Vec::new(alloc);
+    for number in 0..rows.len() {
+        put_peaks(edges, rows.at(number).as_slice(), &mut peaks)?;
+        table.set_next(number, peaks.as_slice())?;
+    }
+    Ok(table)
+}
+
+// Where the edges before this place of the row begin that one peak tells of, if it tells that all of them end before `least`.
+fn passed_from(peaks: &[usize], place: usize, least: usize) -> Option<usize>
+    ensures before { IfSome result (λ first. first < place) }
+    ensures passed { IfSome result (λ first. (es : Sequence EdgeValue) (ns : Sequence ℕ) → ArePeaks es ns peaks.now → EndBelow es ns first place least) }
+{
+    let count = place / BLOCK;
+    if place % BLOCK != 0 || count == 0 || peaks.len() < count {
+        return None;
+    }
+    if peaks[count - 1] < least {
+        Some(BLOCK * start_of_last(count))
+    } else {
+        None
+    }
+}
+
+impl PlaneItems<'_> {
+    /// How many of the edges begin before the vertex with number `limit`: those with a lower end of a smaller number, which
+    /// come first in the row.
+    pub fn edges_before(&self, c: &Complex, limit: usize) -> usize
+        requires shows { (s : Set) × ShowsSet s c.now }
+        requires edges { (h : Form) × AreNumbersWith (EdgeLiesIn c.now.vertices c.now.edges h) self.now.edges.now }
+        ensures within { result ≤ length self.now.edges.now }
+        ensures before { (i k : ℕ) (e : EdgeValue) → i < result → IsAt self.now.edges.now i k → IsAt c.now.edges k e → e.low < limit }
+        ensures beyond { (i k : ℕ) (e : EdgeValue) → result ≤ i → IsAt self.now.edges.now i k → IsAt c.now.edges k e → limit ≤ e.low }
+    {
+        let mut low = 0;
+        let mut high = self.edges.len();
+        while low < high {
+            let middle = low + (high - low) / 2;
+            if c.edges.at(self.edges[middle]).low < limit {
+                low = middle + 1;
+            } else {
+                high = middle;
+            }
+        }
+        high
+    }
+
+    /// Of the first `count` edges the last that doesn't end before the vertex with number `least`, by its place in the row,
+    /// counted from 1. 0 says that all of them do.
+    pub fn last_reaching(&self, c: &Complex, count: usize, least: usize) -> usize
+        requires within { AreWithin c.now.edges self.now.edges.now }
+        requires peaks { ArePeaks c.now.edges self.now.edges.now self.now.peaks.now }
+        requires count { count ≤ length self.now.edges.now }
+        ensures count { result ≤ count }
+        ensures passed { EndBelow c.now.edges self.now.edges.now result count least }
+        ensures reaches { (i k : ℕ) (e : EdgeValue) → result ≡ i + 1 → IsAt self.now.edges.now i k → IsAt c.now.edges k e → least ≤ e.high }
+    {
+        let mut place = count;
+        while 0 < place {
+            if let Some(first) = passed_from(self.peaks, place, least) {
+                place = first;
+            } else if c.edges.at(self.edges[place - 1]).high < least {
+                place -= 1;
+            } else {
+                return place;
+            }
+        }
+        0
+    }
+}

@@ -1,0 +1,75 @@
+use Rattle.std.proofs.Common.{◌≡◌, ℕ, ◌-◌, ◌+◌, ◌<◌, length, get_or, arith, rules, refl, ⊎_elim, None}
+use Rattle.std.proofs.lemmas.Bool.{cases_lt}
+use Rattle.nef_classes.proofs.ClassLists.{is-at_get}
+use Rattle.nef_complex.specs.Complexes.{complex_of}
+use Rattle.nef_complex.specs.declared.complex.PlaneMeet.TheVariants.{AtEdge}
+use Rattle.nef_plane.specs.Meets.{AtEdgeNumber, met_of}
+use Rattle.nef_plane.proofs.Choosing.{keep-first}
+use Rattle.nef_plane.proofs.Listed.{met-lies}
+use Rattle.nef_plane.proofs.Nearest.{asked-none, asked-before, asked-over, asked-each}
+use Rattle.nef_plane.proofs.Rising.{edges-within, both-below}
+use Rattle.nef_plane.proofs.first.nearest_edge.Goals.{then-may_meet, else-may_meet}
+use Rattle.nef_plane.proofs.first.nearest_edge.Goals as goal
+
+pub edges_before-count-requires : goal.edges_before-count-requires
+edges_before-count-requires g c = record { shows = c.requires.shows; edges = (g.R.PlaneRay.plane c.args.ray.now, c.requires.items.edges) }
+
+pub last_reaching-place-requires : goal.last_reaching-place-requires
+last_reaching-place-requires g c =
+    let I = c.requires.items in record { within = edges-within c.args.c.now (g.R.PlaneRay.plane c.args.ray.now) c.args.items.now.edges.now I.edges; peaks = I.peaks; count = c.edges_before-count.ensures.within }
+
+pub last_reaching-place-requires-in-loop-place : goal.last_reaching-place-requires-in-loop-place
+last_reaching-place-requires-in-loop-place g c =
+    let I = c.requires.items in let w = c.loop-place.invariant.0 in
+    record { within = edges-within c.args.c.now (g.R.PlaneRay.plane c.args.ray.now) c.args.items.now.edges.now I.edges; peaks = I.peaks; count = omega (arith, w) }
+
+pub may_meet-requires-clause-lies : goal.may_meet-requires-clause-lies
+may_meet-requires-clause-lies g c =
+    let ns = c.args.items.now.edges.now in let i = c.loop-place.place - 1 in let t = c.loop-place-test.true in let e = c.loop-place.invariant.0 in
+    let inside : i < length ns = omega (arith, t, e) in
+    c.requires.items.edges.each i (get_or ns i 0) (is-at_get ns i 0 inside)
+
+pub met-requires-clause-told : goal.met-requires-clause-told
+met-requires-clause-told g c = c.may_meet.ensures.told c.if-may_meet.true
+
+pub loop-place-init : goal.loop-place-init
+loop-place-init g c =
+    let C = c.args.c.now in let ray = c.args.ray.now in let h = g.R.PlaneRay.plane ray in let p = g.R.PlaneRay.start ray in let d = g.R.PlaneRay.way ray in
+    let ns = c.args.items.now.edges.now in let S = c.requires.shows in let N = c.requires.items.edges in
+    let n = c.last_reaching-place.result in let count = c.edges_before-count.result in let b = c.edges_before-count.ensures.within in let f = c.last_reaching-place.ensures.count in (
+      omega (arith, b, f),
+      asked-none (met_of g.R.At.Stepped.reach) p d ns (λ k. AtEdgeNumber (complex_of C) h d k) n (λ j k l a.
+          let L = N.each j k a in
+          ⊎_elim
+          (λ t. let B = both-below S.0 C S.1.shows h ns n count c.first-first.result c.last_reaching-place.ensures.passed j k l t a L in c.first-first.ensures.missed (AtEdge k) B.0 B.1 B.2 L B.3 B.4)
+          (λ t. c.past.ensures.missed (AtEdge k) L.0.low L.0.high (L.0, L.1, refl, refl) L (c.edges_before-count.ensures.beyond j k L.0 t a L.1))
+          (cases_lt j count)),
+    )
+
+pub loop-place-preserved : goal.loop-place-preserved
+loop-place-preserved g c =
+    let C = c.args.c.now in let ray = c.args.ray.now in let h = g.R.PlaneRay.plane ray in let p = g.R.PlaneRay.start ray in let d = g.R.PlaneRay.way ray in let seen = met_of g.R.At.Stepped.reach in
+    let ns = c.args.items.now.edges.now in let S = c.requires.shows in let N = c.requires.items.edges in
+    let n = c.loop-place.place in let i = n - 1 in let k = get_or ns i 0 in let t = c.loop-place-test.true in let e = c.loop-place.invariant.0 in
+    let inside : i < length ns = omega (arith, t, e) in
+    let next : n ≡ i + 1 = omega (arith, t) in
+    let l = is-at_get ns i 0 inside in let a = c.loop-place.best in let A = c.loop-place.invariant.1 in
+    let R = λ (k : ℕ). AtEdgeNumber (complex_of C) h d k in
+    let m = c.last_reaching-place-in-loop-place.result in let f = c.last_reaching-place-in-loop-place.ensures.count in (
+      omega (arith, e, f, t),
+      asked-over seen p d ns R m i c.if-may_meet.best c.if-may_meet.best refl f
+          (λ j r o u b. let L = N.each j r b in let B = both-below S.0 C S.1.shows h ns m i c.first-first.result c.last_reaching-place-in-loop-place.ensures.passed j r o u b L in c.first-first.ensures.missed (AtEdge r) B.0 B.1 B.2 L B.3 B.4)
+          (elim c.if-may_meet.branch [
+            | then-may_meet w ↦ asked-before seen p d ns R i n k a w.met.result w.nearer-best.result c.if-may_meet.best w.best-is next l (w.nearer-best.ensures.nearer p d (g.met.R.PlaneRay.leads ray)) A w.met.ensures.nearest
+            | else-may_meet w ↦ asked-before seen p d ns R i n k a None a c.if-may_meet.best w.best-is next l (λ x y. keep-first seen d a None a refl refl) A (c.may_meet.ensures.off (λ t. absurd (search (rules, t, w.if-may_meet.false))))
+          ]),
+    )
+
+pub returns : goal.returns
+returns g c =
+    let C = c.args.c.now in let ray = c.args.ray.now in let h = g.R.PlaneRay.plane ray in let p = g.R.PlaneRay.start ray in let d = g.R.PlaneRay.way ray in
+    let t = c.loop-place-test.false in
+    record {
+      nearest = asked-each (met_of g.R.At.Stepped.reach) p d c.args.items.now.edges.now (λ k. AtEdgeNumber (complex_of C) h d k) c.loop-place.place c.loop-place.best (omega (arith, t))
+          (λ k m q w x. c.requires.items.edges.all k (met-lies C h d m q p (g.met.R.PlaneRay.leads ray) (g.met.R.PlaneRay.holds ray C c.args.guide.now c.requires.guide) w (AtEdge k) x)) c.loop-place.invariant.1;
+    }
