@@ -11,18 +11,18 @@ use Rattle.law_sphere.proofs.Lists.{at-one}
 use Rattle.nef_smap.proofs.Lists.{at-within}
 use Rattle.nef_complex.proofs.Reading.{read-at}
 use Rattle.nef_cand.specs.Names.{IsAmong}
-use Rattle.nef_cand.specs.Points.{Adds}
+use Rattle.nef_cand.specs.Points.{AddsAll}
 
 pub listed-more : (ps qs : List Named) → ((p : Named) → Contains ps p → Contains qs p) → (y : Place) → IsAmong ps y → IsAmong qs y
 listed-more ps qs f y (p, h, s) = (p, f p h, s)
 
--- nothing has P
-pub adds-none : (P : Place → Type 0) (N : Named → Type 0) (ps : List Named) → ((y : Place) → P y → ⊥) → Adds P N ps ps
-adds-none P N ps n = record { kept = λ p h. h; added = λ p h. inl h; all = λ y h. absurd (n y h) }
+-- nothing has Q
+pub adds-none : (P Q : Place → Type 0) (N : Named → Type 0) (ps : List Named) → ((y : Place) → Q y → ⊥) → AddsAll P Q N ps ps
+adds-none P Q N ps n = record { kept = λ p h. h; added = λ p h. inl h; all = λ y h. absurd (n y h) }
 
--- one point has P
-pub adds-one : (P : Place → Type 0) (N : Named → Type 0) (ps : List Named) (p : Named) → P (place_of p.point) → N p → ((y : Place) → P y → SamePlace (place_of p.point) y) → Adds P N ps (ps ++ p ∷ [])
-adds-one P N ps p h g one = record {
+-- a point with P is the one with Q
+pub adds-one : (P Q : Place → Type 0) (N : Named → Type 0) (ps : List Named) (p : Named) → P (place_of p.point) → N p → ((y : Place) → Q y → SamePlace (place_of p.point) y) → AddsAll P Q N ps (ps ++ p ∷ [])
+adds-one P Q N ps p h g one = record {
   kept = λ q i. Contains-append_left ps (p ∷ []) q i;
   added = λ q i. by q (Contains-push_cases ps p q i);
   all = λ y i. (p, Contains-push ps p, one y i);
@@ -32,9 +32,9 @@ adds-one P N ps p h g one = record {
     by q (inl i) = inl i
     by q (inr e) = inr (subst (λ (r : Named). P (place_of r.point) × N r) e (h, g))
 
--- the points with P are added and then those with Q
-module _ (P Q R : Place → Type 0) (N : Named → Type 0) (ps qs rs : List Named) (f : Adds P N ps qs) (g : Adds Q N qs rs) where
-  pub adds-both : ((y : Place) → P y ⊎ Q y → R y) → ((y : Place) → R y → P y ⊎ Q y) → Adds R N ps rs
+-- some are added and then others
+module _ (P P' Q Q' R R' : Place → Type 0) (N : Named → Type 0) (ps qs rs : List Named) (f : AddsAll P P' N ps qs) (g : AddsAll Q Q' N qs rs) where
+  pub adds-both : ((y : Place) → P y ⊎ Q y → R y) → ((y : Place) → R' y → P' y ⊎ Q' y) → AddsAll R R' N ps rs
   adds-both to from = record {
     kept = λ p h. g.kept p (f.kept p h);
     added = λ p h. by p (g.added p h);
@@ -49,20 +49,20 @@ module _ (P Q R : Place → Type 0) (N : Named → Type 0) (ps qs rs : List Name
       by p (inl h) = first p (f.added p h)
       by p (inr (b, n)) = inr (to (place_of p.point) (inr b), n)
 
-      found : (y : Place) → P y ⊎ Q y → IsAmong rs y
+      found : (y : Place) → P' y ⊎ Q' y → IsAmong rs y
       found y (inl a) = listed-more qs rs g.kept y (f.all y a)
       found y (inr b) = g.all y b
 
-pub adds-as : (P Q : Place → Type 0) (N : Named → Type 0) (ps qs : List Named) → ((y : Place) → P y → Q y) → ((y : Place) → Q y → P y) → Adds P N ps qs → Adds Q N ps qs
-adds-as P Q N ps qs f g a = record { kept = a.kept; added = λ p h. by p (a.added p h); all = λ y q. a.all y (g y q) }
+pub adds-as : (P P' Q Q' : Place → Type 0) (N : Named → Type 0) (ps qs : List Named) → ((y : Place) → P y → Q y) → ((y : Place) → Q' y → P' y) → AddsAll P P' N ps qs → AddsAll Q Q' N ps qs
+adds-as P P' Q Q' N ps qs f g a = record { kept = a.kept; added = λ p h. by p (a.added p h); all = λ y q. a.all y (g y q) }
   where
     by : (p : Named) → Contains ps p ⊎ (P (place_of p.point) × N p) → Contains ps p ⊎ (Q (place_of p.point) × N p)
     by p (inl h) = inl h
     by p (inr (a, n)) = inr (f (place_of p.point) a, n)
 
 -- what has N has M
-pub adds-with : (P : Place → Type 0) (N M : Named → Type 0) (ps qs : List Named) → ((p : Named) → N p → M p) → Adds P N ps qs → Adds P M ps qs
-adds-with P N M ps qs f a = record { kept = a.kept; added = λ p h. by p (a.added p h); all = a.all }
+pub adds-with : (P Q : Place → Type 0) (N M : Named → Type 0) (ps qs : List Named) → ((p : Named) → N p → M p) → AddsAll P Q N ps qs → AddsAll P Q M ps qs
+adds-with P Q N M ps qs f a = record { kept = a.kept; added = λ p h. by p (a.added p h); all = a.all }
   where
     by : (p : Named) → Contains ps p ⊎ (P (place_of p.point) × N p) → Contains ps p ⊎ (P (place_of p.point) × M p)
     by p (inl h) = inl h
@@ -76,24 +76,25 @@ AnyFirst {X} P xs i y = (k : ℕ) × (x : X) × (k < i) × At xs k x × P x y
 abbrev pub AnyAt : {X : Type 0} → (X → Place → Type 0) → List X → Place → Type 0
 AnyAt {X} P xs y = (k : ℕ) × (x : X) × At xs k x × P x y
 
-module _ {X : Type 0} (P : X → Place → Type 0) (N : Named → Type 0) (xs : List X) where
-  pub any-next : (i : ℕ) (x : X) (ps qs rs : List Named) → At xs i x → Adds (AnyFirst P xs i) N ps qs → Adds (P x) N qs rs → Adds (AnyFirst P xs (i + 1)) N ps rs
-  any-next i x ps qs rs here f g = adds-both (AnyFirst P xs i) (P x) (AnyFirst P xs (i + 1)) N ps qs rs f g forth back
-    where
-      forth : (y : Place) → AnyFirst P xs i y ⊎ P x y → AnyFirst P xs (i + 1) y
-      forth y (inl (k, z, h, a, r)) = (k, z, omega (arith, h), a, r)
-      forth y (inr r) = (i, x, omega arith, here, r)
+module _ {X : Type 0} (P : X → Place → Type 0) (xs : List X) (i : ℕ) (x : X) (here : At xs i x) where
+  any-forth : (y : Place) → AnyFirst P xs i y ⊎ P x y → AnyFirst P xs (i + 1) y
+  any-forth y (inl (k, z, h, a, r)) = (k, z, omega (arith, h), a, r)
+  any-forth y (inr r) = (i, x, omega arith, here, r)
 
-      split : (y : Place) (k : ℕ) (z : X) → (k ≡ i) ⊎ (k < i) → At xs k z → P z y → AnyFirst P xs i y ⊎ P x y
-      split y k z (inl o) a r = inr (subst (λ w. P w y) (at-one xs i z x (subst (λ (j : ℕ). At xs j z) o a) here) r)
-      split y k z (inr h) a r = inl (k, z, h, a, r)
+  any-split : (y : Place) (k : ℕ) (z : X) → (k ≡ i) ⊎ (k < i) → At xs k z → P z y → AnyFirst P xs i y ⊎ P x y
+  any-split y k z (inl o) a r = inr (subst (λ w. P w y) (at-one xs i z x (subst (λ (j : ℕ). At xs j z) o a) here) r)
+  any-split y k z (inr h) a r = inl (k, z, h, a, r)
 
-      back : (y : Place) → AnyFirst P xs (i + 1) y → AnyFirst P xs i y ⊎ P x y
-      back y (k, z, h, a, r) = split y k z (eq-or-lt_of_le {n = k} {m = i} (omega (arith, h))) a r
+  any-back : (y : Place) → AnyFirst P xs (i + 1) y → AnyFirst P xs i y ⊎ P x y
+  any-back y (k, z, h, a, r) = any-split y k z (eq-or-lt_of_le {n = k} {m = i} (omega (arith, h))) a r
 
-  pub any-more : (i : ℕ) (x : X) (ps qs rs : List Named) → i < length xs → x ≡ get_or xs i x → Adds (AnyFirst P xs i) N ps qs → Adds (P x) N qs rs → Adds (AnyFirst P xs (i + 1)) N ps rs
+module _ {X : Type 0} (P Q : X → Place → Type 0) (N : Named → Type 0) (xs : List X) where
+  pub any-next : (i : ℕ) (x : X) (ps qs rs : List Named) → At xs i x → AddsAll (AnyFirst P xs i) (AnyFirst Q xs i) N ps qs → AddsAll (P x) (Q x) N qs rs → AddsAll (AnyFirst P xs (i + 1)) (AnyFirst Q xs (i + 1)) N ps rs
+  any-next i x ps qs rs here f g = adds-both (AnyFirst P xs i) (AnyFirst Q xs i) (P x) (Q x) (AnyFirst P xs (i + 1)) (AnyFirst Q xs (i + 1)) N ps qs rs f g (any-forth P xs i x here) (any-back Q xs i x here)
+
+  pub any-more : (i : ℕ) (x : X) (ps qs rs : List Named) → i < length xs → x ≡ get_or xs i x → AddsAll (AnyFirst P xs i) (AnyFirst Q xs i) N ps qs → AddsAll (P x) (Q x) N qs rs → AddsAll (AnyFirst P xs (i + 1)) (AnyFirst Q xs (i + 1)) N ps rs
   any-more i x ps qs rs l e = any-next i x ps qs rs (read-at xs i x l e)
 
-  pub any-all : (i : ℕ) (ps qs : List Named) → length xs ≤ i → Adds (AnyFirst P xs i) N ps qs → Adds (AnyAt P xs) N ps qs
-  any-all i ps qs l f = adds-as (AnyFirst P xs i) (AnyAt P xs) N ps qs
+  pub any-all : (i : ℕ) (ps qs : List Named) → length xs ≤ i → AddsAll (AnyFirst P xs i) (AnyFirst Q xs i) N ps qs → AddsAll (AnyAt P xs) (AnyAt Q xs) N ps qs
+  any-all i ps qs l f = adds-as (AnyFirst P xs i) (AnyFirst Q xs i) (AnyAt P xs) (AnyAt Q xs) N ps qs
       (λ y a. (a.0, a.1, a.3, a.4)) (λ y a. let h = at-within xs a.0 a.1 a.2 in (a.0, a.1, omega (arith, h), a.2, a.3)) f

@@ -9,6 +9,7 @@ use Rattle.nef_geo.specs.declared.plane.Plane.{Plane}
 use Rattle.nef_geo.specs.declared.point.Point.{Point}
 use Rattle.law_near.proofs.Mixed.{place-decided}
 use Rattle.law_sphere.specs.Maps.{At}
+use Rattle.law_sphere.specs.Least.{InOrder}
 use Rattle.law_sphere.proofs.Lists.{search_list, Found}
 use Rattle.nef_smap.proofs.Lists.{at-within, at-get, map-at, at-map, contains-at, at-contains}
 use Rattle.law_complex.specs.Complexes.{Vertex, Edge, Complex, HasEnds}
@@ -21,7 +22,7 @@ use Rattle.nef_cand.specs.declared.named.Named.{Named}
 use Rattle.nef_cand.specs.declared.named.Operand.TheVariants.{First, Second}
 use Rattle.nef_cand.specs.Names.{named_point, IsAmong, IsNamed, IsNamedIn, AreNamed, IsOnceEach}
 use Rattle.nef_cand.specs.Candidates.{IsListed, AreExactly, IsVertexOf, AreCandidates}
-use Rattle.nef_cand.specs.Points.{Adds, CutsOne, ListsCandidates}
+use Rattle.nef_cand.specs.Points.{Adds, AddsAll, CutsOne, ListsCandidates}
 use Rattle.nef_cand.specs.Near.{HasTogether, IsCandidate}
 use Rattle.nef_complex.proofs.Reading.{read-at}
 use Rattle.nef_cand.proofs.Adding.{adds-both, adds-with}
@@ -39,7 +40,7 @@ listed-decided ps y = ⊎_elim (λ f. inl (found f)) (λ n. inr (none n)) (searc
     none n (p, (k, l, e), s) = n k p (read-at ps k p l (sym e)) s
 
 -- ---- what was added to nothing and then sorted
-module _ (P : Place → Type 0) (N : Named → Type 0) (ns ms : List Named) (a : Adds P N [] ns) (o : IsOnceEach ns ms) where
+module _ (P Q : Place → Type 0) (N : Named → Type 0) (ns ms : List Named) (a : AddsAll P Q N [] ns) (o : IsOnceEach ns ms) where
   added-new : (n : Named) → Contains [] n ⊎ (P (place_of n.point) × N n) → P (place_of n.point) × N n
   added-new n (inl (k, l, e)) = absurd (omega (arith, l))
   added-new n (inr h) = h
@@ -52,17 +53,22 @@ module _ (P : Place → Type 0) (N : Named → Type 0) (ns ms : List Named) (a :
       let m = o.each n h in
       (n.point, subst (Contains (map named_point ms)) m.2 (let k = contains-at ms m.0 m.1 in at-contains (map named_point ms) k.0 m.0.point (map-at named_point ms k.0 m.0 k.1)), s)
 
-  pub added-exactly : AreExactly P (map named_point ms)
-  added-exactly = record {
-    ordered = λ i k p q l b c.
-        let m = at-map named_point ms i p b in let n = at-map named_point ms k q c in
-        subst (λ (r : Point). IsPlaceBelow (place_of r) (place_of q)) m.2 (subst (λ (r : Point). IsPlaceBelow (place_of m.0.point) (place_of r)) n.2 (o.ordered i k m.0 n.0 l m.1 n.1));
-    each = λ p h. let k = contains-at (map named_point ms) p h in let m = at-map named_point ms k.0 p k.1 in subst (λ (r : Point). P (place_of r)) m.2 (listed-new m.0 (at-contains ms k.0 m.0 m.1)).0;
-    all = λ y h. points-exactly y (a.all y h);
-  }
+  pub added-ordered : InOrder (λ (p q : Point). IsPlaceBelow (place_of p) (place_of q)) (map named_point ms)
+  added-ordered i k p q l b c =
+      let m = at-map named_point ms i p b in let n = at-map named_point ms k q c in
+      subst (λ (r : Point). IsPlaceBelow (place_of r) (place_of q)) m.2 (subst (λ (r : Point). IsPlaceBelow (place_of m.0.point) (place_of r)) n.2 (o.ordered i k m.0 n.0 l m.1 n.1))
+
+  pub added-each : (p : Point) → Contains (map named_point ms) p → P (place_of p)
+  added-each p h = let k = contains-at (map named_point ms) p h in let m = at-map named_point ms k.0 p k.1 in subst (λ (r : Point). P (place_of r)) m.2 (listed-new m.0 (at-contains ms k.0 m.0 m.1)).0
+
+  pub added-all : (y : Place) → Q y → IsListed (map named_point ms) y
+  added-all y h = points-exactly y (a.all y h)
 
   pub added-named : (m : Named) → Contains ms m → N m
   added-named m h = (listed-new m h).1
+
+pub added-exactly : (P : Place → Type 0) (N : Named → Type 0) (ns ms : List Named) → Adds P N [] ns → IsOnceEach ns ms → AreExactly P (map named_point ms)
+added-exactly P N ns ms a o = record { ordered = added-ordered P P N ns ms a o; each = added-each P P N ns ms a o; all = added-all P P N ns ms a o }
 
 -- ---- all vertices of the combinations
 pub vertex-of : (s : Set) (C : Complex) (y : Place) → Shows s C → IsVertex s y → IsVertexOf C y
@@ -94,38 +100,44 @@ any-cuts C hs y (k, e, v, w, i, h, b, H, m, a, o, n) =
     let g = at-map form_of hs i h a in
     (i, g.0, g.1, (k, e, v, w, b, H, m, subst (λ (f : Form). form_at f y ≡ pos 0) (sym g.2) o, subst (λ (f : Form). HoldsEdge f v w → ⊥) (sym g.2) n))
 
--- the vertices of both complexes, and points with P of the first and with Q of the second
-module _ (a b : ProgramComplex) (P Q : Place → Type 0) (xs ys ns : List Named) (t : HasTogether a b xs ys ns) (third : Adds P (IsNamedIn First (complex_of a)) [] xs) (fourth : Adds Q (IsNamedIn Second (complex_of b)) [] ys) where
-  abbrev pub Has : Place → Type 0
-  Has y = IsVertexOf (complex_of a) y ⊎ IsVertexOf (complex_of b) y ⊎ P y ⊎ Q y
+-- the vertices of both complexes, and points with P and with Q
+abbrev pub Has : ProgramComplex → ProgramComplex → (Place → Type 0) → (Place → Type 0) → Place → Type 0
+Has a b P Q y = IsVertexOf (complex_of a) y ⊎ IsVertexOf (complex_of b) y ⊎ P y ⊎ Q y
 
+-- points of the first with P, among them all with R, and of the second with Q, among them all with T
+module _ (a b : ProgramComplex) (P R Q T : Place → Type 0) (xs ys ns : List Named) (t : HasTogether a b xs ys ns)
+    (third : AddsAll P R (IsNamed (complex_of a) (complex_of b)) [] xs) (fourth : AddsAll Q T (IsNamed (complex_of a) (complex_of b)) [] ys) where
   abbrev N : Named → Type 0
   N = IsNamed (complex_of a) (complex_of b)
 
-  vertices-added : Adds (λ y. IsVertexOf (complex_of a) y ⊎ IsVertexOf (complex_of b) y) N [] (t.us ++ t.vs)
-  vertices-added = adds-both (IsVertexOf (complex_of a)) (IsVertexOf (complex_of b)) (λ y. IsVertexOf (complex_of a) y ⊎ IsVertexOf (complex_of b) y) N [] t.us (t.us ++ t.vs)
-      (adds-with (IsVertexOf (complex_of a)) (IsNamedIn First (complex_of a)) N [] t.us (λ n h. h (complex_of a) (complex_of b) refl) t.of_first)
-      (adds-after (IsVertexOf (complex_of b)) N t.us t.vs (adds-with (IsVertexOf (complex_of b)) (IsNamedIn Second (complex_of b)) N [] t.vs (λ n h. h (complex_of a) (complex_of b) refl) t.of_second))
+  abbrev V : Place → Type 0
+  V y = IsVertexOf (complex_of a) y ⊎ IsVertexOf (complex_of b) y
+
+  vertices-added : Adds V N [] (t.us ++ t.vs)
+  vertices-added = adds-both (IsVertexOf (complex_of a)) (IsVertexOf (complex_of a)) (IsVertexOf (complex_of b)) (IsVertexOf (complex_of b)) V V N [] t.us (t.us ++ t.vs)
+      (adds-with (IsVertexOf (complex_of a)) (IsVertexOf (complex_of a)) (IsNamedIn First (complex_of a)) N [] t.us (λ n h. h (complex_of a) (complex_of b) refl) t.of_first)
+      (adds-after (IsVertexOf (complex_of b)) (IsVertexOf (complex_of b)) N t.us t.vs (adds-with (IsVertexOf (complex_of b)) (IsVertexOf (complex_of b)) (IsNamedIn Second (complex_of b)) N [] t.vs (λ n h. h (complex_of a) (complex_of b) refl) t.of_second))
       (λ y h. h) (λ y h. h)
 
-  others-added : Adds (λ y. P y ⊎ Q y) N (t.us ++ t.vs) (((t.us ++ t.vs) ++ xs) ++ ys)
-  others-added = adds-both P Q (λ y. P y ⊎ Q y) N (t.us ++ t.vs) ((t.us ++ t.vs) ++ xs) (((t.us ++ t.vs) ++ xs) ++ ys)
-      (adds-after P N (t.us ++ t.vs) xs (adds-with P (IsNamedIn First (complex_of a)) N [] xs (λ n h. h (complex_of a) (complex_of b) refl) third))
-      (adds-after Q N ((t.us ++ t.vs) ++ xs) ys (adds-with Q (IsNamedIn Second (complex_of b)) N [] ys (λ n h. h (complex_of a) (complex_of b) refl) fourth))
-      (λ y h. h) (λ y h. h)
+  others-added : AddsAll (λ y. P y ⊎ Q y) (λ y. R y ⊎ T y) N (t.us ++ t.vs) (((t.us ++ t.vs) ++ xs) ++ ys)
+  others-added = adds-both P R Q T (λ y. P y ⊎ Q y) (λ y. R y ⊎ T y) N (t.us ++ t.vs) ((t.us ++ t.vs) ++ xs) (((t.us ++ t.vs) ++ xs) ++ ys)
+      (adds-after P R N (t.us ++ t.vs) xs third) (adds-after Q T N ((t.us ++ t.vs) ++ xs) ys fourth) (λ y h. h) (λ y h. h)
 
-  all-added : Adds Has N [] (((t.us ++ t.vs) ++ xs) ++ ys)
-  all-added = adds-both (λ y. IsVertexOf (complex_of a) y ⊎ IsVertexOf (complex_of b) y) (λ y. P y ⊎ Q y) Has N [] (t.us ++ t.vs) (((t.us ++ t.vs) ++ xs) ++ ys) vertices-added others-added
+  all-added : AddsAll (Has a b P Q) (Has a b R T) N [] (((t.us ++ t.vs) ++ xs) ++ ys)
+  all-added = adds-both V V (λ y. P y ⊎ Q y) (λ y. R y ⊎ T y) (Has a b P Q) (Has a b R T) N [] (t.us ++ t.vs) (((t.us ++ t.vs) ++ xs) ++ ys) vertices-added others-added
       (λ y. ⊎_elim (⊎_elim (λ h. inl h) (λ h. inr (inl h))) (λ h. inr (inr h))) (λ y. ⊎_elim (λ h. inl (inl h)) (⊎_elim (λ h. inl (inr h)) (λ h. inr h)))
 
-  pub together-exactly : AreExactly Has (map named_point ns)
-  together-exactly = added-exactly Has N (((t.us ++ t.vs) ++ xs) ++ ys) ns all-added t.once
+  pub together-ordered : InOrder (λ (p q : Point). IsPlaceBelow (place_of p) (place_of q)) (map named_point ns)
+  together-ordered = added-ordered (Has a b P Q) (Has a b R T) N (((t.us ++ t.vs) ++ xs) ++ ys) ns all-added t.once
+
+  pub together-each : (p : Point) → Contains (map named_point ns) p → Has a b P Q (place_of p)
+  together-each = added-each (Has a b P Q) (Has a b R T) N (((t.us ++ t.vs) ++ xs) ++ ys) ns all-added t.once
+
+  pub together-all : (y : Place) → Has a b R T y → IsListed (map named_point ns) y
+  together-all = added-all (Has a b P Q) (Has a b R T) N (((t.us ++ t.vs) ++ xs) ++ ys) ns all-added t.once
 
   pub together-named : AreNamed (complex_of a) (complex_of b) ns
-  together-named = added-named Has N (((t.us ++ t.vs) ++ xs) ++ ys) ns all-added t.once
-
-exactly-as : (P Q : Place → Type 0) (ps : List Point) → ((y : Place) → P y → Q y) → ((y : Place) → Q y → P y) → AreExactly P ps → AreExactly Q ps
-exactly-as P Q ps f g x = record { ordered = x.ordered; each = λ p h. f (place_of p) (x.each p h); all = λ y h. x.all y (g y h) }
+  together-named = added-named (Has a b P Q) (Has a b R T) N (((t.us ++ t.vs) ++ xs) ++ ys) ns all-added t.once
 
 -- of all cuts by carriers of the other
 pub lists-candidates : (s t : Set) (a b : ProgramComplex) (xs ys ns : List Named) → ShowsSet s a → ShowsSet t b → HasTogether a b xs ys ns
@@ -136,18 +148,36 @@ lists-candidates s t a b xs ys ns S T all third fourth = record {
   complete = λ r u y X Y v. vertices-listed r u (complex_of a) (complex_of b) (map named_point ns) y exactly X.shows Y.shows v;
 }
   where
-    forth : (y : Place) → Has a b (CutsOne (complex_of a) b.carriers) (CutsOne (complex_of b) a.carriers) xs ys ns all third fourth y → IsCandidate (complex_of a) (complex_of b) y
+    P : Place → Type 0
+    P = CutsOne (complex_of a) b.carriers
+
+    Q : Place → Type 0
+    Q = CutsOne (complex_of b) a.carriers
+
+    N : Named → Type 0
+    N = IsNamed (complex_of a) (complex_of b)
+
+    of-first : Adds P N [] xs
+    of-first = adds-with P P (IsNamedIn First (complex_of a)) N [] xs (λ n h. h (complex_of a) (complex_of b) refl) third
+
+    of-second : Adds Q N [] ys
+    of-second = adds-with Q Q (IsNamedIn Second (complex_of b)) N [] ys (λ n h. h (complex_of a) (complex_of b) refl) fourth
+
+    forth : (y : Place) → Has a b P Q y → IsCandidate (complex_of a) (complex_of b) y
     forth y (inl h) = inl h
     forth y (inr (inl h)) = inr (inl h)
     forth y (inr (inr (inl h))) = inr (inr (inl (cuts-any (complex_of a) b.carriers y h)))
     forth y (inr (inr (inr h))) = inr (inr (inr (cuts-any (complex_of b) a.carriers y h)))
 
-    back : (y : Place) → IsCandidate (complex_of a) (complex_of b) y → Has a b (CutsOne (complex_of a) b.carriers) (CutsOne (complex_of b) a.carriers) xs ys ns all third fourth y
+    back : (y : Place) → IsCandidate (complex_of a) (complex_of b) y → Has a b P Q y
     back y (inl h) = inl h
     back y (inr (inl h)) = inr (inl h)
     back y (inr (inr (inl h))) = inr (inr (inl (any-cuts (complex_of a) b.carriers y h)))
     back y (inr (inr (inr h))) = inr (inr (inr (any-cuts (complex_of b) a.carriers y h)))
 
     exactly : AreCandidates (complex_of a) (complex_of b) (map named_point ns)
-    exactly = exactly-as (Has a b (CutsOne (complex_of a) b.carriers) (CutsOne (complex_of b) a.carriers) xs ys ns all third fourth) (IsCandidate (complex_of a) (complex_of b)) (map named_point ns) forth back
-        (together-exactly a b (CutsOne (complex_of a) b.carriers) (CutsOne (complex_of b) a.carriers) xs ys ns all third fourth)
+    exactly = record {
+      ordered = together-ordered a b P P Q Q xs ys ns all of-first of-second;
+      each = λ p h. forth (place_of p) (together-each a b P P Q Q xs ys ns all of-first of-second p h);
+      all = λ y h. together-all a b P P Q Q xs ys ns all of-first of-second y (back y h);
+    }

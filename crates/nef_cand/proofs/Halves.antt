@@ -1,5 +1,5 @@
 -- The vertices of a half are vertices of the frame, or points where its plane crosses an edge of the frame.
-use Rattle.std.proofs.Common.{◌≡◌, ℕ, zero, suc, ◌+◌, ◌<◌, ℤ, pos, neg_ℤ, ◌+ℤ◌, ◌-ℤ◌, ◌*ℤ◌, Bool, true, false, List, [], ◌∷◌, map, arith, refl, ap, sym, subst, ◌∙◌, ◌⊎◌, inl, inr, ⊎_elim, ◌↔◌}
+use Rattle.std.proofs.Common.{◌≡◌, ℕ, zero, suc, ◌+◌, ◌<◌, ℤ, pos, neg_ℤ, ◌+ℤ◌, ◌-ℤ◌, ◌*ℤ◌, Bool, true, false, List, [], ◌∷◌, map, arith, ap, sym, ◌∙◌, ◌⊎◌, inl, inr, ⊎_elim, ◌↔◌}
 use Rattle.std.proofs.lemmas.Int.{ints}
 use Rattle.nef_space.specs.Signs.{sign}
 use Rattle.nef_space.proofs.Ring.{ring, Poly, at, num, neg, ◌⊕◌, ◌⊖◌, ◌⊗◌}
@@ -11,8 +11,6 @@ use Rattle.nef_space.specs.Sets.{Set, Holds, InHalf}
 use Rattle.nef_space.specs.Vectors.{Vector, cross, IsDirection}
 use Rattle.nef_space.specs.declared.label.Label.{Label}
 use Rattle.nef_space.specs.declared.label.Label.TheVariants.{Out, Not, In}
-use Rattle.nef_geo.specs.Shapes.{form_of}
-use Rattle.nef_geo.specs.declared.plane.Plane.{Plane}
 use Rattle.nef_geo.specs.declared.point.Point.{Point}
 use Rattle.law_near.proofs.Directions.{square_pos}
 use Rattle.law_near.proofs.Far.{nought-or}
@@ -34,8 +32,8 @@ use Rattle.law_complex.proofs.Ways.{between-ends}
 use Rattle.nef_cand.specs.declared.named.Named.{Named}
 use Rattle.nef_cand.specs.Names.{named_point, IsOnceEach}
 use Rattle.nef_cand.specs.Candidates.{IsListed, IsVertexOf, IsCutBy, AreCutCandidates}
-use Rattle.nef_cand.specs.Points.{Adds, CutsOne}
-use Rattle.nef_cand.proofs.Adding.{adds-both, adds-as}
+use Rattle.nef_cand.specs.Points.{Adds}
+use Rattle.nef_cand.proofs.Adding.{adds-both}
 use Rattle.nef_complex.proofs.Parted.{times-nought}
 use Rattle.nef_cand.proofs.Complete.{listed-decided, added-exactly, vertex-of}
 
@@ -158,13 +156,7 @@ module _ (C : Complex) (S : Shows Set.full C) (h f : Form) (P : SamePlane h f) (
       off n = let d = half-way (λ u. n (A.all y (inl (vertex-of Set.full C y S u)))) (λ u. n (A.all y (inr u))) in never-flat (Set.half f c) y d.0 d.1 d.2 v
 
 -- ---- what the program collects
-one-cuts : (C : Complex) (h : Plane) (y : Place) → CutsOne C (h ∷ []) y → IsCutBy C (form_of h) y
-one-cuts C h y (zero, g, a, x) = subst (λ (r : Plane). IsCutBy C (form_of r) y) (sym a) x
-one-cuts C h y (suc i, g, a, x) = absurd a
-
-pub cut-all : (C : Complex) (h : Plane) (hs : List Plane) → hs ≡ h ∷ [] → (N : Named → Type 0) (ps qs rs : List Named) → Adds (IsVertexOf C) N [] ps → Adds (CutsOne C hs) N ps qs
-    → IsOnceEach qs rs → AreCutCandidates C (form_of h) (map named_point rs)
-cut-all C h hs one N ps qs rs first second once =
-    added-exactly (λ y. IsVertexOf C y ⊎ IsCutBy C (form_of h) y) N qs rs
-    (adds-both (IsVertexOf C) (IsCutBy C (form_of h)) (λ y. IsVertexOf C y ⊎ IsCutBy C (form_of h) y) N [] ps qs first
-    (adds-as (CutsOne C (h ∷ [])) (IsCutBy C (form_of h)) N ps qs (one-cuts C h) (λ y x. (0, h, refl, x)) (subst (λ (r : List Plane). Adds (CutsOne C r) N ps qs) one second)) (λ y x. x) (λ y x. x)) once
+pub cut-all : (C : Complex) (h : Form) (N : Named → Type 0) (ps qs rs : List Named) → Adds (IsVertexOf C) N [] ps → Adds (IsCutBy C h) N ps qs → IsOnceEach qs rs → AreCutCandidates C h (map named_point rs)
+cut-all C h N ps qs rs first second once =
+    added-exactly (λ y. IsVertexOf C y ⊎ IsCutBy C h y) N qs rs
+    (adds-both (IsVertexOf C) (IsVertexOf C) (IsCutBy C h) (IsCutBy C h) (λ y. IsVertexOf C y ⊎ IsCutBy C h y) (λ y. IsVertexOf C y ⊎ IsCutBy C h y) N [] ps qs first second (λ y x. x) (λ y x. x)) once

@@ -1,5 +1,6 @@
 -- Two carriers hold each edge, and where planes cut edges.
-use Rattle.std.proofs.Common.{◌≡◌, ℕ, ℤ, pos, ◌-ℤ◌, ◌*ℤ◌, List, arith, sym, subst}
+use Rattle.std.proofs.Common.{◌≡◌, ℕ, ℤ, pos, ◌-ℤ◌, ◌*ℤ◌, List, Option, Some, None, IsNone, IfSome, arith, refl, sym, subst, ◌↔◌}
+use Rattle.std.specs.Option.{MatchOption}
 use Rattle.std.proofs.lemmas.Int.{ints}
 use Rattle.nef_space.specs.Signs.{Lies}
 use Rattle.nef_space.proofs.Order.{nought-is}
@@ -7,7 +8,9 @@ use Rattle.nef_space.specs.Local.{Flat}
 use Rattle.nef_space.specs.Place.{Place, Form, form_at, normal_of, toward, SamePlace, IsBetween}
 use Rattle.nef_space.specs.Sets.{Set}
 use Rattle.nef_space.specs.Vectors.{cross, IsZero, IsDirection}
+use Rattle.nef_geo.specs.Meet.{HasDependentNormals, IsOnlyCommon}
 use Rattle.nef_geo.specs.Shapes.{place_of, form_of}
+use Rattle.nef_geo.specs.Steps.{HasOppositeSigns}
 use Rattle.nef_geo.specs.declared.plane.Plane.{Plane}
 use Rattle.nef_geo.specs.declared.point.Point.{Point}
 use Rattle.law_near.specs.Cells.{carriers}
@@ -41,7 +44,9 @@ use Rattle.nef_complex.specs.Index.{AreInOrder}
 use Rattle.nef_complex.specs.Planes.{HoldsBoth}
 use Rattle.nef_cand.specs.Points.{IsCrossing, CutsEdge, Adds}
 use Rattle.nef_cand.proofs.Adding.{adds-as, AnyAt}
+use Rattle.nef_cand.proofs.Crossing.{never-dependent, meet-crosses, never-crosses}
 use Rattle.nef_cand.proofs.EdgeLines.{AreHeldByTwo}
+use Rattle.nef_cand.proofs.Planes.{IsLineThrough}
 
 -- ---- the planes of a segment
 -- forms of one plane have parallel normals
@@ -109,6 +114,24 @@ edge-crosses c h e u v a b y (r, t, f, g, x) =
     subst (λ (w : Vertex). IsCrossing (form_of h) (place_of w.point) (place_of v.point) y) (at-one c.vertices e.low r u f a)
     (subst (λ (w : Vertex). IsCrossing (form_of h) (place_of r.point) (place_of w.point) y) (at-one c.vertices e.high t v g b) x)
 
+-- what is answered of one edge and one plane
+abbrev pub IsCrossingOf : Complex → Edge → Plane → Option Point → Type 0
+IsCrossingOf c e h o = MatchOption o ((y : Place) → CutsEdge c h e y → ⊥) (λ m. CutsEdge c h e (place_of m) × ((y : Place) → CutsEdge c h e y → SamePlace (place_of m) y))
+
+module _ (c : Complex) (h : Plane) (e : Edge) (u v : Vertex) (a : At c.vertices e.low u) (b : At c.vertices e.high v) where
+  pub uncrossed : (HasOppositeSigns (form_at (form_of h) (place_of u.point)) (form_at (form_of h) (place_of v.point)) → ⊥) → IsCrossingOf c e h None
+  uncrossed n = λ y d. never-crosses (form_of h) (place_of u.point) (place_of v.point) n y (edge-crosses c h e u v a b y d)
+
+  -- the point that the plane has in common with two that hold the edge
+  pub crossed : (f g : Plane) → IsLineThrough f g (place_of u.point) (place_of v.point) → HasOppositeSigns (form_at (form_of h) (place_of u.point)) (form_at (form_of h) (place_of v.point))
+      → (m : Option Point) → (IsNone m ↔ HasDependentNormals (form_of f) (form_of g) (form_of h)) → IfSome m (λ p. IsOnlyCommon (form_of f) (form_of g) (form_of h) (place_of p)) → IsCrossingOf c e h m
+  crossed f g L s None n met = absurd (never-dependent f g h (place_of u.point) (place_of v.point) L s (n.0 refl))
+  crossed f g L s (Some p) n met = let o = meet-crosses f g h (place_of u.point) (place_of v.point) L s (place_of p) met in ((u, v, a, b, o.0), λ y d. o.1 y (edge-crosses c h e u v a b y d))
+
+-- the answer of an edge is that of each edge with its number
+pub crossing-same : (c : Complex) (h : Plane) (k : ℕ) (e f : Edge) (o : Option Point) → At c.edges k e → At c.edges k f → IsCrossingOf c e h o → IsCrossingOf c f h o
+crossing-same c h k e f o a b = subst (λ (g : Edge). IsCrossingOf c g h o) (at-one c.edges k e f a b)
+
 -- a plane cuts the complex where it crosses one of its edges
 pub some-cut : (c : Complex) (h : Plane) (y : Place) → AnyAt (CutsEdge c h) c.edges y → IsCutBy (complex_of c) (form_of h) y
 some-cut c h y (k, e, a, (u, v, f, g, x)) =
@@ -137,12 +160,19 @@ cut-some c h y (k, e, v, w, a, H, m, o, n) =
           ),
         )
 
+pub cut-named : (o : Operand) (c : Complex) (h : Plane) (k : ℕ) (e : Edge) → At c.edges k e → (p : Point) → CutsEdge c h e (place_of p) → IsNamedIn o (complex_of c) (record { point = p; name = name.Edge o k })
+cut-named o c h k e a p (u, v, f, g, t) = edge-named o c h k e u v a f g p t
+
+pub cuts-all : (c : Complex) (h : Plane) (N : Named → Type 0) (ps qs : List Named) → Adds (AnyAt (CutsEdge c h) c.edges) N ps qs → Adds (IsCutBy (complex_of c) (form_of h)) N ps qs
+cuts-all c h N ps qs = adds-as (AnyAt (CutsEdge c h) c.edges) (AnyAt (CutsEdge c h) c.edges) (IsCutBy (complex_of c) (form_of h)) (IsCutBy (complex_of c) (form_of h)) N ps qs (some-cut c h) (cut-some c h)
+
 -- ---- the vertices
 pub vertex-named : (o : Operand) (c : Complex) (k : ℕ) (u : Vertex) → At c.vertices k u → IsNamedIn o (complex_of c) (record { point = u.point; name = name.Vertex o k })
 vertex-named o c k u a = λ D E same. subst (λ (C : PlainComplex). IsVertexPoint C k (place_of u.point)) (sym same) (vertex_of u, map-at vertex_of c.vertices k u a, same-itself (place_of u.point))
 
 pub vertices-all : (c : Complex) (N : Named → Type 0) (ps qs : List Named) → Adds (AnyAt (λ (u : Vertex) (y : Place). SamePlace (place_of u.point) y) c.vertices) N ps qs → Adds (IsVertexOf (complex_of c)) N ps qs
-vertices-all c N ps qs = adds-as (AnyAt (λ (u : Vertex) (y : Place). SamePlace (place_of u.point) y) c.vertices) (IsVertexOf (complex_of c)) N ps qs
+vertices-all c N ps qs =
+    adds-as (AnyAt (λ (u : Vertex) (y : Place). SamePlace (place_of u.point) y) c.vertices) (AnyAt (λ (u : Vertex) (y : Place). SamePlace (place_of u.point) y) c.vertices) (IsVertexOf (complex_of c)) (IsVertexOf (complex_of c)) N ps qs
     (λ y a. (a.0, (vertex_of a.1, map-at vertex_of c.vertices a.0 a.1 a.2, a.3)))
     (λ y a. let v = at-map vertex_of c.vertices a.0 a.1.0 a.1.1 in (a.0, v.0, v.1, subst (λ (r : PlainVertex). SamePlace r.point y) (sym v.2) a.1.2))
 

@@ -1,12 +1,15 @@
 -- A plane that leaves the open frame on one side crosses no edge.
-use Rattle.std.proofs.Common.{◌≡◌, ℕ, ℤ, pos, ◌+◌, ◌*◌, ◌≤◌, ◌+ℤ◌, ◌*ℤ◌, ◌≤ℤ◌, ◌<ℤ◌, nat_abs, arith, ap, subst, ⊎_elim}
+use Rattle.std.proofs.Common.{◌≡◌, ℕ, ℤ, pos, neg_ℤ, ◌+◌, ◌*◌, ◌<◌, ◌≤◌, ◌+ℤ◌, ◌*ℤ◌, ◌≤ℤ◌, ◌<ℤ◌, nat_abs, [], ◌∷◌, arith, ap, sym, subst, ◌∙◌, inr, ⊎_elim}
+use Rattle.std.proofs.lemmas.Bool.{cases_lt}
 use Rattle.std.proofs.lemmas.Int.{ints, by_lt_z, unsigned_abs-mul}
 use Rattle.std.proofs.Math.Nat.{mul-le-mul_right}
 use lib.IntN.{zero-*ℤ}
+use Rattle.nef_space.proofs.Ring.{ring, at, neg, ◌⊗◌}
 use Rattle.nef_space.proofs.Order.{abs_plus, abs_times, mul_nonneg, mul_le_right}
 use Rattle.nef_space.specs.Limits.{half_side, point_limit}
-use Rattle.nef_space.specs.Place.{Place, Form, InClosedFrame}
+use Rattle.nef_space.specs.Place.{Place, Form, form_at, InClosedFrame}
 use Rattle.nef_space.specs.Sets.{Set}
+use Rattle.nef_geo.specs.Steps.{HasOppositeSigns}
 use Rattle.law_complex.specs.Shows.{Shows}
 use Rattle.law_complex.specs.Complexes.{Complex}
 use Rattle.nef_complex.proofs.Framed.{dim-framed}
@@ -49,11 +52,49 @@ never-cut s C h S n y (k, e, v, w, x, H, m, o, off) =
     (n v.point w.point (dim-framed s v.point 0 (omega arith) (S.vertices e.low v H.low)) (dim-framed s w.point 0 (omega arith) (S.vertices e.high w H.high)))
     y (record { between = m; on = o; parts = off })
 
+-- ---- where the last number doesn't outweigh the others
+-- the end of the frame's side at which the product is greatest
+module _ (a : ℤ) where
+  abbrev IsOutermost : ℤ → Type 0
+  IsOutermost x = (nat_abs x ≤ half_side) × (a *ℤ x ≡ pos (half_side * nat_abs a))
+
+  outermost : (x : ℤ) × IsOutermost x
+  outermost = by_lt_z a (pos 0)
+      (λ l. (neg_ℤ (pos half_side), (omega (arith, ints), omega (arith, ints, l))))
+      (λ l. (pos half_side, (omega (arith, ints), omega (arith, ints, l))))
+
+module _ (h : Form) (M : MissesFrame h) where
+  corner : (x y z : ℤ) → nat_abs x ≤ half_side → nat_abs y ≤ half_side → nat_abs z ≤ half_side → (p : Place) × InClosedFrame p × (form_at h p ≡ h.a *ℤ x +ℤ h.b *ℤ y +ℤ h.c *ℤ z +ℤ h.d)
+  corner x y z i j k = (record { x = x; y = y; z = z; w = 1; proper = omega arith }, record { along_x = omega (arith, i); along_y = omega (arith, j); along_z = omega (arith, k) }, omega (arith, ints))
+
+  turned : (a x : ℤ) → IsOutermost a x → a *ℤ neg_ℤ x ≡ neg_ℤ (pos (half_side * nat_abs a))
+  turned a x o = ring (a ∷ x ∷ []) (at 0 ⊗ neg (at 1)) (neg (at 0 ⊗ at 1)) tt ∙ ap neg_ℤ o.1
+
+  never-parts : (r d : ℤ) (n : ℕ) → r ≡ pos n → nat_abs d < n → (s : ℤ) → s ≡ neg_ℤ (pos n) → HasOppositeSigns (r +ℤ d) (s +ℤ d)
+  never-parts r d n e l s f = inr (omega (arith, ints, e, l), omega (arith, ints, f, l))
+
+  -- then two opposite corners lie on both sides
+  pub outweighs : half_side * (nat_abs h.a + nat_abs h.b + nat_abs h.c) ≤ nat_abs h.d
+  outweighs = ⊎_elim (λ l. absurd (parted l)) (λ l. l) (cases_lt (nat_abs h.d) (half_side * (nat_abs h.a + nat_abs h.b + nat_abs h.c)))
+    where
+      parted : nat_abs h.d < half_side * (nat_abs h.a + nat_abs h.b + nat_abs h.c) → ⊥
+      parted l =
+          let x = outermost h.a in let y = outermost h.b in let z = outermost h.c in
+          let p = corner x.0 y.0 z.0 x.1.0 y.1.0 z.1.0 in
+          let q = corner (neg_ℤ x.0) (neg_ℤ y.0) (neg_ℤ z.0) (let i = x.1.0 in omega (arith, ints, i)) (let i = y.1.0 in omega (arith, ints, i)) (let i = z.1.0 in omega (arith, ints, i)) in
+          let e = x.1.1 in let f = y.1.1 in let g = z.1.1 in
+          let a = turned h.a x.0 x.1 in let b = turned h.b y.0 y.1 in let c = turned h.c z.0 z.1 in
+          M p.0 q.0 p.1 q.1
+          (subst (λ (v : ℤ). HasOppositeSigns v (form_at h q.0)) (sym p.2)
+          (subst (λ (v : ℤ). HasOppositeSigns (h.a *ℤ x.0 +ℤ h.b *ℤ y.0 +ℤ h.c *ℤ z.0 +ℤ h.d) v) (sym q.2)
+          (never-parts (h.a *ℤ x.0 +ℤ h.b *ℤ y.0 +ℤ h.c *ℤ z.0) h.d (half_side * (nat_abs h.a + nat_abs h.b + nat_abs h.c)) (omega (arith, ints, e, f, g)) l
+          (h.a *ℤ neg_ℤ x.0 +ℤ h.b *ℤ neg_ℤ y.0 +ℤ h.c *ℤ neg_ℤ z.0) (omega (arith, ints, a, b, c)))))
+
 -- ---- by the numbers that the program reads
 pub number-fits : (x y : ℤ) (k : ℕ) → x ≡ y → nat_abs y ≤ k → k ≤ point_limit → nat_abs x ≤ point_limit
 number-fits x y k e l m = let n = ap nat_abs e in omega (arith, n, l, m)
 
-pub lengthened : (u v w s t a b c d : ℕ) → u ≡ a → v ≡ b → w ≡ c → s ≡ half_side → t ≡ d → s * (u + v + w) ≤ t → half_side * (a + b + c) ≤ d
-lengthened u v w s t a b c d e f g r q l =
-    subst (λ (n : ℕ). half_side * (a + b + c) ≤ n) q (subst (λ (n : ℕ). n * (a + b + c) ≤ t) r
+pub lengthened : (u v w s t a b c k d : ℕ) → u ≡ a → v ≡ b → w ≡ c → s ≡ k → t ≡ d → s * (u + v + w) ≤ t → k * (a + b + c) ≤ d
+lengthened u v w s t a b c k d e f g r q l =
+    subst (λ (n : ℕ). k * (a + b + c) ≤ n) q (subst (λ (n : ℕ). n * (a + b + c) ≤ t) r
     (subst (λ (n : ℕ). s * (a + b + n) ≤ t) g (subst (λ (n : ℕ). s * (a + n + w) ≤ t) f (subst (λ (n : ℕ). s * (n + v + w) ≤ t) e l))))

@@ -7,6 +7,7 @@ use Rattle.nef_geo.specs.declared.point.Point.{Point}
 use Rattle.law_sphere.specs.Least.{InOrder}
 use Rattle.law_complex.specs.Complexes.{Complex}
 use Rattle.law_complex.specs.Skeleton.{IsVertexPoint, IsEdgePoint}
+use Rattle.nef_locate.specs.Places.{IsPlaceIn, IsPlaceAt}
 use Rattle.nef_cand.specs.declared.named.Operand.{Operand}
 use Rattle.nef_cand.specs.declared.named.Operand.TheVariants.{First, Second}
 use Rattle.nef_cand.specs.declared.named.Name.{Name}
@@ -21,10 +22,16 @@ abbrev pub operand_of : Operand → Complex → Complex → Complex
 operand_of First C D = C
 operand_of Second C D = D
 
--- y is the vertex, or lies strictly inside the edge, that the name tells
+-- the other one
+abbrev pub other_of : Operand → Complex → Complex → Complex
+other_of First C D = D
+other_of Second C D = C
+
+-- y is the vertex, or lies strictly inside the edge, that the name tells, and lies at the place in the other that it tells
 abbrev pub IsNameAt : Complex → Complex → Place → Name → Type 0
 IsNameAt C D y (name.Vertex o k) = IsVertexPoint (operand_of o C D) k y
 IsNameAt C D y (name.Edge o k) = IsEdgePoint (operand_of o C D) k y
+IsNameAt C D y (name.Cut o k a) = IsEdgePoint (operand_of o C D) k y × IsPlaceIn (other_of o C D) a × IsPlaceAt (other_of o C D) y a
 
 -- the point lies where its name tells
 abbrev pub IsNamed : Complex → Complex → Named → Type 0
@@ -33,6 +40,11 @@ IsNamed C D n = IsNameAt C D (place_of n.point) n.name
 -- the point lies where its name tells, in C, which is this operand
 abbrev pub IsNamedIn : Operand → Complex → Named → Type 0
 IsNamedIn o C n = (D E : Complex) → operand_of o D E ≡ C → IsNamed D E n
+
+-- the same of C, which is this operand, and D, which is the other
+abbrev pub IsNamedBetween : Operand → Complex → Complex → Named → Type 0
+IsNamedBetween First C D n = IsNamed C D n
+IsNamedBetween Second C D n = IsNamed D C n
 
 abbrev pub AreNamed : Complex → Complex → List Named → Type 0
 AreNamed C D ns = (n : Named) → Contains ns n → IsNamed C D n

@@ -1,8 +1,9 @@
 -- Candidates near what the sets have in the planes that cut.
-use Rattle.std.specs.Prelude.{◌≡◌, ℕ, ◌<◌, pos, neg_ℤ, ◌⊎◌, List, [], ◌++◌, map}
+use Rattle.std.specs.Prelude.{◌≡◌, ℕ, ◌<◌, ◌⊎◌, List, [], ◌++◌, map, Option}
 use Rattle.std.specs.List.{Contains}
-use Rattle.nef_space.specs.Limits.{half_side}
-use Rattle.nef_space.specs.Place.{Place, IsPlaceBelow}
+use Rattle.std.specs.Option.{MatchOption}
+use Rattle.nef_space.specs.Lists.{IsAt}
+use Rattle.nef_space.specs.Place.{Place, SamePlace, IsPlaceBelow}
 use Rattle.nef_space.specs.Sets.{Set}
 use Rattle.nef_geo.specs.Shapes.{place_of, form_of}
 use Rattle.nef_geo.specs.declared.plane.Plane.{Plane}
@@ -10,55 +11,79 @@ use Rattle.nef_geo.specs.declared.point.Point.{Point}
 use Rattle.law_sphere.specs.Maps.{At}
 use Rattle.law_sphere.specs.Least.{InOrder}
 use Rattle.law_complex.specs.Complexes.{Complex as PlainComplex}
-use Rattle.law_complex.specs.Laws.{IsCut, IsVertexOfBoth}
+use Rattle.law_complex.specs.Laws.{IsCut, IsSkeletonIn, IsVertexOfBoth}
 use Rattle.nef_complex.specs.declared.complex.Complex.{Complex}
 use Rattle.nef_complex.specs.declared.complex.Edge.{Edge}
-use Rattle.nef_complex.specs.declared.spans.Bounds.{Bounds}
-use Rattle.nef_complex.specs.declared.spans.Span.{Span}
 use Rattle.nef_complex.specs.Complexes.{complex_of, ShowsSet}
 use Rattle.nef_complex.specs.Index.{IsSpanOn}
-use Rattle.nef_complex.specs.Spans.{IsInSpan}
 use Rattle.nef_cand.specs.declared.named.Named.{Named}
+use Rattle.nef_cand.specs.declared.named.Operand.{Operand}
 use Rattle.nef_cand.specs.declared.named.Operand.TheVariants.{First, Second}
 use Rattle.nef_cand.specs.declared.listing.Spanned.{Spanned}
 use Rattle.nef_cand.specs.Candidates.{IsListed, IsVertexOf, IsCutBy, AreFramed}
-use Rattle.nef_cand.specs.Names.{named_point, AreNamed, IsNamedIn, IsOnceEach}
-use Rattle.nef_cand.specs.Points.{Adds, CutsEdge, MissesFrame}
+use Rattle.nef_cand.specs.Names.{named_point, AreNamed, IsNamedIn, IsNamedBetween, IsOnceEach}
+use Rattle.nef_cand.specs.Points.{Adds, AddsAll, CutsEdge, MissesFrame}
 
 -- ---- carriers with their spans
--- the carrier is listed, with a span that holds the vertices on it
-abbrev pub IsSpanned : Complex → List Spanned → Plane → Type 0
-IsSpanned c xs h = (x : Spanned) × Contains xs x × (x.plane ≡ h) × IsSpanOn c.vertices (form_of h) x.span
+-- the number is that of the carrier, and the span holds the vertices on it
+abbrev pub IsSpannedIn : Complex → Spanned → Type 0
+IsSpannedIn c x = IsAt c.carriers x.number x.plane × IsSpanOn c.vertices (form_of x.plane) x.span
+
+abbrev pub AreSpannedIn : Complex → List Spanned → Type 0
+AreSpannedIn c xs = (x : Spanned) → Contains xs x → IsSpannedIn c x
+
+-- the carrier is listed
+abbrev pub IsSpanned : List Spanned → Plane → Type 0
+IsSpanned xs h = (x : Spanned) × Contains xs x × (x.plane ≡ h)
 
 -- these are some of the first n carriers; of the others each misses the frame
 pub record AreSpannedCarriers (c : Complex) (n : ℕ) (xs : List Spanned) : Type 0 where
-  pub each : (x : Spanned) → Contains xs x → (k : ℕ) × At c.carriers k x.plane
-  pub all : (k : ℕ) (h : Plane) → k < n → At c.carriers k h → MissesFrame (form_of h) ⊎ IsSpanned c xs h
+  pub each : AreSpannedIn c xs
+  pub all : (k : ℕ) (h : Plane) → k < n → At c.carriers k h → MissesFrame (form_of h) ⊎ IsSpanned xs h
 
--- a span of the whole frame
-abbrev pub frame_span : Span
-frame_span = let b : Bounds = record { low = neg_ℤ (pos half_side); high = pos half_side } in record { x = b; y = b; z = b }
+-- ---- cuts where the other set has something
+-- the set that the complex shows has something in the plane at y
+abbrev pub IsHeldIn : Complex → Plane → Place → Type 0
+IsHeldIn d h y = (t : Set) × ShowsSet t d × IsSkeletonIn t (complex_of d) (form_of h) y
 
--- the plane, with that span
-abbrev pub framed_plane : Plane → Spanned
-framed_plane h = record { plane = h; span = frame_span }
+-- y is a cut of an edge by the carrier
+abbrev pub IsCarrierCut : PlainComplex → Spanned → Place → Type 0
+IsCarrierCut C x y = IsCutBy C (form_of x.plane) y
 
--- ---- cuts within spans
--- y is a cut of an edge by the carrier, within its span
-abbrev pub IsSpannedCut : PlainComplex → Spanned → Place → Type 0
-IsSpannedCut C x y = IsCutBy C (form_of x.plane) y × IsInSpan x.span y
+-- and the other complex has something in the carrier there
+abbrev pub IsHeldCut : PlainComplex → Complex → Spanned → Place → Type 0
+IsHeldCut C d x y = IsCarrierCut C x y × IsHeldIn d x.plane y
 
--- by one of the carriers
-abbrev pub CutsNear : PlainComplex → List Spanned → Place → Type 0
-CutsNear C xs y = (i : ℕ) × (x : Spanned) × At xs i x × IsSpannedCut C x y
+-- the same of one of the carriers
+abbrev pub CutsBy : PlainComplex → List Spanned → Place → Type 0
+CutsBy C xs y = (i : ℕ) × (x : Spanned) × At xs i x × IsCarrierCut C x y
 
--- the carrier crosses this edge at y, within its span
-abbrev pub CutsEdgeNear : Complex → Edge → Spanned → Place → Type 0
-CutsEdgeNear c e x y = CutsEdge c x.plane e y × IsInSpan x.span y
+abbrev pub CutsHeld : PlainComplex → Complex → List Spanned → Place → Type 0
+CutsHeld C d xs y = (i : ℕ) × (x : Spanned) × At xs i x × IsHeldCut C d x y
+
+-- the cuts of c, which is this operand, by carriers of the other complex d, among them all where that has something in the carrier
+abbrev pub ListsCuts : Operand → Complex → Complex → List Spanned → List Named → Type 0
+ListsCuts o c d xs ns = AddsAll (CutsBy (complex_of c) xs) (CutsHeld (complex_of c) d xs) (IsNamedBetween o (complex_of c) (complex_of d)) [] ns
+
+-- the carrier crosses this edge at y
+abbrev pub CutsEdgeBy : Complex → Edge → Spanned → Place → Type 0
+CutsEdgeBy c e x y = CutsEdge c x.plane e y
+
+-- and the other complex has something in it there
+abbrev pub CutsEdgeHeld : Complex → Complex → Edge → Spanned → Place → Type 0
+CutsEdgeHeld c d e x y = CutsEdge c x.plane e y × IsHeldIn d x.plane y
 
 -- one of the carriers does
-abbrev pub CutsEdgeNearOne : Complex → List Spanned → Edge → Place → Type 0
-CutsEdgeNearOne c xs e y = (i : ℕ) × (x : Spanned) × At xs i x × CutsEdgeNear c e x y
+abbrev pub CutsEdgeByOne : Complex → List Spanned → Edge → Place → Type 0
+CutsEdgeByOne c xs e y = (i : ℕ) × (x : Spanned) × At xs i x × CutsEdgeBy c e x y
+
+abbrev pub CutsEdgeHeldOne : Complex → Complex → List Spanned → Edge → Place → Type 0
+CutsEdgeHeldOne c d xs e y = (i : ℕ) × (x : Spanned) × At xs i x × CutsEdgeHeld c d e x y
+
+-- the one point where the carrier crosses this edge is named in both complexes, or the other has nothing in the carrier there
+abbrev pub IsHeldCutOf : Complex → Operand → Complex → Edge → Spanned → Option Named → Type 0
+IsHeldCutOf c o d e x cut = MatchOption cut ((y : Place) → CutsEdgeHeld c d e x y → ⊥)
+    (λ n. CutsEdgeBy c e x (place_of n.point) × IsNamedBetween o (complex_of c) (complex_of d) n × ((y : Place) → CutsEdgeBy c e x y → SamePlace (place_of n.point) y))
 
 -- ---- what is listed
 -- the vertices of both complexes, and those given for each, in order, once each

@@ -19,11 +19,15 @@ use Rattle.law_complex.specs.Laws.{IsVertexOfBoth}
 use Rattle.nef_complex.specs.Complexes.{complex_of, ShowsSet}
 use Rattle.nef_cand.specs.Candidates.{IsListed, IsCutBy, AreCandidates, AreFramed}
 
--- ms are ns and more, which have N and whose points are those with P
-pub record Adds (P : Place → Type 0) (N : Named → Type 0) (ns ms : List Named) : Type 0 where
+-- ms are ns and more, which have N and whose points have P; all points with Q are among them
+pub record AddsAll (P Q : Place → Type 0) (N : Named → Type 0) (ns ms : List Named) : Type 0 where
   pub kept : (n : Named) → Contains ns n → Contains ms n
   pub added : (n : Named) → Contains ms n → Contains ns n ⊎ (P (place_of n.point) × N n)
-  pub all : (y : Place) → P y → IsAmong ms y
+  pub all : (y : Place) → Q y → IsAmong ms y
+
+-- ms are ns and more, which have N and whose points are those with P
+abbrev pub Adds : (Place → Type 0) → (Named → Type 0) → List Named → List Named → Type 0
+Adds P = AddsAll P P
 
 -- zs are the elements of xs and those of ys
 pub record HasBoth {X : Type 0} (xs ys zs : List X) : Type 0 where

@@ -1,13 +1,11 @@
 //! The candidates of a combination, listed by several threads.
 
 ghost use Rattle.std.specs.Prelude.{◌≡◌};
-ghost use Rattle.nef_complex.specs.Prelude.{min, length, IfOk, [], Set, complex_of, ShowsSet};
+ghost use Rattle.nef_complex.specs.Prelude.{min, length, IfOk, Set, ShowsSet};
 ghost use Rattle.nef_core.specs.Work.{crew_of};
 ghost use Rattle.nef_core.specs.declared.work.Work.TheVariants.{Listing};
 ghost use Rattle.nef_cand.specs.declared.named.Operand.TheVariants.{First, Second};
-ghost use Rattle.nef_cand.specs.Names.{IsNamedIn};
-ghost use Rattle.nef_cand.specs.Points.{Adds};
-ghost use Rattle.nef_cand.specs.Near.{CutsNear, ListsNear};
+ghost use Rattle.nef_cand.specs.Near.{AreSpannedIn, ListsCuts, ListsNear};
 
 use crate::OutOfMemory;
 use crate::listing::{Spanned, near_candidates, near_cuts, spanned_carriers};
@@ -24,22 +22,29 @@ fn cuts_by_two<R: Threads + Sync>(
     alloc: Global,
     c: &Complex,
     operand: Operand,
+    other: &Complex,
     near: &[Spanned],
 ) -> Result<Vec<Named>, OutOfMemory>
     requires shows { (s : Set) × ShowsSet s c.now }
-    ensures cuts { IfOk result (λ v. Adds (CutsNear (complex_of c.now) near.now) (IsNamedIn operand (complex_of c.now)) [] v.items) }
+    requires other { (t : Set) × ShowsSet t other.now }
+    requires near { AreSpannedIn other.now near.now }
+    ensures cuts { IfOk result (λ v. ListsCuts operand c.now other.now near.now v.items) }
 {
     let (front, back) = near.split_at(near.len() / 2);
     let (first, second) = thread::join(
         rt,
         || -> Result<Vec<Named>, OutOfMemory>
-            requires { (s : Set) × ShowsSet s c.now }
-            ensures { IfOk result (λ v. Adds (CutsNear (complex_of c.entry.now) front.entry.now) (IsNamedIn operand (complex_of c.entry.now)) [] v.items) }
-        { near_cuts(alloc, c, operand, front) },
+            requires shows { (s : Set) × ShowsSet s c.now }
+            requires other { (t : Set) × ShowsSet t other.now }
+            requires near { AreSpannedIn other.now front.now }
+            ensures cuts { IfOk result (λ v. ListsCuts operand c.entry.now other.entry.now front.entry.now v.items) }
+        { near_cuts(alloc, c, operand, other, front) },
         || -> Result<Vec<Named>, OutOfMemory>
-            requires { (s : Set) × ShowsSet s c.now }
-            ensures { IfOk result (λ v. Adds (CutsNear (complex_of c.entry.now) back.entry.now) (IsNamedIn operand (complex_of c.entry.now)) [] v.items) }
-        { near_cuts(alloc, c, operand, back) },
+            requires shows { (s : Set) × ShowsSet s c.now }
+            requires other { (t : Set) × ShowsSet t other.now }
+            requires near { AreSpannedIn other.now back.now }
+            ensures cuts { IfOk result (λ v. ListsCuts operand c.entry.now other.entry.now back.entry.now v.items) }
+        { near_cuts(alloc, c, operand, other, back) },
     );
     let inside_front = first?;
     let inside_back = second?;
@@ -60,19 +65,25 @@ fn cuts_by_three<R: Threads + Sync>(
 )
     requires first { (s : Set) × ShowsSet s a.now }
     requires second { (t : Set) × ShowsSet t b.now }
-    ensures inside_a { IfOk result.0 (λ v. Adds (CutsNear (complex_of a.now) near.now) (IsNamedIn First (complex_of a.now)) [] v.items) }
-    ensures inside_b { IfOk result.1 (λ v. Adds (CutsNear (complex_of b.now) of_a.now) (IsNamedIn Second (complex_of b.now)) [] v.items) }
+    requires near { AreSpannedIn b.now near.now }
+    requires of_a { AreSpannedIn a.now of_a.now }
+    ensures inside_a { IfOk result.0 (λ v. ListsCuts First a.now b.now near.now v.items) }
+    ensures inside_b { IfOk result.1 (λ v. ListsCuts Second b.now a.now of_a.now v.items) }
 {
     thread::join(
         rt,
         || -> Result<Vec<Named>, OutOfMemory>
-            requires { (s : Set) × ShowsSet s a.now }
-            ensures { IfOk result (λ v. Adds (CutsNear (complex_of a.entry.now) near.entry.now) (IsNamedIn First (complex_of a.entry.now)) [] v.items) }
-        { near_cuts(alloc, a, Operand::First, near) },
+            requires first { (s : Set) × ShowsSet s a.now }
+            requires second { (t : Set) × ShowsSet t b.now }
+            requires near { AreSpannedIn b.now near.now }
+            ensures cuts { IfOk result (λ v. ListsCuts First a.entry.now b.entry.now near.entry.now v.items) }
+        { near_cuts(alloc, a, Operand::First, b, near) },
         || -> Result<Vec<Named>, OutOfMemory>
-            requires { (t : Set) × ShowsSet t b.now }
-            ensures { IfOk result (λ v. Adds (CutsNear (complex_of b.entry.now) of_a.entry.now) (IsNamedIn Second (complex_of b.entry.now)) [] v.items) }
-        { cuts_by_two(rt, alloc, b, Operand::Second, of_a) },
+            requires first { (s : Set) × ShowsSet s a.now }
+            requires second { (t : Set) × ShowsSet t b.now }
+            requires near { AreSpannedIn a.now of_a.now }
+            ensures cuts { IfOk result (λ v. ListsCuts Second b.entry.now a.entry.now of_a.entry.now v.items) }
+        { cuts_by_two(rt, alloc, b, Operand::Second, a, of_a) },
     )
 }
 
@@ -107,17 +118,21 @@ pub fn near_candidates_by_threads<R: Threads + Sync>(
     let (first, (second, third)) = thread::join(
         rt,
         || -> Result<Vec<Named>, OutOfMemory>
-            requires { (s : Set) × ShowsSet s a.now }
-            ensures { IfOk result (λ v. Adds (CutsNear (complex_of a.entry.now) front.entry.now) (IsNamedIn First (complex_of a.entry.now)) [] v.items) }
-        { near_cuts(alloc, a, Operand::First, front) },
+            requires first { (s : Set) × ShowsSet s a.now }
+            requires second { (t : Set) × ShowsSet t b.now }
+            requires near { AreSpannedIn b.now front.now }
+            ensures cuts { IfOk result (λ v. ListsCuts First a.entry.now b.entry.now front.entry.now v.items) }
+        { near_cuts(alloc, a, Operand::First, b, front) },
         || -> (
             Result<Vec<Named>, OutOfMemory>,
             Result<Vec<Named>, OutOfMemory>,
         )
             requires first { (s : Set) × ShowsSet s a.now }
             requires second { (t : Set) × ShowsSet t b.now }
-            ensures inside_a { IfOk result.0 (λ v. Adds (CutsNear (complex_of a.entry.now) back.entry.now) (IsNamedIn First (complex_of a.entry.now)) [] v.items) }
-            ensures inside_b { IfOk result.1 (λ v. Adds (CutsNear (complex_of b.entry.now) of_a.entry.now) (IsNamedIn Second (complex_of b.entry.now)) [] v.items) }
+            requires near { AreSpannedIn b.now back.now }
+            requires of_a { AreSpannedIn a.now of_a.now }
+            ensures inside_a { IfOk result.0 (λ v. ListsCuts First a.entry.now b.entry.now back.entry.now v.items) }
+            ensures inside_b { IfOk result.1 (λ v. ListsCuts Second b.entry.now a.entry.now of_a.entry.now v.items) }
         { cuts_by_three(rt, alloc, a, back, b, of_a) },
     );
     let inside_front = first?;

@@ -1,5 +1,5 @@
 -- A point of an edge comes between the edge's ends in the order of vertices, and what comes between on its line lies on it.
-use Rattle.std.proofs.Common.{◌≡◌, ℕ, ◌<◌, ◌≤◌, pos, Bool, IsTrue, ◌↔◌, List, arith, inl, inr, ⊎_elim, subst}
+use Rattle.std.proofs.Common.{◌≡◌, ℕ, ◌+◌, ◌<◌, ◌≤◌, sym, pos, Bool, IsTrue, ◌↔◌, List, arith, inl, inr, ⊎_elim, subst}
 use Rattle.std.proofs.Math.Nat.{eq-or-lt_of_le}
 use Rattle.std.proofs.lemmas.Bool.{cases_lt}
 use Rattle.std.proofs.lemmas.Int.{ints}
@@ -28,6 +28,7 @@ use Rattle.nef_complex.specs.declared.complex.Edge.{Edge}
 use Rattle.nef_complex.specs.declared.complex.Complex.{Complex}
 use Rattle.nef_complex.specs.Complexes.{edge_of, vertex_of, complex_of, AreBelow, AreAbove}
 use Rattle.nef_complex.specs.Index.{EdgeLiesIn, AreNumbersWith}
+use Rattle.nef_complex.specs.Peaks.{EndBelow}
 use Rattle.nef_complex.proofs.Ends.{apart, edge-inside, ends, listed_edge, vertex-same}
 use Rattle.nef_complex.proofs.Parted.{held-between}
 use Rattle.nef_edges.proofs.Rays.{toward-normal, normal-kept, normals-same}
@@ -35,7 +36,7 @@ use Rattle.nef_plane.specs.Amid.{AllThrough}
 use Rattle.nef_plane.proofs.Crossed.{edge-along}
 use Rattle.nef_plane.proofs.Listed.{lies, lying-ends}
 use Rattle.nef_plane.proofs.Meeting.{level-same}
-use Rattle.nef_plane.proofs.Rising.{low-rises}
+use Rattle.nef_complex.proofs.Rising.{BeginFrom}
 use Rattle.nef_locate.specs.Orders.{PartsOn}
 
 -- where q - p begins with a positive number, q is a later point
@@ -143,16 +144,20 @@ module _ (s : Set) (c : Complex) (S : Shows s (complex_of c)) (h : Form) (y : Pl
         λ x. T.1 (λ g f o H. held-between (form_of f) (place_of u.point) (place_of v.point) y (edge-inside s c S k e u v l i j y x) H),
       )
 
-  module _ (ns : List ℕ) (N : AreNumbersWith (EdgeLiesIn c.vertices c.edges h) ns) (m r : ℕ) (e : Edge) (a : IsAt ns m r) (b : IsAt c.edges r e) (past : n ≤ e.low) (none : (j k : ℕ) → j < m → At ns j k → IsEdgePoint (complex_of c) k y → ⊥) where
-    later : (i k : ℕ) → m ≤ i → IsAt ns i k → IsEdgePoint (complex_of c) k y → ⊥
-    later i k l o x =
-        let L = N.each i k o in
-        let f = L.0 in
-        let t = low-rises s c S r k e f (⊎_elim (λ q. let w : r ≡ k = is-at_one ns i r k (subst (λ z. IsAt ns z r) q a) o in omega (arith, w)) (λ q. let w = N.ordered m i r k q a o in omega (arith, w)) (eq-or-lt_of_le {n = m} {m = i} l)) b L.1 in
-        let z = number-parted k f L.1 L x in
-        let w = z.0 in
-        omega (arith, w, t, past)
+  -- from a place of a row of them on the point lies on none
+  abbrev pub NoneFrom : List ℕ → ℕ → Type 0
+  NoneFrom ns m = (j k : ℕ) → m ≤ j → IsAt ns j k → IsEdgePoint (complex_of c) k y → ⊥
 
-    -- so from an edge on whose lower end isn't among the first vertices the point lies on none
-    pub none-later : (i k : ℕ) → IsAt ns i k → IsEdgePoint (complex_of c) k y → ⊥
-    none-later i k o x = ⊎_elim (λ q. none i k q (at-from_get ns i k o) x) (λ q. later i k q o x) (cases_lt i m)
+  module _ (ns : List ℕ) (N : AreNumbersWith (EdgeLiesIn c.vertices c.edges h) ns) where
+    -- it lies on none that doesn't begin among the first vertices, nor on one that ends among them
+    pub none-beyond : (count : ℕ) → BeginFrom c.edges ns n count → NoneFrom ns count
+    none-beyond count B j k l a x = let L = N.each j k a in let z = number-parted k L.0 L.1 L x in let w = z.0 in let b = B j k L.0 l a L.1 in omega (arith, w, b)
+
+    pub none-below : (first past : ℕ) → EndBelow c.edges ns first past n → NoneFrom ns past → NoneFrom ns first
+    none-below first past E F j k l a x = ⊎_elim
+        (λ t. let L = N.each j k a in let z = number-parted k L.0 L.1 L x in let w = z.1 in let b = E j k L.0 l t a L.1 in omega (arith, w, b)) (λ t. F j k t a x) (cases_lt j past)
+
+    pub none-more : (i m k : ℕ) → m ≡ i + 1 → IsAt ns i k → (IsEdgePoint (complex_of c) k y → ⊥) → NoneFrom ns m → NoneFrom ns i
+    none-more i m k e a off F j r l b x = ⊎_elim
+        (λ t. off (subst (λ z. IsEdgePoint (complex_of c) z y) (is-at_one ns i r k (subst (λ z. IsAt ns z r) (sym t) b) a) x)) (λ t. F j r (omega (arith, t, e)) b x)
+        (eq-or-lt_of_le {n = i} {m = j} l)

@@ -1,8 +1,8 @@
 -- The side above what the ray down first meets is that of the point; each place has its number of flat directions.
-use Rattle.std.proofs.Common.{◌≡◌, ℕ, pos, arith, refl, sym, Option, Some, None, IfSome, subst, slice_get}
+use Rattle.std.proofs.Common.{◌≡◌, ℕ, pos, arith, refl, sym, inl, inr, Option, Some, None, IfSome, subst, slice_get}
 use Rattle.std.proofs.lemmas.Int.{ints}
 use Rattle.nef_space.specs.Local.{FlatDim}
-use Rattle.nef_space.specs.Place.{Place as PlainPlace, SamePlace, InClosedFrame, IsAhead}
+use Rattle.nef_space.specs.Place.{Place as PlainPlace, Form, SamePlace, InClosedFrame, IsAhead}
 use Rattle.nef_space.specs.Sets.{Set}
 use Rattle.nef_space.specs.Vectors.{up, opposite, plane_axis}
 use Rattle.nef_space.specs.declared.label.Label.{Label}
@@ -15,10 +15,11 @@ use Rattle.nef_smap.specs.Sides.{IsSide, SideSees}
 use Rattle.nef_smap.proofs.SideLists.{side-has}
 use Rattle.nef_smap.proofs.SideNumbers.{side-number}
 use Rattle.law_complex.specs.Complexes.{Complex as PlainComplex}
+use Rattle.law_complex.specs.Laws.{IsSkeletonIn}
 use Rattle.law_complex.specs.Skeleton.{at_vertex, on_edge, in_facet, IsVertexPoint, IsEdgePoint, IsSkeletonPoint, PlaneMeet, meets_vertex, meets_edge, IsCornerAt, HasCorner, item_plane}
 use Rattle.law_complex.specs.Rays.{RayDown}
 use Rattle.law_complex.proofs.Edges.{edge-points}
-use Rattle.law_complex.proofs.EqualPoints.{vertex-same, edge-same, corner-same}
+use Rattle.law_complex.proofs.EqualPoints.{vertex-same, edge-same, corner-same, flat-same}
 use Rattle.law_complex.proofs.FacetNames.{facet-at, facet-of}
 use Rattle.law_complex.proofs.FacetWays.{dim-same}
 use Rattle.law_complex.proofs.Skeletons.{way-ends}
@@ -125,6 +126,12 @@ skeleton-same D x y e (place.InVolume i j) A = let h = A.at in absurd (h.3.0 A.s
 pub same-found : (D : PlainComplex) (x y : PlainPlace) → SamePlace x y → (found : Option Place) → IfSome found (IsSkeletonAt D x) → IfSome found (IsSkeletonAt D y)
 same-found D x y e None A = tt
 same-found D x y e (Some a) A = skeleton-same D x y e a A
+
+-- and what a plane holds of the skeleton there
+pub held-same : (s : Set) (D : PlainComplex) (h : Form) (x y : PlainPlace) → SamePlace x y → IsSkeletonIn s D h x → IsSkeletonIn s D h y
+held-same s D h x y e (inl (meets_vertex k, v)) = inl (meets_vertex k, vertex-same x y e D k v)
+held-same s D h x y e (inl (meets_edge k, (p, l))) = inl (meets_edge k, (edge-same x y e D k p, l))
+held-same s D h x y e (inr f) = inr (flat-same s x y e h f)
 
 -- the vertices stand in order
 pub vertices-sorted : (s : Set) (c : Complex) → ShowsSet s c → AreSorted c.vertices

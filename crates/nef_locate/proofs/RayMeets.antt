@@ -1,5 +1,5 @@
 -- What a ray along an upright direction meets in one plane, and what it meets first.
-use Rattle.std.proofs.Common.{◌≡◌, ℕ, ◌<◌, length, neg_ℤ, arith, inl, inr, Option, Some, None, IfSome, [], ◌∷◌, slice_get, subst}
+use Rattle.std.proofs.Common.{◌≡◌, ℕ, ◌<◌, length, neg_ℤ, arith, Option, Some, None, IfSome, [], ◌∷◌, slice_get, subst}
 use Rattle.std.proofs.lemmas.Int.{ints}
 use Rattle.nef_space.proofs.Ring.{ring, at, neg, ◌⊕◌, ◌⊗◌}
 use Rattle.nef_space.specs.Place.{Place as PlainPlace, SamePlace, toward, IsAhead, IsBetween}
@@ -14,7 +14,7 @@ use Rattle.law_near.proofs.Directions.{direction-left, direction-right, self-pos
 use Rattle.law_near.proofs.Between.{between-inner}
 use Rattle.law_sphere.proofs.Compare.{SameDirection-turned, SameDirection-trans}
 use Rattle.law_complex.specs.Complexes.{Complex as PlainComplex}
-use Rattle.law_complex.specs.Skeleton.{IsSkeletonPoint, meets_vertex, meets_edge}
+use Rattle.law_complex.specs.Skeleton.{IsSkeletonPoint}
 use Rattle.law_complex.proofs.FacetEdges.{ahead-back}
 use Rattle.nef_complex.proofs.Lines.{one-crossing}
 use Rattle.nef_plane.proofs.Found.{not-end}
@@ -29,7 +29,8 @@ use Rattle.nef_locate.specs.declared.beam.Met.{Met}
 use Rattle.nef_locate.specs.Places.{IsFirstHit}
 use Rattle.nef_locate.specs.Rays.{IsMet, IsReachedMet, IsSooner, IsNotBefore, HasNoneOn, HasNoneOnCarrier, HasNotAt, HasNotAtCarrier}
 use Rattle.nef_locate.proofs.CarrierPoints.{skeleton-carrier, crossed}
-use Rattle.law_complex.proofs.EqualPoints.{ahead-from, vertex-same, edge-same, flat-same}
+use Rattle.nef_locate.proofs.Located.{held-same}
+use Rattle.law_complex.proofs.EqualPoints.{ahead-from}
 
 -- ---- the order along a ray
 pub never-same : (y z : PlainPlace) (d : Vector) → IsAhead y d z → SamePlace y z → ⊥
@@ -79,9 +80,7 @@ module _ (p : PlainPlace) (d : Vector) (h : Plane) (hit : Hit) (X : IsCrossing p
 
   -- what the plane holds of the skeleton at a crossing it holds at the hit
   pub found : (s : Set) (D : PlainComplex) (y : PlainPlace) → IsCrossing p d (form_of h) y → IsSkeletonIn s D (form_of h) y → IsSkeletonIn s D (form_of h) x
-  found s D y Y (inl (meets_vertex k, v)) = inl (meets_vertex k, vertex-same y x (at-hit y Y) D k v)
-  found s D y Y (inl (meets_edge k, (e, l))) = inl (meets_edge k, (edge-same y x (at-hit y Y) D k e, l))
-  found s D y Y (inr f) = inr (flat-same s y x (at-hit y Y) (form_of h) f)
+  found s D y Y = held-same s D (form_of h) y x (at-hit y Y)
 
 -- ---- all planes
 module _ (s : Set) (c : Complex) (S : ShowsSet s c) (p : PlainPlace) (d : Vector) (u : IsUpright d) where

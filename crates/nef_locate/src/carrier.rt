@@ -3,12 +3,13 @@
 
 ghost use Rattle.std.specs.Prelude.{◌≡◌, ◌≤◌, ◌*ℤ◌, ◌<ℤ◌, ◌*◌, ◌≤ℤ◌, ◌↔◌};
 ghost use Rattle.nef_complex.specs.Prelude.{ℕ, pos, IsNone, IfSome, nat_abs, IfOk, IfErr, IsTrue, MatchOption, IsAt, Form, InClosedFrame, form_at, SamePlace, IsPlaceBelow, Set, IsPlaceAtMost, form_of, hit_place, place_of, upright_limit, upright_weight_limit, IsEdgePoint, IsVertexPoint, complex_of, ShowsSet, AreNumbersWith, EdgeLiesIn, LiesOn, IsSkeletonIn, MatchOrdering, point_limit, weight_limit, half_side, IsInSpan};
+ghost use Rattle.nef_complex.specs.Peaks.{ArePeaks};
 ghost use Rattle.nef_locate.specs.Orders.{PartsOn};
 ghost use Rattle.nef_locate.specs.Rays.{IsSkeletonAt};
 
 use crate::facet::in_facet;
 use crate::point::Place;
-use nef_complex::{Bounds, Complex, Span, carrier_items, carrier_spans};
+use nef_complex::{Bounds, Complex, PlaneItems, Span, carrier_items, carrier_spans};
 use nef_geo::{HALF_SIDE, Hit, Plane, Point};
 use nef_plane::is_in_line;
 use std::cmp::Ordering;
@@ -124,22 +125,23 @@ fn find_among(c: &Complex, numbers: &[usize], q: &Hit) -> Result<usize, usize>
     }
 }
 
-// Of the edges in a plane with these numbers that on which the hit lies. The vertices of the plane with numbers below the
-// next come before the hit, and the others after it. An edge on which the hit lies has its lower end among the former and
-// its upper end among the latter, and the edges stand in order of their lower ends.
-fn edge_among(c: &Complex, numbers: &[usize], q: &Hit, next: usize) -> Option<usize>
+// Of the edges in a plane, which are listed, that on which the hit lies. The vertices of the plane with numbers below the next
+// come before the hit, and the others after it. An edge on which the hit lies has its lower end among the former and its upper
+// end among the latter.
+fn edge_among(c: &Complex, items: &PlaneItems, q: &Hit, next: usize) -> Option<usize>
     requires shows { (s : Set) × ShowsSet s c.now }
-    requires parts { (h : Form) × AreNumbersWith (EdgeLiesIn c.now.vertices c.now.edges h) numbers.now × PartsOn c.now.vertices h (hit_place q.now) next }
-    ensures edge { MatchOption result ((i k : ℕ) → IsAt numbers.now i k → IsEdgePoint (complex_of c.now) k (hit_place q.now) → ⊥) (λ k. IsEdgePoint (complex_of c.now) k (hit_place q.now)) }
+    requires parts { (h : Form) × AreNumbersWith (EdgeLiesIn c.now.vertices c.now.edges h) items.now.edges.now × PartsOn c.now.vertices h (hit_place q.now) next }
+    requires peaks { ArePeaks c.now.edges items.now.edges.now items.now.peaks.now }
+    ensures edge { MatchOption result ((i k : ℕ) → IsAt items.now.edges.now i k → IsEdgePoint (complex_of c.now) k (hit_place q.now) → ⊥) (λ k. IsEdgePoint (complex_of c.now) k (hit_place q.now)) }
 {
-    for number in numbers {
-        let edge = c.edges.at(*number);
-        if next <= edge.low {
-            return None;
+    let count = items.edges_before(c, next);
+    let mut place = items.last_reaching(c, count, next);
+    while 0 < place {
+        let number = items.edges[place - 1];
+        if is_in_line(c, number, q) {
+            return Some(number);
         }
-        if next <= edge.high && is_in_line(c, *number, q) {
-            return Some(*number);
-        }
+        place = items.last_reaching(c, place - 1, next);
     }
     None
 }
@@ -162,16 +164,17 @@ pub(crate) fn place_beside_vertices(
     ensures at { IfSome result (IsSkeletonAt (complex_of c.now) (hit_place q.now)) }
     ensures none { IsNone result → (s : Set) → ShowsSet s c.now → IsSkeletonIn s (complex_of c.now) (form_of h.now) (hit_place q.now) → ⊥ }
 {
-    if let Some(edge) = edge_among(c, carrier_items(c, number).edges, q, next) {
+    if let Some(edge) = edge_among(c, &carrier_items(c, number), q, next) {
         return Some(Place::OnEdge(edge));
     }
     let corner = in_facet(c, h, q)?;
     Some(Place::InFacet(corner))
 }
 
-// The vertex, the edge or the facet of the carrier with this number at a point of the carrier. What the carrier holds of the
-// skeleton lies in the closed frame, and within the carrier's span.
-pub(crate) fn place_on(c: &Complex, number: usize, h: &Plane, q: &Hit) -> Option<Place>
+/// The vertex at a point of the carrier with this number, or the edge or the facet of the carrier there. The point's first
+/// three numbers are at most `2^86` in size and its w at most `2^73`. Where `None` comes, the point is no vertex, and lies on
+/// no edge whose ends both lie on the carrier and in no facet of its plane. It takes no memory.
+pub fn place_on(c: &Complex, number: usize, h: &Plane, q: &Hit) -> Option<Place>
     requires shows { (s : Set) × ShowsSet s c.now }
     requires number { IsAt c.now.carriers number h.now }
     requires on { form_at (form_of h.now) (hit_place q.now) ≡ pos 0 }
@@ -179,6 +182,7 @@ pub(crate) fn place_on(c: &Complex, number: usize, h: &Plane, q: &Hit) -> Option
     ensures at { IfSome result (IsSkeletonAt (complex_of c.now) (hit_place q.now)) }
     ensures none { IsNone result → (s : Set) → ShowsSet s c.now → IsSkeletonIn s (complex_of c.now) (form_of h.now) (hit_place q.now) → ⊥ }
 {
+    // what the carrier holds of the skeleton lies in the closed frame, and within the carrier's span
     if !is_framed(q) {
         return None;
     }

@@ -13,6 +13,7 @@ mod point;
 
 pub use above::side_above;
 pub use beam::first_hit;
+pub use carrier::place_on;
 pub use facet::{corner_toward, in_facet};
 pub use maps::{local_map, place_map};
 pub use point::{Place, locate, place_label};

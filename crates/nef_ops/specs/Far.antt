@@ -63,3 +63,7 @@ IsTold c r = IfSome r.label (λ (l : Label). (p : Place) → IsFar r.side p → 
 
 abbrev pub AreTold : Complex → List Region → Type 0
 AreTold c regions = (k : ℕ) (r : Region) → At regions k r → IsTold c r
+
+-- so many points pay for labels of the regions
+abbrev pub many_points : ℕ
+many_points = 64

@@ -80,6 +80,10 @@ Makes Both op k l = Unit {0}
 abbrev pub Leads : Choice → Op → Share → Share → Type 0
 Leads w op f g = (k l : Label) → AreAlike k l → InShare f k → InShare g l → Makes w op k l
 
+-- the way leads there wherever the sets have some two shares that these two have at p
+abbrev pub LeadsAt : Choice → Op → Set → Set → Place → Type 0
+LeadsAt w op s t p = (f : Share) × (g : Share) × HasShare f s p × HasShare g t p × Leads w op f g
+
 -- m is the least map of the combination of each two sets that the first two maps show
 pub record IsCombined (op : Op) (first second m : SphereMap) : Type 0 where
   pub least : IsLeastMap m

@@ -1,21 +1,21 @@
 //! The map of a combination at a point, of two complexes.
 
 ghost use Rattle.std.specs.Prelude.{◌≡◌};
-ghost use Rattle.nef_complex.specs.Prelude.{length, map, IfOk, IsTrue, Place as PlainPlace, InClosedFrame, Set, Label as PlainLabel, place_of, Cone, complex_of, ShowsSet};
+ghost use Rattle.nef_complex.specs.Prelude.{length, map, IfOk, IfSome, IsTrue, Place as PlainPlace, InClosedFrame, Set, Label as PlainLabel, place_of, Cone, complex_of, ShowsSet};
 ghost use Rattle.nef_star.specs.Ops.{op_label};
 ghost use Rattle.nef_smap.specs.Maps.{map_of, IsLeastMap};
 ghost use Rattle.nef_stopo.specs.Sets.{op_set};
 ghost use Rattle.law_complex.specs.Complexes.{Complex as PlainComplex};
 ghost use Rattle.nef_cand.specs.Candidates.{AreFramed};
-ghost use Rattle.nef_cand.specs.Names.{operand_of, named_point, IsNameAt, IsNamed, AreNamed};
+ghost use Rattle.nef_cand.specs.Names.{operand_of, other_of, named_point, IsNameAt, IsNamed, AreNamed};
 ghost use Rattle.nef_locate.specs.Places.{IsPlaceIn, IsPlaceAt};
-ghost use Rattle.nef_ops.specs.Shares.{IsCombined, HasShare, Leads, IsFindingIn, IsFoundAt};
+ghost use Rattle.nef_ops.specs.Shares.{IsCombined, HasShare, Leads, LeadsAt, IsFindingIn, IsFoundAt};
 ghost use Rattle.nef_ops.specs.Far.{AreTold};
 ghost use Rattle.nef_ops.specs.Rights.{IsRight};
 
 use crate::OutOfMemory;
 use crate::regions::{Regions, label_among};
-use crate::share::{Share, face_share, share_at, share_of};
+use crate::share::{Share, face_share, share_at, share_of, share_off_edges};
 use nef_cand::{Name, Named, Operand};
 use nef_complex::Complex;
 use nef_core::Job;
@@ -49,6 +49,18 @@ fn found_share(c: &Complex, found: &Finding) -> Share
     }
 }
 
+// The same by a label alone; of vertices and edges nothing is told so.
+fn told_share(c: &Complex, found: &Finding) -> Share
+    requires shows { (s : Set) × ShowsSet s c.now }
+    requires has { IsFindingIn c.now found.now }
+    ensures share { (s : Set) (y : PlainPlace) → ShowsSet s c.now → IsFoundAt c.now y found.now → HasShare result s y }
+{
+    match *found {
+        Finding::At(place) => share_off_edges(c, &place),
+        Finding::Far(label) => face_share(label),
+    }
+}
+
 // The least map of the set at the points of which this is found. `OutOfMemory` comes where no memory is left; off the
 // vertices and edges no memory is taken.
 fn found_map(alloc: Global, c: &Complex, found: &Finding) -> Result<SphereMap, OutOfMemory>
@@ -63,19 +75,21 @@ fn found_map(alloc: Global, c: &Complex, found: &Finding) -> Result<SphereMap, O
     }
 }
 
-// The vertex or the edge that the name tells, and of which set.
-fn told_place(name: &Name) -> (Operand, Place)
+// The vertex or the edge that the name tells, of which set, and the place in the other set if the name tells one.
+fn told_places(name: &Name) -> (Operand, Place, Option<Place>)
     ensures place { (C D : PlainComplex) (y : PlainPlace) → IsNameAt C D y name.now → IsPlaceIn (operand_of result.0 C D) result.1 }
     ensures at { (C D : PlainComplex) (y : PlainPlace) → IsNameAt C D y name.now → IsPlaceAt (operand_of result.0 C D) y result.1 }
+    ensures across { (C D : PlainComplex) (y : PlainPlace) → IsNameAt C D y name.now → IfSome result.2 (λ a. IsPlaceIn (other_of result.0 C D) a × IsPlaceAt (other_of result.0 C D) y a) }
 {
     match *name {
-        Name::Vertex(operand, number) => (operand, Place::Vertex(number)),
-        Name::Edge(operand, number) => (operand, Place::OnEdge(number)),
+        Name::Vertex(operand, number) => (operand, Place::Vertex(number), None),
+        Name::Edge(operand, number) => (operand, Place::OnEdge(number), None),
+        Name::Cut(operand, number, place) => (operand, Place::OnEdge(number), Some(place)),
     }
 }
 
 // What is found of the candidate in one of the two complexes that its name speaks of. It is looked for only where its name
-// tells of the other one, and no region its label.
+// tells of the other one alone, and no region its label.
 fn finding_in(c: &Complex, own: Operand, far: &Regions, candidate: &Named) -> Finding
     requires shows { (s : Set) × ShowsSet s c.now }
     requires told { AreTold c.now far.now }
@@ -84,8 +98,11 @@ fn finding_in(c: &Complex, own: Operand, far: &Regions, candidate: &Named) -> Fi
     ensures has { IsFindingIn c.now result }
     ensures found { IsFoundAt c.now (place_of candidate.now.point) result }
 {
-    let (operand, place) = told_place(&candidate.name);
+    let (operand, place, across) = told_places(&candidate.name);
     if operand == own {
+        return Finding::At(place);
+    }
+    if let Some(place) = across {
         return Finding::At(place);
     }
     match label_among(far, &candidate.point) {
@@ -183,9 +200,28 @@ pub(crate) struct BinaryJob<'a> {
 }
 
 impl<'a> BinaryJob<'a> {
+    // Which map is that of the combination at a point of which this is found in the two sets. A label, where one is told,
+    // mostly says so, and costs less to look at than the map of a vertex.
+    fn choice(&self, first: &Finding, second: &Finding) -> Choice
+        requires first { (s : Set) × ShowsSet s self.now.first.now }
+        requires second { (t : Set) × ShowsSet t self.now.second.now }
+        requires has_first { IsFindingIn self.now.first.now first.now }
+        requires has_second { IsFindingIn self.now.second.now second.now }
+        ensures leads { (s t : Set) (y : PlainPlace) → ShowsSet s self.now.first.now → ShowsSet t self.now.second.now → IsFoundAt self.now.first.now y first.now → IsFoundAt self.now.second.now y second.now → LeadsAt result self.now.op s t y }
+    {
+        let first_told = told_share(self.first, first);
+        let second_told = told_share(self.second, second);
+        let told = choice_of(self.op, first_told, second_told);
+        if told != Choice::Both {
+            return told;
+        }
+        let first_share = found_share(self.first, first);
+        let second_share = found_share(self.second, second);
+        choice_of(self.op, first_share, second_share)
+    }
+
     // The map at a candidate. Where what is found of it says that one set holds all of the frame close to it, or nothing,
-    // no more than one map is made; and where the first set alone tells that its map is the answer, the candidate isn't
-    // looked for in the second. Nor is it in a set of which a region tells its label.
+    // no more than one map is made.
     fn combined_map(&self, alloc: Global, candidate: &Named) -> Result<SphereMap, OutOfMemory>
         requires first { (s : Set) × ShowsSet s self.now.first.now }
         requires second { (t : Set) × ShowsSet t self.now.second.now }
@@ -197,14 +233,8 @@ impl<'a> BinaryJob<'a> {
         ensures cone { IfOk result (λ m. (s t : Set) → ShowsSet s self.now.first.now → ShowsSet t self.now.second.now → Cone (map_of m) (op_set self.now.op s t) (place_of candidate.now.point)) }
     {
         let first = finding_in(self.first, Operand::First, self.far_first, candidate);
-        let first_share = found_share(self.first, &first);
-        let alone = choice_of(self.op, first_share, Share::Part);
-        if alone == Choice::First {
-            return found_map(alloc, self.first, &first);
-        }
         let second = finding_in(self.second, Operand::Second, self.far_second, candidate);
-        let second_share = found_share(self.second, &second);
-        match choice_of(self.op, first_share, second_share) {
+        match self.choice(&first, &second) {
             Choice::First => found_map(alloc, self.first, &first),
             Choice::Second => found_map(alloc, self.second, &second),
             Choice::NotFirst => {

@@ -4,7 +4,7 @@ ghost use Rattle.std.specs.Prelude.{◌≡◌, ◌≤◌, ◌↔◌};
 ghost use Rattle.nef_complex.specs.Prelude.{ℕ, length, IfSome, IsNone, IsTrue, InFrame, Set, place_of, Point as PlainPoint, At, coordinate_of, ShowsSet};
 ghost use Rattle.nef_complex.specs.declared.complex.Complex.{Complex as ShownComplex};
 ghost use Rattle.nef_ops.specs.declared.regions.Region.{Region as PlainRegion};
-ghost use Rattle.nef_ops.specs.Far.{axis_coordinate, HoldsSkeleton, IsPast, IsPastEnd, IsFar, IsClear, IsUniformIn, AreTold, IsTold};
+ghost use Rattle.nef_ops.specs.Far.{axis_coordinate, HoldsSkeleton, IsPast, IsPastEnd, IsFar, IsClear, IsUniformIn, AreTold, IsTold, many_points};
 
 use nef_cand::misses_frame;
 use nef_complex::{Complex, Span, carrier_spans};
@@ -133,7 +133,7 @@ impl Region {
 pub(crate) fn regions_of(c: &Complex, points: &[Point]) -> Regions
     requires shows { (s : Set) × ShowsSet s c.now }
     ensures told { AreTold c.now result }
-    ensures many { MANY_POINTS ≤ length points.now → (i k : ℕ) (r : PlainRegion) (p : PlainPoint) → At result i r → At points.now k p → IsFar r.side (place_of p) → IsNone r.label → ⊥ }
+    ensures many { many_points ≤ length points.now → (i k : ℕ) (r : PlainRegion) (p : PlainPoint) → At result i r → At points.now k p → IsFar r.side (place_of p) → IsNone r.label → ⊥ }
 {
     let core = core_span(c);
     let asked = if points.len() < MANY_POINTS {

@@ -107,6 +107,21 @@ pub(crate) fn face_share(label: Label) -> Share
     }
 }
 
+/// What the set holds of the frame close to the points that lie at this place off the vertices and edges; at those it
+/// isn't known.
+pub(crate) fn share_off_edges(c: &Complex, at: &Place) -> Share
+    requires shows { (s : Set) × ShowsSet s c.now }
+    requires place { IsPlaceIn (complex_of c.now) at.now }
+    ensures share { (s : Set) (y : PlainPlace) → ShowsSet s c.now → IsPlaceAt (complex_of c.now) y at.now → HasShare result s y }
+{
+    match *at {
+        Place::Vertex(_) => Share::Part,
+        Place::OnEdge(_) => Share::Part,
+        Place::InFacet(corner) => facet_share(c, &corner),
+        Place::InVolume { .. } => face_share(place_label(c, at)),
+    }
+}
+
 /// What the set holds of the frame close to the points that lie at this place. No map is made, so on some edges along
 /// which it is all or nothing it isn't known.
 pub(crate) fn share_at(c: &Complex, at: &Place) -> Share
@@ -121,7 +136,7 @@ pub(crate) fn share_at(c: &Complex, at: &Place) -> Share
             let edge = c.edges.at(number);
             share_of(&c.vertices.at(edge.low).map)
         }
-        Place::InFacet(corner) => facet_share(c, &corner),
-        Place::InVolume { .. } => face_share(place_label(c, at)),
+        Place::InFacet(_) => share_off_edges(c, at),
+        Place::InVolume { .. } => share_off_edges(c, at),
     }
 }

@@ -1,10 +1,11 @@
-use Rattle.std.proofs.Common.{nat_abs, ap, ◌∙◌, lit≤}
-use Rattle.std.proofs.lemmas.Bool.{leb-true}
+use Rattle.std.proofs.Common.{nat_abs, ap, sym, ◌∙◌, lit≤}
+use Rattle.std.proofs.lemmas.Bool.{leb-true, le-leb}
+use Rattle.nef_space.specs.Limits.{half_side}
 use Rattle.nef_space.specs.Place.{normal_of}
 use Rattle.nef_geo.specs.Shapes.{form_of}
 use Rattle.nef_geo.proofs.Products.{kept}
 use Rattle.law_sphere.proofs.Vectors.{normal-direction}
-use Rattle.nef_cand.proofs.Missing.{misses, number-fits, lengthened}
+use Rattle.nef_cand.proofs.Missing.{misses, outweighs, number-fits, lengthened}
 use Rattle.nef_cand.proofs.MissedFrame.{missing}
 use Rattle.nef_cand.proofs.listing.misses_frame.Goals as goal
 
@@ -16,7 +17,12 @@ returns c =
     let e = c.unsigned_abs-3.ensures.value ∙ ap nat_abs (kept c.c.result (number-fits _ _ _ c.c.ensures.c h.c_small (lit≤ tt)) ∙ c.c.ensures.c) in
     let side = c.unsigned_abs-4.ensures.value in
     let d = c.unsigned_abs-5.ensures.value ∙ ap nat_abs (kept c.d.result (number-fits _ _ _ c.d.ensures.d h.d_small (lit≤ tt)) ∙ c.d.ensures.d) in
+    let n = half_side in let k = nat_abs h.a in let l = nat_abs h.b in let m = nat_abs h.c in let o = nat_abs h.d in
+    let A = c.unsigned_abs.result in let B = c.unsigned_abs-2.result in let E = c.unsigned_abs-3.result in let N = c.unsigned_abs-4.result in let D = c.unsigned_abs-5.result in
     record {
-      misses = λ t. misses (form_of h) (lengthened c.unsigned_abs.result c.unsigned_abs-2.result c.unsigned_abs-3.result c.unsigned_abs-4.result c.unsigned_abs-5.result _ _ _ _ a b e side d (leb-true _ _ t));
-      apart = λ t y i on. missing (form_of h) (lengthened c.unsigned_abs.result c.unsigned_abs-2.result c.unsigned_abs-3.result c.unsigned_abs-4.result c.unsigned_abs-5.result _ _ _ _ a b e side d (leb-true _ _ t)) (normal-direction (normal_of (form_of h)) h.normal) y i on;
+      misses = (
+        λ t. misses (form_of h) (lengthened A B E N D k l m n o a b e side d (leb-true _ _ t)),
+        λ f. le-leb _ _ (lengthened k l m n o A B E N D (sym a) (sym b) (sym e) (sym side) (sym d) (outweighs (form_of h) f)),
+      );
+      apart = λ t y i on. missing (form_of h) (lengthened A B E N D k l m n o a b e side d (leb-true _ _ t)) (normal-direction (normal_of (form_of h)) h.normal) y i on;
     }

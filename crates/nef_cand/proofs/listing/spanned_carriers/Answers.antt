@@ -20,9 +20,9 @@ loop-number-preserved c =
     record {
       carriers = elim c.if-not-misses_frame.branch [
         | then-not-misses_frame+in_ok-push w ↦ subst (AreSpannedCarriers C (n + 1)) (sym (ap (λ v. v.items) w.near-is ∙ w.in_ok-push.ensures.items))
-            (spanned-more C n old c.loop-number.invariant.carriers _ c.at-plane.ensures.element on)
+            (spanned-more C n old c.loop-number.invariant.carriers _ c.at-plane.ensures.element (c.at-plane.ensures.element, on))
         | else-not-misses_frame w ↦ subst (AreSpannedCarriers C (n + 1)) (sym (ap (λ v. v.items) w.near-is))
-            (spanned-same C n old c.loop-number.invariant.carriers h c.at-plane.ensures.element (c.misses_frame.ensures.misses (search (rules, w.if-not-misses_frame.false))))
+            (spanned-same C n old c.loop-number.invariant.carriers h c.at-plane.ensures.element (c.misses_frame.ensures.misses.0 (search (rules, w.if-not-misses_frame.false))))
       ];
     }
 

@@ -1,48 +1,66 @@
-use Rattle.std.proofs.Common.{ℕ, IsTrue, get_or, arith, rules}
+use Rattle.std.proofs.Common.{◌≡◌, ◌-◌, ◌+◌, ◌<◌, IsTrue, length, get_or, arith, rules}
 use Rattle.nef_geo.specs.Shapes.{hit_place}
-use Rattle.nef_classes.proofs.ClassLists.{is-at_get, is-at_within}
-use Rattle.nef_smap.proofs.SideLists.{at-from_get}
-use Rattle.law_complex.specs.Skeleton.{IsEdgePoint}
-use Rattle.nef_complex.specs.Complexes.{complex_of}
-use Rattle.nef_locate.proofs.EdgeOrder.{number-parted, number-edge, none-later}
-use Rattle.nef_complex.proofs.Reading.{next-all}
-use Rattle.nef_locate.proofs.carrier.edge_among.Goals.{else-next-edge-2-via-then-next-edge-2+else-is_in_line, else-next-edge-2-via-else-next-edge-2}
+use Rattle.nef_classes.proofs.ClassLists.{is-at_get}
+use Rattle.nef_plane.proofs.Rising.{edges-within}
+use Rattle.nef_locate.proofs.EdgeOrder.{number-edge, none-beyond, none-below, none-more}
 use Rattle.nef_locate.proofs.carrier.edge_among.Goals as goal
 
-pub returns-then-next-edge : goal.returns-then-next-edge
-returns-then-next-edge c =
-    let S = c.requires.shows in let P = c.requires.parts in let ns = c.args.numbers.now in let n = c.loop-number.number-index in
-    record {
-      edge = none-later S.0 c.args.c.now S.1.shows P.0 (hit_place c.args.q.now) c.args.next P.2 ns P.1 n (get_or ns n 0) c.at-edge.result.now (is-at_get ns n 0 c.loop-number-test.true) c.at-edge.ensures.element c.if-next-edge.true c.loop-number.invariant;
-    }
+pub edges_before-count-requires : goal.edges_before-count-requires
+edges_before-count-requires c = let P = c.requires.parts in record { shows = c.requires.shows; edges = (P.0, P.1) }
+
+pub last_reaching-place-requires : goal.last_reaching-place-requires
+last_reaching-place-requires c =
+    let P = c.requires.parts in record { within = edges-within c.args.c.now P.0 c.args.items.now.edges.now P.1; peaks = c.requires.peaks; count = c.edges_before-count.ensures.within }
+
+pub loop-place-init : goal.loop-place-init
+loop-place-init c =
+    let S = c.requires.shows in let P = c.requires.parts in let C = c.args.c.now in let ns = c.args.items.now.edges.now in let q = hit_place c.args.q.now in (
+      c.last_reaching-place.ensures.count,
+      c.last_reaching-place.ensures.reaches,
+      none-below S.0 C S.1.shows P.0 q c.args.next P.2 ns P.1 c.last_reaching-place.result c.edges_before-count.result c.last_reaching-place.ensures.passed
+          (none-beyond S.0 C S.1.shows P.0 q c.args.next P.2 ns P.1 c.edges_before-count.result c.edges_before-count.ensures.beyond),
+    )
 
 pub is_in_line-requires-clause-within : goal.is_in_line-requires-clause-within
-is_in_line-requires-clause-within c = is-at_within c.args.c.now.edges (get_or c.args.numbers.now c.loop-number.number-index 0) c.at-edge.result.now c.at-edge.ensures.element
+is_in_line-requires-clause-within c =
+    let P = c.requires.parts in let ns = c.args.items.now.edges.now in let i = c.loop-place.place - 1 in
+    let t = c.loop-place-test.true in let w = c.loop-place.invariant.0 in let b = c.edges_before-count.ensures.within in
+    let inside : i < length ns = omega (arith, t, w, b) in
+    edges-within c.args.c.now P.0 ns P.1 i (get_or ns i 0) (is-at_get ns i 0 inside)
+
+pub last_reaching-place-requires-in-loop-place : goal.last_reaching-place-requires-in-loop-place
+last_reaching-place-requires-in-loop-place c =
+    let P = c.requires.parts in let w = c.loop-place.invariant.0 in let b = c.edges_before-count.ensures.within in
+    record { within = edges-within c.args.c.now P.0 c.args.items.now.edges.now P.1; peaks = c.requires.peaks; count = omega (arith, w, b) }
 
 pub returns-then-is_in_line : goal.returns-then-is_in_line
 returns-then-is_in_line c =
-    let S = c.requires.shows in let P = c.requires.parts in let ns = c.args.numbers.now in let n = c.loop-number.number-index in let k = get_or ns n 0 in
-    let past = c.if-next-edge.false in
+    let S = c.requires.shows in let P = c.requires.parts in let C = c.args.c.now in let ns = c.args.items.now.edges.now in let n = c.loop-place.place in let i = n - 1 in let k = get_or ns i 0 in
+    let t = c.loop-place-test.true in let w = c.loop-place.invariant in let o = w.0 in let b = c.edges_before-count.ensures.within in
+    let inside : i < length ns = omega (arith, t, o, b) in
+    let l = is-at_get ns i 0 inside in
+    let L = P.1.each i k l in
     record {
-      edge = (number-edge S.0 c.args.c.now S.1.shows P.0 (hit_place c.args.q.now) c.args.next P.2 k c.at-edge.result.now c.at-edge.ensures.element (P.1.each n k (is-at_get ns n 0 c.loop-number-test.true)) (omega (arith, past)) c.if-next-edge-2.true
+      edge = (number-edge S.0 C S.1.shows P.0 (hit_place c.args.q.now) c.args.next P.2 k L.0 L.1 L (c.edges_before-count.ensures.before i k L.0 (omega (arith, t, o)) l L.1) (w.1 i k L.0 (omega (arith, t)) l L.1)
           c.is_in_line.result c.is_in_line.ensures.line).0 c.if-is_in_line.true;
     }
 
-pub loop-number-preserved : goal.loop-number-preserved
-loop-number-preserved c =
-    let S = c.requires.shows in let P = c.requires.parts in let ns = c.args.numbers.now in let n = c.loop-number.number-index in let k : ℕ = get_or ns n 0 in
-    let at_n = is-at_get ns n 0 c.loop-number-test.true in let e = c.at-edge.result.now in
-    let past = c.if-next-edge.false in
-    next-all (λ j. IsEdgePoint (complex_of c.args.c.now) j (hit_place c.args.q.now) → ⊥) ns n k at_n c.loop-number.invariant
-    (elim c.else-next-edge-2.branch [
-      | else-next-edge-2-via-then-next-edge-2+else-is_in_line w ↦
-          let off : IsTrue w.is_in_line.result → ⊥ = λ t. absurd (search (rules, t, w.if-is_in_line.false)) in
-          λ x. off ((number-edge S.0 c.args.c.now S.1.shows P.0 (hit_place c.args.q.now) c.args.next P.2 k e c.at-edge.ensures.element (P.1.each n k at_n) (omega (arith, past)) w.if-next-edge-2.true w.is_in_line.result w.is_in_line.ensures.line).1 x)
-      | else-next-edge-2-via-else-next-edge-2 w ↦
-          λ x. let z = number-parted S.0 c.args.c.now S.1.shows P.0 (hit_place c.args.q.now) c.args.next P.2 k e c.at-edge.ensures.element (P.1.each n k at_n) x in let b = z.1 in let f = w.if-next-edge-2.false in omega (arith, b, f)
-    ])
+pub loop-place-preserved : goal.loop-place-preserved
+loop-place-preserved c =
+    let S = c.requires.shows in let P = c.requires.parts in let C = c.args.c.now in let ns = c.args.items.now.edges.now in let n = c.loop-place.place in let i = n - 1 in let k = get_or ns i 0 in
+    let q = hit_place c.args.q.now in
+    let t = c.loop-place-test.true in let w = c.loop-place.invariant in let o = w.0 in let b = c.edges_before-count.ensures.within in
+    let inside : i < length ns = omega (arith, t, o, b) in
+    let next : n ≡ i + 1 = omega (arith, t) in
+    let l = is-at_get ns i 0 inside in
+    let L = P.1.each i k l in
+    let on = number-edge S.0 C S.1.shows P.0 q c.args.next P.2 k L.0 L.1 L (c.edges_before-count.ensures.before i k L.0 (omega (arith, t, o)) l L.1) (w.1 i k L.0 next l L.1) c.is_in_line.result c.is_in_line.ensures.line in
+    let off : IsTrue c.is_in_line.result → ⊥ = λ u. absurd (search (rules, u, c.if-is_in_line.false)) in
+    let m = c.last_reaching-place-in-loop-place.result in let f = c.last_reaching-place-in-loop-place.ensures.count in (
+      omega (arith, f, o),
+      c.last_reaching-place-in-loop-place.ensures.reaches,
+      none-below S.0 C S.1.shows P.0 q c.args.next P.2 ns P.1 m i c.last_reaching-place-in-loop-place.ensures.passed (none-more S.0 C S.1.shows P.0 q c.args.next P.2 ns P.1 i n k next l (λ x. off (on.1 x)) w.2),
+    )
 
 pub returns : goal.returns
-returns c = record {
-  edge = λ i k a x. c.loop-number.invariant i k (let l = is-at_within c.args.numbers.now i k a in let t = c.loop-number-test.false in omega (arith, l, t)) (at-from_get c.args.numbers.now i k a) x;
-}
+returns c = record { edge = λ i k a x. let t = c.loop-place-test.false in c.loop-place.invariant.2 i k (omega (arith, t)) a x }

@@ -1,9 +1,14 @@
-use Rattle.std.proofs.Common.{ℕ, ◌<◌}
+use Rattle.std.proofs.Common.{◌≡◌, ℕ, ◌+◌, ◌≤◌}
+use Rattle.nef_space.specs.Lists.{IsAt}
 use Rattle.nef_geo.specs.Shapes.{hit_place}
-use Rattle.law_sphere.specs.Maps.{At}
 use Rattle.law_complex.specs.Skeleton.{IsEdgePoint}
+use Rattle.nef_complex.specs.declared.complex.Edge.{Edge}
 use Rattle.nef_complex.specs.Complexes.{complex_of}
 use Rattle.nef_locate.proofs.carrier.edge_among.Given as goal
 
-abbrev pub invariant-loop-number : goal.invariant-loop-number
-invariant-loop-number l = (j k : ℕ) → j < l.number-index → At l.numbers j k → IsEdgePoint (complex_of l.c) k (hit_place l.q) → ⊥
+abbrev pub invariant-loop-place : goal.invariant-loop-place
+invariant-loop-place l = (l.place ≤ l.count) × ((i k : ℕ) (e : Edge) → l.place ≡ i + 1 → IsAt l.items.edges.now i k → IsAt l.c.edges k e → l.next ≤ e.high)
+    × ((j k : ℕ) → l.place ≤ j → IsAt l.items.edges.now j k → IsEdgePoint (complex_of l.c) k (hit_place l.q) → ⊥)
+
+abbrev pub decreases-loop-place : goal.decreases-loop-place
+decreases-loop-place l = l.place

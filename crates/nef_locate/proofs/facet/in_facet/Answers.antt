@@ -16,7 +16,7 @@ pub returns-in_err-items-clause-none : goal.returns-in_err-items-clause-none
 returns-in_err-items-clause-none c _ = λ s S F. c.in_err-items.ensures.none refl (flat-item s c.args.c.now S c.args.h.now (hit_place c.args.p.now) c.requires.on F)
 
 pub first_along_axis-requires-clause-items : goal.first_along_axis-requires-clause-items
-first_along_axis-requires-clause-items c = record { edges = c.in_ok-items.ensures.edges; vertices = c.in_ok-items.ensures.vertices }
+first_along_axis-requires-clause-items c = record { edges = c.in_ok-items.ensures.edges; vertices = c.in_ok-items.ensures.vertices; peaks = c.in_ok-items.ensures.peaks }
 
 pub first_along_axis-requires-clause-off : goal.first_along_axis-requires-clause-off
 first_along_axis-requires-clause-off c = inr (λ k e l. c.requires.off (meets_edge k) (e, l))

@@ -7,8 +7,7 @@ use Rattle.nef_complex.specs.Complexes.{vertex_of, edge_of, complex_of}
 use Rattle.nef_locate.specs.Places.{IsPlaceIn, IsPlaceAt}
 use Rattle.nef_locate.proofs.EdgeFound.{low-within}
 use Rattle.nef_locate.proofs.Marks.{image-within, image-read}
-use Rattle.nef_locate.proofs.VolumeLabels.{volume-flat}
-use Rattle.nef_ops.proofs.PlaceShares.{vertex-share, edge-share, flat-share}
+use Rattle.nef_ops.proofs.PlaceShares.{vertex-share, edge-share}
 use Rattle.nef_ops.proofs.share.share_at.Goals as goal
 
 pub at-requires : goal.at-requires
@@ -41,14 +40,4 @@ returns-in-OnEdge c = record {
       let low = subst (λ (r : PlainEdge). At C.vertices r.low p.1) same p.4.low in
       edge-share f.result s C S.shows k p.0 p.1 p.2 y p.3 p.4 p.5
       (vertex-share c.args.c.now e.low c.at-in-OnEdge.result.now f.result c.at-in-OnEdge.ensures.element f.ensures.share s p.1.point S (p.1, low, same-itself p.1.point));
-}
-
-pub returns-in-InFacet : goal.returns-in-InFacet
-returns-in-InFacet c = record { share = λ s y S a. c.facet_share.ensures.share s y S (subst (IsPlaceAt (complex_of c.args.c.now) y) c.in-InFacet.is a) }
-
-pub returns-in-InVolume : goal.returns-in-InVolume
-returns-in-InVolume c = record {
-  share = λ s y S a.
-      let v = subst (IsPlaceAt (complex_of c.args.c.now) y) c.in-InVolume.is a in
-      flat-share c.face_share.result s y c.place_label.result (c.place_label.ensures.set s y S a) (volume-flat s c.args.c.now S y v.3.0) c.face_share.ensures.share;
 }

@@ -1,0 +1,31 @@
+use Rattle.std.proofs.Common.{List, [], arith, sym, subst}
+use Rattle.nef_space.specs.Place.{Place}
+use Rattle.nef_geo.specs.Shapes.{form_of}
+use Rattle.nef_geo.specs.declared.plane.Plane.{Plane}
+use Rattle.nef_complex.specs.Complexes.{complex_of}
+use Rattle.nef_cand.specs.declared.named.Named.{Named}
+use Rattle.nef_cand.specs.Candidates.{IsCutBy}
+use Rattle.nef_cand.specs.Names.{IsNamedIn}
+use Rattle.nef_cand.specs.Points.{Adds}
+use Rattle.nef_cand.proofs.Adding.{AnyFirst, adds-none, any-more, any-all}
+use Rattle.nef_cand.proofs.listing.plane_cuts.Goals as goal
+
+pub loop-h-init : goal.loop-h-init
+loop-h-init c =
+    let P : Plane → Place → Type 0 = λ h y. IsCutBy (complex_of c.args.c.now) (form_of h) y in let hs : List Plane = c.args.planes.now in
+    let N = IsNamedIn c.args.operand (complex_of c.args.c.now) in
+    record { added = subst (λ (ns : List Named). Adds (AnyFirst P hs 0) N [] ns) (sym c.new-listed.ensures.items) (adds-none (AnyFirst P hs 0) (AnyFirst P hs 0) N [] (λ y (k, x, l, a, p). absurd (omega (arith, l)))) }
+
+pub loop-h-preserved : goal.loop-h-preserved
+loop-h-preserved c =
+    let P : Plane → Place → Type 0 = λ h y. IsCutBy (complex_of c.args.c.now) (form_of h) y in
+    let N = IsNamedIn c.args.operand (complex_of c.args.c.now) in
+    record {
+      added = any-more P P N c.args.planes.now c.loop-h.h-index c.h-item.result [] c.loop-h.listed.items c.add_plane_cuts.new.listed.items c.loop-h-test.true c.h-item.is c.loop-h.invariant.added c.in_ok-add_plane_cuts.ensures.added;
+    }
+
+pub returns : goal.returns
+returns c =
+    let P : Plane → Place → Type 0 = λ h y. IsCutBy (complex_of c.args.c.now) (form_of h) y in
+    let N = IsNamedIn c.args.operand (complex_of c.args.c.now) in
+    record { cuts = any-all P P N c.args.planes.now c.loop-h.h-index [] c.loop-h.listed.items c.loop-h-test.false c.loop-h.invariant.added }
