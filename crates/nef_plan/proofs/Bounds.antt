@@ -1,6 +1,6 @@
 -- What is known of the nodes, while it's told of one and the plan grows.
 use Rattle.std.proofs.Common.{◌≡◌, ◌∙◌, ℕ, ◌<◌, ap, refl, sym, subst, List, ◌++◌, length, Option, None, Some, inl, inr}
-use Rattle.std.specs.Prelude.{IfSome, slice_get, slice_set}
+use Rattle.std.specs.Prelude.{◌⊎◌, IfSome, slice_get, slice_set}
 use Rattle.std.proofs.lemmas.Bool.{cases_eq}
 use Rattle.std.proofs.lemmas.Option.{slice_get_within}
 use Rattle.nef_core.proofs.Places.{get_set_here, get_set_other}
@@ -12,8 +12,9 @@ use Rattle.nef_plan.specs.declared.row.Row.{Row}
 use Rattle.nef_plan.specs.declared.row.RowKind.{RowKind}
 use Rattle.nef_plan.specs.declared.row.Bound.{Bound}
 use Rattle.nef_plan.specs.declared.row.Bound.TheVariants.{No, Made, Deferred}
-use Rattle.nef_plan.specs.Rows.{ArePlanned, GoesOn, HasGrown, IsBound, IsThere, Tells, combined, parts}
+use Rattle.nef_plan.specs.Rows.{ArePlanned, GoesOn, HasAdded, HasGrown, IsBound, IsThere, Tells, combined, parts}
 use Rattle.nef_plan.proofs.Growth.{grown-trans, ready-grown}
+use Rattle.nef_plan.proofs.Added.{added-trans, added-wider}
 use Rattle.nef_plan.proofs.Rows.{row-grown}
 
 tells-grown : (old new : Plan) (l : List Command) (k : ℕ) (b : Bound) → HasGrown old new l → Tells old k b → Tells new k b
@@ -46,14 +47,32 @@ bound-still bounds n b within there k (d, at, is) = elim (cases_eq k n) [
   | inr other ↦ (d, get_set_other bounds n k b other ∙ at, is)
 ]
 
-pub on-set : (old new : Plan) (l : List Command) (bounds : List Bound) (n : ℕ) (b : Bound) → ArePlanned old bounds → HasGrown old new l → n < length bounds → IsThere b → Tells new n b → GoesOn old bounds new (slice_set bounds n b) l
-on-set old new l bounds n b are h within there tells = record { grown = h; still = bound-still bounds n b within there; planned = planned-set old new l bounds n b are h within tells }
+-- what is bound then was bound, or is told of
+pub bound-before : (bounds : List Bound) (n : ℕ) (b : Bound) (k : ℕ) → IsBound (slice_set bounds n b) k → IsBound bounds k ⊎ (k ≡ n)
+bound-before bounds n b k (d, at, is) = elim (cases_eq k n) [
+  | inl e ↦ inr e
+  | inr other ↦ inl (d, sym (get_set_other bounds n k b other) ∙ at, is)
+]
 
-pub on-grown : (old new : Plan) (l : List Command) (bounds : List Bound) → ArePlanned old bounds → HasGrown old new l → GoesOn old bounds new bounds l
-on-grown old new l bounds are h = record { grown = h; still = λ k is. is; planned = planned-grown old new l bounds are h }
+pub bound-same : (bounds : List Bound) (n : ℕ) (b : Bound) → IsBound bounds n → (k : ℕ) → IsBound (slice_set bounds n b) k → IsBound bounds k
+bound-same bounds n b here k is = elim (bound-before bounds n b k is) [
+  | inl before ↦ before
+  | inr e ↦ subst (IsBound bounds) (sym e) here
+]
+
+pub on-set : (old new : Plan) (l : List Command) (bounds : List Bound) (n : ℕ) (b : Bound) → ArePlanned old bounds → HasGrown old new l → n < length bounds → IsThere b → Tells new n b → HasAdded old new (λ k. k ≡ n) → GoesOn old bounds new (slice_set bounds n b) l
+on-set old new l bounds n b are h within there tells adds = record {
+  grown = h;
+  still = bound-still bounds n b within there;
+  planned = planned-set old new l bounds n b are h within tells;
+  added = added-wider old new (λ k. k ≡ n) (IsBound (slice_set bounds n b)) (λ k e. subst (IsBound (slice_set bounds n b)) (sym e) (bound-here bounds n b within there)) adds;
+}
+
+pub on-grown : (old new : Plan) (l : List Command) (bounds : List Bound) → ArePlanned old bounds → HasGrown old new l → HasAdded old new (IsBound bounds) → GoesOn old bounds new bounds l
+on-grown old new l bounds are h adds = record { grown = h; still = λ k is. is; planned = planned-grown old new l bounds are h; added = adds }
 
 pub on-trans : (a b c : Plan) (k l m : List Bound) (qs rs : List Command) → GoesOn a k b l qs → GoesOn b l c m rs → GoesOn a k c m (qs ++ rs)
-on-trans a b c k l m qs rs f g = record { grown = grown-trans a b c qs rs f.grown g.grown; still = λ n is. g.still n (f.still n is); planned = g.planned }
+on-trans a b c k l m qs rs f g = record { grown = grown-trans a b c qs rs f.grown g.grown; still = λ n is. g.still n (f.still n is); planned = g.planned; added = added-trans a b c (IsBound l) (IsBound m) f.grown.nodes g.still f.added g.added }
 
 -- what holds of each node that there is
 pub some-all : (o : Option ℕ) (P : ℕ → Type 0) → ((k : ℕ) → o ≡ Some k → P k) → IfSome o P

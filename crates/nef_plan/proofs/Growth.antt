@@ -66,6 +66,12 @@ makes-within nodes (Make n m) k right is = subst (λ z. z < length nodes) (sym i
 makes-within nodes (Turn n j t) k right is = subst (λ z. z < length nodes) (sym is) right.within
 makes-within nodes (Ask c) k right is = absurd is
 
+-- a step makes one node at most
+pub makes-one : (s : Step) (n k : ℕ) → Makes s n → Makes s k → k ≡ n
+makes-one (Make m d) n k first second = second ∙ sym first
+makes-one (Turn m j t) n k first second = second ∙ sym first
+makes-one (Ask c) n k first second = absurd first
+
 pub asked-none : (s : Step) (k : ℕ) → Makes s k → asked (s ∷ []) ≡ []
 asked-none (Make n m) k is = refl
 asked-none (Turn n j t) k is = refl
@@ -114,11 +120,14 @@ steps-push nodes steps s are is made = record {
   ];
 }
 
+pub asked-append : (front rest : List Step) → asked (front ++ rest) ≡ asked front ++ asked rest
+asked-append [] rest = refl
+asked-append (Make n m ∷ front) rest = asked-append front rest
+asked-append (Turn n j t ∷ front) rest = asked-append front rest
+asked-append (Ask c ∷ front) rest = ap (λ (z : List Command). c.now ∷ z) (asked-append front rest)
+
 pub asked-push : (steps : List Step) (s : Step) → asked (steps ++ s ∷ []) ≡ asked steps ++ asked (s ∷ [])
-asked-push [] s = refl
-asked-push (Make n m ∷ steps) s = asked-push steps s
-asked-push (Turn n j t ∷ steps) s = asked-push steps s
-asked-push (Ask c ∷ steps) s = ap (λ (z : List Command). c.now ∷ z) (asked-push steps s)
+asked-push steps s = asked-append steps (s ∷ [])
 
 -- ---- both
 pub grown-refl : (plan : Plan) → AreSteps plan.nodes plan.steps.items → HasGrown plan plan []

@@ -1,4 +1,5 @@
 pub mod Alike
 pub mod Growth
+pub mod Added
 pub mod Rows
 pub mod Bounds

@@ -8,7 +8,6 @@ use Rattle.nef_expr.specs.declared.nodes.Node.TheVariants as node
 use Rattle.nef_expr.specs.Nodes.{node_set, set_of, sets_after, NamesBelow}
 use Rattle.nef_script.specs.declared.script.Command.{Command}
 use Rattle.nef_plan.specs.declared.planner.Plan.{Plan}
-use Rattle.nef_plan.specs.declared.row.Part.{Part}
 use Rattle.nef_plan.specs.declared.row.RowKind.{RowKind}
 use Rattle.nef_plan.specs.declared.row.Row.{Row}
 use Rattle.nef_plan.specs.declared.row.RowKind.TheVariants.{Union, Exclusive, Difference}
@@ -67,45 +66,45 @@ combined-same (Difference i) Union a b h = absurd h
 combined-same (Difference i) Exclusive a b h = absurd h
 
 -- ---- lists of parts
-joined-push : (nodes : List Node) (kind : RowKind) (s : Set) (ps : List Part) (q : Part) → joined_after nodes kind s (ps ++ q ∷ []) ≡ joined kind (joined_after nodes kind s ps) (node_set nodes q.node)
+joined-push : (nodes : List Node) (kind : RowKind) (s : Set) (ps : List ℕ) (q : ℕ) → joined_after nodes kind s (ps ++ q ∷ []) ≡ joined kind (joined_after nodes kind s ps) (node_set nodes q)
 joined-push nodes kind s [] q = refl
-joined-push nodes kind s (p ∷ ps) q = joined-push nodes kind (joined kind s (node_set nodes p.node)) ps q
+joined-push nodes kind s (p ∷ ps) q = joined-push nodes kind (joined kind s (node_set nodes p)) ps q
 
-abbrev pub Each : Plan → List Part → Type 0
-Each plan ps = (i : ℕ) (p : Part) → slice_get ps i ≡ Some p → IsReady plan p.node
+abbrev pub Each : Plan → List ℕ → Type 0
+Each plan ps = (i : ℕ) (p : ℕ) → slice_get ps i ≡ Some p → IsReady plan p
 
-each-push : (plan : Plan) (ps : List Part) (q : Part) → Each plan ps → IsReady plan q.node → Each plan (ps ++ q ∷ [])
+each-push : (plan : Plan) (ps : List ℕ) (q : ℕ) → Each plan ps → IsReady plan q → Each plan (ps ++ q ∷ [])
 each-push plan ps q each ready i p at = elim (place-push ps q i p at) [
   | inl o ↦ each i p o.1
-  | inr l ↦ subst (λ (z : Part). IsReady plan z.node) (sym l.1) ready
+  | inr l ↦ subst (λ (z : ℕ). IsReady plan z) (sym l.1) ready
 ]
 
-pub each-front : (plan : Plan) (ps : List Part) (q : Part) → Each plan (ps ++ q ∷ []) → Each plan ps
+pub each-front : (plan : Plan) (ps : List ℕ) (q : ℕ) → Each plan (ps ++ q ∷ []) → Each plan ps
 each-front plan ps q each i p at = each i p (slice_get-left ps (q ∷ []) i p at)
 
-pub each-last : (plan : Plan) (ps : List Part) (q : Part) → Each plan (ps ++ q ∷ []) → IsReady plan q.node
+pub each-last : (plan : Plan) (ps : List ℕ) (q : ℕ) → Each plan (ps ++ q ∷ []) → IsReady plan q
 each-last plan ps q each = each (length ps) q (slice_get-seam ps q [])
 
-each-one : (plan : Plan) (q : Part) → IsReady plan q.node → Each plan (q ∷ [])
-each-one plan q ready zero p at = let e : q ≡ p = cc in subst (λ (z : Part). IsReady plan z.node) e ready
+each-one : (plan : Plan) (q : ℕ) → IsReady plan q → Each plan (q ∷ [])
+each-one plan q ready zero p at = let e : q ≡ p = cc in subst (λ (z : ℕ). IsReady plan z) e ready
 each-one plan q ready (suc i) p at = let f : None ≡ Some p = at in cc
 
 -- ---- nodes and steps are added
-joined-grown : (old new : Plan) (l : List Command) (kind : RowKind) (s : Set) (ps : List Part) → HasGrown old new l → Each old ps → joined_after new.nodes kind s ps ≡ joined_after old.nodes kind s ps
+joined-grown : (old new : Plan) (l : List Command) (kind : RowKind) (s : Set) (ps : List ℕ) → HasGrown old new l → Each old ps → joined_after new.nodes kind s ps ≡ joined_after old.nodes kind s ps
 joined-grown old new l kind s [] h each = refl
 joined-grown old new l kind s (p ∷ ps) h each =
-    joined-grown old new l kind (joined kind s (node_set new.nodes p.node)) ps h (λ i q at. each (suc i) q at)
-    ∙ ap (λ (z : Set). joined_after old.nodes kind (joined kind s z) ps) (h.nodes.sets p.node (each 0 p refl).within)
+    joined-grown old new l kind (joined kind s (node_set new.nodes p)) ps h (λ i q at. each (suc i) q at)
+    ∙ ap (λ (z : Set). joined_after old.nodes kind (joined kind s z) ps) (h.nodes.sets p (each 0 p refl).within)
 
 ended-grown : (old new : Plan) (l : List Command) (kind : RowKind) (s : Set) → HasGrown old new l → ((k : ℕ) → kind ≡ Difference k → IsReady old k) → ended new.nodes kind s ≡ ended old.nodes kind s
 ended-grown old new l Union s h from = refl
 ended-grown old new l Exclusive s h from = refl
 ended-grown old new l (Difference k) s h from = ap (λ (z : Set). Set.less z s) (h.nodes.sets k (from k refl).within)
 
-are-grown : (old new : Plan) (l : List Command) (kind : RowKind) (ps : List Part) → HasGrown old new l → AreReady old kind ps → AreReady new kind ps
-are-grown old new l kind ps h are = record { from = λ j e. ready-grown old new l j h (are.from j e); each = λ i p at. ready-grown old new l p.node h (are.each i p at) }
+are-grown : (old new : Plan) (l : List Command) (kind : RowKind) (ps : List ℕ) → HasGrown old new l → AreReady old kind ps → AreReady new kind ps
+are-grown old new l kind ps h are = record { from = λ j e. ready-grown old new l j h (are.from j e); each = λ i p at. ready-grown old new l p h (are.each i p at) }
 
-pub row-grown : (old new : Plan) (l : List Command) (kind : RowKind) (ps : List Part) (k : ℕ) → HasGrown old new l → MakesSet old kind ps k → MakesSet new kind ps k
+pub row-grown : (old new : Plan) (l : List Command) (kind : RowKind) (ps : List ℕ) (k : ℕ) → HasGrown old new l → MakesSet old kind ps k → MakesSet new kind ps k
 row-grown old new l kind ps k h is = record {
   within = let m = h.nodes.as_many in let w = is.within in omega arith;
   ready = are-grown old new l kind ps h is.ready;
@@ -117,114 +116,114 @@ row-grown old new l kind ps k h is = record {
 
 -- ---- rows
 -- two parts are joined
-are-joined : (plan : Plan) (kind : RowKind) (rest : List Part) (p q e : Part) → IsReady plan e.node → AreReady plan kind ((rest ++ p ∷ []) ++ q ∷ []) → AreReady plan kind (rest ++ e ∷ [])
+are-joined : (plan : Plan) (kind : RowKind) (rest : List ℕ) (p q e : ℕ) → IsReady plan e → AreReady plan kind ((rest ++ p ∷ []) ++ q ∷ []) → AreReady plan kind (rest ++ e ∷ [])
 are-joined plan kind rest p q e ready are = record { from = are.from; each = each-push plan rest e (each-front plan rest p (each-front plan (rest ++ p ∷ []) q are.each)) ready }
 
-pub are-joined-grown : (old new : Plan) (l : List Command) (kind : RowKind) (rest : List Part) (p q e : Part) → HasGrown old new l → IsReady new e.node → AreReady old kind ((rest ++ p ∷ []) ++ q ∷ []) → AreReady new kind (rest ++ e ∷ [])
+pub are-joined-grown : (old new : Plan) (l : List Command) (kind : RowKind) (rest : List ℕ) (p q e : ℕ) → HasGrown old new l → IsReady new e → AreReady old kind ((rest ++ p ∷ []) ++ q ∷ []) → AreReady new kind (rest ++ e ∷ [])
 are-joined-grown old new l kind rest p q e h ready are = are-joined new kind rest p q e ready (are-grown old new l kind ((rest ++ p ∷ []) ++ q ∷ []) h are)
 
-row-joined : (plan : Plan) (kind : RowKind) (rest : List Part) (p q e : Part) (k : ℕ) → IsReady plan e.node → node_set plan.nodes e.node ≡ joined kind (node_set plan.nodes p.node) (node_set plan.nodes q.node)
+row-joined : (plan : Plan) (kind : RowKind) (rest : List ℕ) (p q e : ℕ) (k : ℕ) → IsReady plan e → node_set plan.nodes e ≡ joined kind (node_set plan.nodes p) (node_set plan.nodes q)
     → MakesSet plan kind ((rest ++ p ∷ []) ++ q ∷ []) k → MakesSet plan kind (rest ++ e ∷ []) k
 row-joined plan kind rest p q e k ready is row = record {
   within = row.within;
   ready = are-joined plan kind rest p q e ready row.ready;
-  set = alike-trans _ _ _ (ended-alike plan.nodes kind _ _ (alike-along _ _ _ _ made before (alike-sym _ _ (joined-assoc kind front (node_set plan.nodes p.node) (node_set plan.nodes q.node))))) row.set;
+  set = alike-trans _ _ _ (ended-alike plan.nodes kind _ _ (alike-along _ _ _ _ made before (alike-sym _ _ (joined-assoc kind front (node_set plan.nodes p) (node_set plan.nodes q))))) row.set;
 }
   where
     front : Set
     front = joined_after plan.nodes kind Set.empty rest
 
-    made : joined_after plan.nodes kind Set.empty (rest ++ e ∷ []) ≡ joined kind front (joined kind (node_set plan.nodes p.node) (node_set plan.nodes q.node))
+    made : joined_after plan.nodes kind Set.empty (rest ++ e ∷ []) ≡ joined kind front (joined kind (node_set plan.nodes p) (node_set plan.nodes q))
     made = joined-push plan.nodes kind Set.empty rest e ∙ ap (joined kind front) is
 
-    before : joined_after plan.nodes kind Set.empty ((rest ++ p ∷ []) ++ q ∷ []) ≡ joined kind (joined kind front (node_set plan.nodes p.node)) (node_set plan.nodes q.node)
-    before = joined-push plan.nodes kind Set.empty (rest ++ p ∷ []) q ∙ ap (λ (z : Set). joined kind z (node_set plan.nodes q.node)) (joined-push plan.nodes kind Set.empty rest p)
+    before : joined_after plan.nodes kind Set.empty ((rest ++ p ∷ []) ++ q ∷ []) ≡ joined kind (joined kind front (node_set plan.nodes p)) (node_set plan.nodes q)
+    before = joined-push plan.nodes kind Set.empty (rest ++ p ∷ []) q ∙ ap (λ (z : Set). joined kind z (node_set plan.nodes q)) (joined-push plan.nodes kind Set.empty rest p)
 
-pub row-joined-grown : (old new : Plan) (l : List Command) (kind : RowKind) (rest : List Part) (p q e : Part) (k : ℕ) → HasGrown old new l → IsReady new e.node → node_set new.nodes e.node ≡ joined kind (node_set old.nodes p.node) (node_set old.nodes q.node)
+pub row-joined-grown : (old new : Plan) (l : List Command) (kind : RowKind) (rest : List ℕ) (p q e : ℕ) (k : ℕ) → HasGrown old new l → IsReady new e → node_set new.nodes e ≡ joined kind (node_set old.nodes p) (node_set old.nodes q)
     → MakesSet old kind ((rest ++ p ∷ []) ++ q ∷ []) k → MakesSet new kind (rest ++ e ∷ []) k
 row-joined-grown old new l kind rest p q e k h ready is row =
-    let second : IsReady old q.node = each-last old (rest ++ p ∷ []) q row.ready.each in
-    let first : IsReady old p.node = each-last old rest p (each-front old (rest ++ p ∷ []) q row.ready.each) in
-    let same = ap (λ (z : Set). joined kind z (node_set old.nodes q.node)) (sym (h.nodes.sets p.node first.within)) ∙ ap (joined kind (node_set new.nodes p.node)) (sym (h.nodes.sets q.node second.within)) in
+    let second : IsReady old q = each-last old (rest ++ p ∷ []) q row.ready.each in
+    let first : IsReady old p = each-last old rest p (each-front old (rest ++ p ∷ []) q row.ready.each) in
+    let same = ap (λ (z : Set). joined kind z (node_set old.nodes q)) (sym (h.nodes.sets p first.within)) ∙ ap (joined kind (node_set new.nodes p)) (sym (h.nodes.sets q second.within)) in
     row-joined new kind rest p q e k ready (is ∙ same) (row-grown old new l kind ((rest ++ p ∷ []) ++ q ∷ []) k h row)
 
 -- a part is added
-pub row-longer : (plan : Plan) (kind : RowKind) (ps : List Part) (q : Part) (i k : ℕ) → IsReady plan q.node → k < length plan.nodes → node_set plan.nodes k ≡ combined kind (node_set plan.nodes i) (node_set plan.nodes q.node)
+pub row-longer : (plan : Plan) (kind : RowKind) (ps : List ℕ) (q : ℕ) (i k : ℕ) → IsReady plan q → k < length plan.nodes → node_set plan.nodes k ≡ combined kind (node_set plan.nodes i) (node_set plan.nodes q)
     → MakesSet plan kind ps i → MakesSet plan kind (ps ++ q ∷ []) k
 row-longer plan kind ps q i k ready within is row = record {
   within = within;
   ready = record { from = row.ready.from; each = each-push plan ps q row.ready.each ready };
   set = alike-along _ _ _ _ (ap (ended plan.nodes kind) (joined-push plan.nodes kind Set.empty ps q)) is (alike-trans _ _ _
-      (ended-joined plan.nodes kind (joined_after plan.nodes kind Set.empty ps) (node_set plan.nodes q.node))
-      (combined-alike kind _ _ _ _ row.set (alike-refl (node_set plan.nodes q.node))));
+      (ended-joined plan.nodes kind (joined_after plan.nodes kind Set.empty ps) (node_set plan.nodes q))
+      (combined-alike kind _ _ _ _ row.set (alike-refl (node_set plan.nodes q))));
 }
 
 -- one operation
-pub row-two : (plan : Plan) (kind : RowKind) (p q : Part) (k : ℕ) → spare kind ≡ 1 → IsReady plan p.node → IsReady plan q.node → k < length plan.nodes → node_set plan.nodes k ≡ combined kind (node_set plan.nodes p.node) (node_set plan.nodes q.node)
+pub row-two : (plan : Plan) (kind : RowKind) (p q : ℕ) (k : ℕ) → spare kind ≡ 1 → IsReady plan p → IsReady plan q → k < length plan.nodes → node_set plan.nodes k ≡ combined kind (node_set plan.nodes p) (node_set plan.nodes q)
     → MakesSet plan kind (([] ++ p ∷ []) ++ q ∷ []) k
-row-two plan kind p q k free ready ready' within is = row-longer plan kind (p ∷ []) q p.node k ready' within is (record {
+row-two plan kind p q k free ready ready' within is = row-longer plan kind (p ∷ []) q p k ready' within is (record {
   within = ready.within;
   ready = record { from = λ j e. absurd (let f : spare kind ≡ 0 = ap spare e in omega arith); each = each-one plan p ready };
-  set = alike-along _ _ _ _ (ended-free plan.nodes kind _ free) refl (joined-empty kind (node_set plan.nodes p.node));
+  set = alike-along _ _ _ _ (ended-free plan.nodes kind _ free) refl (joined-empty kind (node_set plan.nodes p));
 })
 
-pub row-less : (plan : Plan) (from : ℕ) (q : Part) (k : ℕ) → IsReady plan from → IsReady plan q.node → k < length plan.nodes → node_set plan.nodes k ≡ Set.less (node_set plan.nodes from) (node_set plan.nodes q.node)
+pub row-less : (plan : Plan) (from : ℕ) (q : ℕ) (k : ℕ) → IsReady plan from → IsReady plan q → k < length plan.nodes → node_set plan.nodes k ≡ Set.less (node_set plan.nodes from) (node_set plan.nodes q)
     → MakesSet plan (Difference from) ([] ++ q ∷ []) k
 row-less plan from q k ready ready' within is = record {
   within = within;
   ready = record { from = λ j e. (let f : from ≡ j = cc in subst (IsReady plan) f ready); each = each-one plan q ready' };
-  set = alike-along _ _ _ _ refl is (alike-sym _ _ (less-one (node_set plan.nodes from) (node_set plan.nodes q.node)));
+  set = alike-along _ _ _ _ refl is (alike-sym _ _ (less-one (node_set plan.nodes from) (node_set plan.nodes q)));
 }
 
-pub row-begun : (plan : Plan) (kind : RowKind) (others : List Part) (p q : Part) (k : ℕ) → spare kind ≡ 1 → others ≡ [] ++ p ∷ [] → IsReady plan p.node → IsReady plan q.node → k < length plan.nodes
-    → node_set plan.nodes k ≡ combined kind (node_set plan.nodes p.node) (node_set plan.nodes q.node) → MakesSet plan kind (others ++ q ∷ []) k
-row-begun plan kind others p q k free e ready ready' within is = subst (λ (z : List Part). MakesSet plan kind (z ++ q ∷ []) k) (sym e) (row-two plan kind p q k free ready ready' within is)
+pub row-begun : (plan : Plan) (kind : RowKind) (others : List ℕ) (p q : ℕ) (k : ℕ) → spare kind ≡ 1 → others ≡ [] ++ p ∷ [] → IsReady plan p → IsReady plan q → k < length plan.nodes
+    → node_set plan.nodes k ≡ combined kind (node_set plan.nodes p) (node_set plan.nodes q) → MakesSet plan kind (others ++ q ∷ []) k
+row-begun plan kind others p q k free e ready ready' within is = subst (λ (z : List ℕ). MakesSet plan kind (z ++ q ∷ []) k) (sym e) (row-two plan kind p q k free ready ready' within is)
 
-pub row-begun-less : (plan : Plan) (kind : RowKind) (others : List Part) (p q : Part) (k : ℕ) → spare kind ≡ 0 → BeginsWith kind p.node → others ≡ [] → IsReady plan p.node → IsReady plan q.node → k < length plan.nodes
-    → node_set plan.nodes k ≡ combined kind (node_set plan.nodes p.node) (node_set plan.nodes q.node) → MakesSet plan kind (others ++ q ∷ []) k
+pub row-begun-less : (plan : Plan) (kind : RowKind) (others : List ℕ) (p q : ℕ) (k : ℕ) → spare kind ≡ 0 → BeginsWith kind p → others ≡ [] → IsReady plan p → IsReady plan q → k < length plan.nodes
+    → node_set plan.nodes k ≡ combined kind (node_set plan.nodes p) (node_set plan.nodes q) → MakesSet plan kind (others ++ q ∷ []) k
 row-begun-less plan Union others p q k none begins e ready ready' within is = absurd (omega (arith, none))
 row-begun-less plan Exclusive others p q k none begins e ready ready' within is = absurd (omega (arith, none))
 row-begun-less plan (Difference from) others p q k none begins e ready ready' within is =
-    subst (λ (z : List Part). MakesSet plan (Difference from) (z ++ q ∷ []) k) (sym e)
-    (row-less plan from q k (subst (IsReady plan) begins ready) ready' within (is ∙ ap (λ (n : ℕ). Set.less (node_set plan.nodes n) (node_set plan.nodes q.node)) begins))
+    subst (λ (z : List ℕ). MakesSet plan (Difference from) (z ++ q ∷ []) k) (sym e)
+    (row-less plan from q k (subst (IsReady plan) begins ready) ready' within (is ∙ ap (λ (n : ℕ). Set.less (node_set plan.nodes n) (node_set plan.nodes q)) begins))
 
 -- ---- the operations that end rows
-pub made-less : (plan : Plan) (from : ℕ) (others : List Part) (q : Part) (k : ℕ) → length others ≤ 0 → MakesSet plan (Difference from) (others ++ q ∷ []) k → IsMadeAs plan.nodes k (node.Diff from q.node)
+pub made-less : (plan : Plan) (from : ℕ) (others : List ℕ) (q : ℕ) (k : ℕ) → length others ≤ 0 → MakesSet plan (Difference from) (others ++ q ∷ []) k → IsMadeAs plan.nodes k (node.Diff from q)
 made-less plan from (p ∷ ps) q k few row = absurd (omega arith)
 made-less plan from [] q k few row = record {
   within = row.within;
   operands = ((row.ready.from from refl).within, (row.ready.each 0 q refl).within);
-  set = alike-trans _ _ _ (less-one (node_set plan.nodes from) (node_set plan.nodes q.node)) row.set;
+  set = alike-trans _ _ _ (less-one (node_set plan.nodes from) (node_set plan.nodes q)) row.set;
 }
 
-pub last-one : (others : List Part) (p : Part) → length others ≤ 1 → Some p ≡ slice_get others (length others - 1) → others ≡ p ∷ []
+pub last-one : (others : List ℕ) (p : ℕ) → length others ≤ 1 → Some p ≡ slice_get others (length others - 1) → others ≡ p ∷ []
 last-one [] p few at = let f : Some p ≡ None = at in cc
 last-one (x ∷ []) p few at = let f : Some p ≡ Some x = at in cc
 last-one (x ∷ y ∷ ps) p few at = absurd (omega (arith, few))
 
-pub last-none : (others : List Part) → length others ≤ 1 → None ≡ slice_get others (length others - 1) → others ≡ []
+pub last-none : (others : List ℕ) → length others ≤ 1 → None ≡ slice_get others (length others - 1) → others ≡ []
 last-none [] few at = refl
 last-none (x ∷ []) few at = let f : None ≡ Some x = at in cc
 last-none (x ∷ y ∷ ps) few at = absurd (omega (arith, few))
 
 -- of two parts
-pub made-joined : (plan : Plan) (kind : RowKind) (p q : Part) (k : ℕ) (m : Node) → spare kind ≡ 1 → NamesBelow (length plan.nodes) m → set_of (sets_after [] plan.nodes) m ≡ joined kind (node_set plan.nodes p.node) (node_set plan.nodes q.node)
+pub made-joined : (plan : Plan) (kind : RowKind) (p q : ℕ) (k : ℕ) (m : Node) → spare kind ≡ 1 → NamesBelow (length plan.nodes) m → set_of (sets_after [] plan.nodes) m ≡ joined kind (node_set plan.nodes p) (node_set plan.nodes q)
     → MakesSet plan kind (p ∷ q ∷ []) k → IsMadeAs plan.nodes k m
 made-joined plan kind p q k m free names is row = record {
   within = row.within;
   operands = names;
   set = alike-along _ _ _ _ is refl (alike-trans _ _ _
-      (joined-alike kind _ _ _ _ (alike-sym _ _ (joined-empty kind (node_set plan.nodes p.node))) (alike-refl (node_set plan.nodes q.node)))
+      (joined-alike kind _ _ _ _ (alike-sym _ _ (joined-empty kind (node_set plan.nodes p))) (alike-refl (node_set plan.nodes q)))
       (alike-along _ _ _ _ (sym (ended-free plan.nodes kind _ free)) refl row.set));
 }
 
 -- and of one
-pub made-one : (plan : Plan) (kind : RowKind) (q : Part) (k : ℕ) → spare kind ≡ 1 → MakesSet plan kind (q ∷ []) k → IsMadeAs plan.nodes k (node.Or q.node q.node)
+pub made-one : (plan : Plan) (kind : RowKind) (q : ℕ) (k : ℕ) → spare kind ≡ 1 → MakesSet plan kind (q ∷ []) k → IsMadeAs plan.nodes k (node.Or q q)
 made-one plan kind q k free row = record {
   within = row.within;
   operands = ((row.ready.each 0 q refl).within, (row.ready.each 0 q refl).within);
-  set = alike-trans _ _ _ (either-same (node_set plan.nodes q.node)) (alike-trans _ _ _
-      (alike-sym _ _ (joined-empty kind (node_set plan.nodes q.node)))
+  set = alike-trans _ _ _ (either-same (node_set plan.nodes q)) (alike-trans _ _ _
+      (alike-sym _ _ (joined-empty kind (node_set plan.nodes q)))
       (alike-along _ _ _ _ (sym (ended-free plan.nodes kind _ free)) refl row.set));
 }
 
@@ -232,11 +231,11 @@ made-one plan kind q k free row = record {
 pub row-copied : (plan : Plan) (row r : Row) (k : ℕ) → r.kind ≡ row.kind → r.others.items ≡ row.others.items → r.last ≡ row.last → IsRowOf plan row k → IsRowOf plan r k
 row-copied plan row r k e f g is =
     subst (λ (z : RowKind). MakesSet plan z (parts r) k) (sym e)
-    (subst (λ (z : List Part). MakesSet plan row.kind (z ++ r.last ∷ []) k) (sym f) (subst (λ (z : Part). MakesSet plan row.kind (row.others.items ++ z ∷ []) k) (sym g) is))
+    (subst (λ (z : List ℕ). MakesSet plan row.kind (z ++ r.last ∷ []) k) (sym f) (subst (λ (z : ℕ). MakesSet plan row.kind (row.others.items ++ z ∷ []) k) (sym g) is))
 
 -- ---- a row with a part more
-pub row-added : (plan : Plan) (row r : Row) (i k : ℕ) → r.kind ≡ row.kind → r.others.items ≡ parts row → IsReady plan r.last.node → k < length plan.nodes
-    → node_set plan.nodes k ≡ combined row.kind (node_set plan.nodes i) (node_set plan.nodes r.last.node) → IsRowOf plan row i → IsRowOf plan r k
+pub row-added : (plan : Plan) (row r : Row) (i k : ℕ) → r.kind ≡ row.kind → r.others.items ≡ parts row → IsReady plan r.last → k < length plan.nodes
+    → node_set plan.nodes k ≡ combined row.kind (node_set plan.nodes i) (node_set plan.nodes r.last) → IsRowOf plan row i → IsRowOf plan r k
 row-added plan row r i k e f ready within is old =
     subst (λ (z : RowKind). MakesSet plan z (parts r) k) (sym e)
-    (subst (λ (z : List Part). MakesSet plan row.kind (z ++ r.last ∷ []) k) (sym f) (row-longer plan row.kind (parts row) r.last i k ready within is old))
+    (subst (λ (z : List ℕ). MakesSet plan row.kind (z ++ r.last ∷ []) k) (sym f) (row-longer plan row.kind (parts row) r.last i k ready within is old))

@@ -1,18 +1,18 @@
 -- Rows of operations that are worked as trees, and what is known of a plan while it's made.
-use Rattle.std.specs.Prelude.{◌≡◌, ℕ, ◌<◌, List, [], ◌∷◌, ◌++◌, Some, length, slice_get}
+use Rattle.std.specs.Prelude.{◌≡◌, ◌⊎◌, ℕ, All, ◌<◌, List, [], ◌∷◌, ◌++◌, Some, length, slice_get}
 use Rattle.nef_space.specs.Sets.{Set}
 use Rattle.nef_expr.specs.declared.nodes.Node.{Node}
 use Rattle.nef_expr.specs.Nodes.{node_set}
 use Rattle.nef_script.specs.declared.script.Command.{Command}
 use Rattle.nef_plan.specs.declared.planner.Plan.{Plan}
-use Rattle.nef_plan.specs.declared.row.Part.{Part}
+use Rattle.nef_plan.specs.declared.planner.Step.{Step}
 use Rattle.nef_plan.specs.declared.row.RowKind.{RowKind}
 use Rattle.nef_plan.specs.declared.row.RowKind.TheVariants.{Union, Exclusive, Difference}
 use Rattle.nef_plan.specs.declared.row.Row.{Row}
 use Rattle.nef_plan.specs.declared.row.Bound.{Bound}
 use Rattle.nef_plan.specs.declared.row.Bound.TheVariants.{No, Made, Deferred}
 use Rattle.nef_plan.specs.Alike.{AreAlike}
-use Rattle.nef_plan.specs.Steps.{AreSteps, HasMore, IsMade, asked}
+use Rattle.nef_plan.specs.Steps.{AreSteps, HasMore, IsMade, IsOfOthers, Makes, asked}
 
 -- both are of one kind, whatever they are differences from
 abbrev pub AreOfOneKind : RowKind → RowKind → Type 0
@@ -46,11 +46,11 @@ ended nodes Exclusive s = s
 ended nodes (Difference from) s = Set.less (node_set nodes from) s
 
 -- the parts joined one after the other, behind the set s
-abbrev pub joined_after : List Node → RowKind → Set → List Part → Set
+abbrev pub joined_after : List Node → RowKind → Set → List ℕ → Set
 joined_after nodes kind s [] = s
-joined_after nodes kind s (p ∷ ps) = joined_after nodes kind (joined kind s (node_set nodes p.node)) ps
+joined_after nodes kind s (p ∷ ps) = joined_after nodes kind (joined kind s (node_set nodes p)) ps
 
-abbrev pub row_set : List Node → RowKind → List Part → Set
+abbrev pub row_set : List Node → RowKind → List ℕ → Set
 row_set nodes kind parts = ended nodes kind (joined_after nodes kind Set.empty parts)
 
 -- the node is there, and a step makes its set
@@ -65,17 +65,17 @@ BeginsWith Exclusive k = Unit {0}
 BeginsWith (Difference from) k = k ≡ from
 
 -- the nodes of a row with these parts are ready
-pub record AreReady (plan : Plan) (kind : RowKind) (parts : List Part) : Type 0 where
+pub record AreReady (plan : Plan) (kind : RowKind) (parts : List ℕ) : Type 0 where
   pub from : (k : ℕ) → kind ≡ Difference k → IsReady plan k
-  pub each : (i : ℕ) (p : Part) → slice_get parts i ≡ Some p → IsReady plan p.node
+  pub each : (i : ℕ) (p : ℕ) → slice_get parts i ≡ Some p → IsReady plan p
 
 -- the row with these parts makes the set of node k, of sets that are ready
-pub record MakesSet (plan : Plan) (kind : RowKind) (parts : List Part) (k : ℕ) : Type 0 where
+pub record MakesSet (plan : Plan) (kind : RowKind) (parts : List ℕ) (k : ℕ) : Type 0 where
   pub within : k < length plan.nodes
   pub ready : AreReady plan kind parts
   pub set : AreAlike (row_set plan.nodes kind parts) (node_set plan.nodes k)
 
-abbrev pub parts : Row → List Part
+abbrev pub parts : Row → List ℕ
 parts row = row.others.items ++ row.last ∷ []
 
 abbrev pub IsRowOf : Plan → Row → ℕ → Type 0
@@ -109,8 +109,19 @@ pub record HasGrown (old new : Plan) (questions : List Command) : Type 0 where
   pub made : (k : ℕ) → IsMade old.steps.items k → IsMade new.steps.items k
   pub asked : asked new.steps.items ≡ asked old.steps.items ++ questions
 
--- and what was bound is bound, and what is told of each node is right
+-- the step makes nodes that are named, or nodes that aren't among the first n, of others
+abbrev pub MakesOnly : ℕ → (ℕ → Type 0) → Step → Type 0
+MakesOnly n named s = (k : ℕ) → Makes s k → named k ⊎ IsOfOthers n s k
+
+-- the later plan has steps more behind those of the earlier one, which make nodes that are named, or new nodes of others
+pub record HasAdded (old new : Plan) (named : ℕ → Type 0) : Type 0 where
+  pub added : List Step
+  pub steps : new.steps.items ≡ old.steps.items ++ added
+  pub each : All (MakesOnly (length old.nodes) named) added
+
+-- and what was bound is bound, what is told of each node is right, and the nodes that were made are bound, or new
 pub record GoesOn (old : Plan) (bounds : List Bound) (new : Plan) (later : List Bound) (questions : List Command) : Type 0 where
   pub grown : HasGrown old new questions
   pub still : (k : ℕ) → IsBound bounds k → IsBound later k
   pub planned : ArePlanned new later
+  pub added : HasAdded old new (IsBound later)

@@ -1,11 +1,11 @@
 -- The steps of a script's work.
-use Rattle.std.specs.Prelude.{◌≡◌, ◌⊎◌, ℕ, ◌<◌, ◌≤◌, Bool, true, false, List, [], ◌∷◌, Some, All, length, slice_get}
+use Rattle.std.specs.Prelude.{◌≡◌, ◌⊎◌, ℕ, ◌<◌, ◌≤◌, Bool, true, false, List, [], ◌∷◌, ◌++◌, Some, All, length, filter, slice_get, take}
 use Rattle.law_turns.specs.Turned.{turned_set}
 use Rattle.nef_expr.specs.declared.nodes.Node.{Node}
 use Rattle.nef_expr.specs.Nodes.{node_set, set_of, sets_after, NamesBelow, IsOperand}
 use Rattle.nef_script.specs.declared.script.Command.{Command}
 use Rattle.nef_script.specs.declared.script.Command.TheVariants as command
-use Rattle.nef_script.specs.Commands.{TurnsRight, AreBoundBefore}
+use Rattle.nef_script.specs.Commands.{Binds, TurnsRight, AreBoundBefore}
 use Rattle.nef_script.specs.Meaning.{IsWithin}
 use Rattle.nef_plan.specs.declared.planner.Step.{Step}
 use Rattle.nef_plan.specs.declared.planner.Step.TheVariants.{Make, Turn, Ask}
@@ -85,3 +85,15 @@ asked (Ask c ∷ steps) = c.now ∷ asked steps
 pub record HasMore (old new : List Node) : Type 0 where
   pub as_many : length old ≤ length new
   pub sets : (k : ℕ) → k < length old → node_set new k ≡ node_set old k
+
+-- a line binds node k, and of the lines before it no more ask a question than steps of these
+abbrev pub IsDue : List Command → List Step → ℕ → Type 0
+IsDue commands steps k = (p : ℕ) × (c : Command) × (slice_get commands p ≡ Some c) × Binds c k × (length (filter is_question (take p commands)) ≤ length (asked steps))
+
+-- node k isn't one of the first n, and the step makes its set of others
+abbrev pub IsOfOthers : ℕ → Step → ℕ → Type 0
+IsOfOthers n s k = (n ≤ k) × ((m : ℕ) × LooksAt s m)
+
+-- no set is made before the questions of earlier lines are asked: the step that makes it stands behind the questions of all lines before one that binds its node, or no line can bind its node, and it's made of others, of which the same holds
+pub record AreTimely (nodes : List Node) (commands : List Command) (steps : List Step) : Type 0 where
+  pub each : (front rest : List Step) (s : Step) → steps ≡ front ++ s ∷ rest → (k : ℕ) → Makes s k → IsDue commands front k ⊎ IsOfOthers (length nodes) s k

@@ -2,11 +2,14 @@
 //! answered.
 //!
 //! In a row of unions each takes one set more to the union of those before, and costs that whole union. So a row is worked
-//! as a tree, and so is a row of symmetric differences; of a row of differences the sets that are taken away are joined
-//! first. Source: the CGAL manual, "3D Boolean Operations on Nef Polyhedra", on `Nef_nary_union_3`.
+//! as a tree, where no three of its sets meet, and so is a row of symmetric differences; of a row of differences neighbours
+//! that are apart are joined, and taken away together. Source: the CGAL manual, "3D Boolean Operations on Nef Polyhedra", on
+//! `Nef_nary_union_3`.
 #![tactic(auto)]
 
+mod blocks;
 mod hints;
+mod notes;
 mod planner;
 mod planning;
 mod row;

@@ -1,16 +1,17 @@
 //! Steps, and those that make the sets of nodes.
 
-ghost use Rattle.std.specs.Prelude.{◌≡◌, ◌<◌, ◌∷◌};
-ghost use Rattle.nef_space.specs.Prelude.{ℕ, IfOk, IfSome, OnOk, length, Some, []};
+ghost use Rattle.std.specs.Prelude.{◌≡◌, ◌<◌, ◌≤◌, ◌∷◌, ◌++◌, ◌⊎◌};
+ghost use Rattle.nef_space.specs.Prelude.{ℕ, IfOk, IfSome, OnOk, length, Some, true, []};
 ghost use Rattle.nef_expr.specs.Nodes.{node_set, set_of, sets_after, IsOperand};
-ghost use Rattle.nef_plan.specs.Rows.{AreReady, ArePlanned, GoesOn, HasGrown, IsBound, IsReady, IsRowOf, AreOfOneKind, BeginsWith, combined, joined, parts, spare};
-ghost use Rattle.nef_plan.specs.Steps.{AreSteps, IsMade, IsRight, LooksAt, Makes, asked};
+ghost use Rattle.nef_plan.specs.Rows.{AreReady, ArePlanned, GoesOn, HasAdded, HasGrown, IsBound, IsReady, IsRowOf, AreOfOneKind, BeginsWith, combined, joined, parts, spare};
+ghost use Rattle.nef_script.specs.Meaning.{IsWithin};
+ghost use Rattle.nef_plan.specs.Steps.{AreSteps, AsksAbout, IsMade, IsRight, LooksAt, Makes, asked, is_question};
 ghost use Rattle.nef_plan.specs.declared.planner.Plan.{Plan as State};
 
 use crate::OutOfMemory;
 use crate::hints::Hint;
 use crate::planning::looked_at;
-use crate::row::{Bound, Part, Row, RowKind};
+use crate::row::{Bound, Row, RowKind};
 use nef_expr::{Node, Nodes};
 use nef_script::Command;
 use std::alloc::Global;
@@ -42,6 +43,7 @@ fn add_step<'a>(plan: &mut Plan<'a>, step: Step<'a>) -> Result<(), OutOfMemory>
     requires made { (k : ℕ) → LooksAt step k → IsMade plan.old.steps.items k }
     ensures grown { OnOk result (HasGrown plan.old plan.new (asked (step.entry ∷ []))) }
     ensures nodes { plan.new.nodes ≡ plan.old.nodes }
+    ensures steps { OnOk result (plan.new.steps.items ≡ plan.old.steps.items ++ step.entry ∷ []) }
     ensures made { OnOk result ((k : ℕ) → Makes step.entry k → IsMade plan.new.steps.items k) }
 {
     plan.steps.push(step)?;
@@ -52,23 +54,21 @@ fn add_step<'a>(plan: &mut Plan<'a>, step: Step<'a>) -> Result<(), OutOfMemory>
 fn joined_part(
     plan: &mut Plan,
     kind: RowKind,
-    first: Part,
-    second: Part,
-) -> Result<Part, OutOfMemory>
+    first: usize,
+    second: usize,
+) -> Result<usize, OutOfMemory>
     requires steps { AreSteps plan.old.nodes plan.old.steps.items }
-    requires first { IsReady plan.old first.node }
-    requires second { IsReady plan.old second.node }
+    requires first { IsReady plan.old first }
+    requires second { IsReady plan.old second }
     ensures grown { IfOk result (λ p. HasGrown plan.old plan.new []) }
-    ensures ready { IfOk result (λ p. IsReady plan.new p.node) }
-    ensures set { IfOk result (λ p. node_set plan.new.nodes p.node ≡ joined kind (node_set plan.old.nodes first.node) (node_set plan.old.nodes second.node)) }
+    ensures ready { IfOk result (λ p. IsReady plan.new p) }
+    ensures added { IfOk result (λ p. HasAdded plan.old plan.new (λ k. ⊥)) }
+    ensures set { IfOk result (λ p. node_set plan.new.nodes p ≡ joined kind (node_set plan.old.nodes first) (node_set plan.old.nodes second)) }
 {
-    let made = kind.join(first.node, second.node);
+    let made = kind.join(first, second);
     let node = plan.nodes.push(made)?;
     add_step(plan, Step::Make { node, made })?;
-    Ok(Part {
-        node,
-        weight: first.weight.saturating_add(second.weight),
-    })
+    Ok(node)
 }
 
 // Joins the last two parts of the row, if there are two.
@@ -77,6 +77,8 @@ fn join_last(plan: &mut Plan, row: &mut Row) -> Result<(), OutOfMemory>
     requires ready { AreReady plan.old row.old.kind (parts row.old) }
     ensures grown { OnOk result (HasGrown plan.old plan.new []) }
     ensures ready { OnOk result (AreReady plan.new row.new.kind (parts row.new)) }
+    ensures added { OnOk result (HasAdded plan.old plan.new (λ k. ⊥)) }
+    ensures kind { OnOk result (row.new.kind ≡ row.old.kind) }
     ensures row { OnOk result ((k : ℕ) → IsRowOf plan.old row.old k → IsRowOf plan.new row.new k) }
     ensures fewer { OnOk result (0 < length row.old.others.items → length row.new.others.items < length row.old.others.items) }
 {
@@ -86,14 +88,17 @@ fn join_last(plan: &mut Plan, row: &mut Row) -> Result<(), OutOfMemory>
     Ok(())
 }
 
-// Joins last parts of a row, so that few are left: what comes later is joined with sets of about its size.
-fn settle(plan: &mut Plan, row: &mut Row) -> Result<(), OutOfMemory>
+// Joins last parts of the row, until no more than so many others are left.
+fn join_parts(plan: &mut Plan, row: &mut Row, others: usize) -> Result<(), OutOfMemory>
     requires steps { AreSteps plan.old.nodes plan.old.steps.items }
     requires ready { AreReady plan.old row.old.kind (parts row.old) }
     ensures grown { OnOk result (HasGrown plan.old plan.new []) }
+    ensures added { OnOk result (HasAdded plan.old plan.new (λ k. ⊥)) }
+    ensures kind { OnOk result (row.new.kind ≡ row.old.kind) }
+    ensures few { OnOk result (length row.new.others.items ≤ others) }
     ensures row { OnOk result ((k : ℕ) → IsRowOf plan.old row.old k → IsRowOf plan.new row.new k) }
 {
-    while row.is_uneven() {
+    while row.others.len() > others {
         join_last(plan, row)?;
     }
     Ok(())
@@ -104,11 +109,11 @@ fn finish(plan: &mut Plan, row: &mut Row, node: usize) -> Result<(), OutOfMemory
     requires steps { AreSteps plan.old.nodes plan.old.steps.items }
     requires row { IsRowOf plan.old row.old node }
     ensures grown { OnOk result (HasGrown plan.old plan.new []) }
+    ensures added { OnOk result (HasAdded plan.old plan.new (λ k. k ≡ node)) }
     ensures ready { OnOk result (IsReady plan.new node) }
 {
-    while row.others.len() > row.spare() {
-        join_last(plan, row)?;
-    }
+    let spare = row.spare();
+    join_parts(plan, row, spare)?;
     let made = row.ending();
     add_step(plan, Step::Make { node, made })
 }
@@ -118,6 +123,7 @@ fn demand(plan: &mut Plan, bounds: &mut [Bound], wanted: Option<usize>) -> Resul
     requires planned { ArePlanned plan.old bounds.old }
     requires bound { IfSome wanted (IsBound bounds.old) }
     ensures goes_on { OnOk result (GoesOn plan.old bounds.old plan.new bounds.new []) }
+    ensures only { OnOk result ((k : ℕ) → IsBound bounds.new k → IsBound bounds.old k) }
     ensures ready { OnOk result (IfSome wanted (IsReady plan.new)) }
 {
     let Some(node) = wanted else {
@@ -129,22 +135,37 @@ fn demand(plan: &mut Plan, bounds: &mut [Bound], wanted: Option<usize>) -> Resul
     Ok(())
 }
 
-/// Adds a step behind those that make what it looks at, which is bound.
-pub(crate) fn add_bound<'a>(
-    plan: &mut Plan<'a>,
-    bounds: &mut [Bound],
-    step: Step<'a>,
-) -> Result<(), OutOfMemory>
+// Makes the sets that the step looks at, which are bound.
+fn demand_all(plan: &mut Plan, bounds: &mut [Bound], step: &Step) -> Result<(), OutOfMemory>
     requires planned { ArePlanned plan.old bounds.old }
-    requires looks { (k : ℕ) → LooksAt step k → IsBound bounds.old k }
-    requires right { IsRight plan.old.nodes step }
-    ensures goes_on { OnOk result (GoesOn plan.old bounds.old plan.new bounds.new (asked (step.entry ∷ []))) }
-    ensures made { OnOk result ((k : ℕ) → Makes step.entry k → IsMade plan.new.steps.items k) }
+    requires looks { (k : ℕ) → LooksAt step.now k → IsBound bounds.old k }
+    ensures goes_on { OnOk result (GoesOn plan.old bounds.old plan.new bounds.new []) }
+    ensures only { OnOk result ((k : ℕ) → IsBound bounds.new k → IsBound bounds.old k) }
+    ensures made { OnOk result ((k : ℕ) → LooksAt step.now k → IsMade plan.new.steps.items k) }
 {
-    let (first, second) = looked_at(&step);
+    let (first, second) = looked_at(step);
     demand(plan, bounds, first)?;
     demand(plan, bounds, second)?;
-    add_step(plan, step)
+    Ok(())
+}
+
+/// Adds the question behind the steps that make what it asks about, which is bound.
+pub(crate) fn add_question<'a>(
+    plan: &mut Plan<'a>,
+    bounds: &mut [Bound],
+    command: &'a Command,
+) -> Result<(), OutOfMemory>
+    requires planned { ArePlanned plan.old bounds.old }
+    requires asks { (k : ℕ) → AsksAbout command.now k → IsBound bounds.old k }
+    requires question { is_question command.now ≡ true }
+    requires within { IsWithin (length plan.old.nodes) command.now }
+    ensures goes_on { OnOk result (GoesOn plan.old bounds.old plan.new bounds.new (command.entry.now ∷ [])) }
+    ensures only { OnOk result ((k : ℕ) → IsBound bounds.new k → IsBound bounds.old k) }
+{
+    let step = Step::Ask(command);
+    demand_all(plan, bounds, &step)?;
+    add_step(plan, step)?;
+    Ok(())
 }
 
 // A copy of the node's row, if it has one of the kind.
@@ -169,37 +190,28 @@ fn row_of(
     alloc: Global,
     plan: &mut Plan,
     bounds: &mut [Bound],
-    hints: &[Hint],
     kind: RowKind,
     first: usize,
     second: usize,
 ) -> Result<Row, OutOfMemory>
     requires planned { ArePlanned plan.old bounds.old }
-    requires hints { length hints.now ≡ length bounds.old }
     requires begins { BeginsWith kind first }
     requires first { IsBound bounds.old first }
     requires second { IsBound bounds.old second }
     ensures goes_on { IfOk result (λ r. GoesOn plan.old bounds.old plan.new bounds.new []) }
+    ensures only { IfOk result (λ r. (k : ℕ) → IsBound bounds.new k → IsBound bounds.old k) }
     ensures row { IfOk result (λ r. (k : ℕ) → k < length plan.new.nodes → node_set plan.new.nodes k ≡ combined kind (node_set plan.new.nodes first) (node_set plan.new.nodes second) → IsRowOf plan.new r k) }
 {
     demand(plan, bounds, Some(second))?;
-    let last = Part {
-        node: second,
-        weight: hints[second].weight,
-    };
     if let Some(mut row) = row_at(alloc, bounds, kind, first)? {
-        row.add(last)?;
+        row.add(second)?;
         return Ok(row);
     }
     demand(plan, bounds, Some(first))?;
-    let first = Part {
-        node: first,
-        weight: hints[first].weight,
-    };
-    Row::begun(alloc, kind, first, last)
+    Row::begun(alloc, kind, first, second)
 }
 
-// Binds the node to the operation on both nodes, whose row goes on where the node is deferred.
+// Binds the node to the operation on both nodes, whose row is ended there unless the node's hint is that it goes on.
 fn bind_row(
     alloc: Global,
     plan: &mut Plan,
@@ -220,14 +232,18 @@ fn bind_row(
     requires set { node_set plan.old.nodes node ≡ combined kind (node_set plan.old.nodes first) (node_set plan.old.nodes second) }
     ensures goes_on { OnOk result (GoesOn plan.old bounds.old plan.new bounds.new []) }
     ensures bound { OnOk result (IsBound bounds.new node) }
+    ensures only { OnOk result ((k : ℕ) → IsBound bounds.new k → IsBound bounds.old k ⊎ (k ≡ node)) }
 {
-    let mut row = row_of(alloc, plan, bounds, hints, kind, first, second)?;
-    if hints[node].is_deferred() {
-        settle(plan, &mut row)?;
-        bounds[node] = Bound::Deferred(row);
-    } else {
-        finish(plan, &mut row, node)?;
-        bounds[node] = Bound::Made;
+    let mut row = row_of(alloc, plan, bounds, kind, first, second)?;
+    match hints[node] {
+        Hint::GoesOn { others } => {
+            join_parts(plan, &mut row, others)?;
+            bounds[node] = Bound::Deferred(row);
+        }
+        Hint::Made => {
+            finish(plan, &mut row, node)?;
+            bounds[node] = Bound::Made;
+        }
     }
     Ok(())
 }
@@ -246,8 +262,10 @@ pub(crate) fn bind_made<'a>(
     requires node { node < length bounds.old }
     ensures goes_on { OnOk result (GoesOn plan.old bounds.old plan.new bounds.new []) }
     ensures bound { OnOk result (IsBound bounds.new node) }
+    ensures only { OnOk result ((k : ℕ) → IsBound bounds.new k → IsBound bounds.old k ⊎ (k ≡ node)) }
 {
-    add_bound(plan, bounds, step)?;
+    demand_all(plan, bounds, &step)?;
+    add_step(plan, step)?;
     bounds[node] = Bound::Made;
     Ok(())
 }
@@ -269,6 +287,7 @@ pub(crate) fn bind(
     requires set { node_set plan.old.nodes node ≡ set_of (sets_after [] plan.old.nodes) made }
     ensures goes_on { OnOk result (GoesOn plan.old bounds.old plan.new bounds.new []) }
     ensures bound { OnOk result (IsBound bounds.new node) }
+    ensures only { OnOk result ((k : ℕ) → IsBound bounds.new k → IsBound bounds.old k ⊎ (k ≡ node)) }
 {
     let (kind, first, second) = match made {
         Node::Or(i, j) => (RowKind::Union, i, j),

@@ -6,12 +6,12 @@ ghost use Rattle.nef_expr.specs.declared.nodes.Node.{Node};
 ghost use Rattle.nef_script.specs.Commands.{LooksAt, Binds, TurnsRight};
 ghost use Rattle.nef_script.specs.Meaning.{IsWithin};
 ghost use Rattle.nef_plan.specs.Rows.{ArePlanned, GoesOn, IsBound};
-ghost use Rattle.nef_plan.specs.Steps.{AreWorkable, AreSteps, AsksAbout, HasMore, IsRight, LooksAt as StepLooksAt, asked, is_question};
+ghost use Rattle.nef_plan.specs.Steps.{AreWorkable, AreSteps, AreTimely, AsksAbout, HasMore, IsRight, LooksAt as StepLooksAt, asked, is_question};
 ghost use Rattle.nef_plan.specs.declared.row.Bound.TheVariants as bound;
 
 use crate::OutOfMemory;
 use crate::hints::{Hint, hints_of};
-use crate::planner::{Plan, Step, add_bound, bind, bind_made};
+use crate::planner::{Plan, Step, add_question, bind, bind_made};
 use crate::row::Bound;
 use nef_expr::Nodes;
 use nef_script::{Command, Script};
@@ -94,6 +94,7 @@ fn add_command<'a>(
     requires more { HasMore nodes.now plan.old.nodes }
     ensures goes_on { OnOk result (GoesOn plan.old bounds.old plan.new bounds.new (filter is_question (command.entry.now ∷ []))) }
     ensures bound { OnOk result ((k : ℕ) → Binds command.entry.now k → IsBound bounds.new k) }
+    ensures only { OnOk result ((k : ℕ) → IsBound bounds.new k → IsBound bounds.old k ⊎ Binds command.entry.now k) }
 {
     match command {
         Command::Bind { node, .. } => bind(alloc, plan, bounds, hints, *node, *nodes.get(*node)),
@@ -112,7 +113,7 @@ fn add_command<'a>(
                 bind_made(plan, bounds, node, Step::Turn { node, from, turn })
             }
         }
-        _ => add_bound(plan, bounds, Step::Ask(command)),
+        _ => add_question(plan, bounds, command),
     }
 }
 
@@ -129,10 +130,12 @@ fn add_commands<'a>(
     requires count { length bounds.old ≡ length script.now.nodes }
     requires hints { length hints.now ≡ length script.now.nodes }
     requires more { HasMore script.now.nodes plan.old.nodes }
-    requires none { asked plan.old.steps.items ≡ [] }
+    requires none { plan.old.steps.items ≡ [] }
+    requires unbound { (k : ℕ) → IsBound bounds.old k → ⊥ }
     ensures steps { OnOk result (AreSteps plan.new.nodes plan.new.steps.items) }
     ensures nodes { OnOk result (HasMore script.entry.now.nodes plan.new.nodes) }
     ensures asked { OnOk result (asked plan.new.steps.items ≡ filter is_question script.entry.now.commands) }
+    ensures timely { OnOk result (AreTimely script.entry.now.nodes script.entry.now.commands plan.new.steps.items) }
 {
     let nodes = &script.nodes;
     for command in script.commands() {
@@ -142,12 +145,13 @@ fn add_commands<'a>(
 }
 
 /// The steps of the script, in which its questions stand in their order, each behind the steps that make the sets that it
-/// asks about. `OutOfMemory` says that memory was wanted and not found.
+/// asks about, and before those that make the sets of later lines. `OutOfMemory` says that memory was wanted and not found.
 pub fn plan<'a>(alloc: Global, script: &'a Script) -> Result<Plan<'a>, OutOfMemory>
     requires workable { AreWorkable script.now.nodes script.now.commands }
     ensures steps { IfOk result (λ p. AreSteps p.nodes p.steps.items) }
     ensures nodes { IfOk result (λ p. HasMore script.entry.now.nodes p.nodes) }
     ensures asked { IfOk result (λ p. asked p.steps.items ≡ filter is_question script.entry.now.commands) }
+    ensures timely { IfOk result (λ p. AreTimely script.entry.now.nodes script.entry.now.commands p.steps.items) }
 {
     let nodes = &script.nodes;
     let hints = hints_of(alloc, script)?;

@@ -11,15 +11,6 @@ use crate::OutOfMemory;
 use nef_expr::Node;
 use std::alloc::Global;
 
-/// A set of a row.
-#[derive(Clone, Copy)]
-pub(crate) struct Part {
-    /// The number of its node.
-    pub(crate) node: usize,
-    /// Of how many half-spaces it's made.
-    pub(crate) weight: u64,
-}
-
 /// What the operations of a row make.
 #[derive(Clone, Copy)]
 pub(crate) enum RowKind {
@@ -31,12 +22,12 @@ pub(crate) enum RowKind {
     Difference { from: usize },
 }
 
-/// A row that isn't worked yet. Its parts are the others, in order, and the last.
+/// A row that isn't worked yet. Its parts are the sets of the other nodes, in order, and of the last.
 #[derive(Drop)]
 pub(crate) struct Row {
     pub(crate) kind: RowKind,
-    pub(crate) others: Vec<Part>,
-    pub(crate) last: Part,
+    pub(crate) others: Vec<usize>,
+    pub(crate) last: usize,
 }
 
 /// What is known of a node of the script.
@@ -68,6 +59,7 @@ impl RowKind {
         ensures set { (ss : List Set) → set_of ss result ≡ joined self (operand ss first) (operand ss second) }
         ensures within { (n : ℕ) → first < n → second < n → NamesBelow n result }
         ensures operands { (k : ℕ) → IsOperand k result → (k ≡ first) ⊎ (k ≡ second) }
+        ensures first { IsOperand first result }
     {
         match self {
             RowKind::Exclusive => Node::Xor(first, second),
@@ -81,11 +73,11 @@ impl Row {
     pub(crate) fn begun(
         alloc: Global,
         kind: RowKind,
-        first: Part,
-        second: Part,
+        first: usize,
+        second: usize,
     ) -> Result<Row, OutOfMemory>
-        requires begins { BeginsWith kind first.node }
-        ensures row { IfOk result (λ r. (plan : State) (k : ℕ) → k < length plan.nodes → IsReady plan first.node → IsReady plan second.node → node_set plan.nodes k ≡ combined kind (node_set plan.nodes first.node) (node_set plan.nodes second.node) → IsRowOf plan r k) }
+        requires begins { BeginsWith kind first }
+        ensures row { IfOk result (λ r. (plan : State) (k : ℕ) → k < length plan.nodes → IsReady plan first → IsReady plan second → node_set plan.nodes k ≡ combined kind (node_set plan.nodes first) (node_set plan.nodes second) → IsRowOf plan r k) }
     {
         let mut others = Vec::new(alloc);
         match kind {
@@ -113,7 +105,7 @@ impl Row {
     }
 
     /// Adds a part behind the others.
-    pub(crate) fn add(&mut self, part: Part) -> Result<(), OutOfMemory>
+    pub(crate) fn add(&mut self, part: usize) -> Result<(), OutOfMemory>
         ensures kind { self.new.kind ≡ self.old.kind }
         ensures others { OnOk result (self.new.others.items ≡ self.old.others.items ++ self.old.last ∷ []) }
         ensures last { OnOk result (self.new.last ≡ part) }
@@ -121,17 +113,6 @@ impl Row {
         self.others.push(self.last)?;
         self.last = part;
         Ok(())
-    }
-
-    /// Whether the part before the last is to be joined with it: where it's less than twice as heavy, so that of each two
-    /// parts the first is twice as heavy as the second, and there are few of them.
-    pub(crate) fn is_uneven(&self) -> bool
-        ensures others { result ≡ true → 0 < length self.now.others.items }
-    {
-        match self.others.last() {
-            Some(part) => part.weight / 2 < self.last.weight,
-            None => false,
-        }
     }
 
     /// How many parts beside the last the operation that ends the row takes.
@@ -150,11 +131,11 @@ impl Row {
         ensures made { (plan : State) (k : ℕ) → IsRowOf plan self.now k → IsMadeAs plan.nodes k result }
         ensures operands { (plan : State) (k : ℕ) → AreReady plan self.now.kind (parts self.now) → IsOperand k result → IsMade plan.steps.items k }
     {
-        let last = self.last.node;
+        let last = self.last;
         match self.kind {
             RowKind::Difference { from } => Node::Diff(from, last),
             RowKind::Union | RowKind::Exclusive => match self.others.last() {
-                Some(part) => self.kind.join(part.node, last),
+                Some(part) => self.kind.join(*part, last),
                 None => Node::Or(last, last),
             },
         }

@@ -1,36 +1,56 @@
 //! The steps of scripts.
 
-use crate::same::check_text;
+use crate::same::{check, check_text};
 use crate::scripts::unfolded;
 use nef_expr::Node;
 use nef_plan::{Plan, Step, plan};
-use nef_script::{Command, OutOfMemory, parse};
+use nef_script::{Command, OutOfMemory, parse, stairs};
 use std::alloc::Global;
+use std::process::Abort;
 use std::test::Fail;
 
-// Each row is a script, with its lines between the `/`, and its steps: the node that is made, with those of which it is made
-// where it is one of a row, or with the node and the turn where it is turned, and the line of each question.
+// Slabs across x, each the intersection of two half-spaces: a to e are apart from each other, and of nodes 2, 5, 8, 11 and
+// 14; g and h, of nodes 17 and 20, meet all those and each other.
+const SLABS: &str = "half a1 -1 0 0 0 closed / half a2 1 0 0 -2 closed / and a a1 a2 / \
+half b1 -1 0 0 10 closed / half b2 1 0 0 -12 closed / and b b1 b2 / \
+half c1 -1 0 0 20 closed / half c2 1 0 0 -22 closed / and c c1 c2 / \
+half d1 -1 0 0 30 closed / half d2 1 0 0 -32 closed / and d d1 d2 / \
+half e1 -1 0 0 40 closed / half e2 1 0 0 -42 closed / and e e1 e2 / \
+half g1 -1 0 0 -9 closed / half g2 1 0 0 -50 closed / and g g1 g2 / \
+half h1 -1 0 0 -9 closed / half h2 1 0 0 -50 closed / and h h1 h2";
+
+// The steps that make them.
+const SLAB_STEPS: &str = "0 1 2 3 4 5 6 7 8 9 10 11 12 13 14 15 16 17 18 19 20 ";
+
+// Each row is a script behind those lines, with its own between the `/`, and its steps: the node that is made, with those of
+// which it is made where it is one of a row, or with the node and the turn where it is turned, and the line of each question.
 //
 // The first row of unions is a tree. In the second a set of the row is asked about, so that two rows follow each other; in
 // the next ones a set is used twice in one statement, once more later, as a second operand, by another operation, and by a turn.
-// A row of symmetric differences is a tree too. Of a row of differences those that are taken away are joined, but not
-// where they are made of two half-spaces or fewer, and the set that they are taken from stays alone even where it is
-// a difference itself that is used once more.
+// Then two sets meet a third, but not each other; three meet each other; and a row ends the script. A row of symmetric
+// differences is a tree whatever meets. Of a row of differences neighbours that are apart are joined, if they are used for
+// nothing else. The last rows ask about each set before the next line.
 const PLANNED: &str =
-    "empty a / empty b / empty c / empty d / empty e / or f a b / or g f c / or h g d / or i h e / count i \
-=> 0 1 2 3 4 9=0|1 10=2|3 11=9|10 8=11|4 ?10
-empty a / empty b / empty c / empty d / or e a b / or f e c / count f / or g f d / count g \
-=> 0 1 2 3 7=0|1 5=7|2 ?7 6=5|3 ?9
-empty a / empty b / or d a b / or e d d / count e => 0 1 2=0|1 3=2|2 ?5
-empty a / empty b / or c a b / or d c a / and e c d / count e => 0 1 2=0|1 3=2|0 4 ?6
-empty a / empty b / or c a b / or d a c / count d => 0 1 2=0|1 3=0|2 ?5
-empty a / empty b / or c a b / xor d c a / diff e d b / count e => 0 1 2=0|1 3=2^0 4=3-1 ?6
-empty a / empty b / or c a b / or d c a / turn e d 16 / count e => 0 1 8=0|1 3=8|0 7@3*16 ?6
-empty a / empty b / empty c / empty d / xor e a b / xor f e c / xor g f d / count g => 0 1 2 3 7=0^1 8=2^3 6=7^8 ?8
-empty a / and x a a / and t x a / diff k a t / diff l k t / diff m l t / count m => 0 1 2 6=2|2 7=6|2 5=0-7 ?7
-empty a / and x a a / diff k a x / diff l k x / count l => 0 1 2=0-1 3=2-1 ?5
-empty a / and x a a / and t x a / diff k a t / diff l k a / diff m l t / count m => 0 1 2 3=0-2 4=3-0 5=4-2 ?7
-empty a / or b a a / or c b a => 0 3=0|0 2=3|0";
+    "or p a b / or q p c / or r q d / or s r e / count s => 25=2|5 26=8|11 27=25|26 24=27|14 ?26
+or p a b / or q p c / count q / or r q d / count r => 24=2|5 22=24|8 ?24 23=22|11 ?26
+or p a b / or q p p / count q => 21=2|5 22=21|21 ?24
+or p a b / or q p a / and r q p / count r => 21=2|5 22=21|2 23 ?25
+or p a b / or q p a / count q => 21=2|5 22=21|2 ?24
+or p a b / or q c p / count q => 21=2|5 22=8|21 ?24
+or p a b / xor q p c / diff r q d / count r => 21=2|5 22=21^8 23=22-11 ?25
+or p a b / or q p c / turn r q 16 / count r => 34=2|5 22=34|8 33@22*16 ?25
+or p g a / or q p b / or r q c / count r => 24=17|2 25=5|8 23=24|25 ?25
+or p g a / or q p h / or r q b / count r => 21=17|2 22=21|20 23=22|5 ?25
+or p a b / or q p c => 23=2|5 22=23|8
+xor p g h / xor q p a / xor r q g / count r => 24=17^20 25=2^17 23=24^25 ?25
+diff p g a / diff q p b / diff r q c / count r => 24=2|5 25=24|8 23=17-25 ?25
+diff p e a / diff q p b / diff r q h / diff s r c / count s => 25=2|5 22=14-25 23=22-20 24=23-8 ?26
+diff p g a / diff q p g / diff r q b / diff s r c / count s => 21=17-2 22=21-17 25=5|8 24=22-25 ?26
+or p a b / count p / or q p c / count q / xor r q d / count r => 21=2|5 ?23 22=21|8 ?25 23=22^11 ?27
+diff p g a / diff q p b / count h / diff r q c / count r => 24=2|5 ?24 25=24|8 23=17-25 ?26";
+
+// The generated script of 32 boxes: the first 16 are joined with one another, then the others, and then both.
+const STAIRS_END: &str = " 409=369|381 410=408|409 411=407|410 412=404|411 382=397|412 ?384";
 
 // The sign of an operation whose rows are joined.
 fn sign(made: &Node) -> Option<(usize, char, usize)> {
@@ -76,20 +96,91 @@ fn plan_text(alloc: Global, plan: &Plan) -> Result<String, OutOfMemory> {
     Ok(text)
 }
 
-fn planned(alloc: Global, lines: &str) -> Result<String, Fail> {
-    let lines = unfolded(alloc, lines)?;
-    let script = parse(alloc, lines.as_bytes())?;
+// The steps of the script.
+fn planned(alloc: Global, lines: &[u8]) -> Result<String, Fail> {
+    let script = parse(alloc, lines)?;
     let plan = plan(alloc, &script)?;
     let text = plan_text(alloc, &plan)?;
     Ok(text)
+}
+
+// The steps of the lines between the `/`, behind those that make the slabs.
+fn planned_of_slabs(alloc: Global, lines: &str) -> Result<String, Fail> {
+    let mut all = unfolded(alloc, SLABS)?;
+    all.push_str(unfolded(alloc, lines)?.as_str())?;
+    planned(alloc, all.as_bytes())
 }
 
 #[test]
 fn steps_of_scripts(rt: HostRuntime) -> Result<(), Fail> {
     for row in PLANNED.split('\n') {
         let (script, wanted) = row.split_once(" => ").ok_or("a row")?;
-        let found = planned(rt.alloc(), script)?;
-        check_text(&rt, found.as_str(), wanted, script);
+        let found = planned_of_slabs(rt.alloc(), script)?;
+        let found = found.strip_prefix(SLAB_STEPS).ok_or("the slabs")?;
+        check_text(&rt, found, wanted, script);
     }
+    Ok(())
+}
+
+#[test]
+fn steps_of_stairs(rt: HostRuntime) -> Result<(), Fail> {
+    let script = stairs(rt.alloc(), 32)?;
+    let found = planned(rt.alloc(), script.as_slice())?;
+    check(&rt, &found.ends_with(STAIRS_END), &true, found.as_str());
+    Ok(())
+}
+
+// A row of an operation with so many sets behind the first, each of which is made of three half-spaces.
+fn long_row(alloc: Global, word: &str, count: u32) -> Result<String, OutOfMemory> {
+    let mut script = String::from_str(alloc, "half r0 1 0 0 0 closed\nand w r0 r0\n")?;
+    for number in 1..=count {
+        let before = number - 1;
+        let lines = format!(in alloc;
+            "half h{number} 1 0 0 -{number} closed\nand t{number} h{number} w\n{word} r{number} r{before} t{number}\n"
+        )?;
+        script.push_str(lines.as_str())?;
+    }
+    Ok(script)
+}
+
+// How many steps there are.
+fn step_count(alloc: Global, lines: &str) -> Result<usize, Fail> {
+    let script = parse(alloc, lines.as_bytes())?;
+    let plan = plan(alloc, &script)?;
+    Ok(plan.steps.len())
+}
+
+// Whatever tree joins sets, it has one operation fewer, and where they are taken from another there is one for that. So
+// there are as many steps as names: nearly as many as a script may bind, for a row of more than 4,000 half-spaces.
+fn check_row(rt: &impl Abort, alloc: Global, word: &str) -> Result<(), Fail> {
+    let script = long_row(alloc, word, 1364)?;
+    let steps = step_count(alloc, script.as_str())?;
+    check(rt, &steps, &4094, word);
+    Ok(())
+}
+
+#[test]
+fn rows_of_most_names(rt: HostRuntime) -> Result<(), Fail> {
+    for word in ["or", "xor", "diff"] {
+        check_row(&rt, rt.alloc(), word)?;
+    }
+    Ok(())
+}
+
+// So many questions about one set, which is made by one step.
+fn questions(alloc: Global, count: u32) -> Result<String, OutOfMemory> {
+    let mut script = String::from_str(alloc, "full a\n")?;
+    for _ in 0..count {
+        script.push_str("count a\n")?;
+    }
+    Ok(script)
+}
+
+// As many as the bytes of the longest script allow.
+#[test]
+fn most_questions(rt: HostRuntime) -> Result<(), Fail> {
+    let script = questions(rt.alloc(), 131_071)?;
+    let steps = step_count(rt.alloc(), script.as_str())?;
+    check(&rt, &steps, &131_072, "questions");
     Ok(())
 }

@@ -1,5 +1,5 @@
 use Rattle.std.proofs.Common.{◌≡◌, vec_len}
 use Rattle.nef_plan.proofs.hints.first_hints.Given as goal
 
-abbrev pub invariant-loop-k : goal.invariant-loop-k
-invariant-loop-k l = vec_len l.hints ≡ l.k
+abbrev pub invariant-loop : goal.invariant-loop
+invariant-loop l = vec_len l.hints ≡ l.counter

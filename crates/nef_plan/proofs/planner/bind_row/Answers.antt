@@ -1,7 +1,10 @@
-use Rattle.std.proofs.Common.{◌<◌, [], length, arith}
+use Rattle.std.proofs.Common.{◌≡◌, ◌<◌, ◌⊎◌, ℕ, [], length, arith, inl, inr, ⊎_elim}
+use Rattle.std.specs.Prelude.{slice_set}
+use Rattle.nef_plan.specs.declared.row.Bound.{Bound}
 use Rattle.nef_plan.specs.declared.row.Bound.TheVariants.{Made, Deferred}
-use Rattle.nef_plan.specs.Rows.{IsRowOf}
-use Rattle.nef_plan.proofs.Bounds.{on-set, on-trans, bound-here, set-grown}
+use Rattle.nef_plan.specs.Rows.{IsBound, IsRowOf}
+use Rattle.nef_plan.proofs.Added.{added-wider}
+use Rattle.nef_plan.proofs.Bounds.{on-set, on-trans, bound-before, bound-here, set-grown}
 use Rattle.nef_plan.proofs.planner.bind_row.Goals as goal
 use Rattle.nef_plan.proofs.planner.bind_row.Goals.{In_ok-row}
 
@@ -18,30 +21,40 @@ row-here c =
 place-here : (c : In_ok-row) → c.args.node < length c.row_of.new.bounds
 place-here c = omega (arith, c.requires.node, c.row_of.auto.bounds)
 
-pub settle-requires-clause-ready : goal.settle-requires-clause-ready
-settle-requires-clause-ready c = (row-here (goal.at.settle-requires-clause-ready c).In_ok-row).ready
+pub join_parts-requires-clause-ready : goal.join_parts-requires-clause-ready
+join_parts-requires-clause-ready c = (row-here (goal.at.join_parts-requires-clause-ready c).In_ok-row).ready
 
 pub finish-requires-clause-row : goal.finish-requires-clause-row
 finish-requires-clause-row c = row-here (goal.at.finish-requires-clause-row c).In_ok-row
 
-pub returns-in_ok-settle-clause-goes_on : goal.returns-in_ok-settle-clause-goes_on
-returns-in_ok-settle-clause-goes_on c =
-    let at = (goal.at.returns-in_ok-settle-clause-goes_on c).In_ok-row in
-    let now = c.in_ok-settle.ensures in
+pub returns-in_ok-join_parts-in-GoesOn-clause-goes_on : goal.returns-in_ok-join_parts-in-GoesOn-clause-goes_on
+returns-in_ok-join_parts-in-GoesOn-clause-goes_on c =
+    let at = (goal.at.returns-in_ok-join_parts-in-GoesOn-clause-goes_on c).In_ok-row in
+    let now = c.in_ok-join_parts-in-GoesOn.ensures in
     let middle = c.row_of.new in
-    on-trans c.args.plan.now middle.plan c.settle.new.plan c.args.bounds.now middle.bounds _ [] [] c.in_ok-row.ensures.goes_on
-    (on-set middle.plan c.settle.new.plan [] middle.bounds c.args.node (Deferred c.settle.new.row) c.in_ok-row.ensures.goes_on.planned now.grown (place-here at) tt (now.row c.args.node (row-here at)))
+    on-trans c.args.plan.now middle.plan c.join_parts.new.plan c.args.bounds.now middle.bounds _ [] [] c.in_ok-row.ensures.goes_on
+    (on-set middle.plan c.join_parts.new.plan [] middle.bounds c.args.node (Deferred c.join_parts.new.row) c.in_ok-row.ensures.goes_on.planned now.grown (place-here at) tt (now.row c.args.node (row-here at)) (added-wider middle.plan c.join_parts.new.plan (λ k. ⊥) (λ k. k ≡ c.args.node) (λ k none. absurd none) now.added))
 
-pub returns-in_ok-settle-clause-bound : goal.returns-in_ok-settle-clause-bound
-returns-in_ok-settle-clause-bound c = bound-here c.row_of.new.bounds c.args.node (Deferred c.settle.new.row) (place-here (goal.at.returns-in_ok-settle-clause-bound c).In_ok-row) tt
+pub returns-in_ok-join_parts-in-GoesOn-clause-bound : goal.returns-in_ok-join_parts-in-GoesOn-clause-bound
+returns-in_ok-join_parts-in-GoesOn-clause-bound c = bound-here c.row_of.new.bounds c.args.node (Deferred c.join_parts.new.row) (place-here (goal.at.returns-in_ok-join_parts-in-GoesOn-clause-bound c).In_ok-row) tt
 
-pub returns-in_ok-finish-clause-goes_on : goal.returns-in_ok-finish-clause-goes_on
-returns-in_ok-finish-clause-goes_on c =
-    let at = (goal.at.returns-in_ok-finish-clause-goes_on c).In_ok-row in
-    let now = c.in_ok-finish.ensures in
+pub returns-in_ok-finish-in-Made-clause-goes_on : goal.returns-in_ok-finish-in-Made-clause-goes_on
+returns-in_ok-finish-in-Made-clause-goes_on c =
+    let at = (goal.at.returns-in_ok-finish-in-Made-clause-goes_on c).In_ok-row in
+    let now = c.in_ok-finish-in-Made.ensures in
     let middle = c.row_of.new in
     on-trans c.args.plan.now middle.plan c.finish.new.plan c.args.bounds.now middle.bounds _ [] [] c.in_ok-row.ensures.goes_on
-    (on-set middle.plan c.finish.new.plan [] middle.bounds c.args.node Made c.in_ok-row.ensures.goes_on.planned now.grown (place-here at) tt now.ready)
+    (on-set middle.plan c.finish.new.plan [] middle.bounds c.args.node Made c.in_ok-row.ensures.goes_on.planned now.grown (place-here at) tt now.ready now.added)
 
-pub returns-in_ok-finish-clause-bound : goal.returns-in_ok-finish-clause-bound
-returns-in_ok-finish-clause-bound c = bound-here c.row_of.new.bounds c.args.node Made (place-here (goal.at.returns-in_ok-finish-clause-bound c).In_ok-row) tt
+pub returns-in_ok-finish-in-Made-clause-bound : goal.returns-in_ok-finish-in-Made-clause-bound
+returns-in_ok-finish-in-Made-clause-bound c = bound-here c.row_of.new.bounds c.args.node Made (place-here (goal.at.returns-in_ok-finish-in-Made-clause-bound c).In_ok-row) tt
+
+-- what is bound then was bound, or is the node
+bound-or : (c : In_ok-row) (b : Bound) (k : ℕ) → IsBound (slice_set c.row_of.new.bounds c.args.node b) k → IsBound c.args.bounds.now k ⊎ (k ≡ c.args.node)
+bound-or c b k is = ⊎_elim (λ before. inl (c.in_ok-row.ensures.only k before)) (λ e. inr e) (bound-before c.row_of.new.bounds c.args.node b k is)
+
+pub returns-in_ok-join_parts-in-GoesOn-clause-only : goal.returns-in_ok-join_parts-in-GoesOn-clause-only
+returns-in_ok-join_parts-in-GoesOn-clause-only c k is = bound-or (goal.at.returns-in_ok-join_parts-in-GoesOn-clause-only c).In_ok-row (Deferred c.join_parts.new.row) k is
+
+pub returns-in_ok-finish-in-Made-clause-only : goal.returns-in_ok-finish-in-Made-clause-only
+returns-in_ok-finish-in-Made-clause-only c k is = bound-or (goal.at.returns-in_ok-finish-in-Made-clause-only c).In_ok-row Made k is

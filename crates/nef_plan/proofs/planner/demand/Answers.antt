@@ -5,7 +5,8 @@ use Rattle.nef_plan.specs.declared.row.Bound.{Bound}
 use Rattle.nef_plan.specs.declared.row.Bound.TheVariants.{Made, Deferred}
 use Rattle.nef_plan.specs.Rows.{GoesOn, IsBound}
 use Rattle.nef_plan.proofs.Growth.{grown-refl}
-use Rattle.nef_plan.proofs.Bounds.{on-set, on-grown, bound-place, bound-made}
+use Rattle.nef_plan.proofs.Added.{added-none}
+use Rattle.nef_plan.proofs.Bounds.{on-set, on-grown, bound-place, bound-made, bound-same}
 use Rattle.nef_plan.proofs.planner.demand.Goals as goal
 
 pub finish-requires-clause-row : goal.finish-requires-clause-row
@@ -23,13 +24,20 @@ returns-in_ok-finish-clause-goes_on c =
     let bound : IsBound bounds node = rw c.in-Some.is at c.requires.bound in
     let made = c.in_ok-finish.ensures in
     subst (λ (z : Bound). GoesOn c.args.plan.now bounds c.finish.new.plan (slice_set bounds node z) []) (sym c.in-Deferred.ensures.after)
-    (on-set c.args.plan.now c.finish.new.plan [] bounds node Made c.requires.planned made.grown (bound-place bounds node bound) tt made.ready)
+    (on-set c.args.plan.now c.finish.new.plan [] bounds node Made c.requires.planned made.grown (bound-place bounds node bound) tt made.ready made.added)
+
+pub returns-in_ok-finish-clause-only : goal.returns-in_ok-finish-clause-only
+returns-in_ok-finish-clause-only c k is =
+    let bounds = c.args.bounds.now in
+    let node = c.in-Some.node in
+    let bound : IsBound bounds node = rw c.in-Some.is at c.requires.bound in
+    bound-same bounds node Made bound k (subst (λ (z : Bound). IsBound (slice_set bounds node z) k) c.in-Deferred.ensures.after is)
 
 pub returns-in_ok-finish-clause-ready : goal.returns-in_ok-finish-clause-ready
 returns-in_ok-finish-clause-ready c = rw c.in-Some.is c.in_ok-finish.ensures.ready
 
 pub returns-in_default-clause-goes_on : goal.returns-in_default-clause-goes_on
-returns-in_default-clause-goes_on c = on-grown c.args.plan.now c.args.plan.now [] c.args.bounds.now c.requires.planned (grown-refl c.args.plan.now c.requires.planned.steps)
+returns-in_default-clause-goes_on c = on-grown c.args.plan.now c.args.plan.now [] c.args.bounds.now c.requires.planned (grown-refl c.args.plan.now c.requires.planned.steps) (added-none c.args.plan.now (IsBound c.args.bounds.now))
 
 pub returns-in_default-replace : goal.returns-in_default-replace
 returns-in_default-replace c =
@@ -44,6 +52,7 @@ returns-in_default-replace c =
     let ready = c.requires.planned.told node Made (at ∙ ap Some made) in
     let grown = grown-refl plan c.requires.planned.steps in
     record {
-      goes_on = subst (λ (z : Bound). GoesOn plan bounds plan (slice_set bounds node z) []) (sym c.replace.ensures.after) (on-set plan plan [] bounds node Made c.requires.planned grown within tt ready);
+      goes_on = subst (λ (z : Bound). GoesOn plan bounds plan (slice_set bounds node z) []) (sym c.replace.ensures.after) (on-set plan plan [] bounds node Made c.requires.planned grown within tt ready (added-none plan (λ k. k ≡ node)));
+      only = λ k is. bound-same bounds node Made bound k (subst (λ (z : Bound). IsBound (slice_set bounds node z) k) c.replace.ensures.after is);
       ready = rw c.in-Some.is ready;
     }

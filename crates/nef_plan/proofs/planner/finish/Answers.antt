@@ -1,40 +1,42 @@
-use Rattle.std.proofs.Common.{◌<◌, [], length, refl, subst, sym}
+use Rattle.std.proofs.Common.{◌≡◌, ◌<◌, ◌≤◌, ℕ, [], ap, length, refl, subst, sym, ◌∙◌, inl}
 use Rattle.std.proofs.lemmas.Result.{on_ok_weaker}
-use Rattle.nef_plan.specs.Rows.{IsReady}
-use Rattle.nef_plan.proofs.Growth.{grown-refl, grown-trans}
+use Rattle.nef_plan.specs.Rows.{IsReady, IsRowOf, spare}
+use Rattle.nef_plan.specs.declared.planner.Step.TheVariants.{Make}
+use Rattle.nef_plan.proofs.Growth.{grown-trans}
+use Rattle.nef_plan.proofs.Added.{added-one, added-trans}
 use Rattle.nef_plan.proofs.planner.finish.Goals as goal
+use Rattle.nef_plan.proofs.planner.finish.Goals.{In_ok-join_parts}
 
-pub loop-plan-init : goal.loop-plan-init
-loop-plan-init c = record { grown = grown-refl c.args.plan.now c.requires.steps; row = c.requires.row }
+-- the joined parts are those of the node
+row-here : (c : In_ok-join_parts) → IsRowOf c.join_parts.new.plan c.join_parts.new.row c.args.node
+row-here c = c.in_ok-join_parts.ensures.row c.args.node c.requires.row
 
-pub join_last-requires-clause-steps : goal.join_last-requires-clause-steps
-join_last-requires-clause-steps c = c.loop-plan.invariant.grown.steps
-
-pub loop-plan-preserved : goal.loop-plan-preserved
-loop-plan-preserved c =
-    let so_far = c.loop-plan.invariant in
-    let now = c.in_ok-join_last.ensures in
-    record {
-      grown = grown-trans c.args.plan.now c.loop-plan.plan c.join_last.new.plan [] [] so_far.grown now.grown;
-      row = now.row c.args.node so_far.row;
-    }
-
-pub add_step-requires-clause-steps : goal.add_step-requires-clause-steps
-add_step-requires-clause-steps c = c.loop-plan.invariant.grown.steps
+pub ending-made-requires : goal.ending-made-requires
+ending-made-requires c =
+    let joined = c.in_ok-join_parts.ensures in
+    let same = c.spare-spare.ensures.spare ∙ ap spare (sym joined.kind) in
+    record { few = subst (λ n. length c.join_parts.new.row.others.items ≤ n) same joined.few }
 
 pub add_step-requires-clause-right : goal.add_step-requires-clause-right
-add_step-requires-clause-right c = c.ending-made.ensures.made c.loop-plan.plan c.args.node c.loop-plan.invariant.row
+add_step-requires-clause-right c = c.ending-made.ensures.made c.join_parts.new.plan c.args.node (row-here (goal.at.add_step-requires-clause-right c).In_ok-join_parts)
 
 pub add_step-requires-clause-made : goal.add_step-requires-clause-made
-add_step-requires-clause-made c k is = c.ending-made.ensures.operands c.loop-plan.plan k c.loop-plan.invariant.row.ready is
+add_step-requires-clause-made c k is = c.ending-made.ensures.operands c.join_parts.new.plan k (row-here (goal.at.add_step-requires-clause-made c).In_ok-join_parts).ready is
 
 pub returns-clause-grown : goal.returns-clause-grown
 returns-clause-grown c =
-    on_ok_weaker c.add_step.result (λ grown. grown-trans c.args.plan.now c.loop-plan.plan c.add_step.new.plan [] [] c.loop-plan.invariant.grown grown) c.add_step.ensures.grown
+    on_ok_weaker c.add_step.result (λ grown. grown-trans c.args.plan.now c.join_parts.new.plan c.add_step.new.plan [] [] c.in_ok-join_parts.ensures.grown grown) c.add_step.ensures.grown
+
+pub returns-clause-added : goal.returns-clause-added
+returns-clause-added c =
+    let node = c.args.node in
+    let joined = c.in_ok-join_parts.ensures in
+    on_ok_weaker c.add_step.result (λ is. added-trans c.args.plan.now c.join_parts.new.plan c.add_step.new.plan (λ k. ⊥) (λ k. k ≡ node) joined.grown.nodes (λ k none. absurd none) joined.added
+    (added-one c.join_parts.new.plan c.add_step.new.plan (λ k. k ≡ node) (Make node c.ending-made.result) is (λ k e. inl e))) c.add_step.ensures.steps
 
 pub returns-clause-ready : goal.returns-clause-ready
 returns-clause-ready c =
-    let right = c.ending-made.ensures.made c.loop-plan.plan c.args.node c.loop-plan.invariant.row in
+    let right = c.ending-made.ensures.made c.join_parts.new.plan c.args.node (row-here (goal.at.returns-clause-ready c).In_ok-join_parts) in
     on_ok_weaker c.add_step.result (λ made.
     let ready : IsReady c.add_step.new.plan c.args.node = record { within = subst (λ z. c.args.node < length z) (sym c.add_step.ensures.nodes) right.within; made = made c.args.node refl } in
     ready) c.add_step.ensures.made

@@ -1,5 +1,4 @@
-use Rattle.std.proofs.Common.{◌≡◌, subst, List, [], ◌∷◌, ◌++◌}
-use Rattle.nef_plan.specs.declared.row.Part.{Part}
+use Rattle.std.proofs.Common.{◌≡◌, ℕ, subst, List, [], ◌∷◌, ◌++◌}
 use Rattle.nef_plan.specs.Rows.{AreReady, MakesSet}
 use Rattle.nef_plan.proofs.Rows.{Each, each-front, each-last, are-joined-grown, row-joined-grown}
 use Rattle.nef_plan.proofs.planner.join_last.Goals as goal
@@ -20,7 +19,7 @@ returns-in_ok-row-clause-ready c =
     let old = c.args.row.now in
     let rest = c.pop.new.self.items in
     let items : old.others.items ≡ rest ++ c.in-Some.part ∷ [] = c.in-Some.ensures.items in
-    let before = subst (λ (z : List Part). AreReady c.args.plan.now old.kind (z ++ old.last ∷ [])) items c.requires.ready in
+    let before = subst (λ (z : List ℕ). AreReady c.args.plan.now old.kind (z ++ old.last ∷ [])) items c.requires.ready in
     let now = c.in_ok-row.ensures in
     are-joined-grown c.args.plan.now c.joined_part.new.plan [] old.kind rest c.in-Some.part old.last c.in_ok-row.field-0 now.grown now.ready before
 
@@ -29,6 +28,6 @@ returns-in_ok-row-clause-row c k row =
     let old = c.args.row.now in
     let rest = c.pop.new.self.items in
     let items : old.others.items ≡ rest ++ c.in-Some.part ∷ [] = c.in-Some.ensures.items in
-    let before = subst (λ (z : List Part). MakesSet c.args.plan.now old.kind (z ++ old.last ∷ []) k) items row in
+    let before = subst (λ (z : List ℕ). MakesSet c.args.plan.now old.kind (z ++ old.last ∷ []) k) items row in
     let now = c.in_ok-row.ensures in
     row-joined-grown c.args.plan.now c.joined_part.new.plan [] old.kind rest c.in-Some.part old.last c.in_ok-row.field-0 k now.grown now.ready now.set before

@@ -3,9 +3,11 @@ use Rattle.nef_expr.specs.declared.nodes.Node.{Node}
 use Rattle.nef_expr.specs.Nodes.{node_set, sets_after}
 use Rattle.nef_expr.proofs.Sets.{new-set}
 use Rattle.nef_plan.specs.declared.planner.Plan.{Plan}
-use Rattle.nef_plan.specs.Rows.{HasGrown}
+use Rattle.nef_plan.specs.declared.planner.Step.TheVariants.{Make}
+use Rattle.nef_plan.specs.Rows.{HasAdded, HasGrown}
 use Rattle.nef_plan.specs.Steps.{HasMore, IsMade, IsMadeAs, asked}
 use Rattle.nef_plan.proofs.Growth.{more-push, steps-more, made-new, grown-trans}
+use Rattle.nef_plan.proofs.Added.{added-one}
 use Rattle.nef_plan.proofs.planner.joined_part.Goals as goal
 
 pub add_step-requires-clause-steps : goal.add_step-requires-clause-steps
@@ -37,6 +39,13 @@ returns-clause-grown c =
     let more : HasMore old.nodes middle.nodes = subst (HasMore old.nodes) (sym added) (more-push old.nodes c.join-made.result) in
     let first : HasGrown old middle [] = record { nodes = more; steps = steps-more old.nodes middle.nodes old.steps.items more c.requires.steps; made = λ k is. is; asked = sym (append-nil (asked old.steps.items)) } in
     grown-trans old middle c.add_step.new.plan [] [] first c.in_ok-add_step.ensures.grown
+
+pub returns-clause-added : goal.returns-clause-added
+returns-clause-added c =
+    let old = c.args.plan.now in
+    let number : c.in_ok-node.node ≡ length old.nodes = c.in_ok-node.ensures.number in
+    added-one old c.add_step.new.plan (λ k. ⊥) (Make c.in_ok-node.node c.join-made.result) c.in_ok-add_step.ensures.steps
+    (λ k is. let e : k ≡ c.in_ok-node.node = is in inr (omega (arith, e, number), (c.args.first, c.join-made.ensures.first)))
 
 pub returns-clause-set : goal.returns-clause-set
 returns-clause-set c =

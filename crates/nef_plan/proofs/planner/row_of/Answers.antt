@@ -1,7 +1,6 @@
 use Rattle.std.proofs.Common.{◌≡◌, ◌∙◌, ◌<◌, ℕ, [], ap, sym, subst, length, arith, rules}
 use Rattle.std.proofs.lemmas.Result.{IfOk-weaker}
 use Rattle.nef_expr.specs.Nodes.{node_set}
-use Rattle.nef_plan.specs.declared.row.Part.{Part}
 use Rattle.nef_plan.specs.Rows.{IsReady, combined}
 use Rattle.nef_plan.proofs.Growth.{ready-grown}
 use Rattle.nef_plan.proofs.Rows.{combined-same, row-added}
@@ -15,7 +14,7 @@ returns-in-Some-clause-row c k within is =
     let longer = c.add.new.self in
     let added = c.in_ok-add.ensures in
     let (like, of) = c.in_ok-row.ensures.row row c.in-Some.is in
-    let second : longer.last.node ≡ c.args.second = ap (λ (p : Part). p.node) added.last in
+    let second : longer.last ≡ c.args.second = added.last in
     let same = combined-same row.kind c.args.kind (node_set plan.nodes c.args.first) (node_set plan.nodes c.args.second) like in
     row-added plan row longer c.args.first k added.kind added.others
     (subst (IsReady plan) (sym second) c.in_ok-demand.ensures.ready)
@@ -26,21 +25,13 @@ returns-in-Some-clause-row c k within is =
 pub demand-requires-2-clause-planned : goal.demand-requires-2-clause-planned
 demand-requires-2-clause-planned c = c.in_ok-demand.ensures.goes_on.planned
 
-pub offset_bounds-hints-first : goal.offset_bounds-hints-first
-offset_bounds-hints-first c =
-    let place = bound-place c.args.bounds.now c.args.first c.requires.first in
-    let within : c.args.first < length c.args.hints.now = omega (arith, place, c.requires.hints) in
-    search rules
-
-pub bounds-hints-first : goal.bounds-hints-first
-bounds-hints-first c =
-    let place = bound-place c.args.bounds.now c.args.first c.requires.first in
-    omega (arith, place, c.requires.hints)
-
 pub returns-clause-goes_on : goal.returns-clause-goes_on
 returns-clause-goes_on c =
     let on = on-trans c.args.plan.now c.demand.new.plan c.demand-2.new.plan c.args.bounds.now c.demand.new.bounds c.demand-2.new.bounds [] [] c.in_ok-demand.ensures.goes_on c.in_ok-demand-2.ensures.goes_on in
     IfOk-weaker c.begun.result _ _ (λ r _. on) c.begun.ensures.row
+
+pub returns-clause-only : goal.returns-clause-only
+returns-clause-only c = IfOk-weaker c.begun.result _ _ (λ r _ k is. c.in_ok-demand.ensures.only k (c.in_ok-demand-2.ensures.only k is)) c.begun.ensures.row
 
 pub returns-clause-row : goal.returns-clause-row
 returns-clause-row c =

@@ -1,4 +1,5 @@
-use Rattle.std.proofs.Common.{◌≡◌, ◌∙◌, ℕ, true, false, List, [], ◌∷◌, filter, ap, refl, sym, subst, length, arith}
+use Rattle.std.specs.Prelude.{◌⊎◌}
+use Rattle.std.proofs.Common.{◌≡◌, ◌∙◌, ℕ, inl, true, false, List, [], ◌∷◌, filter, ap, refl, sym, subst, length, arith}
 use Rattle.std.proofs.lemmas.Option.{slice_get_within}
 use Rattle.std.proofs.lemmas.Result.{on_ok_weaker}
 use Rattle.law_turns.specs.Turned.{turned_set}
@@ -8,9 +9,9 @@ use Rattle.nef_expr.proofs.Turns.{node-turned}
 use Rattle.nef_expr.specs.declared.nodes.Node.{Node}
 use Rattle.nef_script.specs.declared.script.Command.{Command}
 use Rattle.nef_script.specs.declared.script.Command.TheVariants.{Bind, Turn, Has, Joined, Ray, Same, Count, Print}
-use Rattle.nef_script.specs.Commands.{LooksAt, TurnsRight}
+use Rattle.nef_script.specs.Commands.{Binds, LooksAt, TurnsRight}
 use Rattle.nef_script.specs.Meaning.{IsWithin}
-use Rattle.nef_plan.specs.Rows.{GoesOn}
+use Rattle.nef_plan.specs.Rows.{GoesOn, IsBound}
 use Rattle.nef_plan.specs.Steps.{AsksAbout, IsTurnedFrom, is_question}
 use Rattle.nef_plan.proofs.Growth.{set-more, within-wider}
 use Rattle.nef_plan.proofs.planning.add_command.Goals as goal
@@ -80,16 +81,27 @@ bind_made-requires-clause-right c =
     } in
     is
 
-pub add_bound-requires-clause-looks : goal.add_bound-requires-clause-looks
-add_bound-requires-clause-looks c k asks = c.requires.looks k (asked-looks c.args.nodes.now c.args.command.now k asks)
+pub add_question-requires-clause-asks : goal.add_question-requires-clause-asks
+add_question-requires-clause-asks c k asks = c.requires.looks k (asked-looks c.args.nodes.now c.args.command.now k asks)
 
-pub add_bound-requires-clause-right : goal.add_bound-requires-clause-right
-add_bound-requires-clause-right c = (
-  is-question c.args.command.now c.in_default.not-Bind c.in_default.not-Turn,
-  within-wider (length c.args.nodes.now) (length c.args.plan.now.nodes) c.args.command.now c.requires.more.as_many c.requires.within,
-)
+pub add_question-requires-clause-question : goal.add_question-requires-clause-question
+add_question-requires-clause-question c = is-question c.args.command.now c.in_default.not-Bind c.in_default.not-Turn
+
+pub add_question-requires-clause-within : goal.add_question-requires-clause-within
+add_question-requires-clause-within c = within-wider (length c.args.nodes.now) (length c.args.plan.now.nodes) c.args.command.now c.requires.more.as_many c.requires.within
 
 pub returns-in_default-clause-goes_on : goal.returns-in_default-clause-goes_on
 returns-in_default-clause-goes_on c =
     let alone = question-alone c.args.command.now (is-question c.args.command.now c.in_default.not-Bind c.in_default.not-Turn) in
-    on_ok_weaker c.add_bound.result (λ on. subst (GoesOn c.args.plan.now c.args.bounds.now c.add_bound.new.plan c.add_bound.new.bounds) (sym alone) on) c.add_bound.ensures.goes_on
+    on_ok_weaker c.add_question.result (λ on. subst (GoesOn c.args.plan.now c.args.bounds.now c.add_question.new.plan c.add_question.new.bounds) (sym alone) on) c.add_question.ensures.goes_on
+
+pub returns-in-Bind-clause-only : goal.returns-in-Bind-clause-only
+returns-in-Bind-clause-only c =
+    on_ok_weaker c.bind.result (λ only k is. subst (λ (z : Command). IsBound c.args.bounds.now k ⊎ Binds z k) (sym c.in-Bind.is) (only k is)) c.bind.ensures.only
+
+pub returns-else-is_bound-clause-only : goal.returns-else-is_bound-clause-only
+returns-else-is_bound-clause-only c =
+    on_ok_weaker c.bind_made.result (λ only k is. subst (λ (z : Command). IsBound c.args.bounds.now k ⊎ Binds z k) (sym c.in-Turn.is) (only k is)) c.bind_made.ensures.only
+
+pub returns-in_default-clause-only : goal.returns-in_default-clause-only
+returns-in_default-clause-only c = on_ok_weaker c.add_question.result (λ only k is. inl (only k is)) c.add_question.ensures.only

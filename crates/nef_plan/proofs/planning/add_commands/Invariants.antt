@@ -3,12 +3,15 @@ use Rattle.std.specs.Prelude.{slice_get}
 use Rattle.nef_script.specs.declared.script.Command.{Command}
 use Rattle.nef_script.specs.Commands.{Binds}
 use Rattle.nef_plan.specs.Rows.{ArePlanned, GoesOn, IsBound}
-use Rattle.nef_plan.specs.Steps.{is_question}
+use Rattle.nef_plan.specs.Steps.{AreTimely, is_question}
+use Rattle.nef_plan.proofs.Added.{BindsBefore}
 use Rattle.nef_plan.proofs.planning.add_commands.Given as goal
 
 abbrev pub invariant-loop-command : goal.invariant-loop-command
 invariant-loop-command l = record {
   planned : ArePlanned l.plan l.bounds;
   goes_on : GoesOn l.initial.plan l.initial.bounds l.plan l.bounds (filter is_question (take l.command-index l.command-items));
+  timely : AreTimely l.script.nodes l.command-items l.plan.steps.items;
+  whence : (k : ℕ) → IsBound l.bounds k → BindsBefore l.command-items l.command-index k;
   bound : (i k : ℕ) (c : Command) → i < l.command-index → slice_get l.command-items i ≡ Some c → Binds c k → IsBound l.bounds k;
 }

@@ -1,7 +1,6 @@
-use Rattle.std.proofs.Common.{◌≡◌, ◌-◌, ◌≤◌, ap, sym, subst, refl, List, [], ◌∷◌, ◌++◌, Some, None, length, inl, inr}
+use Rattle.std.proofs.Common.{◌≡◌, ◌-◌, ◌≤◌, ℕ, ap, sym, subst, refl, List, [], ◌∷◌, ◌++◌, Some, None, length, inl, inr}
 use Rattle.std.specs.Prelude.{slice_get}
 use Rattle.nef_expr.specs.Nodes.{sets_after}
-use Rattle.nef_plan.specs.declared.row.Part.{Part}
 use Rattle.nef_plan.specs.declared.row.RowKind.{RowKind}
 use Rattle.nef_plan.specs.Rows.{MakesSet, parts, spare}
 use Rattle.nef_plan.specs.Steps.{IsMade}
@@ -22,11 +21,11 @@ returns-in-Some c =
     let q = self.last in
     let free : spare self.kind ≡ 1 = elim c.in-Union.is [ inl e ↦ ap spare e | inr e ↦ ap spare e ] in
     let few : length others ≤ 1 = subst (λ z. length others ≤ z) free c.requires.few in
-    let at : Some p ≡ slice_get others (length others - 1) = subst (λ (z : List Part). Some p ≡ slice_get z (length z - 1)) c.deref.ensures.value c.in-Some.ensures.value in
-    let both : parts self ≡ p ∷ q ∷ [] = ap (λ (z : List Part). z ++ q ∷ []) (last-one others p few at) in
+    let at : Some p ≡ slice_get others (length others - 1) = subst (λ (z : List ℕ). Some p ≡ slice_get z (length z - 1)) c.deref.ensures.value c.in-Some.ensures.value in
+    let both : parts self ≡ p ∷ q ∷ [] = ap (λ (z : List ℕ). z ++ q ∷ []) (last-one others p few at) in
     record {
       made = λ plan k row.
-          let now = subst (λ (z : List Part). MakesSet plan self.kind z k) both row in
+          let now = subst (λ (z : List ℕ). MakesSet plan self.kind z k) both row in
           let names = c.join.ensures.within (length plan.nodes) (now.ready.each 0 p refl).within (now.ready.each 1 q refl).within in
           made-joined plan self.kind p q k c.join.result free names (c.join.ensures.set (sets_after [] plan.nodes)) now;
       operands = λ plan k ready is.
@@ -44,10 +43,10 @@ returns-in-None c =
     let q = self.last in
     let free : spare self.kind ≡ 1 = elim c.in-Union.is [ inl e ↦ ap spare e | inr e ↦ ap spare e ] in
     let few : length others ≤ 1 = subst (λ z. length others ≤ z) free c.requires.few in
-    let at : None ≡ slice_get others (length others - 1) = subst (λ (z : List Part). None ≡ slice_get z (length z - 1)) c.deref.ensures.value c.in-None.ensures.value in
-    let one : parts self ≡ q ∷ [] = ap (λ (z : List Part). z ++ q ∷ []) (last-none others few at) in
+    let at : None ≡ slice_get others (length others - 1) = subst (λ (z : List ℕ). None ≡ slice_get z (length z - 1)) c.deref.ensures.value c.in-None.ensures.value in
+    let one : parts self ≡ q ∷ [] = ap (λ (z : List ℕ). z ++ q ∷ []) (last-none others few at) in
     record {
-      made = λ plan k row. made-one plan self.kind q k free (subst (λ (z : List Part). MakesSet plan self.kind z k) one row);
+      made = λ plan k row. made-one plan self.kind q k free (subst (λ (z : List ℕ). MakesSet plan self.kind z k) one row);
       operands = λ plan k ready is.
           let each = subst (Each plan) one ready.each in
           elim is [

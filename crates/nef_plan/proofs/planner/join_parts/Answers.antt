@@ -1,9 +1,10 @@
-use Rattle.std.proofs.Common.{[]}
+use Rattle.std.proofs.Common.{[], refl, ◌∙◌}
 use Rattle.nef_plan.proofs.Growth.{grown-refl, grown-trans}
-use Rattle.nef_plan.proofs.planner.settle.Goals as goal
+use Rattle.nef_plan.proofs.Added.{added-none, added-trans}
+use Rattle.nef_plan.proofs.planner.join_parts.Goals as goal
 
 pub loop-plan-init : goal.loop-plan-init
-loop-plan-init c = record { grown = grown-refl c.args.plan.now c.requires.steps; ready = c.requires.ready; row = λ k row. row }
+loop-plan-init c = record { grown = grown-refl c.args.plan.now c.requires.steps; added = added-none c.args.plan.now (λ k. ⊥); ready = c.requires.ready; kind = refl; row = λ k row. row }
 
 pub join_last-requires-clause-steps : goal.join_last-requires-clause-steps
 join_last-requires-clause-steps c = c.loop-plan.invariant.grown.steps
@@ -14,6 +15,8 @@ loop-plan-preserved c =
     let now = c.in_ok-join_last.ensures in
     record {
       grown = grown-trans c.args.plan.now c.loop-plan.plan c.join_last.new.plan [] [] so_far.grown now.grown;
+      added = added-trans c.args.plan.now c.loop-plan.plan c.join_last.new.plan (λ k. ⊥) (λ k. ⊥) so_far.grown.nodes (λ k none. none) so_far.added now.added;
       ready = now.ready;
+      kind = now.kind ∙ so_far.kind;
       row = λ k row. now.row k (so_far.row k row);
     }

@@ -1,0 +1,12 @@
+use Rattle.std.proofs.Common.{length, arith}
+use Rattle.nef_expr.proofs.Operands.{names-wider}
+use Rattle.nef_plan.proofs.hints.node_before.Goals as goal
+
+pub row_goes_on-requires : goal.row_goes_on-requires
+row_goes_on-requires c =
+    let count = length c.args.notes.now in
+    let names = names-wider c.args.node count c.get.result.now (omega (arith, c.requires.node, c.requires.count)) c.get.ensures.operands in
+    record { operand = (c.operands-first.ensures.below count names).0 }
+
+pub returns-then-row_goes_on : goal.returns-then-row_goes_on
+returns-then-row_goes_on c = record { before = (c.operands-first.ensures.below c.args.node c.get.ensures.operands).0 }
