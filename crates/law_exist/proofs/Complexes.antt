@@ -95,11 +95,14 @@ pub carriers-exist : (s : Set) → HasPlanes s → (hs : List Form) × Carriers 
 carriers-exist s planes = by (sort FormBelow (λ g h. g ≡ h) form-trans (λ g. refl) form-either (carriers s))
   where
     by : Sorted FormBelow (λ g h. g ≡ h) (carriers s) → (hs : List Form) × Carriers s hs
-    by r = (r.list, record {
-      each = λ k h a. let l = r.sound h (at-lies r.list k h a) in (h, l, plane-itself h (planes h l));
-      all = λ f l. let g = r.all f l in let k = lies-at r.list g.0 g.1 in (k.0, g.0, k.1, subst (λ h. SamePlane h f) g.2 (plane-itself f (planes f l)));
-      ordered = chain-order FormBelow (λ g h. g ≡ h) r.list r.chain;
-    })
+    by r = (
+      r.list,
+      record {
+        each = λ k h a. let l = r.sound h (at-lies r.list k h a) in (h, l, plane-itself h (planes h l));
+        all = λ f l. let g = r.all f l in let k = lies-at r.list g.0 g.1 in (k.0, g.0, k.1, subst (λ h. SamePlane h f) g.2 (plane-itself f (planes f l)));
+        ordered = chain-order FormBelow (λ g h. g ≡ h) r.list r.chain;
+      },
+    )
 
 -- vertices, their edges and carriers are a complex that shows the set
 pub shown-by : (s : Set) (hs : List Form) (vs : List Vertex) (es : List Edge) → Carriers s hs → AreVertices s vs → Edges vs es → Shows s (record { carriers = hs; vertices = vs; edges = es })

@@ -130,11 +130,15 @@ module _ (s : Set) where
       cells r t a b same c = chain-trans (Link k) (cell p).number (cell r).number (cell t).number c (chain-link (Link k) (cell r).number (cell t).number (cell-link k r t (even r a) (even t b) (λ h l n. sym (same h l))))
 
       settled : (r : Place) → OnPlaces p r q → (n : ℕ) × (0 < n) × ((t : Place) → OnPlaces p t q → Within n r t → Chained (Link k) (cell p).number (cell r).number ↔ Chained (Link k) (cell p).number (cell t).number)
-      settled r a = (reach_all (carriers s) r, reach-some (carriers s) r, λ t b w.
-          let x = chain-link (Link k) (cell r).number (cell t).number (cell-link k r t (even r a) (even t b) (keeps-all (carriers s) r t w)) in (
-            λ c. chain-trans (Link k) (cell p).number (cell r).number (cell t).number c x,
-            λ c. chain-trans (Link k) (cell p).number (cell t).number (cell r).number c (chain-turned (Link k) (cell r).number (cell t).number x),
-          ))
+      settled r a = (
+        reach_all (carriers s) r,
+        reach-some (carriers s) r,
+        λ t b w.
+            let x = chain-link (Link k) (cell r).number (cell t).number (cell-link k r t (even r a) (even t b) (keeps-all (carriers s) r t w)) in (
+              λ c. chain-trans (Link k) (cell p).number (cell r).number (cell t).number c x,
+              λ c. chain-trans (Link k) (cell p).number (cell t).number (cell r).number c (chain-turned (Link k) (cell r).number (cell t).number x),
+            ),
+      )
 
   path-chained : (k : ℕ) (p q : Place) (rs : List Place) → IsEvenPath s k p rs q → Chained (Link k) (cell p).number (cell q).number
   path-chained k p q [] e = even-chained k p q e

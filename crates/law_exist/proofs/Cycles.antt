@@ -96,13 +96,16 @@ module _ (s : Set) (C : Complex) (S : Shows s C) where
           (p.0, (corner_from l, p.1, n))
 
       by : Made (length ks) (λ i j. (x : Corner) × IsAt ks i x × After x j) → (ns : List ℕ) × AreNext C ks ns
-      by M = (M.list, record {
-        as_many = M.as_many;
-        each = λ i l.
-            let (j, a) = is-at_some M.list i (let e = M.as_many in omega (arith, l, e)) in
-            let (x, b, f) = M.each i j a in
-            (j, x, f.0, b, a, f.1, f.2);
-      })
+      by M = (
+        M.list,
+        record {
+          as_many = M.as_many;
+          each = λ i l.
+              let (j, a) = is-at_some M.list i (let e = M.as_many in omega (arith, l, e)) in
+              let (x, b, f) = M.each i j a in
+              (j, x, f.0, b, a, f.1, f.2);
+        },
+      )
 
 -- ---- orbits
 record Walked (ns : List ℕ) (start : ℕ) (old : List Bool) : Type 0 where

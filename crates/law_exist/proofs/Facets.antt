@@ -74,10 +74,13 @@ module _ (s : Set) (C : Complex) (S : Shows s C) where
       by E = then (number-all E.list id)
         where
           then : Numbered E.list id → (rows : List (List ℕ)) × FacetNumbers C rows
-          then N = (T.rows, record {
-            shape = record { as_many = T.as_many; row = λ i v ns a b. T.long i v ns a (at-from_get T.rows i ns b) };
-            numbered = record { by_class = by-class; by_appearance = by-appearance };
-          })
+          then N = (
+            T.rows,
+            record {
+              shape = record { as_many = T.as_many; row = λ i v ns a b. T.long i v ns a (at-from_get T.rows i ns b) };
+              numbered = record { by_class = by-class; by_appearance = by-appearance };
+            },
+          )
             where
               Put : ℕ → ℕ → ℕ → Type 0
               Put = Placed (row-of C) (col-of C) E.list E.ordered C.vertices count_items E.complete (item-sound C E.list) N.list N.as_many

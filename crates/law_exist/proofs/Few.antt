@@ -40,8 +40,8 @@ few {A} (x ∷ xs) ys o all = by (remove ys x (all x (inl refl))) (λ zs k. few 
     by : Removed ys x → ((zs : List A) → ((y : A) → Lies xs y → Lies zs y) → length xs ≤ length zs) → length (x ∷ xs) ≤ length ys
     by r go =
         let l = go r.list (λ y m. ⊎_elim
-            (λ e. let k = lies-at xs y m in let f = o zero (suc k.0) y e k.1 in absurd (omega (arith, f)))
-            (λ n. n) (r.others y (all y (inr m)))) in
+        (λ e. let k = lies-at xs y m in let f = o zero (suc k.0) y e k.1 in absurd (omega (arith, f)))
+        (λ n. n) (r.others y (all y (inr m)))) in
         let s = r.shorter in
         omega (arith, l, s)
 

@@ -6,8 +6,6 @@ pub mod Planes
 pub mod Few
 pub mod Lifted
 pub mod Small
-pub mod Numbers
-pub mod Indexes
 pub mod Shown
 pub mod Classes
 pub mod Connected

@@ -76,8 +76,8 @@ module _ (M : Map) (S : IsShortMap M) where
       let g : Option Label = M.ground in (
         record { mark = M.mark; svertices = vs.0; arcs = as'.0; sloop = o.0; ground = g },
         ap (λ (r : List MapVertex). made r (map arc_of as'.0) (option_map sloop_of o.0)) vs.1
-        ∙ ap (λ (r : List Arc). made M.svertices r (option_map sloop_of o.0)) as'.1
-        ∙ ap (λ (r : Option MapSloop). made M.svertices M.arcs r) o.1,
+            ∙ ap (λ (r : List Arc). made M.svertices r (option_map sloop_of o.0)) as'.1
+            ∙ ap (λ (r : Option MapSloop). made M.svertices M.arcs r) o.1,
       )
     where
       made : List MapVertex → List Arc → Option MapSloop → Map

@@ -21,8 +21,8 @@ numbers-either (x ∷ xs) [] l = absurd (omega (arith, l))
 numbers-either (x ∷ xs) (y ∷ ys) l =
     by_order x y (λ h. inl (inl h))
     (λ e. ⊎_elim (λ b. inl (inr (e, b)))
-        (λ o. ⊎_elim (λ s. inr (inl (ap (λ z. z ∷ xs) e ∙ ap (λ zs. y ∷ zs) s))) (λ b. inr (inr (inr (sym e, b)))) o)
-        (numbers-either xs ys (omega (arith, l))))
+    (λ o. ⊎_elim (λ s. inr (inl (ap (λ z. z ∷ xs) e ∙ ap (λ zs. y ∷ zs) s))) (λ b. inr (inr (inr (sym e, b)))) o)
+    (numbers-either xs ys (omega (arith, l))))
     (λ h. inr (inr (inl h)))
 
 -- ---- forms
@@ -44,8 +44,8 @@ pub place-either : (p q : Place) → IsPlaceBelow p q ⊎ SamePlace p q ⊎ IsPl
 place-either p q =
     by_order (p.x *ℤ pos q.w) (q.x *ℤ pos p.w) (λ h. inl (inl h))
     (λ e. by_order (p.y *ℤ pos q.w) (q.y *ℤ pos p.w) (λ h. inl (inr (e, inl h)))
-        (λ f. by_order (p.z *ℤ pos q.w) (q.z *ℤ pos p.w) (λ h. inl (inr (e, inr (f, inl h))))
-            (λ g. inr (inl (record { along_x = e; along_y = f; along_z = g })))
-            (λ h. inr (inr (inr (sym e, inr (sym f, inl h))))))
-        (λ h. inr (inr (inr (sym e, inl h)))))
+    (λ f. by_order (p.z *ℤ pos q.w) (q.z *ℤ pos p.w) (λ h. inl (inr (e, inr (f, inl h))))
+    (λ g. inr (inl (record { along_x = e; along_y = f; along_z = g })))
+    (λ h. inr (inr (inr (sym e, inr (sym f, inl h))))))
+    (λ h. inr (inr (inr (sym e, inl h)))))
     (λ h. inr (inr (inl h)))

@@ -21,7 +21,7 @@ use Rattle.nef_smap.proofs.Lists.{at-map}
 use Rattle.nef_smap.proofs.SideLists.{at-some, get-from_at}
 use Rattle.nef_complex.specs.declared.complex.Corner.{Corner as ProgramCorner}
 use Rattle.nef_complex.specs.declared.complex.Complex.{Complex}
-use Rattle.nef_complex.specs.Complexes.{vertex_of, complex_of, corner_of, ShowsSet}
+use Rattle.nef_complex.specs.Complexes.{vertex_of, complex_of, corner_of}
 use Rattle.nef_complex.specs.Cycles.{Cycles}
 use Rattle.nef_complex.specs.Sides.{IsSideNumber}
 use Rattle.nef_complex.specs.Numbers.{cycle_corners, IsFacetOf, IsVolumeOf, FacetNumbers, VolumeNumbers, pos_of, neg_of, shell_sides, IsParts}
@@ -40,13 +40,14 @@ use Rattle.nef_volumes.specs.Labels.{AreVolumeLabels}
 use Rattle.nef_volumes.specs.Parts.{IsBeside, AreFacetsOf}
 use Rattle.nef_volumes.proofs.AllParts.{all-first, parts-are, beside-first}
 use Rattle.nef_volumes.proofs.OutsideSide.{out-side}
-use Rattle.nef_volumes.proofs.SideLabels.{upright, chain-label}
+use Rattle.nef_volumes.proofs.SideLabels.{HasLeastMaps, upright-by_maps, chain-label}
 use Rattle.nef_volumes.proofs.VolumeLabels.{numbered-side}
 use Rattle.law_exist.proofs.Cycles.{corners, firsts, cycles-exist}
 use Rattle.law_exist.proofs.Facets.{facet-numbers}
 use Rattle.law_exist.proofs.Rows.{Made, make-list, make-each, most-in}
 use Rattle.law_exist.proofs.Sfaces.{sfaces-exist}
 use Rattle.law_exist.proofs.Shells.{shells-are}
+use Rattle.law_exist.proofs.Shown.{shown-maps}
 use Rattle.law_exist.proofs.Volumes.{SideAt, side-row, side-col, volume-numbers, all-sides, side-make, number-label}
 
 -- ---- facets
@@ -158,11 +159,14 @@ module _ (s : Set) (C : PlainComplex) (S : Shows s C) (U : IsUpright C) (out : (
                   (zero-or n)
 
           then : Made (suc m) HasVolume → (ls : List Label) × AreVolumeLabels C rows ls
-          then M = (M.list, record {
-            some = λ k l a. let r = M.each k l a in (r.0, r.1);
-            labels = λ k l x j a X h. let r = M.each k l a in chain-label s C S U r.0 x l j ((N.numbered.by_class r.0 x k k r.1 X).0 refl) r.2 h;
-            all = λ x k X. let (j, J, h) = X in let u = under x.vertex j k h in let e = M.as_many in omega (arith, u, e);
-          })
+          then M = (
+            M.list,
+            record {
+              some = λ k l a. let r = M.each k l a in (r.0, r.1);
+              labels = λ k l x j a X h. let r = M.each k l a in chain-label s C S U r.0 x l j ((N.numbered.by_class r.0 x k k r.1 X).0 refl) r.2 h;
+              all = λ x k X. let (j, J, h) = X in let u = under x.vertex j k h in let e = M.as_many in omega (arith, u, e);
+            },
+          )
 
 -- ---- the facets with the volumes beside them
 module _ (C : PlainComplex) (rows : List (List ℕ)) (N : VolumeNumbers C rows) (p : FacetParts) (F : IsFacetParts C p) where
@@ -185,22 +189,31 @@ module _ (C : PlainComplex) (rows : List (List ℕ)) (N : VolumeNumbers C rows) 
           (record { plane = h; mark = m; pos = u.0; neg = w.0; cycles = xs }, (a, b, q, beside-first C rows xs y k u.0 w.0 f g u.1 w.1))
 
       by : Made (length p.cycles) IsOf → (fs : List Facet) × AreFacetsOf C rows p.planes p.marks p.cycles fs
-      by M = (M.list, record {
-        as_many = M.as_many;
-        plane = λ n f a. (M.each n f a).0;
-        mark = λ n f a. (M.each n f a).1;
-        cycles_of = λ n f a. (M.each n f a).2;
-        beside = λ n f a. (M.each n f a).3;
-      })
+      by M = (
+        M.list,
+        record {
+          as_many = M.as_many;
+          plane = λ n f a. (M.each n f a).0;
+          mark = λ n f a. (M.each n f a).1;
+          cycles_of = λ n f a. (M.each n f a).2;
+          beside = λ n f a. (M.each n f a).3;
+        },
+      )
 
 -- EVERY COMPLEX THAT SHOWS A SET HAS PARTS
-pub parts-exist : (s : Set) (c : Complex) → ShowsSet s c → (p : Parts) × IsParts (complex_of c) p
-parts-exist s c S = by (facets-exist s c S.shows) (volume-numbers s (complex_of c) S.shows (upright s c S))
+pub parts-exist : (s : Set) (c : Complex) → Shows s (complex_of c) → (p : Parts) × IsParts (complex_of c) p
+parts-exist s c S = by (facets-exist s c S) (volume-numbers s (complex_of c) S upright)
   where
+    maps : HasLeastMaps c
+    maps = shown-maps s c S
+
+    upright : IsUpright (complex_of c)
+    upright = upright-by_maps s c S (shown-maps s c S)
+
     faces : (i : ℕ) (v : Vertex) → At (complex_of c).vertices i v → (ns : List ℕ) × AreSfaces v.map ns
     faces i v a =
         let (u, b, e) = at-map vertex_of c.vertices i v a in
-        let M = S.maps i u (get-from_at c.vertices i u b) in
+        let M = maps i u (get-from_at c.vertices i u b) in
         let (ns, F) = sfaces-exist u.map M.sphere_map in
         (ns, subst (λ (w : Vertex). AreSfaces w.map ns) e F)
 
@@ -211,10 +224,10 @@ parts-exist s c S = by (facets-exist s c S.shows) (volume-numbers s (complex_of 
         got M = (M.list, record { as_many = M.as_many; row = λ i v ns a b. let (w, d, F) = M.each i ns b in subst (λ (u : Vertex). AreSfaces u.map ns) (at-one (complex_of c).vertices i w v d a) F })
 
     by : ((p : FacetParts) × IsFacetParts (complex_of c) p) → ((rows : List (List ℕ)) × VolumeNumbers (complex_of c) rows) → (p : Parts) × IsParts (complex_of c) p
-    by (p, F) (rows, N) = then (labels-exist s (complex_of c) S.shows (upright s c S) (out-side s c S) rows N) (with-volumes (complex_of c) rows N p F) sfaces
+    by (p, F) (rows, N) = then (labels-exist s (complex_of c) S upright (out-side s c S maps) rows N) (with-volumes (complex_of c) rows N p F) sfaces
       where
         then : ((ls : List Label) × AreVolumeLabels (complex_of c) rows ls) → ((fs : List Facet) × AreFacetsOf (complex_of c) rows p.planes p.marks p.cycles fs) → ((faces : List (List ℕ)) × SfaceNumbers (complex_of c) faces) → (p : Parts) × IsParts (complex_of c) p
-        then (ls, L) (fs, A) (sf, SF) = last (make-list (length ls) (λ (n : ℕ) (hs : List Shell). Shells (complex_of c) (λ x. IsVolumeOf (complex_of c) rows x n) (shell_sides hs)) (λ n l. shells-are s (complex_of c) S.shows faces (all-sides (complex_of c)) rows N n))
+        then (ls, L) (fs, A) (sf, SF) = last (make-list (length ls) (λ (n : ℕ) (hs : List Shell). Shells (complex_of c) (λ x. IsVolumeOf (complex_of c) rows x n) (shell_sides hs)) (λ n l. shells-are s (complex_of c) S faces (all-sides (complex_of c)) rows N n))
           where
             last : Made (length ls) (λ (n : ℕ) (hs : List Shell). Shells (complex_of c) (λ x. IsVolumeOf (complex_of c) rows x n) (shell_sides hs)) → (p : Parts) × IsParts (complex_of c) p
             last M = (

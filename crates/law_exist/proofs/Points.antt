@@ -86,21 +86,25 @@ module _ (f g h : Plane) where
   with-ratios : (meet_w F G H ≡ pos 0 → ⊥) → (q : Point) × Ratios q
   with-ratios some = by_order (meet_w F G H) (pos 0)
       (λ l.
-      let (q, R) = point-with (meet_x F G H) (meet_y F G H) (meet_z F G H) (neg_ℤ (meet_w F G H)) x-small y-small z-small (turned-size weight_limit (meet_w F G H) w-small) (omega (arith, ints, l)) in
-      (q, record {
-        along_x = ratio-turned (meet_x F G H) (meet_w F G H) R.factor q.x q.w R.x_is R.w_is;
-        along_y = ratio-turned (meet_y F G H) (meet_w F G H) R.factor q.y q.w R.y_is R.w_is;
-        along_z = ratio-turned (meet_z F G H) (meet_w F G H) R.factor q.z q.w R.z_is R.w_is;
-      }))
+      let (q, R) = point-with (meet_x F G H) (meet_y F G H) (meet_z F G H) (neg_ℤ (meet_w F G H)) x-small y-small z-small (turned-size weight_limit (meet_w F G H) w-small) (omega (arith, ints, l)) in (
+        q,
+        record {
+          along_x = ratio-turned (meet_x F G H) (meet_w F G H) R.factor q.x q.w R.x_is R.w_is;
+          along_y = ratio-turned (meet_y F G H) (meet_w F G H) R.factor q.y q.w R.y_is R.w_is;
+          along_z = ratio-turned (meet_z F G H) (meet_w F G H) R.factor q.z q.w R.z_is R.w_is;
+        },
+      ))
       (λ e. absurd (some e))
       (λ l.
       let (q, R) = point-with (neg_ℤ (meet_x F G H)) (neg_ℤ (meet_y F G H)) (neg_ℤ (meet_z F G H)) (meet_w F G H)
-      (turned-size point_limit (meet_x F G H) x-small) (turned-size point_limit (meet_y F G H) y-small) (turned-size point_limit (meet_z F G H) z-small) w-small l in
-      (q, record {
-        along_x = ratio (meet_x F G H) (meet_w F G H) R.factor q.x q.w R.x_is R.w_is;
-        along_y = ratio (meet_y F G H) (meet_w F G H) R.factor q.y q.w R.y_is R.w_is;
-        along_z = ratio (meet_z F G H) (meet_w F G H) R.factor q.z q.w R.z_is R.w_is;
-      }))
+      (turned-size point_limit (meet_x F G H) x-small) (turned-size point_limit (meet_y F G H) y-small) (turned-size point_limit (meet_z F G H) z-small) w-small l in (
+        q,
+        record {
+          along_x = ratio (meet_x F G H) (meet_w F G H) R.factor q.x q.w R.x_is R.w_is;
+          along_y = ratio (meet_y F G H) (meet_w F G H) R.factor q.y q.w R.y_is R.w_is;
+          along_z = ratio (meet_z F G H) (meet_w F G H) R.factor q.z q.w R.z_is R.w_is;
+        },
+      ))
 
   -- THE MEET IS A POINT
   pub meet-point : (p : Place) → form_at F p ≡ pos 0 → form_at G p ≡ pos 0 → form_at H p ≡ pos 0 → (meet_w F G H ≡ pos 0 → ⊥) → (q : Point) × SamePlace p (place_of q)

@@ -36,8 +36,8 @@ most (x ∷ xs) = by (most xs)
     by (m, below, got) = ⊎_elim
         (λ e. (x, λ k n a. each x k n (omega (arith, e)) (omega arith) (at-from_get (x ∷ xs) k n a), inr (0, get-from_at (x ∷ xs) 0 x refl)))
         (λ o. ⊎_elim
-            (λ l. (x, λ k n a. each x k n (omega (arith, l)) (omega arith) (at-from_get (x ∷ xs) k n a), inr (0, get-from_at (x ∷ xs) 0 x refl)))
-            (λ l. (m, λ k n a. each m k n (omega arith) (omega (arith, l)) (at-from_get (x ∷ xs) k n a), ⊎_elim (λ e. inl e) (λ g. inr (suc g.0, get-from_at (x ∷ xs) (suc g.0) m (at-from_get xs g.0 m g.1))) got)) o)
+        (λ l. (x, λ k n a. each x k n (omega (arith, l)) (omega arith) (at-from_get (x ∷ xs) k n a), inr (0, get-from_at (x ∷ xs) 0 x refl)))
+        (λ l. (m, λ k n a. each m k n (omega arith) (omega (arith, l)) (at-from_get (x ∷ xs) k n a), ⊎_elim (λ e. inl e) (λ g. inr (suc g.0, get-from_at (x ∷ xs) (suc g.0) m (at-from_get xs g.0 m g.1))) got)) o)
         (cases_order m x)
       where
         each : (z k n : ℕ) → m ≤ z → x ≤ z → At (x ∷ xs) k n → n ≤ z

@@ -203,14 +203,16 @@ classes-exist n ls W = by (decided-classes n (AreLinked ls) (link-decided ls) wi
 
     by : ((f : ℕ → ℕ) × ((s t : ℕ) → (f s ≡ f t) ↔ Chained (AreLinked ls) s t)) → (cs : List ℕ) × AreClasses n ls cs
     by (f, F) =
-        let r = row-of n (λ k m. m ≡ f k) (λ k l. (f k, refl)) in
-        (r.0, record {
-          as_many = r.1;
-          same = λ s t c d a b.
-              let e = r.2 s c (at-from_get r.0 s c a) in
-              let g = r.2 t d (at-from_get r.0 t d b) in
-              (λ q. (F s t).0 (sym e ∙ q ∙ g), λ q. e ∙ (F s t).1 q ∙ sym g);
-        })
+        let r = row-of n (λ k m. m ≡ f k) (λ k l. (f k, refl)) in (
+          r.0,
+          record {
+            as_many = r.1;
+            same = λ s t c d a b.
+                let e = r.2 s c (at-from_get r.0 s c a) in
+                let g = r.2 t d (at-from_get r.0 t d b) in
+                (λ q. (F s t).0 (sym e ∙ q ∙ g), λ q. e ∙ (F s t).1 q ∙ sym g);
+          },
+        )
 
 pub sfaces-exist : (m : SphereMap) → IsSphereMap m → (ns : List ℕ) × AreSfaces (map_of m) ns
 sfaces-exist m S =

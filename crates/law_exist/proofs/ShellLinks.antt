@@ -85,8 +85,8 @@ module _ (s : Set) (C : PlainComplex) (S : Shows s C) where
             ⊎_elim
             (λ L. inl (record { here = corner x i; there = corner y j; across = L; sides = inl ((l, refl, e, hx), (m, refl, f, hy)) }))
             (λ n. inr (λ L. ⊎_elim
-                (λ h. n (subst (λ k. LinkAcross C k (corner y j)) (same-corner L.here x i h.0.1 (one-pos x.side i L.here.item e h.0.2)) (subst (LinkAcross C L.here) (same-corner L.there y j h.1.1 (one-pos y.side j L.there.item f h.1.2)) L.across)))
-                (λ h. let g : pos_item i ≡ neg_item L.here.item = sym e ∙ h.0.2 in cc) L.sides))
+            (λ h. n (subst (λ k. LinkAcross C k (corner y j)) (same-corner L.here x i h.0.1 (one-pos x.side i L.here.item e h.0.2)) (subst (LinkAcross C L.here) (same-corner L.there y j h.1.1 (one-pos y.side j L.there.item f h.1.2)) L.across)))
+            (λ h. let g : pos_item i ≡ neg_item L.here.item = sym e ∙ h.0.2 in cc) L.sides))
             (across-decided (corner x i) c.0 c.1 c.2 (corner y j))
 
         both-neg : (i j : ℕ) → x.side ≡ neg_item i → y.side ≡ neg_item j → Decided (LinkAcrossFacet C x y)
@@ -95,8 +95,8 @@ module _ (s : Set) (C : PlainComplex) (S : Shows s C) where
             ⊎_elim
             (λ L. inl (record { here = corner x i; there = corner y j; across = L; sides = inr ((l, refl, e, hx), (m, refl, f, hy)) }))
             (λ n. inr (λ L. ⊎_elim
-                (λ h. let g : neg_item i ≡ pos_item L.here.item = sym e ∙ h.0.2 in cc)
-                (λ h. n (subst (λ k. LinkAcross C k (corner y j)) (same-corner L.here x i h.0.1 (one-neg x.side i L.here.item e h.0.2)) (subst (LinkAcross C L.here) (same-corner L.there y j h.1.1 (one-neg y.side j L.there.item f h.1.2)) L.across))) L.sides))
+            (λ h. let g : neg_item i ≡ pos_item L.here.item = sym e ∙ h.0.2 in cc)
+            (λ h. n (subst (λ k. LinkAcross C k (corner y j)) (same-corner L.here x i h.0.1 (one-neg x.side i L.here.item e h.0.2)) (subst (LinkAcross C L.here) (same-corner L.there y j h.1.1 (one-neg y.side j L.there.item f h.1.2)) L.across))) L.sides))
             (across-decided (corner x i) c.0 c.1 c.2 (corner y j))
 
         -- neither both upper nor both lower sides
@@ -228,6 +228,6 @@ pub shell-link_decided : (s : Set) (C : PlainComplex) → Shows s C → ((i : �
 shell-link_decided s C S faces x y l m hx hy =
     ⊎_elim (λ a. inl (inl a))
     (λ n. ⊎_elim (λ a. inl (inr (inl a)))
-        (λ o. ⊎_elim (λ a. inl (inr (inr a))) (λ p. inr (λ z. ⊎_elim n (λ u. ⊎_elim o p u) z)) (facet-link_decided s C S x y l m hx hy))
-        (edge-link_decided C x y l m hx hy))
+    (λ o. ⊎_elim (λ a. inl (inr (inr a))) (λ p. inr (λ z. ⊎_elim n (λ u. ⊎_elim o p u) z)) (facet-link_decided s C S x y l m hx hy))
+    (edge-link_decided C x y l m hx hy))
     (sface-link_decided C x y l m hx hy (faces x.vertex))

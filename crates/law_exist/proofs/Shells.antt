@@ -147,9 +147,9 @@ module _ (s : Set) (C : Complex) (S : Shows s C) (faces : (i : ℕ) (v : Vertex)
     some = some;
     sides = λ n m. let (u, k, e) = in-shell x n m in (u.side, subst (λ z. IsNamed C z u.side) e (refl, u.is));
     class = λ n t y z m Y Z. (
-        λ k. chain-trans (ShellLink C) y x.side z (from-shell x n y Y m) (chain-turned (ShellLink C) z x.side (from-shell x t z Z k)),
-        λ c. to-shell x t z Z (chain-trans (ShellLink C) z y x.side (chain-turned (ShellLink C) y z c) (from-shell x n y Y m)),
-      );
+      λ k. chain-trans (ShellLink C) y x.side z (from-shell x n y Y m) (chain-turned (ShellLink C) z x.side (from-shell x t z Z k)),
+      λ c. to-shell x t z Z (chain-trans (ShellLink C) z y x.side (chain-turned (ShellLink C) y z c) (from-shell x n y Y m)),
+    );
     ordered = λ i j n t k a b.
         let u = at-map (name C) (group x).list i n a in
         let w = at-map (name C) (group x).list j t b in
@@ -226,9 +226,12 @@ module _ (s : Set) (C : Complex) (S : Shows s C) (faces : (i : ℕ) (v : Vertex)
           (name C x, name C y, subst (λ z. At z 0 (name C x)) e (first-name i x c), subst (λ z. At z 0 (name C y)) f (first-name k y d), chain-order (Before C) (Before C) firsts.list firsts.ordered i k x y less c d)
 
       pub shells-are : (row : List Shell) × Shells C (λ x. IsVolumeOf C rows x n) (shell_sides row)
-      shells-are = (row, record {
-        shells = λ i h a. let (x, b, e) = shell-at i h a in subst (IsShell C) e (is-shell x (first-in i x b).0);
-        within = within;
-        complete = complete;
-        ordered = ordered;
-      })
+      shells-are = (
+        row,
+        record {
+          shells = λ i h a. let (x, b, e) = shell-at i h a in subst (IsShell C) e (is-shell x (first-in i x b).0);
+          within = within;
+          complete = complete;
+          ordered = ordered;
+        },
+      )

@@ -1,30 +1,28 @@
--- Every set whose carriers are planes of the program, and not too many, has a complex of the program that shows it.
-use Rattle.std.proofs.Common.{◌≡◌, ℕ, ◌≤◌, ◌^◌, arith, refl, sym, ap, ◌∙◌, List, length, map, subst}
+-- Every set whose carriers are planes of the program, and not too many, has a complex of the program that shows it. In each complex of the program that shows a set the maps are within their limits.
+use Rattle.std.proofs.Common.{◌≡◌, ℕ, ◌≤◌, ◌^◌, refl, sym, ap, ◌∙◌, List, [], length, map, subst}
 use Rattle.nef_space.proofs.Lists.{each}
-use Rattle.nef_space.specs.Lists.{IsAt}
-use Rattle.nef_space.specs.Place.{Place, InClosedFrame}
+use Rattle.nef_space.specs.Place.{Place, Form}
 use Rattle.nef_space.specs.Sets.{Set}
 use Rattle.law_sphere.specs.Maps.{At, Map}
+use Rattle.law_cones.proofs.Listing.{at-lies}
 use Rattle.law_complex.specs.Complexes.{Vertex as PlainVertex, Edge as PlainEdge}
-use Rattle.law_complex.specs.Shows.{Shows}
+use Rattle.law_complex.specs.Shows.{SamePlane, Shows}
 use Rattle.nef_geo.specs.Shapes.{form_of, place_of}
 use Rattle.nef_geo.specs.declared.plane.Plane.{Plane}
-use Rattle.nef_smap.specs.Maps.{map_of, IsLeastMap}
-use Rattle.nef_smap.proofs.Lists.{map-at}
+use Rattle.nef_smap.specs.Maps.{map_of}
+use Rattle.nef_smap.proofs.Lists.{map-at, at-map}
 use Rattle.nef_smap.proofs.SideLists.{at-from_get}
 use Rattle.nef_complex.specs.declared.complex.Complex.{Complex}
 use Rattle.nef_complex.specs.declared.complex.Vertex.{Vertex}
 use Rattle.nef_complex.specs.declared.complex.Edge.{Edge}
-use Rattle.nef_complex.specs.Complexes.{vertex_of, edge_of, ShowsSet}
-use Rattle.nef_complex.specs.Index.{AreInOrder}
-use Rattle.nef_complex.proofs.Carried.{items-held}
-use Rattle.nef_complex.proofs.Framed.{dim-framed}
+use Rattle.nef_complex.specs.declared.complex.PlaneIndex.{PlaneIndex}
+use Rattle.nef_complex.specs.Complexes.{vertex_of, edge_of, complex_of}
+use Rattle.nef_volumes.proofs.SideLabels.{HasLeastMaps}
 use Rattle.law_exist.specs.Laws.{AreCarried, EveryCarriedSetIsShown}
 use Rattle.law_exist.proofs.Complexes.{VerticesAt, vertices-at, vertex_edges, shown-by}
-use Rattle.law_exist.proofs.Indexes.{index}
-use Rattle.law_exist.proofs.Lifted.{lifted, sphere-map, IsShortMap}
+use Rattle.law_exist.proofs.Lifted.{lifted, sphere-map}
 use Rattle.law_exist.proofs.Planes.{lies-image, planes, PointList, points}
-use Rattle.law_exist.proofs.Small.{short-map}
+use Rattle.law_exist.proofs.Small.{svertex-short, item-short, short-map}
 
 -- ---- edges
 edge-from : (k : ℕ) (e : PlainEdge) → (f : Edge) × (edge_of f ≡ e)
@@ -69,37 +67,35 @@ module _ (s : Set) (hs : List Plane) (few : length hs ≤ 2 ^ 32) (A : AreCarrie
           fs : (ds : List Edge) × (map edge_of ds ≡ es)
           fs = lifted edge_of es (λ k e a. edge-from k e)
 
-  -- ---- the complex
-  module _ (L : Lists) where
-    plain : (k : ℕ) (u : Vertex) → IsAt L.vertices k u → At (map vertex_of L.vertices) k (vertex_of u)
-    plain k u a = map-at vertex_of L.vertices k u (at-from_get L.vertices k u a)
-
-    ordered : AreInOrder L.carriers
-    ordered i j g h l a b = L.shows.carriers.ordered i j (form_of g) (form_of h) l (map-at form_of L.carriers i g (at-from_get L.carriers i g a)) (map-at form_of L.carriers j h (at-from_get L.carriers j h b))
-
-    framed : (k : ℕ) (u : Vertex) → IsAt L.vertices k u → InClosedFrame (place_of u.point)
-    framed k u a = dim-framed s (place_of u.point) 0 (omega arith) (L.shows.vertices k (vertex_of u) (plain k u a))
-
-    least-map : (k : ℕ) (u : Vertex) → IsAt L.vertices k u → IsLeastMap u.map
-    least-map k u a =
-        let b = plain k u a in
-        let M : IsShortMap (map_of u.map) = short-map s hs A L.carriers (map vertex_of L.vertices) (map edge_of L.edges) L.shows k (vertex_of u) b few in
-        record {
-          sphere_map = record {
-            valid = (L.shows.cones k (vertex_of u) b).valid;
-            ordered = L.shows.maps_ordered k (vertex_of u) b;
-            small = record { svertices = λ j v c. (M.svertices j v c).small; normals = λ j x c. (M.normals j x c).small };
-          };
-          least = L.shows.least k (vertex_of u) b;
-        }
-
-    complex : (c : Complex) × ShowsSet s c
-    complex =
-        let X = index L.carriers L.vertices L.edges ordered (items-held s L.carriers L.vertices (map edge_of L.edges) L.shows) framed in (
-          record { carriers = L.carriers; vertices = L.vertices; edges = L.edges; index = X.0 },
-          record { shows = L.shows; maps = least-map; index = X.1; holders = X.2 },
-        )
+-- an index without rows: whether a complex shows a set doesn't depend on the index
+no_index : PlaneIndex
+no_index = record { planes = []; edges = []; vertices = []; at_vertex = []; at_edge = []; on_carrier = []; in_carrier = []; spans = []; clusters = []; peaks = []; plane_peaks = [] }
 
 -- EVERY SUCH SET HAS A COMPLEX
 pub carried-shown : EveryCarriedSetIsShown
-carried-shown s hs few A = complex s hs few A (lists s hs few A)
+carried-shown s hs few A = let L = lists s hs few A in (record { carriers = L.carriers; vertices = L.vertices; edges = L.edges; index = no_index }, L.shows)
+
+-- ---- the maps of a complex that shows a set
+-- its carriers are planes of the program
+shown-carried : (s : Set) (c : Complex) → Shows s (complex_of c) → AreCarried s c.carriers
+shown-carried s c S f l =
+    let (k, g, a, same) = S.carriers.all f l in
+    let h = at-map form_of c.carriers k g a in
+    (h.0, at-lies c.carriers k h.0 h.1, subst (λ (e : Form). SamePlane e f) (sym h.2) same)
+
+-- so the maps are least, and within their limits
+pub shown-maps : (s : Set) (c : Complex) → Shows s (complex_of c) → HasLeastMaps c
+shown-maps s c S i v a =
+    let b : At (map vertex_of c.vertices) i (vertex_of v) = map-at vertex_of c.vertices i v (at-from_get c.vertices i v a) in
+    let A = shown-carried s c S in
+    record {
+      sphere_map = record {
+        valid = (S.cones i (vertex_of v) b).valid;
+        ordered = S.maps_ordered i (vertex_of v) b;
+        small = record {
+          svertices = λ k u at. (svertex-short s c.carriers A c.carriers (map vertex_of c.vertices) (map edge_of c.edges) S i (vertex_of v) b k u at).small;
+          normals = λ k x at. (item-short s c.carriers A c.carriers (map vertex_of c.vertices) (map edge_of c.edges) S i (vertex_of v) b k x at).small;
+        };
+      };
+      least = S.least i (vertex_of v) b;
+    }

@@ -133,7 +133,7 @@ module _ (s : Set) (hs : List Plane) (A : AreCarried s hs) (gs : List Plane) (vs
           parallel = in-both m n d (plane-slope E.first (form_of g.0) d (plane-turned (form_of g.0) E.first g.2) flat.0) (plane-slope E.second (form_of h.0) d (plane-turned (form_of h.0) E.second h.2) flat.1);
         }
 
-    svertex-short : (k : ℕ) (u : MapVertex) → At v.map.svertices k u → IsShort svertex_limit u.dir
+    pub svertex-short : (k : ℕ) (u : MapVertex) → At v.map.svertices k u → IsShort svertex_limit u.dir
     svertex-short k u b =
         let X = svertex-crossing k u b in
         let p = (S.maps_ordered i v a).dirs_lowest k u b in
@@ -144,7 +144,7 @@ module _ (s : Set) (hs : List Plane) (A : AreCarried s hs) (gs : List Plane) (vs
           primitive = p;
         }
 
-    item-short : (k : ℕ) (x : Item) → At (items v.map) k x → IsShort normal_limit (item_normal x)
+    pub item-short : (k : ℕ) (x : Item) → At (items v.map) k x → IsShort normal_limit (item_normal x)
     item-short k x b =
         let K = carried s C (record { vertex = i; item = k }) v x S (record { vertex = a; item = b }) in
         let g = at-map form_of gs K.number K.plane K.listed in

@@ -123,11 +123,14 @@ module _ (s : Set) (C : Complex) (S : Shows s C) (upright : IsUpright C) where
       by E = then (number-after E.list id)
         where
           then : NumberedAfter E.list id → (rows : List (List ℕ)) × VolumeNumbers C rows
-          then N = (T.rows, record {
-            shape = record { as_many = T.as_many; row = λ i v ns a b. T.long i v ns a (at-from_get T.rows i ns b) };
-            numbered = record { by_class = by-class; by_appearance = by-appearance };
-            outside = outside;
-          })
+          then N = (
+            T.rows,
+            record {
+              shape = record { as_many = T.as_many; row = λ i v ns a b. T.long i v ns a (at-from_get T.rows i ns b) };
+              numbered = record { by_class = by-class; by_appearance = by-appearance };
+              outside = outside;
+            },
+          )
             where
               T : Table C.vertices count_sides (Placed (side-row C) (side-col C) E.list E.ordered C.vertices count_sides E.complete (side-sound C E.list) N.list N.as_many)
               T = table (side-row C) (side-col C) E.list E.ordered C.vertices count_sides E.complete (side-sound C E.list) N.list N.as_many

@@ -17,7 +17,7 @@ use Rattle.nef_geo.specs.Shapes.{form_of}
 use Rattle.nef_geo.specs.declared.plane.Plane.{Plane}
 use Rattle.nef_complex.specs.declared.complex.Complex.{Complex as ProgramComplex}
 use Rattle.nef_complex.specs.declared.parts.Parts.{Parts}
-use Rattle.nef_complex.specs.Complexes.{complex_of, ShowsSet}
+use Rattle.nef_complex.specs.Complexes.{complex_of}
 use Rattle.nef_complex.specs.Numbers.{IsParts}
 
 -- the vertices of the set in order, once each, with least maps
@@ -52,7 +52,7 @@ AreCarried s hs = (f : Form) → Lies (carriers s) f → (h : Plane) × Lies hs 
 
 -- a set whose carriers are planes of the program, not more than svertices can be numbered by, has a complex of the program that shows it
 abbrev pub EveryCarriedSetIsShown : Type 0
-EveryCarriedSetIsShown = (s : Set) (hs : List Plane) → length hs ≤ 2 ^ 32 → AreCarried s hs → (c : ProgramComplex) × ShowsSet s c
+EveryCarriedSetIsShown = (s : Set) (hs : List Plane) → length hs ≤ 2 ^ 32 → AreCarried s hs → (c : ProgramComplex) × Shows s (complex_of c)
 
 -- the numbers of the form are within the limits of planes, and its normal isn't zero
 pub record IsSmallForm (f : Form) : Type 0 where
@@ -73,11 +73,11 @@ AreTurnsOf bs s = (f : Form) → Lies (halves s) f → IsTurnOf bs f
 
 -- a set whose halves are turns of few forms within the limits has a complex of the program that shows it, however many halves it has
 abbrev pub EveryTurnedSetIsShown : Type 0
-EveryTurnedSetIsShown = (bs : List Form) → AreSmall bs → length bs ≤ 2 ^ 20 → (s : Set) → AreTurnsOf bs s → (c : ProgramComplex) × ShowsSet s c
+EveryTurnedSetIsShown = (bs : List Form) → AreSmall bs → length bs ≤ 2 ^ 20 → (s : Set) → AreTurnsOf bs s → (c : ProgramComplex) × Shows s (complex_of c)
 
 -- every complex of the program that shows a set has parts
 abbrev pub EveryShownHasParts : Type 0
-EveryShownHasParts = (s : Set) (c : ProgramComplex) → ShowsSet s c → (p : Parts) × IsParts (complex_of c) p
+EveryShownHasParts = (s : Set) (c : ProgramComplex) → Shows s (complex_of c) → (p : Parts) × IsParts (complex_of c) p
 
 -- ---- joined points
 -- two points are joined or aren't

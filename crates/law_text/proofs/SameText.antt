@@ -7,10 +7,11 @@ use Rattle.nef_geo.specs.Shapes.{form_of}
 use Rattle.law_complex.specs.Belongs.{Belongs}
 use Rattle.law_complex.specs.Complexes.{Edge as PlainEdge, Edges}
 use Rattle.law_complex.specs.Laws.{BelongsHolds}
+use Rattle.law_complex.specs.Shows.{Shows}
 use Rattle.nef_complex.specs.declared.complex.Complex.{Complex}
 use Rattle.nef_complex.specs.declared.complex.Vertex.{Vertex}
 use Rattle.nef_complex.specs.declared.complex.Edge.{Edge}
-use Rattle.nef_complex.specs.Complexes.{complex_of, vertex_of, edge_of, ShowsSet}
+use Rattle.nef_complex.specs.Complexes.{complex_of, vertex_of, edge_of}
 use Rattle.nef_core.specs.declared.work.TextVersion.{TextVersion}
 use Rattle.nef_core.specs.declared.work.TextVersion.TheVariants.{One, Two}
 use Rattle.nef_complex.specs.declared.parts.Parts.{Parts}
@@ -40,14 +41,14 @@ text-of Two c d p q e f g =
     ∙ ap (λ (es : List Edge). text Two (record { carriers = c.carriers; vertices = d.vertices; edges = es; index = c.index }) p) f
     ∙ ap (λ (r : Parts). text Two d r) g
 
-pub same-set_text : (version : TextVersion) (s t : Set) (c d : Complex) (p q : Parts) → ShowsSet s c → ShowsSet t d → SameSet s t → IsParts (complex_of c) p → IsParts (complex_of d) q → (p ≡ q) × (text version c p ≡ text version d q)
+pub same-set_text : (version : TextVersion) (s t : Set) (c d : Complex) (p q : Parts) → Shows s (complex_of c) → Shows t (complex_of d) → SameSet s t → IsParts (complex_of c) p → IsParts (complex_of d) q → (p ≡ q) × (text version c p ≡ text version d q)
 same-set_text version s t c d p q S T same P Q =
     let r = set-vertices s t c d S T same in
-    let e = parts-one (complex_of d) (one-next t (complex_of d) T.shows) p q (same-parts c d p (r.0) (r.1) P) Q in
+    let e = parts-one (complex_of d) (one-next t (complex_of d) T) p q (same-parts c d p (r.0) (r.1) P) Q in
     (e, text-of version c d p q (r.0) (r.1) e)
 
-pub text-set : (version : TextVersion) (s t : Set) (c d : Complex) (p q : Parts) → ShowsSet s c → ShowsSet t d → text version c p ≡ text version d q → SameSet s t
-text-set version s t c d p q S T e = vertices-set s t (complex_of c) (complex_of d) S.shows T.shows (ap (map vertex_of) (vertices-read version c d p q e))
+pub text-set : (version : TextVersion) (s t : Set) (c d : Complex) (p q : Parts) → Shows s (complex_of c) → Shows t (complex_of d) → text version c p ≡ text version d q → SameSet s t
+text-set version s t c d p q S T e = vertices-set s t (complex_of c) (complex_of d) S T (ap (map vertex_of) (vertices-read version c d p q e))
 
 -- complexes with the same vertices and edges have the same points
 belongs-same : (c d : Complex) (y : Place) → c.vertices ≡ d.vertices → map edge_of c.edges ≡ map edge_of d.edges → Belongs (complex_of c) y → Belongs (complex_of d) y
@@ -56,10 +57,10 @@ belongs-same c d y e f b =
     (subst (λ (vs : List Vertex). Belongs (made (map form_of d.carriers) (map vertex_of vs) (map edge_of c.edges)) y) e
     (belongs-too (map vertex_of c.vertices) (map edge_of c.edges) (map form_of c.carriers) (map form_of d.carriers) y b))
 
-pub spelled-holds : BelongsHolds → (version : TextVersion) (s : Set) (c d : Complex) (p : Parts) (bytes : List ℕ) (y : Place) → ShowsSet s c → bytes ≡ text version c p → Spells version bytes d → InFrame y → Belongs (complex_of d) y ↔ Holds s y
+pub spelled-holds : BelongsHolds → (version : TextVersion) (s : Set) (c d : Complex) (p : Parts) (bytes : List ℕ) (y : Place) → Shows s (complex_of c) → bytes ≡ text version c p → Spells version bytes d → InFrame y → Belongs (complex_of d) y ↔ Holds s y
 spelled-holds holds version s c d p bytes y S e (E, (q, Q, f)) inside =
     let v : c.vertices ≡ d.vertices = vertices-read version c d p q (sym e ∙ f) in
     let w : map edge_of c.edges ≡ map edge_of d.edges =
-    edges-one (map vertex_of d.vertices) (map edge_of c.edges) (map edge_of d.edges) (subst (λ (vs : List Vertex). Edges (map vertex_of vs) (map edge_of c.edges)) v S.shows.edges) E in
-    let h = holds s (complex_of c) y S.shows inside in
+    edges-one (map vertex_of d.vertices) (map edge_of c.edges) (map edge_of d.edges) (subst (λ (vs : List Vertex). Edges (map vertex_of vs) (map edge_of c.edges)) v S.edges) E in
+    let h = holds s (complex_of c) y S inside in
     (λ b. h.0 (belongs-same d c y (sym v) (sym w) b), λ k. belongs-same c d y v w (h.1 k))

@@ -4,7 +4,7 @@
 //! Its stored run cuts a hole into a plate, and then makes 24 by 24 columns out of crossing slabs.
 #![tactic(auto)]
 
-use nef_io::{FromReader, IntoWriter, OpenGate};
+use nef_io::{FromReader, IntoWriter};
 use nef_shell::program;
 use std::env;
 use std::process::ExitCode;
@@ -16,6 +16,5 @@ fn main(rt: HostRuntime) -> ExitCode {
         env::args(&rt),
         &mut FromReader::new(rt.stdin()),
         &mut IntoWriter::new(rt.stdout()),
-        &OpenGate,
     )
 }

@@ -102,7 +102,7 @@ impl From<AllocError> for ReadAll {
 ///
 /// `TooLong` comes exactly where `INPUT_LIMIT + 1` bytes were taken, and no further one is asked for.
 /// `ReadFault` comes only where the source's count of faults rose in this call, or stands at its last
-/// value; with bytes and at `TooLong` the count stays as it was. Each read but the last takes at least one byte, so the call returns.
+/// value; else the count stays as it was. Each read but the last takes at least one byte, so the call returns.
 pub fn read_all<S: Source>(alloc: Global, source: &mut S) -> Result<Vec<u8>, ReadAll>
     ensures bytes { IfOk result (λ v. Consumes (S.rest source.old) (S.rest source.new) v.items × IsAtEnd (S.rest source.new)) }
     ensures most { IfOk result (λ v. vec_len v ≤ input_limit) }
@@ -110,6 +110,7 @@ pub fn read_all<S: Source>(alloc: Global, source: &mut S) -> Result<Vec<u8>, Rea
     ensures fault { result ≡ Err ReadAll.ReadFault → Rose (S.faults source.old) (S.faults source.new) }
     ensures quiet { IfOk result (λ _. S.faults source.new ≡ S.faults source.old) }
     ensures quiet_too_long { result ≡ Err ReadAll.TooLong → S.faults source.new ≡ S.faults source.old }
+    ensures quiet_memory { result ≡ Err ReadAll.OutOfMemory → S.faults source.new ≡ S.faults source.old }
     ensures before_fault { result ≡ Err ReadAll.ReadFault → (bs : List ℕ) × Consumes (S.rest source.old) (S.rest source.new) bs × (length bs ≤ input_limit) }
     ensures before_memory { result ≡ Err ReadAll.OutOfMemory → (bs : List ℕ) × Consumes (S.rest source.old) (S.rest source.new) bs × (length bs ≤ input_limit + 1) }
     ensures count { S.faults source.old ≤ S.faults source.new }

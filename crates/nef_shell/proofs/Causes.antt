@@ -9,7 +9,7 @@ use Rattle.nef_script.specs.declared.script.ScriptFault.{ScriptFault}
 use Rattle.nef_script.specs.declared.script.ScriptFault.TheVariants as fault
 use Rattle.nef_script.specs.declared.script.ScriptKind.{ScriptKind}
 use Rattle.nef_script.specs.declared.script.ScriptKind.TheVariants.{ScriptTooLong}
-use Rattle.nef_statement.specs.Answers.{IsRead}
+use Rattle.nef_statement.specs.Means.{IsRead}
 use Rattle.nef_statement.specs.Status.{unread, unaccepted}
 use Rattle.nef_shell.specs.Answers.{HasNoScript}
 
@@ -19,18 +19,18 @@ too-long bytes long = FirstRefusal.too_long (omega arith)
 
 -- it couldn't be read, or has too many bytes
 pub none-read : {X : Type 0} (stairs : Option ℕ) (old new : Option (List ℕ)) (faults faults' : ℕ) (r : Result X ReadAll) (e : ReadAll) → r ≡ Err e → stairs ≡ None → (r ≡ Err read.ReadFault → Rose faults faults')
-    → (r ≡ Err read.TooLong → (bytes : List ℕ) × Consumes old new bytes × (length bytes ≡ script_limit + 1)) → (r ≡ Err read.TooLong → faults' ≡ faults) → HasNoScript stairs old new faults faults' (unread e)
-none-read stairs old new faults faults' r read.ReadFault was none rose long quiet = record { said = (none, rose was) }
-none-read stairs old new faults faults' r read.TooLong was none rose long quiet =
+    → (r ≡ Err read.TooLong → (bytes : List ℕ) × Consumes old new bytes × (length bytes ≡ script_limit + 1)) → (r ≡ Err read.TooLong → faults' ≡ faults) → (r ≡ Err read.OutOfMemory → faults' ≡ faults) → HasNoScript stairs old new faults faults' (unread e)
+none-read stairs old new faults faults' r read.ReadFault was none rose long quiet wanted = record { said = (none, rose was) }
+none-read stairs old new faults faults' r read.TooLong was none rose long quiet wanted =
     let (bytes, taken, most) = long was in
-    record { said = (none, (bytes, record { taken = taken; whole = inr most }, too-long bytes most, quiet was)) }
-none-read stairs old new faults faults' r read.OutOfMemory was none rose long quiet = record { said = tt }
+    record { said = (none, (bytes, (taken, inr most), too-long bytes most, quiet was)) }
+none-read stairs old new faults faults' r read.OutOfMemory was none rose long quiet wanted = record { said = wanted was }
 
 -- its bytes are refused, which the source had
 pub none-accepted : {X : Type 0} (stairs : Option ℕ) (old new : Option (List ℕ)) (faults faults' : ℕ) (bytes : List ℕ) (r : Result X ScriptFault) (e : ScriptFault) → r ≡ Err e → ((line : ℕ) (kind : ScriptKind) → r ≡ Err (fault.Refused line kind) → FirstRefusal bytes line kind)
-    → ((line : ℕ) (kind : ScriptKind) → FirstRefusal bytes line kind → (stairs ≡ None) × IsRead old new bytes × (faults' ≡ faults)) → HasNoScript stairs old new faults faults' (unaccepted e)
-none-accepted stairs old new faults faults' bytes r (fault.Refused line kind) was refused had =
+    → ((line : ℕ) (kind : ScriptKind) → FirstRefusal bytes line kind → (stairs ≡ None) × IsRead old new bytes) → faults' ≡ faults → HasNoScript stairs old new faults faults' (unaccepted e)
+none-accepted stairs old new faults faults' bytes r (fault.Refused line kind) was refused had quiet =
     let first = refused line kind was in
-    let (none, taken, quiet) = had line kind first in
+    let (none, taken) = had line kind first in
     record { said = (none, (bytes, taken, first, quiet)) }
-none-accepted stairs old new faults faults' bytes r fault.OutOfMemory was refused had = record { said = tt }
+none-accepted stairs old new faults faults' bytes r fault.OutOfMemory was refused had quiet = record { said = quiet }

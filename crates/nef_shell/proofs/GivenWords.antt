@@ -1,5 +1,5 @@
 -- The words behind the program's name, from what the environment gave.
-use Rattle.std.proofs.Common.{◌≡◌, ℕ, refl, sym, ap, subst, ◌∙◌, arith, List, map, Result, Ok, Err, string_bytes}
+use Rattle.std.proofs.Common.{◌≡◌, ℕ, refl, sym, ap, subst, ◌∙◌, arith, List, [], ◌∷◌, None, map, Result, Ok, Err, string_bytes}
 use Rattle.std.specs.Prelude.{drop, IsOkAnd, IsErrAnd}
 use Rattle.std.specs.Vec.Iter.{into_iter_items}
 use Rattle.std.specs.IoError.{error_kind}
@@ -8,13 +8,13 @@ use Rattle.std.specs.declared.io.ErrorKind.TheVariants.{InvalidData}
 use Rattle.std.specs.declared.vec.IntoIter.{IntoIter}
 use Rattle.std.specs.declared.vec.Vec.{Vec}
 use Rattle.std.specs.declared.string.String.{String}
+use Rattle.nef_words.specs.Grammar.{read, options_in}
 use Rattle.nef_words.specs.declared.words.WordsFault.{WordsFault}
 use Rattle.nef_words.specs.declared.words.WordsFault.TheVariants as fault
 use Rattle.nef_statement.specs.declared.status.Status.{Status}
 use Rattle.nef_statement.specs.declared.status.Status.TheVariants.{Done, Refused, Words, ReadFault, WriteFault, OutOfMemory}
 use Rattle.nef_statement.specs.Status.{status_code}
-use Rattle.nef_statement.specs.Traffic.{Traffic, IsUnread}
-use Rattle.nef_statement.specs.Answers.{RefusesWords}
+use Rattle.nef_statement.specs.Traffic.{Traffic}
 use Rattle.nef_statement.specs.Statement.{RunSays, ProgramSays}
 use Rattle.nef_statement.specs.Texts.{IsText}
 use Rattle.nef_shell.specs.Ended.{RunEnds}
@@ -76,12 +76,17 @@ ended-run line code io it words status given same says ends is = (
       subst (λ z. RunEnds z Done io) (same ∙ ap (λ z. map string_bytes (drop 1 (into_iter_items z))) them_is) (subst (λ z. RunEnds words z io) done ends),
 )
 
+-- the empty word is refused
+pub empty-refused : options_in ([] ∷ []) ≡ None
+unfolding options_in read
+empty-refused = refl
+
 -- of one that refused its words, of which one isn't text
-pub ended-refused : {Y Z : Type 0} (line : Result (IntoIter (String Y) Z) Error) (code : ℕ) (io : Traffic) (error : Error) (status : Status) → line ≡ Err error → error_kind error ≡ InvalidData → IsUnread io → RefusesWords status io → code ≡ status_code status
-    → HasSaid line code io
-ended-refused line code io error status given kind unread refuses is = (ProgramSays.no_text error status given kind unread refuses is, λ words also zero. absurd (let f : Err error ≡ Ok words = sym given ∙ also in cc))
+pub ended-refused : {Y Z : Type 0} (line : Result (IntoIter (String Y) Z) Error) (code : ℕ) (io : Traffic) (error : Error) (words : List (List ℕ)) (status : Status) → line ≡ Err error → error_kind error ≡ InvalidData → options_in words ≡ None → RunSays IsText words status io
+    → (status ≡ OutOfMemory → ⊥) → code ≡ status_code status → HasSaid line code io
+ended-refused line code io error refused status given kind out says other is = (ProgramSays.no_text error refused status given kind out says other is, λ words also zero. absurd (let f : Err error ≡ Ok words = sym given ∙ also in cc))
 
 -- of one that found no memory for its words
-pub ended-wanting : {Y Z : Type 0} (line : Result (IntoIter (String Y) Z) Error) (code : ℕ) (io : Traffic) → ((error : Error) → line ≡ Err error → error_kind error ≡ InvalidData → ⊥) → IsUnread io → io.after.written ≡ io.before.written → code ≡ status_code OutOfMemory
+pub ended-wanting : {Y Z : Type 0} (line : Result (IntoIter (String Y) Z) Error) (code : ℕ) (io : Traffic) → ((error : Error) → line ≡ Err error → error_kind error ≡ InvalidData → ⊥) → io.after ≡ io.before → code ≡ status_code OutOfMemory
     → HasSaid line code io
-ended-wanting line code io other unread same is = (ProgramSays.no_memory other unread same is, λ words also zero. absurd (let f = sym is ∙ zero in omega (arith, f)))
+ended-wanting line code io other same is = (ProgramSays.no_memory other same is, λ words also zero. absurd (let f = sym is ∙ zero in omega (arith, f)))

@@ -73,7 +73,7 @@ held-less version nodes list parts texts n a b c held = record {
 -- a text that is there is written of its node's set
 pub text-written : {Z : Type 0} (version : TextVersion) (nodes : List Node) (list : List (Option Complex)) (parts : List (Option Parts)) (texts : List (Option (Vec ℕ Z))) (k : ℕ) (x : Vec ℕ Z) → AreHeld version nodes list parts texts → slice_get texts k ≡ Some (Some x)
     → IsWrittenOf (node_set nodes k) (text version) x.items
-text-written version nodes list parts texts k x held at = let (c, here, (p, are, is)) = held.texts_of k x at in (c, p, held.shown k c here, are, is)
+text-written version nodes list parts texts k x held at = let (c, here, (p, are, is)) = held.texts_of k x at in (c, p, (held.shown k c here).shows, are, is)
 
 -- and so it is under its name
 pub text-printed : (version : TextVersion) (s : Set) (name x piece : List ℕ) → IsWrittenOf s (text version) x → piece ≡ framed name x → IsWrittenOf s (printed version name) piece

@@ -16,9 +16,10 @@ use Rattle.nef_script.specs.declared.script.Command.{Command}
 use Rattle.nef_statement.specs.declared.status.Status.{Status}
 use Rattle.nef_statement.specs.declared.status.Status.TheVariants.{OutOfMemory}
 use Rattle.nef_shell.specs.Working.{FrontOf, WorkEnds}
-use Rattle.nef_statement.specs.Output.{same_answer, joined_answer, IsSameAnswer, IsJoinedAnswer}
+use Rattle.nef_statement.specs.Output.{IsSameAnswer, IsJoinedAnswer}
 use Rattle.nef_statement.proofs.Grown.{grows_within-none}
 use Rattle.nef_shell.specs.Output.{IsPiece, IsOutput}
+use Rattle.nef_shell.specs.Pieces.{same_answer, joined_answer}
 
 -- the output of commands, and of more
 pub output-append : (version : TextVersion) (nodes : List Node) (cs ds : List Command) (x y : List ℕ) → IsOutput version nodes cs x → IsOutput version nodes ds y → IsOutput version nodes (cs ++ ds) (x ++ y)
@@ -81,7 +82,7 @@ front-at version nodes steps i s first before after output within at so_far grow
 
 -- the work ended before its first command, for want of memory
 pub ends-before : {A : Type 0} (version : TextVersion) (nodes : List Node) (cs : List Command) (before : Option (List ℕ)) (faults : ℕ) (r : Result A Status) → r ≡ Err OutOfMemory → WorkEnds version nodes cs before before faults faults r
-ends-before version nodes cs before faults r is = rw is (record { done = tt; quiet = tt; stopped = tt; front = (0, [], refl, grows_within-none before []) })
+ends-before version nodes cs before faults r is = rw is (record { done = tt; quiet = tt; stopped = refl; front = (0, [], refl, grows_within-none before []) })
 
 -- the output of one command
 pub one-output : (version : TextVersion) (nodes : List Node) (c : Command) (piece : List ℕ) → IsPiece version nodes c piece → IsOutput version nodes (c ∷ []) piece

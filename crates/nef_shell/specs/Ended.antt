@@ -11,5 +11,5 @@ pub record RunEnds (words : List (List ℕ)) (status : Status) (io : Traffic) : 
   pub done : status ≡ Done → HasOutput words io
   -- of such output: of any two texts that are printed, they are equal exactly where their sets are the same; and a point of the frame belongs to what a text spells exactly
   -- where the set holds
-  pub compared : (h : HasOutput words io) → AreTextsCompared h.version h.nodes h.commands h.output
-  pub meant : (h : HasOutput words io) → AreTextsMeant h.version h.nodes h.commands h.output
+  pub compared : (h : HasOutput words io) → AreTextsCompared h.options.text h.nodes h.commands h.output
+  pub meant : (h : HasOutput words io) → AreTextsMeant h.options.text h.nodes h.commands h.output

@@ -8,8 +8,8 @@ ghost use Rattle.nef_script.specs.Meaning.{IsWithin};
 ghost use Rattle.nef_plan.specs.Steps.{AsksAbout};
 ghost use Rattle.nef_shell.specs.Operations.{IsKept, AreHeld};
 ghost use Rattle.nef_shell.specs.Output.{IsPiece};
-ghost use Rattle.nef_shell.specs.Pieces.{piece_bytes};
-ghost use Rattle.nef_statement.specs.Output.{answer_of, same_answer, joined_answer, spaced, end_line, framed, IsJoinedAnswer, IsRayAnswer};
+ghost use Rattle.nef_shell.specs.Pieces.{piece_bytes, same_answer, joined_answer};
+ghost use Rattle.nef_statement.specs.Output.{answer_of, spaced, end_line, framed, IsJoinedAnswer, IsRayAnswer};
 ghost use Rattle.nef_statement.specs.Texts.{count_line};
 
 use crate::sets::Sets;

@@ -5,19 +5,19 @@ ghost use Rattle.nef_complex.specs.Prelude.{ℕ, List, Some, IfOk, IfSome, IsOk,
 ghost use Rattle.nef_io.specs.Bytes.{Rose, Grows, GrowsWithin};
 ghost use Rattle.nef_shell.specs.Status.{MatchStatus};
 ghost use Rattle.nef_statement.specs.Output.{refusal_line, words_line};
-ghost use Rattle.nef_statement.specs.Answers.{GiveStairs, GiveText, IsScriptFor};
+ghost use Rattle.nef_words.specs.Grammar.{options_in};
 ghost use Rattle.nef_statement.specs.Statement.{RunSays, ProgramSays};
 ghost use Rattle.nef_statement.specs.Status.{status_code};
 ghost use Rattle.nef_statement.specs.Texts.{IsText};
-ghost use Rattle.nef_shell.specs.Answers.{HasEnded, HasNoScript, IsWorked};
+ghost use Rattle.nef_shell.specs.Answers.{HasEnded, HasNoScript, IsScriptFor, IsWorked};
 ghost use Rattle.nef_shell.specs.Ended.{RunEnds};
 ghost use Rattle.nef_shell.specs.Program.{IsCollected, ProgramEnds};
-ghost use Rattle.nef_statement.specs.Traffic.{traffic, IsUnread};
+ghost use Rattle.nef_statement.specs.Traffic.{traffic};
 ghost use Rattle.nef_plan.specs.Steps.{AreWorkable};
 
 use crate::work::work;
 use itoa::Buffer;
-use nef_io::{Gate, Sink, Source, put_all, read_all};
+use nef_io::{Gate, OpenGate, Sink, Source, put_all, read_all};
 use nef_script::{Script, ScriptKind, parse, stairs};
 use nef_statement::Status;
 use nef_words::{Options, WordsFault, line_words, read_words};
@@ -49,7 +49,7 @@ fn refuse<K: Sink>(alloc: Global, sink: &mut K, line: u64, kind: ScriptKind) -> 
         ⊥
         ⊥
         (Rose (K.faults sink.old) (K.faults sink.new) × GrowsWithin (K.written sink.old) (K.written sink.new) (refusal_line line kind))
-        (K.written sink.new ≡ K.written sink.old) }
+        ((K.written sink.new ≡ K.written sink.old) × (K.faults sink.new ≡ K.faults sink.old)) }
 {
     let Ok(text) = refusal_line(alloc, line, kind) else {
         return Status::OutOfMemory;
@@ -89,7 +89,7 @@ fn script_for<S: Source>(
     ensures workable { IfOk result (λ s. AreWorkable s.nodes s.commands) }
     ensures none { IfErr result (HasNoScript boxes (S.rest source.old) (S.rest source.new) (S.faults source.old) (S.faults source.new)) }
     ensures quiet { IfOk result (λ _. S.faults source.new ≡ S.faults source.old) }
-    ensures unread { (n : ℕ) → boxes ≡ Some n → (S.rest source.new ≡ S.rest source.old) × (S.faults source.new ≡ S.faults source.old) }
+    ensures unread { (n : ℕ) → boxes ≡ Some n → S.rest source.new ≡ S.rest source.old }
 {
     let bytes = match boxes {
         None => read_all(alloc, source)?,
@@ -108,8 +108,8 @@ fn run_script<R: Threads + Wait + Sync, S: Source, K: Sink, G: Gate + Sync>(
     gate: &G,
 ) -> Status
     requires stairs { IfSome options.now.stairs (λ n. (1 ≤ n) × (n ≤ most_stairs)) }
-    ensures status { (words : List (List ℕ)) → GiveStairs words options.now.stairs → GiveText words options.now.text → HasEnded words result (traffic S.rest S.faults K.written K.faults source.old source.new sink.old sink.new) }
-    ensures unread { (n : ℕ) → options.now.stairs ≡ Some n → IsUnread (traffic S.rest S.faults K.written K.faults source.old source.new sink.old sink.new) }
+    ensures status { (words : List (List ℕ)) → options_in words ≡ Some options.now → HasEnded words result (traffic S.rest S.faults K.written K.faults source.old source.new sink.old sink.new) }
+    ensures unread { (n : ℕ) → options.now.stairs ≡ Some n → S.rest source.new ≡ S.rest source.old }
 {
     let script = match script_for(alloc, options.stairs, source) {
         Ok(script) => script,
@@ -150,10 +150,9 @@ fn run_script<R: Threads + Wait + Sync, S: Source, K: Sink, G: Gate + Sync>(
 ///   front of what the words and the script define.
 /// * `OutOfMemory`: memory was wanted and not found; the sink took some front of it.
 ///
-/// Runs that are asked for the same write fronts of one output, however they end
-/// ([`nef_statement::statement_laws`]).
-/// At `Done`, `Refused` and `Words` no count of faults rose. Where no count rises, each status comes where
-/// its cause holds, unless memory is wanted.
+/// The source's count of faults stays as it was but at `ReadFault`, and the sink's but at `WriteFault`. Where no count
+/// rises, each status comes where its cause holds, unless memory is wanted. Runs that are asked for the same write fronts
+/// of one output, however they end ([`nef_statement::statement_laws`]).
 pub fn run<R: Threads + Wait + Sync, S: Source, K: Sink, G: Gate + Sync>(
     rt: &R,
     alloc: Global,
@@ -200,17 +199,17 @@ fn collected(alloc: Global, line: io::Result<Args>) -> Result<io::Result<Vec<Str
 /// The whole program: [`run`] with the words behind the program's name, of those that `std::env::args`
 /// gave, and the exit status of its answer, which is 0 to 5 in the order of [`Status`]. Where a word
 /// isn't text, the words are refused. Where they can't be had for another reason, memory is wanted for
-/// them, nothing is read and written, and the status is that of `OutOfMemory`.
+/// them, nothing is read and written, and the status is that of `OutOfMemory`. No job is held back: its
+/// gate is an [`OpenGate`].
 ///
 /// `main` returns what this gives for standard input and output: a `FromReader` of the one and an
 /// `IntoWriter` of the other.
-pub fn program<R: Threads + Wait + Sync, S: Source, K: Sink, G: Gate + Sync>(
+pub fn program<R: Threads + Wait + Sync, S: Source, K: Sink>(
     rt: &R,
     alloc: Global,
     line: io::Result<Args>,
     source: &mut S,
     sink: &mut K,
-    gate: &G,
 ) -> ExitCode
     ensures says { ProgramSays IsText line (exit_status result) (traffic S.rest S.faults K.written K.faults source.old source.new sink.old sink.new) }
     ensures ends { ProgramEnds line (exit_status result) (traffic S.rest S.faults K.written K.faults source.old source.new sink.old sink.new) }
@@ -219,7 +218,7 @@ pub fn program<R: Threads + Wait + Sync, S: Source, K: Sink, G: Gate + Sync>(
         return ExitCode::from(code(&Status::OutOfMemory));
     };
     let status = match line_words(&line) {
-        Ok(words) => run(rt, alloc, words, source, sink, gate),
+        Ok(words) => run(rt, alloc, words, source, sink, &OpenGate),
         Err(WordsFault::Refused) => refuse_words(sink),
         Err(WordsFault::OutOfMemory) => Status::OutOfMemory,
     };

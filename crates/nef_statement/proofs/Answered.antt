@@ -1,5 +1,6 @@
 -- A question has one answer.
-use Rattle.std.proofs.Common.{◌≡◌, ℕ, ap, sym, ◌∙◌, List, ◌++◌, inl, inr}
+use Rattle.std.proofs.Common.{◌≡◌, ℕ, ap, sym, ◌∙◌, List, ◌++◌, inl, inr, if◌then◌else◌}
+use Rattle.std.specs.Prelude.{codes}
 use Rattle.nef_space.specs.Place.{Place}
 use Rattle.nef_space.specs.Sets.{Set}
 use Rattle.nef_space.specs.Vectors.{Vector}
@@ -7,7 +8,7 @@ use Rattle.nef_geo.specs.Shapes.{place_of}
 use Rattle.nef_geo.proofs.Unique.{same_places_equal}
 use Rattle.nef_geo.specs.declared.point.Point.{Point}
 use Rattle.nef_ray.proofs.OneEnd.{one-end}
-use Rattle.nef_statement.specs.Output.{IsSameAnswer, IsJoinedAnswer, IsRayAnswer, change_word, spaced, answer_of}
+use Rattle.nef_statement.specs.Output.{IsSameAnswer, IsJoinedAnswer, IsRayAnswer, spaced, answer_of}
 
 pub answered-one : (s t : Set) (x y : List ℕ) → IsSameAnswer s t x → IsSameAnswer s t y → x ≡ y
 answered-one s t x y a b = elim a [
@@ -33,6 +34,6 @@ ended-one s p d x y (IsRayAnswer.outside out e) (IsRayAnswer.ends P a h f) = abs
 ended-one s p d x y (IsRayAnswer.ends P a h e) (IsRayAnswer.outside out f) = absurd (out P)
 ended-one s p d x y (IsRayAnswer.ends P a h e) (IsRayAnswer.ends P' b k f) =
     let one = one-end s p d (place_of a.point) (place_of b.point) a.after b.after a.label b.label h k in
-    e ∙ ap (λ z. change_word z ++ spaced a.point.x ++ spaced a.point.y ++ spaced a.point.z ++ spaced a.point.w ++ answer_of a.label) one.1
-    ∙ ap (λ (r : Point). change_word b.after ++ spaced r.x ++ spaced r.y ++ spaced r.z ++ spaced r.w ++ answer_of a.label) (same_places_equal a.point b.point one.0)
-    ∙ ap (λ l. change_word b.after ++ spaced b.point.x ++ spaced b.point.y ++ spaced b.point.z ++ spaced b.point.w ++ answer_of l) one.2 ∙ sym f
+    e ∙ ap (λ z. (if z then codes "after " else codes "at ") ++ spaced a.point.x ++ spaced a.point.y ++ spaced a.point.z ++ spaced a.point.w ++ answer_of a.label) one.1
+    ∙ ap (λ (r : Point). (if b.after then codes "after " else codes "at ") ++ spaced r.x ++ spaced r.y ++ spaced r.z ++ spaced r.w ++ answer_of a.label) (same_places_equal a.point b.point one.0)
+    ∙ ap (λ l. (if b.after then codes "after " else codes "at ") ++ spaced b.point.x ++ spaced b.point.y ++ spaced b.point.z ++ spaced b.point.w ++ answer_of l) one.2 ∙ sym f

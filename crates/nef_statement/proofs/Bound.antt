@@ -1,6 +1,6 @@
 -- The set of each name is that of its node.
-use Rattle.std.proofs.Common.{◌≡◌, ℕ, zero, suc, ◌+◌, ◌≤◌, nat_abs, Bool, true, false, cond, List, [], ◌∷◌, ◌++◌, length, map, Some, None, slice_get, if◌then◌else◌, refl, sym, ap, ◌∙◌, subst, arith, inl, inr, append-nil}
-use Rattle.std.specs.Prelude.{codes, option_map}
+use Rattle.std.proofs.Common.{◌≡◌, ℕ, zero, suc, ◌+◌, ◌≤◌, nat_abs, Bool, true, false, cond, List, [], ◌∷◌, ◌++◌, length, map, Option, Some, None, slice_get, if◌then◌else◌, refl, sym, ap, ◌∙◌, subst, arith, inl, inr, append-nil}
+use Rattle.std.specs.Prelude.{codes, option_map, option_to_list}
 use Rattle.std.specs.List.{position_from}
 use Rattle.std.specs.Str.{bytes_eq}
 use Rattle.std.proofs.lemmas.Bool.{cases_Bool}
@@ -8,7 +8,7 @@ use Rattle.std.proofs.lemmas.Iterator.Adapters.{position_from-zero}
 use Rattle.std.proofs.lemmas.List.{length-map}
 use Rattle.nef_space.specs.Sets.{Set}
 use Rattle.nef_space.specs.Local.{SameSet}
-use Rattle.law_turns.specs.Turned.{turned_set}
+use Rattle.law_turns.specs.Turned.{turned_set as turned_image}
 use Rattle.law_turns.proofs.Meaning.{same_set-turned}
 use Rattle.nef_expr.specs.declared.nodes.Node.{Node}
 use Rattle.nef_expr.specs.declared.nodes.Node.TheVariants as node
@@ -22,7 +22,8 @@ use Rattle.nef_script.specs.Meaning.{Names, IsNode, Sets, IsBind, IsTurn, IsBind
 use Rattle.nef_script.specs.declared.arguments.Verb.{Verb}
 use Rattle.nef_script.specs.declared.arguments.Verb.TheVariants as verb
 use Rattle.nef_script.specs.declared.script.Command.{Command}
-use Rattle.nef_statement.specs.Denotes.{Bindings, set_named, made_of, bound_set, and_bound, bound_after}
+use Rattle.nef_statement.specs.Denotes.{Bindings, set_named, made_of, bound_set, turned_set, bound_after}
+use Rattle.nef_statement.proofs.Turning.{set-same}
 use Rattle.nef_statement.proofs.Alike.{same-self, same-half, same-other, same-inside, same-closed, same-border, same-regular, same-both, same-either, same-less, same-one_of}
 
 abbrev pub names_in : Bindings → List (List ℕ)
@@ -88,6 +89,10 @@ names-push : (sets : Bindings) (name : List ℕ) (s : Set) → names_in (sets ++
 names-push [] name s = refl
 names-push (b ∷ bs) name s = ap (λ l. b.0 ∷ l) (names-push bs name s)
 
+-- the bindings with one more, if there is a set for it
+abbrev and_bound : Bindings → List ℕ → Option Set → Bindings
+and_bound sets name o = sets ++ map (λ (s : Set). (name, s)) (option_to_list o)
+
 -- ---- the set of a line
 module _ (ss : Sets) (ordered : IsOrdered ss.nodes) (sets : Bindings) (agree : Agree ss.nodes sets ss.bound) where
   -- the set that a command makes is that of the node
@@ -143,8 +148,9 @@ module _ (ss : Sets) (ordered : IsOrdered ss.nodes) (sets : Bindings) (agree : A
       let (s, has, same) = of operand from is in (
         turned_set (nat_abs (number_or_zero number)) s,
         ap (option_map (turned_set (nat_abs (number_or_zero number)))) has,
-        subst (λ (z : Set). SameSet (turned_set (nat_abs (number_or_zero number)) s) z) (sym (node-turned ss.nodes ordered t from k turn))
-            (subst (λ z. SameSet (turned_set (nat_abs z) s) (turned_set t (node_set ss.nodes from))) (sym number_is) ((same_set-turned t s (node_set ss.nodes from)).1 same)),
+        subst (λ (z : Set). SameSet z (node_set ss.nodes k)) (sym (set-same (nat_abs (number_or_zero number)) s))
+            (subst (λ (z : Set). SameSet (turned_image (nat_abs (number_or_zero number)) s) z) (sym (node-turned ss.nodes ordered t from k turn))
+            (subst (λ z. SameSet (turned_image (nat_abs z) s) (turned_image t (node_set ss.nodes from))) (sym number_is) ((same_set-turned t s (node_set ss.nodes from)).1 same))),
       )
   copied line args k c h = absurd h
 
@@ -203,7 +209,7 @@ module _ (ss : Sets) (ordered : IsOrdered ss.nodes) (sets : Bindings) (agree : A
 
   command-follows : (bases line : ℕ) (v : Verb) (name : List ℕ) (args : List (List ℕ)) (c : Command) (t : Bool) → binds v ≡ t → MeansCommand (names_in sets) bases line v (name ∷ args) t ss c
       → Follows (and_bound sets name (bound_set sets (Some v) (name ∷ args))) (name_if t name)
-  command-follows bases line v name args c false e h = subst (λ o. Follows (and_bound sets name o) []) (sym (none-asked v (name ∷ args) e)) stays
+  command-follows bases line v name args c false e h = subst (λ o. Follows (and_bound sets name o) []) (sym (none-asked v (name ∷ args) e)) (subst (λ (z : Bindings). Follows z []) (sym (append-nil sets)) stays)
   command-follows bases line v name args c true e (k, at, h) =
       let (s, has, same) = bound-same bases line v (name ∷ args) k c h in
       let here : slice_get ss.bound (length sets) ≡ Some k = subst (λ n. slice_get ss.bound n ≡ Some k) (length-map sets (λ (b : List ℕ × Set). b.0)) at in

@@ -1,5 +1,5 @@
 -- What is counted of a set is one, and the same of sets that are the same.
-use Rattle.std.proofs.Common.{◌≡◌, ℕ, sym, ap, ◌∙◌, List, [], ◌∷◌}
+use Rattle.std.proofs.Common.{◌≡◌, ℕ, zero, suc, refl, sym, ap, ◌∙◌, List, [], ◌∷◌}
 use Rattle.nef_space.specs.Local.{SameSet}
 use Rattle.nef_space.specs.Sets.{Set}
 use Rattle.law_near.proofs.Alike.{Joined-same, cones-of_same, FlatDim-by_cone}
@@ -21,24 +21,32 @@ components-same a s k n f (ps, count, h) = (
 )
 
 pub count-same : (a s : Set) (x : List ℕ) → SameSet a s → CountTells s x → CountTells a x
-count-same a s x f h =
-    record {
-      vertices = h.vertices;
-      edges = h.edges;
-      facets = h.facets;
-      volumes = h.volumes;
-      is = h.is;
-      no_direction = components-same a s 0 h.vertices f h.no_direction;
-      one_direction = components-same a s 1 h.edges f h.one_direction;
-      two_directions = components-same a s 2 h.facets f h.two_directions;
-      three_directions = components-same a s 3 h.volumes f h.three_directions;
-    }
+count-same a s x f (n, h, e) = (n, λ k. components-same a s k (n k) f (h k), e)
 
 pub count-one : (s : Set) (x y : List ℕ) → CountTells s x → CountTells s y → x ≡ y
-count-one s x y h k =
-    h.is
-    ∙ ap (λ (n : ℕ). line (numbers (n ∷ h.edges ∷ h.facets ∷ h.volumes ∷ []))) (one-count s 0 h.vertices k.vertices h.no_direction k.no_direction)
-    ∙ ap (λ (n : ℕ). line (numbers (k.vertices ∷ n ∷ h.facets ∷ h.volumes ∷ []))) (one-count s 1 h.edges k.edges h.one_direction k.one_direction)
-    ∙ ap (λ (n : ℕ). line (numbers (k.vertices ∷ k.edges ∷ n ∷ h.volumes ∷ []))) (one-count s 2 h.facets k.facets h.two_directions k.two_directions)
-    ∙ ap (λ (n : ℕ). line (numbers (k.vertices ∷ k.edges ∷ k.facets ∷ n ∷ []))) (one-count s 3 h.volumes k.volumes h.three_directions k.three_directions)
-    ∙ sym k.is
+count-one s x y (m, h, e) (n, k, f) =
+    let same = λ (d : ℕ). one-count s d (m d) (n d) (h d) (k d) in
+    e
+    ∙ ap (λ (i : ℕ). line (numbers (i ∷ m 1 ∷ m 2 ∷ m 3 ∷ []))) (same 0)
+    ∙ ap (λ (i : ℕ). line (numbers (n 0 ∷ i ∷ m 2 ∷ m 3 ∷ []))) (same 1)
+    ∙ ap (λ (i : ℕ). line (numbers (n 0 ∷ n 1 ∷ i ∷ m 3 ∷ []))) (same 2)
+    ∙ ap (λ (i : ℕ). line (numbers (n 0 ∷ n 1 ∷ n 2 ∷ i ∷ []))) (same 3)
+    ∙ sym f
+
+-- ---- numbers for no, one, two and three directions; no point has more
+abbrev four : ℕ → ℕ → ℕ → ℕ → ℕ → ℕ
+four a b c d zero = a
+four a b c d (suc zero) = b
+four a b c d (suc (suc zero)) = c
+four a b c d (suc (suc (suc zero))) = d
+four a b c d (suc (suc (suc (suc k)))) = 0
+
+four-counted : (s : Set) (a b c d : ℕ) → HasComponents s 0 a × HasComponents s 1 b × HasComponents s 2 c × HasComponents s 3 d → (k : ℕ) → HasComponents s k (four a b c d k)
+four-counted s a b c d h zero = h.0
+four-counted s a b c d h (suc zero) = h.1
+four-counted s a b c d h (suc (suc zero)) = h.2
+four-counted s a b c d h (suc (suc (suc zero))) = h.3
+four-counted s a b c d h (suc (suc (suc (suc k)))) = ([], refl, record { flat = λ i p at. absurd at; apart = λ i j p q at at' l. absurd at; all = λ q flat. absurd flat.0 })
+
+pub counted-by : (s : Set) (a b c d : ℕ) → HasComponents s 0 a × HasComponents s 1 b × HasComponents s 2 c × HasComponents s 3 d → CountTells s (line (numbers (a ∷ b ∷ c ∷ d ∷ [])))
+counted-by s a b c d h = (four a b c d, four-counted s a b c d h, refl)

@@ -17,7 +17,10 @@ use Rattle.nef_lex.proofs.LineLaws.{pieces_of_ended}
 use Rattle.nef_lex.proofs.WordLaws.{words_of_spaced}
 use Rattle.nef_script.specs.Tests.{number_or_zero}
 use Rattle.nef_complex.specs.Text.{Word, line}
-use Rattle.nef_statement.specs.Reader.{Row, rows_of}
+use Rattle.nef_statement.specs.Reader.{rows_of}
+
+abbrev pub Row : Type 0
+Row = List Word
 
 -- each element has P
 abbrev pub Each : {A : Type 0} → (A → Type 0) → List A → Type 0

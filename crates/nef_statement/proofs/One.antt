@@ -1,9 +1,11 @@
 -- What lines say is one.
-use Rattle.std.proofs.Common.{◌≡◌, ℕ, ℤ, pos, ◌<ℤ◌, zero, suc, sym, ap, ◌∙◌, subst, List, [], ◌∷◌, ◌++◌, take, Option, Some, append_assoc}
+use Rattle.std.proofs.Common.{◌≡◌, ℕ, ℤ, pos, ◌<ℤ◌, zero, suc, refl, sym, ap, ◌∙◌, subst, List, [], ◌∷◌, ◌++◌, take, Option, Some, append_assoc}
 use Rattle.std.proofs.Props.{props}
+use Rattle.nef_space.specs.Local.{HasLabel}
 use Rattle.nef_space.specs.Place.{Place}
 use Rattle.nef_space.specs.Sets.{Set}
 use Rattle.nef_space.specs.Vectors.{vector}
+use Rattle.nef_space.specs.declared.label.Label.{Label}
 use Rattle.law_near.proofs.Germs.{label-one}
 use Rattle.nef_geo.specs.Shapes.{place_at}
 use Rattle.nef_lex.specs.Words.{words_of}
@@ -14,7 +16,7 @@ use Rattle.nef_script.specs.declared.arguments.Verb.TheVariants as verb
 use Rattle.nef_statement.specs.Output.{IsSameAnswer, IsJoinedAnswer, IsRayAnswer, framed, answer_of}
 use Rattle.nef_statement.specs.Denotes.{Bindings, set_named, bound_after}
 use Rattle.nef_statement.specs.Written.{CountTells}
-use Rattle.nef_statement.specs.Said.{IsLabelAnswer, IsSaid, IsSaidBy, AreSaid}
+use Rattle.nef_statement.specs.Said.{IsSaid, IsSaidBy, AreSaid}
 use Rattle.nef_statement.proofs.Answered.{answered-one, joined-one, ended-one}
 use Rattle.nef_statement.proofs.Counts.{count-one}
 
@@ -28,6 +30,10 @@ point a b c w h = place_at (number_or_zero a) (number_or_zero b) (number_or_zero
 -- what is so of a point is so whatever shows that its w is positive
 again : (P : Place → Type 0) (a b c w : List ℕ) (h k : pos 0 <ℤ number_or_zero w) → P (point a b c w k) → P (point a b c w h)
 again P a b c w h k so = subst (λ (i : pos 0 <ℤ number_or_zero w). P (point a b c w i)) (positive-prop (number_or_zero w) k h) so
+
+-- the answer to what the label of s is at p
+abbrev IsLabelAnswer : Set → Place → List ℕ → Type 0
+IsLabelAnswer s p said = (l : Label) × HasLabel s p l × (said ≡ answer_of l)
 
 -- ---- lines
 module _ (Text : Set → List ℕ → Type 0) (one : (s : Set) (x y : List ℕ) → Text s x → Text s y → x ≡ y) where
@@ -66,10 +72,10 @@ module _ (Text : Set → List ℕ → Type 0) (one : (s : Set) (x y : List ℕ) 
   said-one sets (line ∷ lines) x y (u, v, first, rest, whole) (u', v', first', rest', whole') =
       whole ∙ ap (λ z. z ++ v) (line-one sets (words_of line) u u' first first') ∙ ap (λ z. u' ++ z) (said-one (bound_after sets (words_of line)) lines v v' rest rest') ∙ sym whole'
 
-  -- what the first lines say is a front of what all say
-  pub said-front : (sets : Bindings) (lines : List (List ℕ)) (n : ℕ) (x y : List ℕ) → AreSaid Text sets lines x → AreSaid Text sets (take n lines) y → (rest : List ℕ) × (x ≡ y ++ rest)
-  said-front sets lines zero x y h k = (x, ap (λ z. z ++ x) (sym k))
-  said-front sets [] (suc n) x y h k = (x, ap (λ z. z ++ x) (sym k))
-  said-front sets (line ∷ lines) (suc n) x y (u, v, first, rest, whole) (u', v', first', rest', whole') =
-      let (w, e) = said-front (bound_after sets (words_of line)) lines n v v' rest rest' in
-      (w, whole ∙ ap (λ z. z ++ v) (line-one sets (words_of line) u u' first first') ∙ ap (λ z. u' ++ z) e ∙ sym (append_assoc u' v' w) ∙ ap (λ z. z ++ w) (sym whole'))
+-- the first of the lines of which all is said say something, which is a front of it
+pub first-said : (Text : Set → List ℕ → Type 0) (sets : Bindings) (lines : List (List ℕ)) (n : ℕ) (x : List ℕ) → AreSaid Text sets lines x → (y : List ℕ) × (rest : List ℕ) × AreSaid Text sets (take n lines) y × (x ≡ y ++ rest)
+first-said Text sets lines zero x h = ([], x, refl, refl)
+first-said Text sets [] (suc n) x h = ([], x, refl, refl)
+first-said Text sets (line ∷ lines) (suc n) x (u, v, first, more, whole) =
+    let (y, rest, said, e) = first-said Text (bound_after sets (words_of line)) lines n v more in
+    (u ++ y, rest, (u, y, first, said, refl), whole ∙ ap (λ z. u ++ z) e ∙ sym (append_assoc u y rest))

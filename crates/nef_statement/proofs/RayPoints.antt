@@ -129,12 +129,14 @@ module _ (s : Set) (p : Place) (d : Vector) (some : IsDirection d) where
             let ms = dot_size normal_limit ray_direction_limit (normal_of (form_of h)) d (normal_within h) ds in
             let ns = form_size h ray_point_limit ray_weight_limit p ps in
             let B = reached_within p d n m x y z w positive ray_point_limit ray_weight_limit (3 * 2 ^ 21) (2 ^ 34) ray_direction_limit R ps (omega (arith, ms)) (omega (arith, ns)) ds in
-            let (r, Q) = point-with x y z w (let b = B.numbers.of_x in omega (arith, b)) (let b = B.numbers.of_y in omega (arith, b)) (let b = B.numbers.of_z in omega (arith, b)) (let b = B.weight in omega (arith, b)) positive in
-            (r, same-place_trans q (place_at x y z w positive) (place_of r) one (record {
-              along_x = along x w r.x r.w Q.factor positive r.proper Q.x_is Q.w_is;
-              along_y = along y w r.y r.w Q.factor positive r.proper Q.y_is Q.w_is;
-              along_z = along z w r.z r.w Q.factor positive r.proper Q.z_is Q.w_is;
-            }))
+            let (r, Q) = point-with x y z w (let b = B.numbers.of_x in omega (arith, b)) (let b = B.numbers.of_y in omega (arith, b)) (let b = B.numbers.of_z in omega (arith, b)) (let b = B.weight in omega (arith, b)) positive in (
+              r,
+              same-place_trans q (place_at x y z w positive) (place_of r) one (record {
+                along_x = along x w r.x r.w Q.factor positive r.proper Q.x_is Q.w_is;
+                along_y = along y w r.y r.w Q.factor positive r.proper Q.y_is Q.w_is;
+                along_z = along z w r.z r.w Q.factor positive r.proper Q.z_is Q.w_is;
+              }),
+            )
           where
             along : (x w a c k : ℤ) → pos 0 <ℤ w → pos 0 <ℤ c → x ≡ k *ℤ a → w ≡ k *ℤ c → x *ℤ pos (nat_abs c) ≡ a *ℤ pos (nat_abs w)
             along x w a c k hw hc e f =

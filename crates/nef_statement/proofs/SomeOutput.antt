@@ -1,6 +1,6 @@
 -- An accepted script has an output.
 use Rattle.std.proofs.Common.{◌≡◌, ℕ, zero, suc, ◌+◌, ◌^◌, ◌<◌, ◌≤◌, ℤ, pos, negsuc, ◌<ℤ◌, nat_abs, arith, refl, sym, ap, ◌∙◌, inl, inr, ⊎_elim, List, [], ◌∷◌, ◌++◌, length, take, drop, get_or, Bool, true, false, not, nat_eq, nat_le, ◌&&◌, ◌||◌, Option, Some, None, find, slice_get, if◌then◌else◌, subst, append-nil, append_assoc, length-append}
-use Rattle.std.specs.Prelude.{nat_lt, int_le, option_map, codes}
+use Rattle.std.specs.Prelude.{nat_lt, int_le, map, option_map, option_to_list, codes}
 use Rattle.std.specs.List.{list_any, zip}
 use Rattle.std.specs.Str.{bytes_eq}
 use Rattle.std.proofs.lemmas.Bool.{or_parts, and_parts, eqb-true, leb-true, leb-false, ltb-false}
@@ -16,7 +16,6 @@ use Rattle.nef_geo.specs.Hits.{IsPlaceAtMost}
 use Rattle.nef_geo.specs.Shapes.{place_at}
 use Rattle.law_near.proofs.Decided.{Decided, label_of, InFrame-decided}
 use Rattle.law_sphere.specs.Maps.{At}
-use Rattle.law_turns.specs.Turned.{turned_set}
 use Rattle.nef_complex.specs.Text.{line, numbers, text}
 use Rattle.nef_core.specs.declared.work.TextVersion.{TextVersion}
 use Rattle.law_exist.proofs.Classes.{equal-decided}
@@ -34,8 +33,8 @@ use Rattle.nef_script.specs.declared.arguments.Verb.TheVariants as verb
 use Rattle.nef_script.specs.declared.script.ScriptKind.{ScriptKind}
 use Rattle.nef_script.specs.declared.script.ScriptKind.TheVariants as kind
 use Rattle.nef_script.proofs.Values.{zero-are}
-use Rattle.nef_statement.specs.Denotes.{Bindings, set_named, made_of, bound_set, and_bound, bound_after}
-use Rattle.nef_statement.specs.Output.{answer_of, same_answer, joined_answer, framed, IsSameAnswer, IsJoinedAnswer, IsRayAnswer}
+use Rattle.nef_statement.specs.Denotes.{Bindings, set_named, made_of, bound_set, turned_set, bound_after}
+use Rattle.nef_statement.specs.Output.{answer_of, framed, line_end, IsSameAnswer, IsJoinedAnswer, IsRayAnswer}
 use Rattle.nef_statement.specs.Said.{IsSaid, IsSaidBy, AreSaid}
 use Rattle.nef_statement.specs.Texts.{IsText}
 use Rattle.nef_statement.specs.Written.{CountTells}
@@ -43,9 +42,10 @@ use Rattle.nef_statement.proofs.Alike.{same-self}
 use Rattle.nef_statement.proofs.Bound.{names_in}
 use Rattle.nef_statement.proofs.RayPoints.{ray-answer}
 use Rattle.nef_statement.proofs.Texts.{one-text}
+use Rattle.nef_statement.proofs.Turning.{set-same}
 
 -- ---- tests that don't hold
-abbrev refusal_in : List (ScriptKind × Bool) → Option ScriptKind
+abbrev pub refusal_in : List (ScriptKind × Bool) → Option ScriptKind
 refusal_in xs = option_map (λ (t : ScriptKind × Bool). t.0) (find (λ (t : ScriptKind × Bool). t.1) xs)
 
 none-holds : (xs : List (ScriptKind × Bool)) → refusal_in xs ≡ None → (k : ℕ) (t : ScriptKind × Bool) → At xs k t → t.1 ≡ false
@@ -57,19 +57,19 @@ none-holds ((j, b) ∷ xs) e k t a = by b refl k a (λ f n u c. none-holds xs f 
     by false f zero a more = ap (λ (u : ScriptKind × Bool). u.1) (sym a) ∙ f
     by false f (suc n) a more = more (sym (ap (λ c. refusal_in ((j, c) ∷ xs)) f) ∙ e) n t a
 
-abbrev Fails : List (List ℕ) → Verb → List (List ℕ) → ScriptKind → Type 0
+abbrev pub Fails : List (List ℕ) → Verb → List (List ℕ) → ScriptKind → Type 0
 Fails names v args k = list_any (word_test k names) (zip (roles v) args) ≡ false
 
-record Passed (names : List (List ℕ)) (v : Verb) (args : List (List ℕ)) : Type 0 where
-  count : not (nat_eq (length args) (length (roles v))) ≡ false
-  unknown : Fails names v args kind.UnknownName
-  range : Fails names v args kind.OutOfRange
-  normal : has_zero_normal v args ≡ false
-  weight : Fails names v args kind.BadWeight
-  direction : has_zero_direction v args ≡ false
-  room : (binds v && nat_le name_count_limit (length names)) ≡ false
+pub record Passed (names : List (List ℕ)) (v : Verb) (args : List (List ℕ)) : Type 0 where
+  pub count : not (nat_eq (length args) (length (roles v))) ≡ false
+  pub unknown : Fails names v args kind.UnknownName
+  pub range : Fails names v args kind.OutOfRange
+  pub normal : has_zero_normal v args ≡ false
+  pub weight : Fails names v args kind.BadWeight
+  pub direction : has_zero_direction v args ≡ false
+  pub room : (binds v && nat_le name_count_limit (length names)) ≡ false
 
-passed : (names : List (List ℕ)) (v : Verb) (args : List (List ℕ)) → refusal_in (command_tests names (Some v) args) ≡ None → Passed names v args
+pub passed : (names : List (List ℕ)) (v : Verb) (args : List (List ℕ)) → refusal_in (command_tests names (Some v) args) ≡ None → Passed names v args
 passed names v args e = record {
   count = fails 0 (kind.WordCount, not (nat_eq (length args) (length (roles v)))) refl;
   unknown = fails 3 (some kind.UnknownName) refl;
@@ -86,26 +86,35 @@ passed names v args e = record {
     fails : (k : ℕ) (t : ScriptKind × Bool) → At (command_tests names (Some v) args) k t → t.1 ≡ false
     fails = none-holds (command_tests names (Some v) args) e
 
-is-so : (b : Bool) → not b ≡ false → b ≡ true
+-- a line that isn't refused passes the tests of its words
+pub words-tested : (names : List (List ℕ)) (text : List ℕ) → line_refusal names text ≡ None → refusal_in (words_tests names (words_of text)) ≡ None
+words-tested names text e = second (nat_lt line_limit (length text)) (list_any is_bad_byte text) (words_tests names (words_of text)) e
+  where
+    second : (a b : Bool) (xs : List (ScriptKind × Bool)) → refusal_in ((kind.LineTooLong, a) ∷ (kind.BadByte, b) ∷ xs) ≡ None → refusal_in xs ≡ None
+    second true b xs e = cc
+    second false true xs e = cc
+    second false false xs e = e
+
+pub is-so : (b : Bool) → not b ≡ false → b ≡ true
 is-so true e = refl
 is-so false e = cc
 
-within : (m n : ℕ) → nat_lt m n ≡ false → n ≤ m
+pub within : (m n : ℕ) → nat_lt m n ≡ false → n ≤ m
 within m n e = ltb-false m n e
 
 -- ---- the words of a command
-abbrev firsts : ℕ → List (List ℕ) → List (List ℕ)
+abbrev pub firsts : ℕ → List (List ℕ) → List (List ℕ)
 firsts zero args = []
 firsts (suc n) args = get_or args 0 [] ∷ firsts n (drop 1 args)
 
-all-words : (n : ℕ) (args : List (List ℕ)) → length args ≡ n → args ≡ firsts n args
+pub all-words : (n : ℕ) (args : List (List ℕ)) → length args ≡ n → args ≡ firsts n args
 all-words zero [] e = refl
 all-words zero (w ∷ args) e = absurd (omega (arith, e))
 all-words (suc n) [] e = absurd (omega (arith, e))
 all-words (suc n) (w ∷ args) e = ap (λ (ws : List (List ℕ)). w ∷ ws) (all-words n args (omega (arith, e)))
 
 -- ---- numbers
-from-one : (most : ℕ) (z : ℤ) → not (is_from 1 most z) ≡ false → (pos 0 <ℤ z) × (nat_abs z ≤ most)
+pub from-one : (most : ℕ) (z : ℤ) → not (is_from 1 most z) ≡ false → (pos 0 <ℤ z) × (nat_abs z ≤ most)
 from-one most z e = by z (and_parts (int_le (pos 1) z) (int_le z (pos most)) (is-so (is_from 1 most z) e))
   where
     by : (z : ℤ) → (int_le (pos 1) z ≡ true) × (int_le z (pos most) ≡ true) → (pos 0 <ℤ z) × (nat_abs z ≤ most)
@@ -113,14 +122,14 @@ from-one most z e = by z (and_parts (int_le (pos 1) z) (int_le z (pos most)) (is
     by (pos (suc n)) (a, b) = (omega (arith, ints), leb-true (suc n) most b)
     by (negsuc n) (a, b) = cc
 
-from-none : (most : ℕ) (z : ℤ) → not (is_from 0 most z) ≡ false → nat_abs z ≤ most
+pub from-none : (most : ℕ) (z : ℤ) → not (is_from 0 most z) ≡ false → nat_abs z ≤ most
 from-none most z e = by z (and_parts (int_le (pos 0) z) (int_le z (pos most)) (is-so (is_from 0 most z) e))
   where
     by : (z : ℤ) → (int_le (pos 0) z ≡ true) × (int_le z (pos most) ≡ true) → nat_abs z ≤ most
     by (pos n) (a, b) = leb-true n most b
     by (negsuc n) (a, b) = cc
 
-some-way : (a b c : ℤ) → (is_zero a && is_zero b && is_zero c) ≡ false → IsDirection (vector a b c)
+pub some-way : (a b c : ℤ) → (is_zero a && is_zero b && is_zero c) ≡ false → IsDirection (vector a b c)
 some-way a b c e z = let f = zero-are a b c z in let g : true ≡ false = sym f ∙ e in cc
 
 lists-decided : (xs ys : List ℕ) → Decided (xs ≡ ys)
@@ -157,12 +166,16 @@ names-push : (sets : Bindings) (name : List ℕ) (s : Set) → names_in (sets ++
 names-push [] name s = refl
 names-push (b ∷ bs) name s = ap (λ l. b.0 ∷ l) (names-push bs name s)
 
+-- the bindings with one more, if there is a set for it
+abbrev and_bound : Bindings → List ℕ → Option Set → Bindings
+and_bound sets name o = sets ++ map (λ (s : Set). (name, s)) (option_to_list o)
+
 abbrev name_if : Bool → List ℕ → List (List ℕ)
 name_if t name = if t then name ∷ [] else []
 
 step-none : (names : List (List ℕ)) (sets : Bindings) (bs : List Form) (name : List ℕ) (t : Bool) (o : Option Set) → t ≡ false → o ≡ None → IsBound names sets bs → IsBound (names ++ name_if t name) (and_bound sets name o) bs
 step-none names sets bs name true o e f B = cc
-step-none names sets bs name false None e f B = subst (λ ns. IsBound ns sets bs) (sym (append-nil names)) B
+step-none names sets bs name false None e f B = subst (λ (z : Bindings). IsBound (names ++ []) z bs) (sym (append-nil sets)) (subst (λ ns. IsBound ns sets bs) (sym (append-nil names)) B)
 step-none names sets bs name false (Some s) e f B = cc
 
 step-some : (names : List (List ℕ)) (sets : Bindings) (bs cs : List Form) (name : List ℕ) (s : Set) (t : Bool) (o : Option Set) → t ≡ true → o ≡ Some s → IsBound names sets bs
@@ -251,15 +264,12 @@ module _ (version : TextVersion) where
         let (x, X) = text-of s S in
         let (y, Y) = text-of t T in
         let r = one-text version s t x y X Y in
-        ⊎_elim (λ e. (same_answer true, inl (r.0 e, refl))) (λ n. (same_answer false, inr (λ e. n (r.1 e), refl))) (lists-decided x y)
+        ⊎_elim (λ e. (codes "same" ++ line_end, inl (r.0 e, refl))) (λ n. (codes "differs" ++ line_end, inr (λ e. n (r.1 e), refl))) (lists-decided x y)
 
     count-of : (s : Set) → (x : List ℕ) × CountTells s x
     count-of s =
-        let (a, A) = components-are_counted s 0 in
-        let (b, C) = components-are_counted s 1 in
-        let (c, D) = components-are_counted s 2 in
-        let (d, E) = components-are_counted s 3 in
-        (line (numbers (a ∷ b ∷ c ∷ d ∷ [])), record { vertices = a; edges = b; facets = c; volumes = d; is = refl; no_direction = A; one_direction = C; two_directions = D; three_directions = E })
+        let n = λ (k : ℕ). (components-are_counted s k).0 in
+        (line (numbers (n 0 ∷ n 1 ∷ n 2 ∷ n 3 ∷ [])), (n, λ k. (components-are_counted s k).1, refl))
 
     joined-of : (s : Set) (p q : Place) → (x : List ℕ) × IsJoinedAnswer s p q x
     joined-of s p q = by (InFrame-decided p) (InFrame-decided q)
@@ -267,7 +277,7 @@ module _ (version : TextVersion) where
         by : Decided (InFrame p) → Decided (InFrame q) → (x : List ℕ) × IsJoinedAnswer s p q x
         by (inr n) o = (answer_of Out, IsJoinedAnswer.outside (λ i. n i.0) refl)
         by (inl P) (inr n) = (answer_of Out, IsJoinedAnswer.outside (λ i. n i.1) refl)
-        by (inl P) (inl Q) = ⊎_elim (λ j. (joined_answer true, IsJoinedAnswer.joined P Q j refl)) (λ j. (joined_answer false, IsJoinedAnswer.apart P Q j refl)) (joined-is_decided s p q)
+        by (inl P) (inl Q) = ⊎_elim (λ j. (codes "joined" ++ line_end, IsJoinedAnswer.joined P Q j refl)) (λ j. (codes "apart" ++ line_end, IsJoinedAnswer.apart P Q j refl)) (joined-is_decided s p q)
 
     ray-of : (s : Set) (p : Place) (d : Vector) → AreTurnsOf bs s → IsDirection d → IsPlaceAtMost ray_point_limit ray_weight_limit p → IsAtMost ray_direction_limit d → (x : List ℕ) × IsRayAnswer s p d x
     ray-of s p d T some ps ds =
@@ -304,7 +314,7 @@ module _ (version : TextVersion) where
         let small = from-none 47 (number_or_zero number) r in
         let t = turned_set (nat_abs (number_or_zero number)) s in
         let n : bound_set sets (Some verb.Turn) (name ∷ l ∷ number ∷ []) ≡ Some t = ap (option_map (turned_set (nat_abs (number_or_zero number)))) f in
-        makes word name (l ∷ number ∷ []) verb.Turn e refl t n (t, n, refl) P.room bs B.small same-forms (let c = B.few in omega (arith, c)) (turns-turned bs (nat_abs (number_or_zero number)) s (omega (arith, small)) S)
+        makes word name (l ∷ number ∷ []) verb.Turn e refl t n (t, n, refl) P.room bs B.small same-forms (let c = B.few in omega (arith, c)) (subst (AreTurnsOf bs) (sym (set-same (nat_abs (number_or_zero number)) s)) (turns-turned bs (nat_abs (number_or_zero number)) s (omega (arith, small)) S))
 
     has-says : (word name x y z w : List ℕ) → verb_of word ≡ Some verb.Has → Passed names verb.Has (name ∷ x ∷ y ∷ z ∷ w ∷ []) → Says names sets (word ∷ name ∷ x ∷ y ∷ z ∷ w ∷ [])
     has-says word name x y z w e P =
@@ -405,12 +415,7 @@ module _ (version : TextVersion) where
         by (Some v) f e = command-says word args v f (passed names v args e)
 
     line-says : (text : List ℕ) → line_refusal names text ≡ None → Says names sets (words_of text)
-    line-says text e = words-say (words_of text) (second (nat_lt line_limit (length text)) (list_any is_bad_byte text) (words_tests names (words_of text)) e)
-      where
-        second : (a b : Bool) (xs : List (ScriptKind × Bool)) → refusal_in ((kind.LineTooLong, a) ∷ (kind.BadByte, b) ∷ xs) ≡ None → refusal_in xs ≡ None
-        second true b xs e = cc
-        second false true xs e = cc
-        second false false xs e = e
+    line-says text e = words-say (words_of text) (words-tested names text e)
 
   -- ---- all lines
   abbrev PassFrom : List (List ℕ) → List (List ℕ) → Type 0
@@ -423,8 +428,8 @@ module _ (version : TextVersion) where
       let same : here ≡ text = (let g : Some text ≡ Some here = a in cc) in
       let S = line-says names sets bs B text (subst (λ t. line_refusal names t ≡ None) same (subst (λ ns. line_refusal ns here ≡ None) (append-nil names) e)) in
       join S (lines-say lines (names ++ bound_name (words_of text)) (bound_after sets (words_of text)) S.forms S.after (λ m l.
-          let (t, b, f) = P (suc m) (omega (arith, l)) in
-          (t, b, subst (λ ns. line_refusal ns t ≡ None) (sym (append_assoc names (bound_name (words_of text)) (names_of (take m lines)))) f)))
+      let (t, b, f) = P (suc m) (omega (arith, l)) in
+      (t, b, subst (λ ns. line_refusal ns t ≡ None) (sym (append_assoc names (bound_name (words_of text)) (names_of (take m lines)))) f)))
     where
       join : Says names sets (words_of text) → ((x : List ℕ) × AreSaid (IsText version) (bound_after sets (words_of text)) lines x) → (x : List ℕ) × AreSaid (IsText version) sets (text ∷ lines) x
       join S (x, X) = (S.said ++ x, (S.said, x, S.is, X, refl))

@@ -4,25 +4,29 @@ use Rattle.nef_space.specs.Local.{SameSet}
 use Rattle.nef_space.specs.Place.{Place, InFrame}
 use Rattle.nef_space.specs.Sets.{Set, Holds}
 use Rattle.law_complex.specs.Belongs.{Belongs}
-use Rattle.law_complex.specs.Complexes.{Vertex, Edge, Edges}
+use Rattle.law_complex.specs.Complexes.{Vertex}
+use Rattle.law_complex.specs.Shows.{Shows}
 use Rattle.law_complex.proofs.FacetNames.{facet-at, facet-of}
 use Rattle.law_complex.proofs.Skeletons.{belongs-holds}
-use Rattle.nef_complex.specs.Complexes.{complex_of, vertex_of, edge_of, ShowsSet}
+use Rattle.nef_complex.specs.Complexes.{complex_of, vertex_of, edge_of}
 use Rattle.nef_core.specs.declared.work.TextVersion.{TextVersion}
-use Rattle.nef_unique.proofs.Vertices.{edges-one, set-vertices}
+use Rattle.nef_unique.proofs.Vertices.{set-vertices}
 use Rattle.law_text.proofs.SameText.{same-parts, same-set_text, text-set, spelled-holds}
 use Rattle.nef_complex.specs.Numbers.{IsParts}
 use Rattle.nef_complex.specs.Text.{version_word, first_line, vertices_text, edge_line, facet_text, line, numbers, volumes_text, text, Spells}
 use Rattle.std.specs.Prelude.{codes}
 use Rattle.std.specs.List.{flat_map}
-use Rattle.nef_statement.proofs.Counts.{count-same}
+use Rattle.nef_statement.proofs.Counts.{count-same, counted-by}
+use Rattle.nef_statement.proofs.Edged.{sorted-edges, belongs-edged}
 use Rattle.nef_complex.specs.declared.parts.Parts.{Parts}
 use Rattle.nef_complex.specs.declared.complex.Complex.{Complex}
 use Rattle.nef_complex.specs.declared.complex.Vertex.{Vertex as ComplexVertex}
 use Rattle.nef_complex.specs.declared.complex.Edge.{Edge as ComplexEdge}
 use Rattle.nef_core.specs.declared.work.TextVersion.TheVariants.{One, Two}
-use Rattle.nef_volumes.proofs.Components.{are-counted}
-use Rattle.nef_statement.specs.Reader.{rows_of, vertices_told, with_edges, TextSays}
+use Rattle.law_exist.proofs.Shown.{shown-maps}
+use Rattle.nef_volumes.proofs.Components.{shown-counted}
+use Rattle.nef_volumes.proofs.SideLabels.{upright-by_maps}
+use Rattle.nef_statement.specs.Reader.{rows_of, vertices_told, with_edges, AreEdges, TextSays}
 use Rattle.nef_statement.specs.Texts.{count_line, IsWrittenOf, IsText}
 use Rattle.nef_statement.specs.Written.{CountTells}
 use Rattle.nef_statement.proofs.Alike.{same-alike, same-turned, same-trans}
@@ -43,7 +47,7 @@ counted-one s t x y same (c, p, S, P, e) (d, q, T, Q, f) =
 
 -- the text of a set spells the complex that shows it
 pub text-spells : (version : TextVersion) (s : Set) (x : List ℕ) → IsWrittenOf s (text version) x → (d : Complex) × Spells version x d
-text-spells version s x (c, p, S, P, e) = (c, (S.shows.edges, (p, P, e)))
+text-spells version s x (c, p, S, P, e) = (c, (S.edges, (p, P, e)))
 
 -- and a point of the frame belongs to each complex that it spells exactly where the set holds
 pub text-holds : (version : TextVersion) (s : Set) (x : List ℕ) (d : Complex) (y : Place) → IsWrittenOf s (text version) x → Spells version x d → InFrame y → Belongs (complex_of d) y ↔ Holds s y
@@ -51,30 +55,18 @@ text-holds version s x d y (c, p, S, P, e) spells inside = spelled-holds (λ s C
 
 -- the counted numbers are those of components
 pub count-tells : (s : Set) (x : List ℕ) → IsWrittenOf s count_line x → CountTells s x
-count-tells s x (c, p, S, P, e) =
-    let counted = are-counted c p P s S in
-    record {
-      vertices = length c.vertices;
-      edges = length c.edges;
-      facets = length p.facets;
-      volumes = length p.volumes;
-      is = e;
-      no_direction = counted.0;
-      one_direction = counted.1;
-      two_directions = counted.2;
-      three_directions = counted.3;
-    }
+count-tells s x (c, p, S, P, e) = subst (CountTells s) (sym e) (counted-by s (length c.vertices) (length c.edges) (length p.facets) (length p.volumes) (shown-counted c p P s S (upright-by_maps s c S (shown-maps s c S))))
 
 text-same : (version : TextVersion) (c : Complex) (p : Parts) → text version c p ≡ text version (record { carriers = []; vertices = c.vertices; edges = c.edges; index = c.index }) p
 text-same One c p = refl
 text-same Two c p = refl
 
 -- to the vertices and edges of a complex that shows the set a point of the frame belongs exactly where the set holds, whatever the carriers
-shown-holds : (version : TextVersion) (t : Set) (c : Complex) (p : Parts) (y : Place) → ShowsSet t c → IsParts (complex_of c) p → InFrame y → Belongs (with_edges (map vertex_of c.vertices) (map edge_of c.edges)) y ↔ Holds t y
+shown-holds : (version : TextVersion) (t : Set) (c : Complex) (p : Parts) (y : Place) → Shows t (complex_of c) → IsParts (complex_of c) p → InFrame y → Belongs (with_edges (map vertex_of c.vertices) (map edge_of c.edges)) y ↔ Holds t y
 shown-holds version t c p y S P inside =
     let d : Complex = record { carriers = []; vertices = c.vertices; edges = c.edges; index = c.index } in
     spelled-holds (λ s C p S inside. belongs-holds s C S (facet-at s C S) (facet-of s C S) p inside) version t c d p (text version c p) y S refl
-    (S.shows.edges, (p, same-parts c d p refl refl P, text-same version c p)) inside
+    (S.edges, (p, same-parts c d p refl refl P, text-same version c p)) inside
 
 four_parts : (a b c d x : List ℕ) → a ++ b ++ c ++ d ++ x ≡ a ++ (b ++ (c ++ (d ++ x)))
 four_parts a b c d x = append_assoc (a ++ b ++ c) d x ∙ append_assoc (a ++ b) c (d ++ x) ∙ append_assoc a b (c ++ (d ++ x))
@@ -95,17 +87,19 @@ text-says version s x (t, same, (c, p, S, P, e)) =
     record {
       first = (count_line c p, after-first version c p, count-same s t (count_line c p) same (count-tells t (count_line c p) (c, p, S, P, refl)), e ∙ text-begins version c p);
       weights = subst (λ z. HasWeights (rows_of z)) (sym e) (weights-told version c p);
-      edges = (map edge_of c.edges, subst (λ (vs : List Vertex). Edges vs (map edge_of c.edges)) (sym vertices) S.shows.edges);
+      edges = (map edge_of c.edges, edges);
       holds = λ es y E inside.
-          let w = edges-one (map vertex_of c.vertices) (map edge_of c.edges) es S.shows.edges (subst (λ (vs : List Vertex). Edges vs es) vertices E) in
-          let h = subst (λ (fs : List Edge). Belongs (with_edges (vertices_told x) fs) y ↔ Holds t y) w
-          (subst (λ (vs : List Vertex). Belongs (with_edges vs (map edge_of c.edges)) y ↔ Holds t y) (sym vertices) (shown-holds version t c p y S P inside)) in
+          let w = belongs-edged (vertices_told x) es (map edge_of c.edges) y E edges in
+          let h = subst (λ (vs : List Vertex). Belongs (with_edges vs (map edge_of c.edges)) y ↔ Holds t y) (sym vertices) (shown-holds version t c p y S P inside) in
           let a = same-alike s t same y inside in
-          (λ b. a.1 (h.0 b), λ k. h.1 (a.0 k));
+          (λ b. a.1 (h.0 (w.0 b)), λ k. w.1 (h.1 (a.0 k)));
     }
   where
     vertices : vertices_told x ≡ map vertex_of c.vertices
     vertices = ap vertices_told e ∙ vertices-told version c p
+
+    edges : AreEdges (vertices_told x) (map edge_of c.edges)
+    edges = subst (λ (vs : List Vertex). AreEdges vs (map edge_of c.edges)) (sym vertices) (sorted-edges (map vertex_of c.vertices) (map edge_of c.edges) S.edges)
 
 pub one-text : (version : TextVersion) (s t : Set) (x y : List ℕ) → IsText version s x → IsText version t y → (x ≡ y) ↔ SameSet s t
 one-text version s t x y (a, f, h) (b, g, k) =

@@ -13,7 +13,7 @@ use Rattle.nef_space.specs.declared.label.Label.TheVariants.{Out, Not, In}
 use Rattle.nef_geo.specs.Shapes.{place_of, vector_of}
 use Rattle.nef_geo.specs.declared.dir.Dir.{Dir}
 use Rattle.nef_geo.specs.declared.point.Point.{Point}
-use Rattle.law_sphere.specs.Maps.{MapVertex, Arc}
+use Rattle.law_sphere.specs.Maps.{MapVertex, Arc, MapSloop}
 use Rattle.law_complex.specs.Complexes.{Vertex as PlainVertex}
 use Rattle.nef_smap.specs.Maps.{svertex_of, arc_of, sloop_of}
 use Rattle.nef_smap.specs.declared.map.SVertex.{SVertex}
@@ -34,8 +34,8 @@ use Rattle.nef_complex.specs.declared.parts.Side.{Side}
 use Rattle.nef_complex.specs.Text.{Word, line, label_word, option_word, numbers, signed, svertex_line, arc_line, sloop_line, vertex_line, vertex_text, edge_line, corner_words, cycle_line, facet_line, facet_text, volume_line, sface_line, side_words, shell_line, faced_text, shelled_text, with_rows, counts, version_word, first_line, vertices_text, volumes_text, text}
 use Rattle.law_text.proofs.Vertices.{with-rows_firsts}
 use Rattle.nef_script.specs.Tests.{number_or_zero}
-use Rattle.nef_statement.specs.Reader.{Row, rows_of, word_at, number_at, Told, told, with_row, told_by, vertices_told, positive}
-use Rattle.nef_statement.proofs.Lines.{Each, Each-append, IsGood, AreGood, rows-read, signed-read, decimal-read, decimal-good, signed-good}
+use Rattle.nef_statement.specs.Reader.{rows_of, word_at, number_at, Told, with_row, told_by, vertices_told, positive}
+use Rattle.nef_statement.proofs.Lines.{Row, Each, Each-append, IsGood, AreGood, rows-read, signed-read, decimal-read, decimal-good, signed-good}
 
 -- ---- words
 abbrev read_label : Word → Label
@@ -69,6 +69,9 @@ numbers-good [] = tt
 numbers-good (n ∷ ns) = (decimal-good n, numbers-good ns)
 
 -- ---- what rows tell before others
+abbrev told : List MapVertex → List Arc → Option MapSloop → List PlainVertex → Told
+told svertices arcs sloop vertices = record { svertices = svertices; arcs = arcs; sloop = sloop; vertices = vertices }
+
 abbrev onto : List Row → Told → Told
 onto [] t = t
 onto (row ∷ rows) t = with_row row (onto rows t)

@@ -1,9 +1,8 @@
 -- The sets that the names of a script stand for.
-use Rattle.std.specs.Prelude.{ℕ, List, [], ◌∷◌, ◌++◌, Option, Some, None, option_map, codes, nat_abs, if◌then◌else◌}
+use Rattle.std.specs.Prelude.{ℕ, ◌/◌, ◌%◌, ◌==◌, ℤ, neg_ℤ, List, [], ◌∷◌, ◌++◌, Option, Some, None, option_map, option_to_list, codes, nat_abs, get_or, map, if◌then◌else◌}
 use Rattle.std.specs.Str.{bytes_eq}
-use Rattle.nef_space.specs.Place.{form}
+use Rattle.nef_space.specs.Place.{Form, form}
 use Rattle.nef_space.specs.Sets.{Set}
-use Rattle.law_turns.specs.Turned.{turned_set}
 use Rattle.nef_lex.specs.Words.{words_of}
 use Rattle.nef_script.specs.Table.{verb_of}
 use Rattle.nef_script.specs.Tests.{number_or_zero}
@@ -18,6 +17,33 @@ Bindings = List (List ℕ × Set)
 abbrev pub set_named : Bindings → List ℕ → Option Set
 set_named [] name = None
 set_named (b ∷ bs) name = if bytes_eq name b.0 then Some b.1 else set_named bs name
+
+-- the old coordinates that become the new x, y and z, by the six orders
+abbrev pub orders : ℤ → ℤ → ℤ → List (ℤ × ℤ × ℤ)
+orders x y z = (x, y, z) ∷ (x, z, y) ∷ (y, x, z) ∷ (y, z, x) ∷ (z, x, y) ∷ (z, y, x) ∷ []
+
+-- the number, negated where s has the bit, which is 1, 2 or 4
+abbrev pub signed_by : ℕ → ℕ → ℤ → ℤ
+signed_by bit s a = if s / bit % 2 == 1 then neg_ℤ a else a
+
+-- the form under the turn K = 8 P + s: its normal in the order P, with the signs by the bits 1, 2 and 4 of s, and the same offset
+abbrev pub turned_form : ℕ → Form → Form
+turned_form k f = let n = get_or (orders f.a f.b f.c) (k / 8) (f.c, f.b, f.a) in form (signed_by 1 (k % 8) n.0) (signed_by 2 (k % 8) n.1) (signed_by 4 (k % 8) n.2) f.d
+
+-- the set under the turn: with the turned forms of its halves
+abbrev pub turned_set : ℕ → Set → Set
+turned_set k (Set.half f c) = Set.half (turned_form k f) c
+turned_set k Set.empty = Set.empty
+turned_set k Set.full = Set.full
+turned_set k (Set.both a b) = Set.both (turned_set k a) (turned_set k b)
+turned_set k (Set.either a b) = Set.either (turned_set k a) (turned_set k b)
+turned_set k (Set.less a b) = Set.less (turned_set k a) (turned_set k b)
+turned_set k (Set.one_of a b) = Set.one_of (turned_set k a) (turned_set k b)
+turned_set k (Set.other a) = Set.other (turned_set k a)
+turned_set k (Set.inside a) = Set.inside (turned_set k a)
+turned_set k (Set.closed a) = Set.closed (turned_set k a)
+turned_set k (Set.border a) = Set.border (turned_set k a)
+turned_set k (Set.regular a) = Set.regular (turned_set k a)
 
 -- the set that is made of the sets of two names
 abbrev pub made_of : (Set → Set → Set) → Option Set → Option Set → Option Set
@@ -41,14 +67,9 @@ bound_set sets (Some verb.Reg) (name ∷ operand ∷ []) = option_map Set.regula
 bound_set sets (Some verb.Turn) (name ∷ operand ∷ number ∷ []) = option_map (turned_set (nat_abs (number_or_zero number))) (set_named sets operand)
 bound_set sets command args = None
 
--- the bindings with one more, if there is a set for it
-abbrev pub and_bound : Bindings → List ℕ → Option Set → Bindings
-and_bound sets name None = sets
-and_bound sets name (Some s) = sets ++ (name, s) ∷ []
-
--- the bindings after a line, by its words
+-- the bindings after a line, by its words: with one more, if the command binds its first word to a set
 abbrev pub bound_after : Bindings → List (List ℕ) → Bindings
-bound_after sets (word ∷ name ∷ args) = and_bound sets name (bound_set sets (verb_of word) (name ∷ args))
+bound_after sets (word ∷ name ∷ args) = sets ++ map (λ s. (name, s)) (option_to_list (bound_set sets (verb_of word) (name ∷ args)))
 bound_after sets words = sets
 
 -- and by all lines of a script

@@ -1,13 +1,15 @@
 -- The definitions at worked examples.
-use Rattle.std.specs.Prelude.{◌≡◌, pos, negsuc, true, [], ◌∷◌, Some, None, codes}
+use Rattle.std.specs.Prelude.{◌≡◌, pos, negsuc, true, List, [], ◌∷◌, Option, Some, None, codes}
 use Rattle.nef_space.specs.Place.{form}
 use Rattle.nef_space.specs.Sets.{Set}
 use Rattle.nef_space.specs.Vectors.{vector}
+use Rattle.nef_space.specs.declared.label.Label.{Label}
 use Rattle.nef_space.specs.declared.label.Label.TheVariants.{Not, In}
+use Rattle.law_sphere.specs.Maps.{MapVertex, Arc, MapSloop, Map}
 use Rattle.nef_lex.specs.Lines.{lines_of}
 use Rattle.nef_script.specs.Laws.{script_of}
 use Rattle.nef_statement.specs.Denotes.{denoted}
-use Rattle.nef_statement.specs.Reader.{positive, map_with, vertices_told}
+use Rattle.nef_statement.specs.Reader.{positive, vertices_told}
 
 -- a half-space, its complement, and that turned by the turn 8, which exchanges y and z
 abbrev pub DenotedExample : Type 0
@@ -17,6 +19,10 @@ DenotedExample =
     ∷ (codes "B", Set.other (Set.half (form (pos 1) (pos 2) (pos 3) (negsuc 3)) true))
     ∷ (codes "C", Set.other (Set.half (form (pos 1) (pos 3) (pos 2) (negsuc 3)) true))
     ∷ []
+
+-- a map, by all that it has
+abbrev pub map_with : Label → List MapVertex → List Arc → Option MapSloop → Option Label → Map
+map_with mark svertices arcs sloop around = let ground : Option Label = around in record { mark = mark; svertices = svertices; arcs = arcs; sloop = sloop; ground = ground }
 
 -- a vertex with an svertex and an arc, and one with a sloop, among rows that tell no vertex
 abbrev pub ToldExample : Type 0

@@ -1,12 +1,13 @@
 pub mod Status
 pub mod Traffic
 pub mod Output
-pub mod Answers
 pub mod Written
 pub mod Denotes
 pub mod Said
 pub mod Reader
+pub mod Means
 pub mod Statement
+pub mod Same
 pub mod Texts
 pub mod Meanings
 pub mod Examples

@@ -1,12 +1,17 @@
--- What the meanings of a script, which share nodes among its names, have in common.
+-- That a script has a meaning, and what its meanings, which share nodes among its names, have in common.
 use Rattle.std.specs.Prelude.{◌≡◌, ℕ, List, [], Some}
 use Rattle.nef_space.specs.Local.{SameSet}
 use Rattle.nef_space.specs.Sets.{Set}
+use Rattle.nef_expr.specs.declared.nodes.Node.{Node}
 use Rattle.nef_expr.specs.Nodes.{node_set, IsOrdered}
-use Rattle.nef_script.specs.Refusal.{names_of}
-use Rattle.nef_script.specs.Meaning.{Names, Sets, MeansLines}
+use Rattle.nef_script.specs.Refusal.{names_of, IsAccepted}
+use Rattle.nef_script.specs.Meaning.{Names, Sets, MeansLines, MeansScript}
 use Rattle.nef_script.specs.declared.script.Command.{Command}
 use Rattle.nef_statement.specs.Denotes.{set_named, denoted}
+
+-- each accepted script has one
+abbrev pub EachMeans : Type 0
+EachMeans = (bytes : List ℕ) → IsAccepted bytes → (nodes : List Node) × (commands : List Command) × MeansScript bytes nodes commands
 
 -- in each of them the lines give each name the set of its node
 abbrev pub NodesDenote : Type 0

@@ -1,5 +1,5 @@
 -- The lines that a run writes.
-use Rattle.std.specs.Prelude.{◌≡◌, ℕ, ℤ, Bool, true, false, List, [], ◌∷◌, ◌++◌, ◌⊎◌, codes, decimal}
+use Rattle.std.specs.Prelude.{◌≡◌, ℕ, ℤ, List, [], ◌∷◌, ◌++◌, ◌⊎◌, codes, decimal, if◌then◌else◌}
 use Rattle.std.specs.Fmt.{signed_decimal}
 use Rattle.nef_space.specs.Local.{Joined as AreJoined, SameSet}
 use Rattle.nef_space.specs.Place.{Place, InFrame}
@@ -28,28 +28,13 @@ refusal_line line kind = codes "line " ++ decimal line ++ codes ": " ++ kind_tex
 abbrev pub words_line : List ℕ
 words_line = codes "words refused" ++ line_end
 
--- whether two sets are one
-abbrev pub same_answer : Bool → List ℕ
-same_answer true = codes "same" ++ line_end
-same_answer false = codes "differs" ++ line_end
-
--- whether two points are joined
-abbrev pub joined_answer : Bool → List ℕ
-joined_answer true = codes "joined" ++ line_end
-joined_answer false = codes "apart" ++ line_end
-
--- whether the label along a ray changes just after a point, or at the point itself
-abbrev pub change_word : Bool → List ℕ
-change_word true = codes "after "
-change_word false = codes "at "
-
 -- a number, and a blank
 abbrev pub spaced : ℤ → List ℕ
 spaced n = signed_decimal n ++ 32 ∷ []
 
--- where a ray ends: the point in lowest terms, whose w is positive, and the label there or just after it
+-- where a ray ends: whether the label changes at the point itself or just after it, the point in lowest terms, whose w is positive, and the new label
 abbrev pub end_line : RayEnd → List ℕ
-end_line e = change_word e.after ++ spaced e.point.x ++ spaced e.point.y ++ spaced e.point.z ++ spaced e.point.w ++ answer_of e.label
+end_line e = (if e.after then codes "after " else codes "at ") ++ spaced e.point.x ++ spaced e.point.y ++ spaced e.point.z ++ spaced e.point.w ++ answer_of e.label
 
 -- a text between the lines that name it and end it
 abbrev pub framed : List ℕ → List ℕ → List ℕ
@@ -57,13 +42,13 @@ framed name x = codes "polyhedron " ++ name ++ line_end ++ x ++ codes "end" ++ l
 
 -- the answer to whether s and t are one
 abbrev pub IsSameAnswer : Set → Set → List ℕ → Type 0
-IsSameAnswer s t piece = (SameSet s t × (piece ≡ same_answer true)) ⊎ ((SameSet s t → ⊥) × (piece ≡ same_answer false))
+IsSameAnswer s t piece = (SameSet s t × (piece ≡ codes "same" ++ line_end)) ⊎ ((SameSet s t → ⊥) × (piece ≡ codes "differs" ++ line_end))
 
 -- the answer to whether p and q are joined in s
 pub data IsJoinedAnswer (s : Set) (p q : Place) (piece : List ℕ) : Type 0 where
   outside : (InFrame p × InFrame q → ⊥) → piece ≡ answer_of Out → IsJoinedAnswer s p q piece
-  joined : InFrame p → InFrame q → AreJoined s p q → piece ≡ joined_answer true → IsJoinedAnswer s p q piece
-  apart : InFrame p → InFrame q → (AreJoined s p q → ⊥) → piece ≡ joined_answer false → IsJoinedAnswer s p q piece
+  joined : InFrame p → InFrame q → AreJoined s p q → piece ≡ codes "joined" ++ line_end → IsJoinedAnswer s p q piece
+  apart : InFrame p → InFrame q → (AreJoined s p q → ⊥) → piece ≡ codes "apart" ++ line_end → IsJoinedAnswer s p q piece
 
 -- the answer to where the label of s first changes along the ray from p toward d
 pub data IsRayAnswer (s : Set) (p : Place) (d : Vector) (piece : List ℕ) : Type 0 where

@@ -7,9 +7,9 @@ use Rattle.nef_space.specs.Sets.{Set, Holds}
 use Rattle.nef_space.specs.Vectors.{Vector, vector}
 use Rattle.nef_space.specs.declared.label.Label.{Label}
 use Rattle.nef_space.specs.declared.label.Label.TheVariants.{Out, Not, In}
-use Rattle.law_sphere.specs.Maps.{MapVertex, Arc, MapSloop, Map}
+use Rattle.law_sphere.specs.Maps.{At, MapVertex, Arc, MapSloop}
 use Rattle.law_complex.specs.Belongs.{Belongs}
-use Rattle.law_complex.specs.Complexes.{Vertex, Edge, Complex, Edges}
+use Rattle.law_complex.specs.Complexes.{Vertex, Edge, Complex, IsEdge}
 use Rattle.nef_lex.specs.Lines.{lines_of}
 use Rattle.nef_lex.specs.Words.{words_of}
 use Rattle.nef_core.specs.declared.work.TextVersion.{TextVersion}
@@ -17,37 +17,34 @@ use Rattle.nef_complex.specs.Text.{version_word}
 use Rattle.nef_script.specs.Tests.{number_or_zero}
 use Rattle.nef_statement.specs.Written.{CountTells}
 
-abbrev pub Row : Type 0
-Row = List (List ℕ)
-
 -- the words of each line, as of a script
-abbrev pub rows_of : List ℕ → List Row
+abbrev pub rows_of : List ℕ → List (List (List ℕ))
 rows_of x = map words_of (lines_of x)
 
 -- the word with this number in a row, counted from 0: as it stands, as a number, as a count, as a label, and as one that may be missing
-abbrev pub word_at : Row → ℕ → List ℕ
+abbrev pub word_at : List (List ℕ) → ℕ → List ℕ
 word_at row n = get_or row n []
 
-abbrev pub number_at : Row → ℕ → ℤ
+abbrev pub number_at : List (List ℕ) → ℕ → ℤ
 number_at row n = number_or_zero (word_at row n)
 
-abbrev pub count_at : Row → ℕ → ℕ
+abbrev pub count_at : List (List ℕ) → ℕ → ℕ
 count_at row n = nat_abs (number_at row n)
 
-abbrev pub label_at : Row → ℕ → Label
+abbrev pub label_at : List (List ℕ) → ℕ → Label
 label_at row n = if bytes_eq (word_at row n) (codes "i") then In else (if bytes_eq (word_at row n) (codes "n") then Not else Out)
 
-abbrev pub option_at : Row → ℕ → Option Label
+abbrev pub option_at : List (List ℕ) → ℕ → Option Label
 option_at row n = if bytes_eq (word_at row n) (codes "-") then None else Some (label_at row n)
 
 -- three and four words as a direction and as a point (x/w, y/w, z/w), whose w is positive in each text (`weights` below)
-abbrev pub vector_at : Row → ℕ → Vector
+abbrev pub vector_at : List (List ℕ) → ℕ → Vector
 vector_at row n = vector (number_at row n) (number_at row (n + 1)) (number_at row (n + 2))
 
 pub positive : (n : ℕ) → 0 < suc n
 positive n = omega arith
 
-abbrev pub place_in : Row → ℕ → Place
+abbrev pub place_in : List (List ℕ) → ℕ → Place
 place_in row n = record { x = number_at row n; y = number_at row (n + 1); z = number_at row (n + 2); w = suc (count_at row (n + 3) - 1); proper = positive (count_at row (n + 3) - 1) }
 
 -- what rows tell: vertices, and before them the svertices, arcs and sloop of the vertex whose row stands above
@@ -57,33 +54,19 @@ pub record Told : Type 0 where
   pub sloop : Option MapSloop
   pub vertices : List Vertex
 
-abbrev pub told : List MapVertex → List Arc → Option MapSloop → List Vertex → Told
-told svertices arcs sloop vertices = record { svertices = svertices; arcs = arcs; sloop = sloop; vertices = vertices }
+-- the vertex of a row, with what is told of it
+abbrev pub vertex_told : List (List ℕ) → Told → Vertex
+vertex_told row t = let ground : Option Label = option_at row 6 in record { point = place_in row 1; map = record { mark = label_at row 5; svertices = t.svertices; arcs = t.arcs; sloop = t.sloop; ground = ground } }
 
-abbrev pub map_with : Label → List MapVertex → List Arc → Option MapSloop → Option Label → Map
-map_with mark svertices arcs sloop around = let ground : Option Label = around in record { mark = mark; svertices = svertices; arcs = arcs; sloop = sloop; ground = ground }
+-- one row more at the front, by its first word: a vertex, an svertex, an arc or a sloop. A row that begins otherwise tells nothing
+abbrev pub with_row : List (List ℕ) → Told → Told
+with_row row t = if bytes_eq (word_at row 0) (codes "v") then record { svertices = []; arcs = []; sloop = None; vertices = vertex_told row t ∷ t.vertices }
+    else (if bytes_eq (word_at row 0) (codes "s") then record t { svertices = record { dir = vector_at row 1; mark = label_at row 4; around = option_at row 5 } ∷ t.svertices }
+    else (if bytes_eq (word_at row 0) (codes "a") then record t { arcs = record { normal = vector_at row 3; source = count_at row 1; target = count_at row 2; pos = label_at row 7; mark = label_at row 6; neg = label_at row 8 } ∷ t.arcs }
+    else (if bytes_eq (word_at row 0) (codes "l") then record t { sloop = Some (record { normal = vector_at row 1; pos = label_at row 5; mark = label_at row 4; neg = label_at row 6 }) } else t)))
 
-abbrev pub vertex_row : Row → Told → Told
-vertex_row row t = told [] [] None (record { point = place_in row 1; map = map_with (label_at row 5) t.svertices t.arcs t.sloop (option_at row 6) } ∷ t.vertices)
-
-abbrev pub svertex_row : Row → Told → Told
-svertex_row row t = told (record { dir = vector_at row 1; mark = label_at row 4; around = option_at row 5 } ∷ t.svertices) t.arcs t.sloop t.vertices
-
-abbrev pub arc_row : Row → Told → Told
-arc_row row t = told t.svertices (record { normal = vector_at row 3; source = count_at row 1; target = count_at row 2; pos = label_at row 7; mark = label_at row 6; neg = label_at row 8 } ∷ t.arcs) t.sloop t.vertices
-
-abbrev pub sloop_row : Row → Told → Told
-sloop_row row t = told t.svertices t.arcs (Some (record { normal = vector_at row 1; pos = label_at row 5; mark = label_at row 4; neg = label_at row 6 })) t.vertices
-
--- one row more at the front, by its first word. A row that begins otherwise tells nothing
-abbrev pub with_row : Row → Told → Told
-with_row row t = if bytes_eq (word_at row 0) (codes "v") then vertex_row row t
-    else (if bytes_eq (word_at row 0) (codes "s") then svertex_row row t
-    else (if bytes_eq (word_at row 0) (codes "a") then arc_row row t
-    else (if bytes_eq (word_at row 0) (codes "l") then sloop_row row t else t)))
-
-abbrev pub told_by : List Row → Told
-told_by [] = told [] [] None []
+abbrev pub told_by : List (List (List ℕ)) → Told
+told_by [] = record { svertices = []; arcs = []; sloop = None; vertices = [] }
 told_by (row ∷ rows) = with_row row (told_by rows)
 
 abbrev pub vertices_told : List ℕ → List Vertex
@@ -92,10 +75,13 @@ vertices_told x = (told_by (rows_of x)).vertices
 abbrev pub with_edges : List Vertex → List Edge → Complex
 with_edges vertices edges = record { carriers = []; vertices = vertices; edges = edges }
 
--- the text begins with its format, its version and the numbers that are counted of the set; its vertices have positive w. They have edges, and with these a point of the
--- frame belongs to them exactly where the set holds
+-- these are the edges of the vertices
+abbrev pub AreEdges : List Vertex → List Edge → Type 0
+AreEdges vertices es = (e : Edge) → IsEdge vertices e ↔ ((k : ℕ) × At es k e)
+
+-- the text begins with its format, its version and the counted numbers of the set; its vertices have positive w, and with their edges a point of the frame belongs to them exactly where the set holds
 pub record TextSays (version : TextVersion) (s : Set) (x : List ℕ) : Type 0 where
   pub first : (counted : List ℕ) × (rest : List ℕ) × CountTells s counted × (x ≡ codes "nef3 " ++ version_word version ++ codes " " ++ counted ++ rest)
-  pub weights : (n : ℕ) (row : Row) → slice_get (rows_of x) n ≡ Some row → word_at row 0 ≡ codes "v" → pos 0 <ℤ number_at row 4
-  pub edges : (es : List Edge) × Edges (vertices_told x) es
-  pub holds : (es : List Edge) (p : Place) → Edges (vertices_told x) es → InFrame p → Belongs (with_edges (vertices_told x) es) p ↔ Holds s p
+  pub weights : (n : ℕ) (row : List (List ℕ)) → slice_get (rows_of x) n ≡ Some row → word_at row 0 ≡ codes "v" → pos 0 <ℤ number_at row 4
+  pub edges : (es : List Edge) × AreEdges (vertices_told x) es
+  pub holds : (es : List Edge) (p : Place) → AreEdges (vertices_told x) es → InFrame p → Belongs (with_edges (vertices_told x) es) p ↔ Holds s p

@@ -19,10 +19,6 @@ use Rattle.nef_statement.specs.Denotes.{Bindings, set_named, bound_set, bound_af
 abbrev pub AtPoint : List ℕ → List ℕ → List ℕ → List ℕ → (Place → Type 0) → Type 0
 AtPoint x y z w P = (proper : pos 0 <ℤ number_or_zero w) × P (place_at (number_or_zero x) (number_or_zero y) (number_or_zero z) (number_or_zero w) proper)
 
--- the answer to what the label of s is at p
-abbrev pub IsLabelAnswer : Set → Place → List ℕ → Type 0
-IsLabelAnswer s p said = (l : Label) × HasLabel s p l × (said ≡ answer_of l)
-
 -- P is so of the set of the name, which is bound
 abbrev pub OfName : Bindings → List ℕ → (Set → Type 0) → Type 0
 OfName sets name P = (s : Set) × (set_named sets name ≡ Some s) × P s
@@ -30,7 +26,7 @@ OfName sets name P = (s : Set) × (set_named sets name ≡ Some s) × P s
 -- what a command says, by the words after it: the answer to what it asks, and nothing where it binds a name to a set. Of a wrong number of words, an operand that isn't
 -- bound and a w that isn't positive nothing can be said, not even this: no script of which all is said has such a line
 abbrev pub IsSaid : (Set → List ℕ → Type 0) → Bindings → Option Verb → List (List ℕ) → List ℕ → Type 0
-IsSaid Text sets (Some verb.Has) (name ∷ x ∷ y ∷ z ∷ w ∷ []) said = OfName sets name (λ s. AtPoint x y z w (λ p. IsLabelAnswer s p said))
+IsSaid Text sets (Some verb.Has) (name ∷ x ∷ y ∷ z ∷ w ∷ []) said = OfName sets name (λ s. AtPoint x y z w (λ p. (l : Label) × HasLabel s p l × (said ≡ answer_of l)))
 IsSaid Text sets (Some verb.Joined) (name ∷ x ∷ y ∷ z ∷ w ∷ x2 ∷ y2 ∷ z2 ∷ w2 ∷ []) said = OfName sets name (λ s. AtPoint x y z w (λ p. AtPoint x2 y2 z2 w2 (λ q. IsJoinedAnswer s p q said)))
 IsSaid Text sets (Some verb.Ray) (name ∷ x ∷ y ∷ z ∷ w ∷ dx ∷ dy ∷ dz ∷ []) said = OfName sets name (λ s. AtPoint x y z w (λ p. IsRayAnswer s p (vector (number_or_zero dx) (number_or_zero dy) (number_or_zero dz)) said))
 IsSaid Text sets (Some verb.Same) (left ∷ right ∷ []) said = OfName sets left (λ s. OfName sets right (λ t. IsSameAnswer s t said))

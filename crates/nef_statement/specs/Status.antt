@@ -1,5 +1,5 @@
 -- How a run ends.
-use Rattle.std.specs.Prelude.{◌≡◌, ℕ, ◌⊎◌}
+use Rattle.std.specs.Prelude.{ℕ}
 use Rattle.nef_io.specs.declared.traits.ReadAll.{ReadAll}
 use Rattle.nef_io.specs.declared.traits.ReadAll.TheVariants as read
 use Rattle.nef_script.specs.declared.script.ScriptFault.{ScriptFault}
@@ -16,10 +16,6 @@ status_code Words = 2
 status_code ReadFault = 3
 status_code WriteFault = 4
 status_code OutOfMemory = 5
-
--- it ends so, or memory was wanted and not found
-abbrev pub EndsAs : Status → Status → Type 0
-EndsAs wanted status = (status ≡ wanted) ⊎ (status ≡ OutOfMemory)
 
 -- it came to an end of its own: the script was worked to its end, or it or the words were refused
 abbrev pub EndsByItself : Status → Type 0

@@ -2,8 +2,9 @@
 use Rattle.std.specs.Prelude.{◌≡◌, ℕ, List}
 use Rattle.nef_space.specs.Local.{SameSet}
 use Rattle.nef_space.specs.Sets.{Set}
+use Rattle.law_complex.specs.Shows.{Shows}
 use Rattle.nef_complex.specs.declared.complex.Complex.{Complex}
-use Rattle.nef_complex.specs.Complexes.{ShowsSet, complex_of}
+use Rattle.nef_complex.specs.Complexes.{complex_of}
 use Rattle.nef_core.specs.declared.work.TextVersion.{TextVersion}
 use Rattle.nef_complex.specs.declared.parts.Parts.{Parts}
 use Rattle.nef_complex.specs.Numbers.{IsParts}
@@ -16,7 +17,7 @@ count_line c p = line (numbers (counts c p))
 -- what is written of a complex that shows s, with its parts. The set determines the complex but for its carriers, which nothing writes, so any complex will do:
 -- there is one such piece
 abbrev pub IsWrittenOf : Set → (Complex → Parts → List ℕ) → List ℕ → Type 0
-IsWrittenOf s written piece = (c : Complex) × (p : Parts) × ShowsSet s c × IsParts (complex_of c) p × (piece ≡ written c p)
+IsWrittenOf s written piece = (c : Complex) × (p : Parts) × Shows s (complex_of c) × IsParts (complex_of c) p × (piece ≡ written c p)
 
 -- the bytes are the text of a complex that shows the set, by some expression for it
 abbrev pub IsText : TextVersion → Set → List ℕ → Type 0

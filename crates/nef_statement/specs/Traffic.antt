@@ -19,13 +19,3 @@ traffic rest read_faults written write_faults source source' sink sink' = record
   before = record { rest = rest source; read_faults = read_faults source; written = written sink; write_faults = write_faults sink };
   after = record { rest = rest source'; read_faults = read_faults source'; written = written sink'; write_faults = write_faults sink' };
 }
-
--- the source wasn't looked at
-pub record IsUnread (io : Traffic) : Type 0 where
-  pub rest : io.after.rest ≡ io.before.rest
-  pub faults : io.after.read_faults ≡ io.before.read_faults
-
--- no count of faults rose
-pub record IsQuiet (io : Traffic) : Type 0 where
-  pub reads : io.after.read_faults ≡ io.before.read_faults
-  pub writes : io.after.write_faults ≡ io.before.write_faults

@@ -1,7 +1,8 @@
 //! How a run ends, and what all runs say.
 
 ghost use Rattle.nef_statement.specs.Examples.{DenotedExample, ToldExample};
-ghost use Rattle.nef_statement.specs.Meanings.{NodesDenote};
+ghost use Rattle.nef_statement.specs.Meanings.{EachMeans, NodesDenote};
+ghost use Rattle.nef_statement.specs.Same.{OneOutput, FirstLinesSay, OneMeaning, AsMeant, SameOutput, SameStatus};
 ghost use Rattle.nef_statement.specs.Statement.{Statement};
 ghost use Rattle.nef_statement.specs.Texts.{IsText};
 
@@ -80,11 +81,21 @@ impl From<AllocError> for Status {
     }
 }
 
-/// Lines say one output. So runs that are asked for the same write fronts of one output, however they end, and those that
-/// come to an end of their own write all of it. Two texts are equal exactly where their sets are one, and a text tells its
-/// set. The nodes of a script's meaning have the sets that its lines give the names.
+/// Two texts are equal exactly where their sets are one, and a text tells its set. An accepted script has one output;
+/// lines say one output at most, whatever they are, and the first of them a front of it. Words and bytes mean one status and
+/// one output; a run whose source tells its bytes writes of that output, and it ends so where no count of faults rises and
+/// memory isn't wanted. So runs that are asked for the same write fronts of one output, however they end, and those that
+/// come to an end of their own write all of it and end alike. Each accepted script has a meaning, in nodes and commands;
+/// the nodes of each meaning of lines have the sets that the lines give the names.
 pub fn statement_laws()
     ensures states { Statement IsText }
+    ensures one_output { OneOutput IsText }
+    ensures first_lines { FirstLinesSay IsText }
+    ensures one_meaning { OneMeaning IsText }
+    ensures as_meant { AsMeant IsText }
+    ensures same_output { SameOutput IsText }
+    ensures same_status { SameStatus IsText }
+    ensures means { EachMeans }
     ensures denotes { NodesDenote }
 {}
 

@@ -16,9 +16,10 @@ use Rattle.law_sphere.proofs.Equal.{same-lists, cone-unique}
 use Rattle.nef_smap.specs.Maps.{map_of}
 use Rattle.nef_smap.proofs.Lists.{map-at, at-map}
 use Rattle.law_complex.specs.Complexes.{Vertex as PlainVertex, Edge as PlainEdge, IsEdgeBelow, Edges}
+use Rattle.law_complex.specs.Shows.{Shows}
 use Rattle.nef_complex.specs.declared.complex.Vertex.{Vertex}
 use Rattle.nef_complex.specs.declared.complex.Complex.{Complex}
-use Rattle.nef_complex.specs.Complexes.{vertex_of, edge_of, ShowsSet}
+use Rattle.nef_complex.specs.Complexes.{vertex_of, edge_of, complex_of}
 use Rattle.nef_unique.proofs.Injective.{map-one, map_of-one, vertex-equal, edge-one}
 
 -- ---- edges
@@ -48,27 +49,27 @@ IsBelow v u = IsPlaceBelow (place_of v.point) (place_of u.point)
 never-both : (v u : Vertex) → IsBelow v u → IsBelow u v → ⊥
 never-both v u h k = let p = place_of v.point in place_below-apart p p (place_below-trans p (place_of u.point) p h k) (record { along_x = refl; along_y = refl; along_z = refl })
 
-in-order : (s : Set) (a : Complex) → ShowsSet s a → InOrder IsBelow a.vertices
-in-order s a S i k v u l x y = S.shows.ordered i k (vertex_of v) (vertex_of u) l (map-at vertex_of a.vertices i v x) (map-at vertex_of a.vertices k u y)
+in-order : (s : Set) (a : Complex) → Shows s (complex_of a) → InOrder IsBelow a.vertices
+in-order s a S i k v u l x y = S.ordered i k (vertex_of v) (vertex_of u) l (map-at vertex_of a.vertices i v x) (map-at vertex_of a.vertices k u y)
 
-module _ (s t : Set) (a b : Complex) (S : ShowsSet s a) (T : ShowsSet t b) (same : SameSet s t) where
+module _ (s t : Set) (a b : Complex) (S : Shows s (complex_of a)) (T : Shows t (complex_of b)) (same : SameSet s t) where
   -- the other complex has the vertex at the same point, where both maps show the set
   vertex-carried : (k : ℕ) (v : Vertex) → At a.vertices k v → (l : ℕ) × At b.vertices l v
   vertex-carried k v h =
       let p = place_of v.point in
       let c = cones-of_same s t same p in
       let i = map-at vertex_of a.vertices k v h in
-      let f = T.shows.complete p ((FlatDim-by_cone s t p 0 c).0 (S.shows.vertices k (vertex_of v) i)) in
+      let f = T.complete p ((FlatDim-by_cone s t p 0 c).0 (S.vertices k (vertex_of v) i)) in
       let u = at-map vertex_of b.vertices f.0 f.1 f.2 in
       let j = map-at vertex_of b.vertices f.0 u.0 u.1 in
       let e : v.point ≡ u.0.point = sym (same_places_equal u.0.point v.point (subst (λ (r : PlainVertex). SamePlace r.point p) (sym u.2) f.3)) in
-      let C = cone-carried (map_of v.map) s t p c (S.shows.cones k (vertex_of v) i) in
-      let D = subst (λ (r : Point). Cone (map_of u.0.map) t (place_of r)) (sym e) (T.shows.cones f.0 (vertex_of u.0) j) in
-      let m = cone-unique (map_of v.map) (map_of u.0.map) t p C D (S.shows.maps_ordered k (vertex_of v) i) (T.shows.maps_ordered f.0 (vertex_of u.0) j)
-      (S.shows.least k (vertex_of v) i) (T.shows.least f.0 (vertex_of u.0) j) in
+      let C = cone-carried (map_of v.map) s t p c (S.cones k (vertex_of v) i) in
+      let D = subst (λ (r : Point). Cone (map_of u.0.map) t (place_of r)) (sym e) (T.cones f.0 (vertex_of u.0) j) in
+      let m = cone-unique (map_of v.map) (map_of u.0.map) t p C D (S.maps_ordered k (vertex_of v) i) (T.maps_ordered f.0 (vertex_of u.0) j)
+      (S.least k (vertex_of v) i) (T.least f.0 (vertex_of u.0) j) in
       (f.0, subst (λ (r : Vertex). At b.vertices f.0 r) (sym (vertex-equal v u.0 e (map_of-one v.map u.0.map m))) u.1)
 
-module _ (s t : Set) (a b : Complex) (S : ShowsSet s a) (T : ShowsSet t b) (same : SameSet s t) where
+module _ (s t : Set) (a b : Complex) (S : Shows s (complex_of a)) (T : Shows t (complex_of b)) (same : SameSet s t) where
   vertices-same : a.vertices ≡ b.vertices
   vertices-same =
       same-lists IsBelow never-both a.vertices b.vertices (in-order s a S) (in-order t b T) (vertex-carried s t a b S T same)
@@ -76,8 +77,8 @@ module _ (s t : Set) (a b : Complex) (S : ShowsSet s a) (T : ShowsSet t b) (same
 
   edges-same : a.edges ≡ b.edges
   edges-same =
-      let E = subst (λ (r : List Vertex). Edges (map vertex_of r) (map edge_of a.edges)) vertices-same S.shows.edges in
-      map-one edge_of edge-one a.edges b.edges (edges-one (map vertex_of b.vertices) (map edge_of a.edges) (map edge_of b.edges) E T.shows.edges)
+      let E = subst (λ (r : List Vertex). Edges (map vertex_of r) (map edge_of a.edges)) vertices-same S.edges in
+      map-one edge_of edge-one a.edges b.edges (edges-one (map vertex_of b.vertices) (map edge_of a.edges) (map edge_of b.edges) E T.edges)
 
   pub set-vertices : (a.vertices ≡ b.vertices) × (a.edges ≡ b.edges)
   set-vertices = (vertices-same, edges-same)

@@ -23,10 +23,12 @@ use Rattle.nef_smap.proofs.SideLists.{get-from_at}
 use Rattle.nef_smap.proofs.Upward.{map-ahead}
 use Rattle.law_complex.specs.Complexes.{Vertex}
 use Rattle.law_complex.specs.Rays.{VertexSide, HasSideLabel}
+use Rattle.law_complex.specs.Shows.{Shows}
 use Rattle.law_complex.proofs.Cones.{germ-label}
-use Rattle.nef_complex.specs.Complexes.{vertex_of, complex_of, ShowsSet}
+use Rattle.nef_complex.specs.Complexes.{vertex_of, complex_of}
 use Rattle.nef_complex.specs.declared.complex.Complex.{Complex}
 use Rattle.nef_locate.proofs.UpwardSides.{no-svertex}
+use Rattle.nef_volumes.proofs.SideLabels.{HasLeastMaps}
 
 -- the corner at the high ends of all axes
 abbrev corner : Place
@@ -97,12 +99,12 @@ upward-seen m S (on_item k x a o e) = let z = on-level (map_of m) x up o in let 
 upward-seen m S (seen h) = h
 
 -- SOME SIDE IS OUTSIDE
-pub out-side : (s : Set) (c : Complex) → ShowsSet s c → (x : VertexSide) × HasSideLabel (complex_of c) x Out
-out-side s c S =
-    let (i, v, a, e) = S.shows.complete corner (corner-vertex s) in
+pub out-side : (s : Set) (c : Complex) → Shows s (complex_of c) → HasLeastMaps c → (x : VertexSide) × HasSideLabel (complex_of c) x Out
+out-side s c S maps =
+    let (i, v, a, e) = S.complete corner (corner-vertex s) in
     let (u, b, f) = at-map vertex_of c.vertices i v a in
     let g = Germ-same s corner v.point up up Out (same-place_sym v.point corner e) (dir-self up up-direction) (beyond-x s up (omega (arith, ints))) in
-    let l = germ-label v.map s v.point (S.shows.cones i v a) up Out up-direction g in
-    let M = S.maps i u (get-from_at c.vertices i u b) in
+    let l = germ-label v.map s v.point (S.cones i v a) up Out up-direction g in
+    let M = maps i u (get-from_at c.vertices i u b) in
     let h = upward-seen u.map M.sphere_map (subst (λ (w : Vertex). MapLabel w.map up Out) (sym f) l) in
     (record { vertex = i; side = h.side }, (vertex_of u, subst (λ (w : Vertex). At (complex_of c).vertices i w) (sym f) a, h.has))

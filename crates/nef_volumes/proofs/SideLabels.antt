@@ -1,6 +1,6 @@
 -- The sides of a volume have one label.
 use Rattle.std.proofs.Common.{◌≡◌, ℕ, refl, subst}
-use Rattle.nef_space.specs.Lists.{Chained}
+use Rattle.nef_space.specs.Lists.{Chained, IsAt}
 use Rattle.nef_space.specs.Local.{HasLabel}
 use Rattle.nef_space.specs.Place.{Place}
 use Rattle.nef_space.specs.Sets.{Set}
@@ -12,7 +12,7 @@ use Rattle.law_near.proofs.Rays.{Germ-zero}
 use Rattle.law_near.proofs.Topology.{near-germ_zero}
 use Rattle.law_near.proofs.Even.{joined-germs, labels-by_germs}
 use Rattle.law_sphere.specs.Maps.{At, item_normal, seen}
-use Rattle.nef_smap.specs.Maps.{IsSmall}
+use Rattle.nef_smap.specs.Maps.{IsSmall, IsLeastMap}
 use Rattle.nef_smap.proofs.Lists.{at-map}
 use Rattle.nef_smap.proofs.SideLists.{get-from_at}
 use Rattle.law_complex.proofs.Cones.{label-germ}
@@ -21,6 +21,7 @@ use Rattle.law_complex.specs.Shows.{Shows}
 use Rattle.law_complex.specs.Rays.{VertexSide, HasSideLabel}
 use Rattle.nef_complex.specs.Complexes.{vertex_of, complex_of, ShowsSet}
 use Rattle.nef_complex.specs.declared.complex.Complex.{Complex as ProgramComplex}
+use Rattle.nef_complex.specs.declared.complex.Vertex.{Vertex as ProgramVertex}
 use Rattle.law_links.specs.Links.{VolumeLink}
 use Rattle.law_links.specs.Components.{IsAtSide, IsUpright}
 use Rattle.law_links.proofs.SideSight.{side-sees}
@@ -28,16 +29,23 @@ use Rattle.law_links.proofs.SidePoints.{at-side}
 use Rattle.law_links.proofs.SidesJoined.{sides-joined}
 use Rattle.nef_locate.proofs.Upward.{up-above}
 
+-- the maps of the program's complex are least, and within their limits
+abbrev pub HasLeastMaps : ProgramComplex → Type 0
+HasLeastMaps c = (k : ℕ) (v : ProgramVertex) → IsAt c.vertices k v → IsLeastMap v.map
+
 -- the upward direction is above each item of the program's complexes
-pub upright : (s : Set) (c : ProgramComplex) → ShowsSet s c → IsUpright (complex_of c)
-upright s c S k v x K =
-    let M = S.shows.cones k.vertex v K.vertex in
+pub upright-by_maps : (s : Set) (c : ProgramComplex) → Shows s (complex_of c) → HasLeastMaps c → IsUpright (complex_of c)
+upright-by_maps s c S maps k v x K =
+    let M = S.cones k.vertex v K.vertex in
     up-above (item_normal x) (M.valid.shaped.normals k.item x K.item) ((small k.vertex v K.vertex).normals k.item x K.item)
   where
     small : (i : ℕ) (v : Vertex) → At (complex_of c).vertices i v → IsSmall v.map
     small i v a =
         let u = at-map vertex_of c.vertices i v a in
-        subst (λ (w : Vertex). IsSmall w.map) u.2 (S.maps i u.0 (get-from_at c.vertices i u.0 u.1)).sphere_map.small
+        subst (λ (w : Vertex). IsSmall w.map) u.2 (maps i u.0 (get-from_at c.vertices i u.0 u.1)).sphere_map.small
+
+pub upright : (s : Set) (c : ProgramComplex) → ShowsSet s c → IsUpright (complex_of c)
+upright s c S = upright-by_maps s c S.shows S.maps
 
 module _ (s : Set) (C : Complex) (S : Shows s C) where
   -- a point at the side, which has its label

@@ -177,7 +177,7 @@ labels-of_volumes s c S rows N n ls h D = record {
 
     some : (k : ℕ) (l : Label) → IsAt ls k l → (k ≡ 0) ⊎ (1 ≤ k) → (x : VertexSide) × IsVolumeOf (complex_of c) rows x k
     some k l a (inl e) =
-        let o = out-side s c S in
+        let o = out-side s c S.shows S.maps in
         let r = numbered-side (complex_of c) rows N o.0 Out o.1 in
         let z = (N.outside o.0 r.0 Out r.1 o.1).1 refl in
         (o.0, subst (λ (m : ℕ). IsVolumeOf (complex_of c) rows o.0 m) (z ∙ sym e) r.1)

@@ -1,6 +1,6 @@
 -- Clap's definitions and the grammar choose the same options.
 use Rattle.std.proofs.Common.{◌≡◌, ◌∙◌, ◌==◌, ◌+◌, suc, ℕ, Bool, take, drop, not, true, false, List, [], ◌∷◌, ◌++◌, Option, Some, None, refl, sym, ap, subst, codes, inl, inr, arith}
-use Rattle.std.specs.Prelude.{fold, find, bytes_eq, option_and_then, unwrap_or}
+use Rattle.std.specs.Prelude.{fold, find, bytes_eq, option_and_then, unwrap_or, if◌then◌else◌}
 use Rattle.std.specs.List.{list_any, before_first, after_first, prefix_len}
 use Rattle.std.proofs.lemmas.Slice.Eq.{bytes_eq-Decides}
 use Rattle.std.proofs.lemmas.Bool.Decides.{Decides-eqb, nat_tests}
@@ -13,8 +13,8 @@ use Rattle.nef_core.specs.declared.work.TextVersion.{TextVersion}
 use Rattle.nef_space.specs.Limits.{most_stairs}
 use Rattle.nef_words.specs.declared.words.Options.{Options}
 use Rattle.nef_words.specs.Chosen.{options_of, options_from, number_to, board_named, version_named}
-use Rattle.nef_words.specs.Values.{options_of_values}
-use Rattle.nef_words.specs.Grammar.{Given, value_of, once, option_in, if_last, read, all_formed, choice, options_in}
+use Rattle.nef_words.specs.Values.{Given, options_of_values}
+use Rattle.nef_words.specs.Grammar.{value_of, once, option_in, read, all_formed, choice, options_in}
 use Rattle.nef_words.proofs.Walked.{at, clear, answer, rules, top, valued_rule, ahead_rule, at_end, after_end, end_word, chosen, last_fault, options_answer}
 use Rattle.nef_words.proofs.Turns.{Opt, workers, board, stairs, text, name, Arm, unknown, valued, ahead, help, arm, by_id, long_unknown, long_value, long_waits, long_ahead, long_ahead_value, long_help, other_refused}
 use Rattle.nef_words.proofs.Waits.{is_dashed, no_value, waiting_word, settle}
@@ -72,6 +72,10 @@ end_chosen rows given h = ends ∙ go (has_row (codes "ahead") rows) refl
           h.first (codes "text"),
           sym (h.first (codes "ahead")) ∙ first_missing rows (codes "ahead") e,
         ) refl
+
+-- what is given where `--` is the last word
+abbrev if_last : Given → List Text → Option Given
+if_last given rest = if list_any (λ (next : Text). true) rest then None else Some given
 
 end_then : (rest : List Text) (rows : List Row) (given : Given) → Holds rows given → answer top (at rows None idle true) rest ≡ option_and_then pick (if_last given rest)
 end_then [] rows given h = at_end rows None idle true ∙ end_chosen rows given h

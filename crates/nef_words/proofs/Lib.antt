@@ -5,3 +5,4 @@ pub mod Turns
 pub mod Waits
 pub mod Rows
 pub mod Law
+pub mod Formed

@@ -5,7 +5,8 @@ use Rattle.std.specs.List.{list_any}
 use Rattle.clap.specs.Walk.{Row, Rule, Text, at_row, more_values, without, has_row, first_of, used, reading_by, with_default}
 use Rattle.clap.specs.Faults.{default_fault, defaults_fault}
 use Rattle.clap.specs.declared.parser.matches.ValueSource.TheVariants.{CommandLine}
-use Rattle.nef_words.specs.Grammar.{Given, value_of}
+use Rattle.nef_words.specs.Grammar.{value_of}
+use Rattle.nef_words.specs.Values.{Given}
 use Rattle.nef_words.proofs.Walked.{rules, valued_rule, ahead_rule, last_rule}
 
 module _ {X : Type 0} (p : X → Bool) where

@@ -1,39 +1,31 @@
 -- The words in plain terms. From the left, each word is `--ahead`; or `--workers`, `--board`, `--stairs` or `--text`, with its value in the next word or behind a `=`;
 -- or `--`, and then it is the last. Each option comes once at most. All other words are refused.
-use Rattle.std.specs.Prelude.{ℕ, Bool, ◌==◌, List, [], ◌∷◌, ◌++◌, Option, Some, None, codes, if◌then◌else◌, option_and_then, option_map, unwrap_or, find, bytes_eq}
+use Rattle.std.specs.Prelude.{ℕ, Bool, true, ◌==◌, List, [], ◌∷◌, ◌++◌, Option, Some, None, codes, if◌then◌else◌, option_and_then, option_map, unwrap_or, find, bytes_eq}
 use Rattle.std.specs.List.{list_any, before_first, after_first}
 use Rattle.nef_core.specs.declared.work.BoardKind.{BoardKind}
 use Rattle.nef_core.specs.declared.work.TextVersion.{TextVersion}
 use Rattle.nef_words.specs.declared.words.Options.{Options}
 use Rattle.nef_words.specs.Chosen.{number_to, board_named, version_named, stairs_of}
 
--- the options that were given, with their values
-abbrev pub Given : Type 0
-Given = List (List ℕ × List ℕ)
-
-abbrev pub value_of : List ℕ → Given → Option (List ℕ)
+-- the value of an option among those that were given, each with its value
+abbrev pub value_of : List ℕ → List (List ℕ × List ℕ) → Option (List ℕ)
 value_of name given = option_map (λ g. g.1) (find (λ g. bytes_eq g.0 name) given)
 
 -- one more, which wasn't given before
-abbrev pub once : List ℕ → List ℕ → Given → Option Given
+abbrev pub once : List ℕ → List ℕ → List (List ℕ × List ℕ) → Option (List (List ℕ × List ℕ))
 once name value given = if list_any (λ g. bytes_eq g.0 name) given then None else Some (given ++ (name, value) ∷ [])
 
 -- the option with a value that a word names: the word is `--` and the name, alone or before a `=`
 abbrev pub option_in : List ℕ → Option (List ℕ)
 option_in word = find (λ name. bytes_eq (codes "--" ++ name) (before_first (λ b. b == 61) word)) (codes "workers" ∷ codes "board" ∷ codes "stairs" ∷ codes "text" ∷ [])
 
--- nothing may follow `--`
-abbrev pub if_last : Given → List (List ℕ) → Option Given
-if_last given [] = Some given
-if_last given (word ∷ rest) = None
-
--- what is given after all words; the first argument is an option whose value comes next, if there is one
-unfoldable pub read : Option (List ℕ) → Given → List (List ℕ) → Option Given
+-- what is given after all words; the first argument is an option whose value comes next, if there is one. No word may follow `--`
+unfoldable pub read : Option (List ℕ) → List (List ℕ × List ℕ) → List (List ℕ) → Option (List (List ℕ × List ℕ))
 read None given [] = Some given
 read (Some name) given [] = None
 read (Some name) given (word ∷ rest) = option_and_then (λ more. read None more rest) (once name word given)
 read None given (word ∷ rest) =
-    if bytes_eq word (codes "--") then if_last given rest
+    if bytes_eq word (codes "--") then (if list_any (λ next. true) rest then None else Some given)
     else (if bytes_eq (codes "--ahead") word then option_and_then (λ more. read None more rest) (once (codes "ahead") (codes "true") given)
     else option_and_then (λ name.
     if list_any (λ b. b == 61) word then option_and_then (λ more. read None more rest) (once name (after_first (λ b. b == 61) word) given)
@@ -44,7 +36,7 @@ abbrev pub all_formed : Option ℕ → Option BoardKind → Option (Option ℕ) 
 all_formed (Some workers) (Some board) (Some stairs) (Some text) ahead = Some (record { how = record { workers = workers; board = board }; stairs = stairs; text = text; ahead = ahead })
 all_formed workers board stairs text ahead = None
 
-abbrev pub choice : Given → Option Options
+abbrev pub choice : List (List ℕ × List ℕ) → Option Options
 choice given = all_formed (number_to 64 (unwrap_or (value_of (codes "workers") given) (codes "1"))) (board_named (unwrap_or (value_of (codes "board") given) (codes "lock")))
     (stairs_of (value_of (codes "stairs") given)) (version_named (unwrap_or (value_of (codes "text") given) (codes "1"))) (bytes_eq (unwrap_or (value_of (codes "ahead") given) (codes "false")) (codes "true"))
 

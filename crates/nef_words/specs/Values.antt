@@ -7,6 +7,10 @@ use Rattle.nef_core.specs.declared.work.TextVersion.{TextVersion}
 use Rattle.nef_words.specs.declared.words.Options.{Options}
 use Rattle.nef_words.specs.Chosen.{number_to, board_named, version_named, stairs_of, options_from}
 
+-- the options that were given, each with its value
+abbrev pub Given : Type 0
+Given = List (List ℕ × List ℕ)
+
 -- the number of workers, the board and the version of the text
 abbrev pub workers_of : Option Text → Option ℕ
 workers_of value = number_to 64 (unwrap_or value (codes "1"))

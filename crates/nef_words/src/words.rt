@@ -4,7 +4,8 @@ ghost use Rattle.std.specs.Prelude.{◌≡◌, ◌≤◌, ◌↔◌};
 ghost use Rattle.nef_space.specs.Prelude.{false, [], Some, None, IfOk, IfErr, IfSome, MatchResult, map, string_bytes, IsOkAnd, IsErrAnd, drop, most_stairs, error_kind, InvalidData};
 ghost use Rattle.clap.specs.Words.{fault_of, found_of, matches_of, rows_of, rule_of, HasKind};
 ghost use Rattle.nef_words.specs.Usage.{usage, option_named};
-ghost use Rattle.nef_words.specs.Chosen.{number_to, stairs_of, options_of};
+ghost use Rattle.nef_words.specs.Chosen.{number_to, stairs_of};
+ghost use Rattle.nef_words.specs.Grammar.{options_in};
 ghost use Rattle.nef_words.specs.Values.{workers_of, board_of, text_of, is_given, options_of_values, text_in};
 
 use clap::error::ErrorKind;
@@ -170,11 +171,12 @@ fn chosen(
 /// from 1 to [`MOST_STAIRS`], and is `None` where it isn't given. A number is one or more digits. `--text`
 /// takes `1` or `2`, and is `1` where it isn't given. `--ahead` takes no value.
 /// `Refused` comes exactly where the words aren't those of a command with these five options, each given
-/// once at most, or a value isn't of its form; a word for help or for the version is no such word.
+/// once at most, or a value isn't of its form; a word for help or for the version is no such word. Which
+/// words are taken is the plain grammar of `Grammar` in specs/ ([`crate::words_laws`]).
 pub fn read_words(alloc: Global, words: &[String]) -> Result<Options, WordsFault>
-    ensures accepted { IfOk result (λ options. options_of (map string_bytes words.now) ≡ Some options) }
+    ensures accepted { IfOk result (λ options. options_in (map string_bytes words.now) ≡ Some options) }
     ensures stairs { IfOk result (λ o. IfSome o.stairs (λ n. (1 ≤ n) × (n ≤ most_stairs))) }
-    ensures refused { result ≡ Err WordsFault.Refused → options_of (map string_bytes words.now) ≡ None }
+    ensures refused { result ≡ Err WordsFault.Refused → options_in (map string_bytes words.now) ≡ None }
 {
     let matches = match matched(alloc, words) {
         Ok(matches) => matches,

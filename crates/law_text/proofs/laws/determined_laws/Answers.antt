@@ -1,6 +1,7 @@
 use Rattle.std.proofs.Common.{subst}
 use Rattle.nef_space.specs.Sets.{Set}
-use Rattle.nef_complex.specs.Complexes.{ShowsSet}
+use Rattle.law_complex.specs.Shows.{Shows}
+use Rattle.nef_complex.specs.Complexes.{complex_of}
 use Rattle.law_turns.proofs.Twice.{set-back}
 use Rattle.law_complex.proofs.FacetNames.{facet-at, facet-of}
 use Rattle.law_complex.proofs.Skeletons.{belongs-holds}
@@ -14,7 +15,7 @@ pub returns-clause-same_text : goal.returns-clause-same_text
 returns-clause-same_text x = same-set_text
 
 pub returns-clause-turned_back : goal.returns-clause-turned_back
-returns-clause-turned_back x = λ version j k s c d p q h S T P Q. (same-set_text version s s c d p q S (subst (λ (t : Set). ShowsSet t d) (set-back j k s h) T) (λ y i. (λ a. a, λ a. a)) P Q).1
+returns-clause-turned_back x = λ version j k s c d p q h S T P Q. (same-set_text version s s c d p q S (subst (λ (t : Set). Shows t (complex_of d)) (set-back j k s h) T) (λ y i. (λ a. a, λ a. a)) P Q).1
 
 pub returns-clause-same_set : goal.returns-clause-same_set
 returns-clause-same_set x = text-set

@@ -34,7 +34,7 @@ pub returns-in_ok-text-in-Count-clause-piece : goal.returns-in_ok-text-in-Count-
 returns-in_ok-text-in-Count-clause-piece g c =
     let both = c.get_with_parts in
     let shows = subst (λ z. ShowsSet (node_set z.now c.in-Count.node) both.result.0.now) c.in_ok-work_parts-in-Count.ensures.nodes both.ensures.shows in
-    rw c.in-Count.is (both.result.0.now, both.result.1.now, shows, both.ensures.parts, c.in_ok-text-in-Count.ensures.bytes)
+    rw c.in-Count.is (both.result.0.now, both.result.1.now, shows.shows, both.ensures.parts, c.in_ok-text-in-Count.ensures.bytes)
 
 pub returns-in_ok-text-in-Print-clause-piece : goal.returns-in_ok-text-in-Print-clause-piece
 returns-in_ok-text-in-Print-clause-piece g c =

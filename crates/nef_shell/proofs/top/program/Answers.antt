@@ -1,9 +1,9 @@
-use Rattle.std.proofs.Common.{◌≡◌, ◌∙◌, refl, ap, map, string_bytes, Err}
+use Rattle.std.proofs.Common.{◌≡◌, ◌∙◌, refl, ap, map, [], ◌∷◌, string_bytes, Err}
 use Rattle.std.specs.Process.{exit_status}
 use Rattle.nef_statement.specs.Status.{status_code}
 use Rattle.nef_statement.specs.Traffic.{traffic}
-use Rattle.nef_shell.proofs.GivenWords.{HasSaid, words-given, no-text, still-no-text, refused-alone, ended-run, ended-refused, ended-wanting}
-use Rattle.nef_shell.proofs.Statuses.{line-refuses}
+use Rattle.nef_shell.proofs.GivenWords.{HasSaid, words-given, no-text, still-no-text, refused-alone, empty-refused, ended-run, ended-refused, ended-wanting}
+use Rattle.nef_shell.proofs.Statuses.{refused-says, line-had_memory}
 use Rattle.nef_shell.proofs.top.program.Goals as goal
 use Rattle.nef_shell.proofs.top.program.Goals.{in-Ok-line_words, in-Err-Refused, in-Err-OutOfMemory}
 
@@ -17,8 +17,11 @@ returns g c =
           rw (w.source-is, w.sink-is) (ended-run _ _ _ given.0 _ w.run-status.result given.1 (ap (λ z. map string_bytes z) given.2) w.run-status.ensures.says w.run-status.ensures.ends (code ∙ ap status_code w.status-is))
       | in-Err-Refused w ↦
           let none = no-text c.args.line c.in-Ok.line c.in-Ok.ensures.words (c.line_words.ensures.refused.0 (w.in-Err-Refused.is ∙ ap Err w.in-Err-Refused.field-0-is)) in
-          rw (w.source-is, w.sink-is) (ended-refused _ _ _ none.0 w.refuse_words-status.result none.1 none.2 (record { rest = refl; faults = refl }) (line-refuses _ _ w.refuse_words-status.ensures.status) (code ∙ ap status_code w.status-is))
+          let said = w.refuse_words-status.ensures.status in
+          let io = traffic g.S.Source.rest g.S.Source.faults g.K.Sink.written g.K.Sink.faults c.args.source.now c.args.source.now c.args.sink.now w.refuse_words-status.new.sink in
+          let says = refused-says ([] ∷ []) w.refuse_words-status.result io empty-refused said refl refl in
+          rw (w.source-is, w.sink-is) (ended-refused c.args.line (exit_status c.from-2.result) io none.0 ([] ∷ []) w.refuse_words-status.result none.1 none.2 empty-refused says (line-had_memory w.refuse_words-status.result io said) (code ∙ ap status_code w.status-is))
       | in-Err-OutOfMemory w ↦
-          rw (w.source-is, w.sink-is) (ended-wanting c.args.line (exit_status c.from-2.result) _ (λ error is none. refused-alone _ (c.line_words.ensures.refused.1 (still-no-text c.args.line c.in-Ok.line c.in-Ok.ensures.words error is none)) (w.in-Err-OutOfMemory.is ∙ ap Err w.in-Err-OutOfMemory.field-0-is)) (record { rest = refl; faults = refl }) refl (code ∙ ap status_code w.status-is))
+          rw (w.source-is, w.sink-is) (ended-wanting c.args.line (exit_status c.from-2.result) (traffic g.S.Source.rest g.S.Source.faults g.K.Sink.written g.K.Sink.faults c.args.source.now c.args.source.now c.args.sink.now c.args.sink.now) (λ error is none. refused-alone _ (c.line_words.ensures.refused.1 (still-no-text c.args.line c.in-Ok.line c.in-Ok.ensures.words error is none)) (w.in-Err-OutOfMemory.is ∙ ap Err w.in-Err-OutOfMemory.field-0-is)) refl (code ∙ ap status_code w.status-is))
     ] in
     record { says = both.0; ends = both.1 }

@@ -12,6 +12,6 @@ returns c =
     record {
       same = λ s t S T. (
         λ h. vertices-set s t (complex_of a) (complex_of b) S.shows T.shows (ap (λ (r : List Vertex). map vertex_of r) (c.same_vertices.ensures.same.0 h)),
-        λ e. c.same_vertices.ensures.same.1 (set-vertices s t a b S T e).0,
+        λ e. c.same_vertices.ensures.same.1 (set-vertices s t a b S.shows T.shows e).0,
       );
     }

@@ -14,7 +14,7 @@ returns-clause-least c m n A B mark same =
     (λ d l h. (same d l (label-direction (map_of m) d l h)).0 h))
 
 pub returns-clause-vertices : goal.returns-clause-vertices
-returns-clause-vertices c s t a b S T same = set-vertices s t a b S T same
+returns-clause-vertices c s t a b S T same = set-vertices s t a b S.shows T.shows same
 
 pub returns-clause-sets : goal.returns-clause-sets
 returns-clause-sets c s t C D S T same = vertices-set s t C D S T same

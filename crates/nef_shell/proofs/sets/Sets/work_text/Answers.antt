@@ -48,7 +48,7 @@ returns-clause-has g c =
     let fine = mid.texts.ok in
     let text = c.in_ok-text.text in
     let both = c.get_with_parts in
-    (text, rw c.put_at.ensures.put (get_set_here mid.texts.items c.args.node (Some text) (omega arith)), (both.result.0.now, both.result.1.now, both.ensures.shows, both.ensures.parts, c.in_ok-text.ensures.text))
+    (text, rw c.put_at.ensures.put (get_set_here mid.texts.items c.args.node (Some text) (omega arith)), (both.result.0.now, both.result.1.now, both.ensures.shows.shows, both.ensures.parts, c.in_ok-text.ensures.text))
 
 pub returns-clause-held : goal.returns-clause-held
 returns-clause-held g c =
