@@ -205,8 +205,12 @@ fn wanted_results_stay(rt: HostRuntime) {
     check(&rt, wanted_stays(&rt, rt.alloc()).ok(), "one is wanted");
 }
 
+// So many turns are enough for one more number to begin, where one more thread takes it.
+const FEW_TURNS: u64 = 200;
+
 // So many numbers of this load that need nothing, of which each is worked until so many began, for so many turns at most.
-// It keeps how many began, and how many were being worked at one time at most.
+// As many of the first ones are then worked for a few turns more, until one more is. It keeps how many began, and how many
+// were being worked at one time at most.
 #[derive(Drop)]
 struct Waiting {
     count: usize,
@@ -239,6 +243,15 @@ impl Waiting {
             thread::yield_now();
         }
         self.limit_reached.store(true, Ordering::SeqCst);
+    }
+
+    fn wait_for_one_more(&self) {
+        for _ in 0..FEW_TURNS {
+            if self.most.load(Ordering::SeqCst) > self.crowd {
+                return;
+            }
+            thread::yield_now();
+        }
     }
 }
 
@@ -281,6 +294,9 @@ impl Stage for Waiting {
         self.most.fetch_max(inside, Ordering::SeqCst);
         self.began.fetch_add(1, Ordering::SeqCst);
         self.wait_for_crowd();
+        if (i as u64) < self.crowd {
+            self.wait_for_one_more();
+        }
         self.inside.fetch_sub(1, Ordering::SeqCst);
         Ok(i)
     }
@@ -322,14 +338,19 @@ fn run_side_by_side<R: Threads + Wait + Sync>(
 }
 
 // How many workers there are, how many numbers, the load of each, and how many are worked side by side: by as many workers
-// as were asked for, as there are numbers, or as the load pays for, one for each 500.
+// as were asked for, as there are numbers, or as the load pays for, one for each 500. There are more numbers than a script
+// may have names, too.
 const CROWDS: &str = "4 4 1000000 4
 3 10 1000000 3
+2 10 1000000 2
 64 2 1000000 2
 64 100 1000000 64
 4 4 250 2
 4 4 249 1
-1 4 1000000 1";
+1 4 1000000 1
+1 70 1000000 1
+4 5000 0 1
+2 5000 1000 2";
 
 // Whether the row holds.
 fn holds<R: Threads + Wait + Sync>(rt: &R, alloc: Global, row: &str) -> Option<bool> {

@@ -7,6 +7,8 @@ mod ends;
 #[cfg(test)]
 mod frame;
 #[cfg(test)]
+mod grid_edges;
+#[cfg(test)]
 mod half_spaces;
 #[cfg(test)]
 mod hits_by_number;

@@ -73,7 +73,8 @@ diff full
 counts => 8 12 # nothing is left of the grid
 place 25 25 25 1 => volume not # in a cube of the grid";
 
-fn check_after<R: Threads + Wait + Sync + Abort>(rt: &R, alloc: Global, table: &str) {
+/// Checks a table about the grid: its first line has the steps after those that make the grid.
+pub(crate) fn check_after<R: Threads + Wait + Sync + Abort>(rt: &R, alloc: Global, table: &str) {
     match format!(in alloc; "{GRID}; {table}") {
         Ok(table) => check_table(rt, alloc, table.as_str()),
         Err(_) => check(rt, false, "memory", table),

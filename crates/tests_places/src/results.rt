@@ -89,6 +89,8 @@ fn of_carriers(alloc: Global, first: usize, second: usize) -> Result<Complex, Ou
         in_carrier: List::new(alloc),
         spans: List::new(alloc),
         clusters: List::new(alloc),
+        peaks: Table::with_rows(alloc, 0, 0)?,
+        plane_peaks: Table::with_rows(alloc, 0, 0)?,
     };
     Ok(Complex {
         carriers,

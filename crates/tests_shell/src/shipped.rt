@@ -3,7 +3,7 @@
 ghost use Rattle.nef_complex.specs.Prelude.{Some};
 
 use crate::runs::{check, folded, owned, unfolded};
-use nef_io::{FromReader, IntoWriter, OpenGate};
+use nef_io::{FromReader, IntoWriter};
 use nef_shell::program;
 use std::alloc::{AllocError, Global};
 use std::env::Args;
@@ -139,7 +139,7 @@ fn shipped<R: Threads + Wait + Sync>(
 ) -> (ExitCode, Vec<u8>) {
     let mut source = FromReader::new(reader);
     let mut sink = IntoWriter::new(writer);
-    let code = program(rt, alloc, line, &mut source, &mut sink, &OpenGate);
+    let code = program(rt, alloc, line, &mut source, &mut sink);
     (code, sink.into_inner().bytes)
 }
 

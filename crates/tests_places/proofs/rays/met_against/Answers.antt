@@ -6,7 +6,7 @@ use Rattle.tests_places.proofs.Directions.{no-svertex_at}
 use Rattle.tests_places.proofs.rays.met_against.Goals as goal
 
 pub first_along_dir-requires-clause-items : goal.first_along_dir-requires-clause-items
-first_along_dir-requires-clause-items c = are-items c.args.c.now (form_of c.args.h.now) c.plane_items.result c.plane_items.ensures.edges c.plane_items.ensures.vertices
+first_along_dir-requires-clause-items c = are-items c.args.c.now (form_of c.args.h.now) c.plane_items.result c.plane_items.ensures.edges c.plane_items.ensures.vertices c.plane_items.ensures.peaks
 
 pub first_along_dir-requires-clause-small : goal.first_along_dir-requires-clause-small
 first_along_dir-requires-clause-small c = small-back (vector_of c.plane_dir-d.result) (vector_of c.back-e.result) c.back-e.ensures.back c.plane_dir-d.ensures.small.each
