@@ -1,0 +1,26 @@
+-- What the answers to questions say of a set.
+use Rattle.std.proofs.Common.{◌≡◌, ◌↔◌, Bool, Result, Ok, Err, IfOk, refl, subst}
+use Rattle.nef_space.specs.Place.{Place, InFrame}
+use Rattle.nef_space.specs.Sets.{Set, Holds}
+use Rattle.nef_space.specs.Vectors.{Vector}
+use Rattle.nef_space.specs.Local.{HasLabel}
+use Rattle.nef_space.specs.declared.label.Label.{Label}
+use Rattle.nef_space.specs.declared.label.Label.TheVariants.{Out, Not, In}
+use Rattle.nef_ray.specs.Ends.{IsRayEnd}
+use Rattle.nef_ray.proofs.OneEnd.{one-end}
+use Rattle.example_bracket.specs.Answers.{IsClear}
+
+-- at a point of the frame the label is In just where the set holds
+pub label-inside : (s : Set) (p : Place) (l : Label) → InFrame p → HasLabel s p l → (l ≡ In) ↔ Holds s p
+label-inside s p In f h = (λ _. h.1, λ _. refl)
+label-inside s p Not f h = (λ e. absurd (cc), λ g. absurd (h.1 g))
+label-inside s p Out f h = (λ e. absurd (cc), λ g. absurd (h f))
+
+-- the label at the end of a ray is Out just where nothing else comes before
+pub end-clear : (s : Set) (p : Place) (d : Vector) (q : Place) (a : Bool) (l : Label) → IsRayEnd s p d q a l → (l ≡ Out) ↔ IsClear s p d
+end-clear s p d q a l e = (λ o. (q, a, subst (λ (m : Label). IsRayEnd s p d q a m) o e), λ c. let one = one-end s p d q c.0 a c.1 l Out e c.2 in one.2)
+
+-- what a call gives, if it gives something
+pub if-ok : {X E : Type 0} {P Q : X → Type 0} (r : Result X E) → ((x : X) → P x → Q x) → IfOk r P → IfOk r Q
+if-ok (Ok x) f p = f x p
+if-ok (Err e) f p = tt
