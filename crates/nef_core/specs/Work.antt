@@ -3,7 +3,7 @@ use Rattle.std.specs.Prelude.{ℕ, Bool, ◌&&◌, ◌/◌, min, max, nat_le, na
 use Rattle.nef_core.specs.declared.work.BoardKind.{BoardKind}
 use Rattle.nef_core.specs.declared.work.BoardKind.TheVariants.{Lock, Free}
 use Rattle.nef_core.specs.declared.work.Work.{Work}
-use Rattle.nef_core.specs.declared.work.Work.TheVariants.{LightJobs, HeavyJobs, Listing, Parts, Release, Round}
+use Rattle.nef_core.specs.declared.work.Work.TheVariants.{LightJobs, HeavyJobs, Listing, Parts, Round}
 
 -- by how many workers an operation runs, and over which board
 pub record Choice : Type 0 where
@@ -22,4 +22,3 @@ crew_of (HeavyJobs jobs) workers = min workers (max 1 (jobs / 128))
 crew_of (Round numbers load) workers = min workers (max 1 (min numbers (load / 500)))
 crew_of (Listing carriers) workers = if nat_le 4 workers && nat_le 48 carriers then 4 else 1
 crew_of (Parts vertices) workers = if nat_le 4 workers && nat_le 128 vertices then 4 else (if nat_le 2 workers && nat_le 128 vertices then 2 else 1)
-crew_of (Release points) workers = if nat_le 2 workers && nat_le 2048 points then 2 else 1

@@ -64,9 +64,6 @@ const LISTED_CARRIERS: usize = 48;
 // others would save less than half a millisecond.
 const PARTED_VERTICES: usize = 128;
 
-// The maps of fewer points are let go of sooner than a thread starts.
-const RELEASED_POINTS: usize = 2048;
-
 /// Work that several workers may share, with what tells how long it takes.
 #[derive(Debug, Clone, Copy, PartialEq, Eq)]
 pub enum Work {
@@ -78,8 +75,6 @@ pub enum Work {
     Listing(usize),
     /// Making the parts of a set with so many vertices. It takes one worker, two or four.
     Parts(usize),
-    /// Letting go of the maps of so many points, beside what else is done. It takes one worker or two.
-    Release(usize),
     /// Working so many numbers of a round, which together take so many microseconds.
     Round(usize, u64),
 }
@@ -123,8 +118,7 @@ impl Work {
             Work::Listing(carriers) if workers >= 4 && carriers >= LISTED_CARRIERS => 4,
             Work::Parts(vertices) if workers >= 4 && vertices >= PARTED_VERTICES => 4,
             Work::Parts(vertices) if workers >= 2 && vertices >= PARTED_VERTICES => 2,
-            Work::Release(points) if workers >= 2 && points >= RELEASED_POINTS => 2,
-            Work::Listing(_) | Work::Parts(_) | Work::Release(_) => 1,
+            Work::Listing(_) | Work::Parts(_) => 1,
         }
     }
 }
