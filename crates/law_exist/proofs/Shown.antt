@@ -69,7 +69,7 @@ module _ (s : Set) (hs : List Plane) (few : length hs ≤ 2 ^ 32) (A : AreCarrie
 
 -- an index without rows: whether a complex shows a set doesn't depend on the index
 no_index : PlaneIndex
-no_index = record { planes = []; edges = []; vertices = []; at_vertex = []; at_edge = []; on_carrier = []; in_carrier = []; spans = []; clusters = []; peaks = []; plane_peaks = [] }
+no_index = record { has_item = []; at_vertex = []; at_edge = []; on_carrier = []; in_carrier = []; points = []; spans = []; clusters = []; peaks = [] }
 
 -- EVERY SUCH SET HAS A COMPLEX
 pub carried-shown : EveryCarriedSetIsShown

@@ -10,6 +10,7 @@ pub mod IndexSteps
 pub mod PlaneSearch
 pub mod Parallel
 pub mod Rows
+pub mod CommonRows
 pub mod Carried
 pub mod ListedHolders
 pub mod Turned

@@ -1,8 +1,8 @@
 -- Greatest upper ends of edges, in blocks and in tables.
-use Rattle.std.proofs.Common.{◌≡◌, ℕ, ◌+◌, ◌*◌, ◌<◌, ◌≤◌, List, [], ◌∷◌, ◌++◌, length, length-append, arith, ap, refl, sym, ◌∙◌, ◌⊎◌, inl, inr, ⊎_elim, subst}
+use Rattle.std.proofs.Common.{◌≡◌, ℕ, ◌+◌, ◌*◌, ◌<◌, ◌≤◌, List, [], ◌∷◌, ◌++◌, length, length-append, arith, ap, sym, ◌∙◌, ◌⊎◌, inl, inr, ⊎_elim, subst}
 use Rattle.std.proofs.lemmas.Bool.{cases_lt}
 use Rattle.nef_space.specs.Lists.{IsAt}
-use Rattle.nef_classes.proofs.ClassLists.{less-or-last, is-at_one, is-at_some, is-at_within, is-at_last, Either, earlier, last, is-at_either}
+use Rattle.nef_classes.proofs.ClassLists.{is-at_one, is-at_some, is-at_within, Either, earlier, last, is-at_either}
 use Rattle.nef_geo.specs.declared.plane.Plane.{Plane}
 use Rattle.nef_complex.specs.declared.complex.Edge.{Edge}
 use Rattle.nef_complex.specs.declared.complex.Vertex.{Vertex}
@@ -55,27 +55,12 @@ have-more es rows old new number ns ps H at P rule i ms qs a b = ⊎_elim
     subst (ArePeaks es ms) (sym e.1) (subst (λ x. ArePeaks es x ps) same P)))
     (rule i qs b)
 
--- with one row of edges more
-pub have-row : (es : List Edge) (rows table : List (List ℕ)) (ns : List ℕ) → HavePeaks es rows table → length table ≤ length rows → HavePeaks es (rows ++ ns ∷ []) table
-have-row es rows table ns H le i ms qs a b = by (is-at_either rows i ms ns a)
-  where
-    by : Either rows i ms ns → ArePeaks es ms qs
-    by (earlier c) = H i ms qs c b
-    by (last e f) = let l = is-at_within table i qs b in absurd (omega (arith, le, l, e))
-
 pub have-none : (es : List Edge) (rows table : List (List ℕ)) → table ≡ [] → HavePeaks es rows table
 have-none es rows table e i ns ps a b = let l = is-at_within table i ps b in absurd (subst (λ (t : List (List ℕ)). i < length t → ⊥) (sym e) (λ m. omega (arith, m)) l)
-
-pub have-same : (es : List Edge) (rows rows2 table table2 : List (List ℕ)) → rows2 ≡ rows → table2 ≡ table → HavePeaks es rows table → HavePeaks es rows2 table2
-have-same es rows rows2 table table2 e f H = subst (λ (t : List (List ℕ)). HavePeaks es t table2) (sym e) (subst (λ (t : List (List ℕ)). HavePeaks es rows t) (sym f) H)
 
 -- the row that was read of a table, or none, has the peaks
 pub row-peaks : (es : List Edge) (rows table : List (List ℕ)) (i : ℕ) (ns ps : List ℕ) → HavePeaks es rows table → IsAt rows i ns → IsAt table i ps ⊎ (ps ≡ []) → ArePeaks es ns ps
 row-peaks es rows table i ns ps H a = ⊎_elim (λ b. H i ns ps a b) (λ e. subst (ArePeaks es ns) (sym e) (peaks-none es ns))
-
--- with one row of edges more, and its peaks at that row's number
-pub have-next : (es : List Edge) (rows old new : List (List ℕ)) (ns ps : List ℕ) → HavePeaks es rows old → length old ≤ length rows → ArePeaks es ns ps → ((i : ℕ) (qs : List ℕ) → IsAt new i qs → IsRowOf old (length rows) ps i qs) → HavePeaks es (rows ++ ns ∷ []) new
-have-next es rows old new ns ps H le P rule = have-more es (rows ++ ns ∷ []) old new (length rows) ns ps (have-row es rows old ns H le) (is-at_last rows ns) P rule
 
 -- the numbers of the edges in a carrier are numbers of edges
 pub rows-edges : (hs : List Plane) (vs : List Vertex) (es : List Edge) (rows : List (List ℕ)) → AreCarrierEdges hs vs es rows → (i : ℕ) (ns : List ℕ) → IsAt rows i ns → AreWithin es ns

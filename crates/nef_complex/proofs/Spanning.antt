@@ -168,18 +168,18 @@ narrower-in vs ss row s A wide i k v l a b =
     let t = is-at_some ss k (let m = is-at_within vs k v b in let e = A.as_many in omega arith) in
     span-wider t.0 s (place_of v.point) (wide i k t.0 l a t.1) (A.each k v t.0 b t.1)
 
--- ---- a span for each row
-abbrev pub AreSpansOf : List Vertex → List (List ℕ) → List Span → Type 0
-AreSpansOf vs rows ss = (k : ℕ) (row : List ℕ) (s : Span) → IsAt rows k row → IsAt ss k s → AreInSpan vs row (length row) s
+-- ---- a span for each row, as wide as those that it lists
+abbrev pub AreSpansOf : List Span → List (List ℕ) → List Span → Type 0
+AreSpansOf alone rows ss = (k : ℕ) (row : List ℕ) (s : Span) → IsAt rows k row → IsAt ss k s → AreNarrowerListed alone row (length row) s
 
-pub spans-more : (vs : List Vertex) (rows : List (List ℕ)) (n : ℕ) (ss : List Span) (row : List ℕ) (s : Span) → length ss ≡ n → IsAt rows n row → AreInSpan vs row (length row) s → AreSpansOf vs rows ss → AreSpansOf vs rows (ss ++ s ∷ [])
-spans-more vs rows n ss row s many here p all k r t a b = by (is-at_either ss k t s b)
+pub spans-more : (alone : List Span) (rows : List (List ℕ)) (n : ℕ) (ss : List Span) (row : List ℕ) (s : Span) → length ss ≡ n → IsAt rows n row → AreNarrowerListed alone row (length row) s → AreSpansOf alone rows ss → AreSpansOf alone rows (ss ++ s ∷ [])
+spans-more alone rows n ss row s many here p all k r t a b = by (is-at_either ss k t s b)
   where
-    by : Either ss k t s → AreInSpan vs r (length r) t
+    by : Either ss k t s → AreNarrowerListed alone r (length r) t
     by (earlier c) = all k r t a c
     by (last e f) =
         let same : row ≡ r = is-at_one rows n row r here (subst (λ (i : ℕ). IsAt rows i r) (e ∙ many) a) in
-        subst (λ (x : List ℕ). AreInSpan vs x (length x) t) same (subst (AreInSpan vs row (length row)) (sym f) p)
+        subst (λ (x : List ℕ). AreNarrowerListed alone x (length x) t) same (subst (AreNarrowerListed alone row (length row)) (sym f) p)
 
 pub spans-as-many : (ss : List Span) (s : Span) (n : ℕ) → length ss ≡ n → length (ss ++ s ∷ []) ≡ n + 1
 spans-as-many ss s n e = let f = length-append ss (s ∷ []) in omega arith
@@ -192,11 +192,11 @@ module _ (hs : List Plane) (vs : List Vertex) (rows : List (List ℕ)) (R : AreC
       let o = (R.each k h.0 row h.1 a).each i m b in
       is-at_within vs m o.0 o.1
 
-  pub carrier-spans : (ss : List Span) → length ss ≡ length rows → AreSpansOf vs rows ss → AreSpans hs vs ss
-  carrier-spans ss e all = record {
+  pub carrier-spans : (alone ss : List Span) → AreAlone vs alone → length ss ≡ length rows → AreSpansOf alone rows ss → AreSpans hs vs ss
+  carrier-spans alone ss A e all = record {
     as_many = e ∙ R.as_many;
     each = λ k h s a b j v c z.
         let row = is-at_some rows k (let l = is-at_within hs k h a in let f = R.as_many in omega arith) in
         let o = (R.each k h row.0 a row.1).all j (v, c, z) in
-        all k row.0 s row.1 b o.0 j v (is-at_within row.0 o.0 j o.1) o.1 c;
+        narrower-in vs alone row.0 s A (all k row.0 s row.1 b) o.0 j v (is-at_within row.0 o.0 j o.1) o.1 c;
   }

@@ -1,5 +1,5 @@
 -- The row of a vertex that is renumbered.
-use Rattle.std.proofs.Common.{ℕ, ◌<◌, ◌≤◌, ⊎_elim, List, [], length, get_or, arith, subst}
+use Rattle.std.proofs.Common.{◌≡◌, sym, ℕ, ◌<◌, ◌≤◌, ⊎_elim, List, [], length, get_or, arith, subst}
 use Rattle.std.specs.List.{Contains, dedup}
 use Rattle.std.specs.List.Sorted.{IsSorted, IsPermutation}
 use Rattle.std.specs.Ordering.{nat_cmp}
@@ -14,7 +14,8 @@ use Rattle.nef_geo.specs.declared.plane.Plane.{Plane}
 use Rattle.nef_classes.proofs.ClassLists.{is-at_one, is-at_within, is-at_get, is-at_is}
 use Rattle.nef_complex.specs.Index.{AreNumbersWith, AreHolders, IsHolder, AreWithin}
 use Rattle.nef_complex.specs.Planes.{HoldsBoth}
-use Rattle.nef_complex.specs.Taken.{HasEntry, StandsAmong, AreTaken, AreAdded}
+use Rattle.nef_complex.specs.Taken.{HasEntry, DoRise, StandsAmong, AreTaken, AreAdded}
+use Rattle.nef_complex.proofs.Walking.{added-none}
 
 entry-contained : (ns : List ℕ) (k : ℕ) → HasEntry ns k → Contains ns k
 entry-contained ns k (i, a) = (i, is-at_within ns i k a, is-at_is ns i k k a)
@@ -63,3 +64,14 @@ module _ (gs hs : List Plane) (ns : List ℕ) (others : List Plane) (ks : List �
 
   pub row-once : (sorted : List ℕ) → IsPermutation new sorted → IsSorted nat_cmp sorted → AreHolders hs p p (dedup eqb sorted)
   row-once sorted moved order = once-numbers (IsHolder hs p p) new sorted row-each row-all moved order
+
+-- where none of the others holds the point, the numbers that were read are in order already
+pub row-read : (gs hs : List Plane) (ns : List ℕ) (others : List Plane) (ks : List ℕ) (p : Place) (listed found mid : List ℕ) → AreTaken gs hs ns others ks → AreHolders gs p p listed → AreHolders others p p found → length found ≡ 0 → AreAdded ns listed (length listed) [] mid
+    → DoRise mid → AreHolders hs p p mid
+row-read gs hs ns others ks p listed found mid T H F e A rise =
+    let B : AreAdded ks found (length found) mid mid = subst (λ (n : ℕ). AreAdded ks found n mid mid) (sym e) (added-none ks found mid) in
+    record {
+      each = λ i k a. row-each gs hs ns others ks T p listed found H F mid mid A B k (i, a);
+      all = row-all gs hs ns others ks T p listed found H F mid mid A B;
+      ordered = rise;
+    }

@@ -7,7 +7,7 @@ use Rattle.nef_geo.specs.Shapes.{form_of}
 use Rattle.nef_geo.specs.declared.plane.Plane.{Plane}
 use Rattle.nef_classes.proofs.ClassLists.{less-or-last, is-at_one, is-at_within, is-at_some, is-at_left, is-at_last, Either, earlier, last, is-at_either}
 use Rattle.nef_complex.specs.Index.{AreInOrder}
-use Rattle.nef_complex.specs.Taken.{HasEntry, StandsAmong, AreTaken, AreAdded}
+use Rattle.nef_complex.specs.Taken.{HasEntry, DoRise, StandsAmong, AreTaken, AreAdded}
 
 -- ---- entries
 pub entry-left : (ns : List ℕ) (n k : ℕ) → HasEntry ns k → HasEntry (ns ++ n ∷ []) k
@@ -20,6 +20,8 @@ entry-last ns n = (length ns, is-at_last ns n)
 -- gs are taken from the first n of hs, but there may be more planes of gs
 pub record AreWalked (gs hs : List Plane) (n : ℕ) (ns : List ℕ) (others : List Plane) (ks : List ℕ) : Type 0 where
   pub each : (i k : ℕ) → IsAt ns i k → StandsAmong gs hs i k
+  pub below : (i k : ℕ) → IsAt ns i k → k < n
+  pub rise : DoRise ns
   pub others_enough : length ks ≡ length others
   pub others_each : (i k : ℕ) → IsAt ks i k → (k < n) × StandsAmong others hs i k
   pub all : (k : ℕ) → k < n → HasEntry ns k ⊎ HasEntry ks k
@@ -34,6 +36,8 @@ walked-same gs hs n ns ms others planes ks js a b d W =
 pub walked-none : (gs hs : List Plane) → AreWalked gs hs 0 [] [] []
 walked-none gs hs = record {
   each = λ i k a. cc;
+  below = λ i k a. cc;
+  rise = λ i j k l h a b. cc;
   others_enough = refl;
   others_each = λ i k a. cc;
   all = λ k l. absurd (omega arith);
@@ -45,6 +49,8 @@ module _ (gs hs : List Plane) (n : ℕ) (ns : List ℕ) (others : List Plane) (k
   pub walked-taken : IsAt gs (length ns) h → AreWalked gs hs (n + 1) (ns ++ n ∷ []) others ks
   walked-taken there = record {
     each = λ i k a. each i k (is-at_either ns i k n a);
+    below = λ i k a. below i k (is-at_either ns i k n a);
+    rise = λ i j k l h a b. rise i j k l h (is-at_either ns i k n a) (is-at_either ns j l n b);
     others_enough = W.others_enough;
     others_each = λ i k a. let o = W.others_each i k a in (omega arith, o.1);
     all = λ k l. ⊎_elim (λ m. ⊎_elim (λ e. inl (entry-left ns n k e)) (λ e. inr e) (W.all k m))
@@ -56,10 +62,22 @@ module _ (gs hs : List Plane) (n : ℕ) (ns : List ℕ) (others : List Plane) (k
       each i k (earlier a) = W.each i k a
       each i k (last e f) = (h, subst (λ (j : ℕ). IsAt gs j h) (sym e) there, subst (λ (j : ℕ). IsAt hs j h) (sym f) here)
 
+      below : (i k : ℕ) → Either ns i k n → k < n + 1
+      below i k (earlier a) = let l = W.below i k a in omega arith
+      below i k (last e f) = omega arith
+
+      rise : (i j k l : ℕ) → i < j → Either ns i k n → Either ns j l n → k < l
+      rise i j k l h (earlier a) (earlier b) = W.rise i j k l h a b
+      rise i j k l h (earlier a) (last e f) = let m = W.below i k a in omega arith
+      rise i j k l h (last e f) (earlier b) = let m = is-at_within ns j l b in absurd (omega arith)
+      rise i j k l h (last e f) (last g m) = absurd (omega arith)
+
   -- it is one of the others
   pub walked-other : AreInOrder hs → AreWalked gs hs (n + 1) ns (others ++ h ∷ []) (ks ++ n ∷ [])
   walked-other order = record {
     each = W.each;
+    below = λ i k a. let l = W.below i k a in omega arith;
+    rise = W.rise;
     others_enough = let e = W.others_enough in let a = length-append ks (n ∷ []) in let b = length-append others (h ∷ []) in omega arith;
     others_each = λ i k a. each i k (is-at_either ks i k n a);
     all = λ k l. ⊎_elim (λ m. ⊎_elim (λ e. inl e) (λ e. inr (entry-left ks n k e)) (W.all k m))
@@ -91,6 +109,7 @@ pub taken-all : (gs hs : List Plane) (n : ℕ) (ns : List ℕ) (others : List Pl
 taken-all gs hs n ns others ks W le enough = record {
   enough = enough;
   each = W.each;
+  rise = W.rise;
   others_enough = let e = W.others_enough in omega arith;
   others_each = λ i k a. (W.others_each i k a).1;
   all = λ k l. W.all k (omega arith);
@@ -115,3 +134,24 @@ added-more table places n j m old new here there A = record {
     only : (k i : ℕ) → Either new i k m → HasEntry old k ⊎ ((i : ℕ) × (j : ℕ) × (i < n + 1) × IsAt places i j × IsAt table j k)
     only k i (earlier a) = ⊎_elim (λ e. inl e) (λ (r, q, l, x, y). inr (r, q, omega arith, x, y)) (A.only k (i, a))
     only k i (last e f) = inr (n, j, omega arith, here, subst (IsAt table j) (sym f) there)
+
+-- ---- numbers that are read
+-- the row has, place by place, what stands in the table at the first n of the places
+abbrev pub AreReadTo : List ℕ → List ℕ → ℕ → List ℕ → Type 0
+AreReadTo table places n row = (length row ≡ n) × ((i k : ℕ) → IsAt row i k → (j : ℕ) × IsAt places i j × IsAt table j k)
+
+pub read-none : (table places row : List ℕ) → row ≡ [] → AreReadTo table places 0 row
+read-none table places row e = subst (AreReadTo table places 0) (sym e) (refl, λ i k a. cc)
+
+pub read-more : (table places : List ℕ) (n j m : ℕ) (row : List ℕ) → IsAt places n j → IsAt table j m → AreReadTo table places n row → AreReadTo table places (n + 1) (row ++ m ∷ [])
+read-more table places n j m row here there R = ((let e = R.0 in let f = length-append row (m ∷ []) in omega arith), λ i k a. by i k (is-at_either row i k m a))
+  where
+    by : (i k : ℕ) → Either row i k m → (j : ℕ) × IsAt places i j × IsAt table j k
+    by i k (earlier a) = R.1 i k a
+    by i k (last e f) = (j, subst (λ (p : ℕ). IsAt places p j) (sym (e ∙ R.0)) here, subst (IsAt table j) (sym f) there)
+
+-- of places that increase, in a table of numbers that do, the numbers increase
+pub read-rise : (table places row : List ℕ) (n : ℕ) → AreReadTo table places n row → DoRise table → DoRise places → DoRise row
+read-rise table places row n R rise rises i j k l h a b =
+    let p = R.1 i k a in
+    let q = R.1 j l b in rise p.0 q.0 k l (rises i j p.0 q.0 h p.1 q.1) p.2 q.2

@@ -45,7 +45,7 @@ AreSorted vs = (i k : ℕ) (u v : Vertex) → i < k → IsAt vs i u → IsAt vs 
 pub record ShowsSet (s : Set) (c : Complex) : Type 0 where
   pub shows : Shows s (complex_of c)
   pub maps : (k : ℕ) (v : Vertex) → IsAt c.vertices k v → IsLeastMap v.map
-  pub index : IsIndexOf c.vertices c.edges c.index
+  pub index : IsIndexOf c.carriers c.vertices c.index
   pub holders : HasHolders c.carriers c.vertices c.edges c.index
 
 -- what the carrier with this number holds of the skeleton lies in the closed frame, and not within the window

@@ -1,5 +1,5 @@
--- The planes of items, with the edges and the vertices of each.
-use Rattle.std.specs.Prelude.{◌≡◌, ℕ, ◌<◌, pos, List, length, ◌↔◌}
+-- What an index says of the carriers: which of them are planes of items, and what they hold.
+use Rattle.std.specs.Prelude.{◌≡◌, ℕ, ◌<◌, pos, Bool, IsTrue, List, length, ◌↔◌}
 use Rattle.nef_space.specs.Lists.{IsAt}
 use Rattle.nef_space.specs.Numbers.{IsBelow}
 use Rattle.nef_space.specs.Place.{Place, Form, form_at, form_numbers, normal_of}
@@ -15,6 +15,7 @@ use Rattle.nef_complex.specs.declared.spans.Span.{Span}
 use Rattle.nef_complex.specs.declared.groups.Cluster.{Cluster}
 use Rattle.nef_complex.specs.declared.groups.Group.{Group}
 use Rattle.nef_complex.specs.Spans.{IsInSpan}
+use Rattle.nef_complex.specs.Indexing.{AreAlone}
 use Rattle.nef_complex.specs.Planes.{HoldsBoth}
 use Rattle.nef_complex.specs.Peaks.{HavePeaks}
 
@@ -40,18 +41,16 @@ pub record AreNumbersWith (P : ℕ → Type 0) (ns : List ℕ) : Type 0 where
 abbrev pub AreInOrder : List Plane → Type 0
 AreInOrder hs = (i j : ℕ) (g h : Plane) → i < j → IsAt hs i g → IsAt hs j h → IsBelow (form_numbers (form_of g)) (form_numbers (form_of h))
 
--- the planes are those of the items of the vertices, in order of their four numbers, once each; for each of them there are the numbers of the edges in it and of the vertices on it
-pub record ArePlaneRows (vs : List Vertex) (es : List Edge) (hs : List Plane) (in_plane on_plane : List (List ℕ)) : Type 0 where
-  pub planes : (h : Plane) → HasItemIn vs (form_of h) ↔ ((i : ℕ) × IsAt hs i h)
-  pub ordered : AreInOrder hs
-  pub as_many_edges : length in_plane ≡ length hs
-  pub as_many_vertices : length on_plane ≡ length hs
-  pub edges : (i : ℕ) (h : Plane) (ns : List ℕ) → IsAt hs i h → IsAt in_plane i ns → AreNumbersWith (EdgeLiesIn vs es (form_of h)) ns
-  pub vertices : (i : ℕ) (h : Plane) (ns : List ℕ) → IsAt hs i h → IsAt on_plane i ns → AreNumbersWith (LiesOn vs (form_of h)) ns
+-- for each carrier there is a flag that says whether it is the plane of an item
+pub record AreItemFlags (hs : List Plane) (vs : List Vertex) (flags : List Bool) : Type 0 where
+  pub as_many : length flags ≡ length hs
+  pub each : (k : ℕ) (h : Plane) (b : Bool) → IsAt hs k h → IsAt flags k b → IsTrue b ↔ HasItemIn vs (form_of h)
 
--- those of the index are
-abbrev pub IsIndexOf : List Vertex → List Edge → PlaneIndex → Type 0
-IsIndexOf vs es x = ArePlaneRows vs es x.planes x.edges x.vertices
+-- the carriers stand in order of their four numbers, once each, and the plane of each item is one of them; the flags of the index say which ones are planes of items
+pub record IsIndexOf (hs : List Plane) (vs : List Vertex) (x : PlaneIndex) : Type 0 where
+  pub ordered : AreInOrder hs
+  pub planes : (h : Plane) → HasItemIn vs (form_of h) → (k : ℕ) × IsAt hs k h
+  pub flags : AreItemFlags hs vs x.has_item
 
 -- each of the numbers is that of an element
 abbrev pub AreWithin : {X : Type 0} → List X → List ℕ → Type 0
@@ -121,16 +120,16 @@ pub record AreClusters (hs : List Plane) (vs : List Vertex) (clusters : List Clu
   pub groups : (i j : ℕ) (q : Cluster) (g : Group) → IsAt clusters i q → IsAt q.groups j g → AreSpanned hs vs (IsInGroup g) g.span
   pub all : (k : ℕ) → k < length hs → StandsIn IsInCluster clusters k
 
--- the index names the carriers that hold each vertex and each edge, and what each carrier holds and where that lies; it has the carriers in clusters, and the peaks of rows of edges
+-- the index names the carriers that hold each vertex and each edge, and what each carrier holds and where that and each vertex lies; it has the carriers in clusters, and the peaks of rows of edges
 pub record HasHolders (hs : List Plane) (vs : List Vertex) (es : List Edge) (x : PlaneIndex) : Type 0 where
   pub at_vertex : AreVertexHolders hs vs x.at_vertex
   pub at_edge : AreEdgeHolders hs vs es x.at_edge
   pub on_carrier : AreCarrierVertices hs vs x.on_carrier
   pub in_carrier : AreCarrierEdges hs vs es x.in_carrier
+  pub points : AreAlone vs x.points
   pub spans : AreSpans hs vs x.spans
   pub clusters : AreClusters hs vs x.clusters
   pub peaks : HavePeaks es x.in_carrier x.peaks
-  pub plane_peaks : HavePeaks es x.edges x.plane_peaks
 
 -- the carriers hold each item: some carrier has its normal and holds its vertex
 abbrev pub AreHeld : List Plane → List Vertex → Type 0

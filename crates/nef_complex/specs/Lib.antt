@@ -2,11 +2,12 @@ pub mod Complexes
 pub mod Planes
 pub mod Spans
 pub mod Peaks
-pub mod Index
 pub mod Indexing
+pub mod Index
 pub mod Runs
 pub mod Tables
 pub mod Taken
+pub mod Common
 pub mod Sides
 pub mod Cycles
 pub mod Shells

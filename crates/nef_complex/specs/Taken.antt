@@ -7,14 +7,19 @@ use Rattle.nef_geo.specs.declared.plane.Plane.{Plane}
 abbrev pub HasEntry : List ℕ → ℕ → Type 0
 HasEntry ns k = (i : ℕ) × IsAt ns i k
 
+-- the numbers increase
+abbrev pub DoRise : List ℕ → Type 0
+DoRise ns = (i j k l : ℕ) → i < j → IsAt ns i k → IsAt ns j l → k < l
+
 -- the plane of gs at this place has the number k among hs
 abbrev pub StandsAmong : List Plane → List Plane → ℕ → ℕ → Type 0
 StandsAmong gs hs i k = (g : Plane) × IsAt gs i g × IsAt hs k g
 
--- ns has for each plane of gs its number among hs, ks for each of the others, and each plane of hs has a number there
+-- ns has for each plane of gs its number among hs, in increasing order, ks for each of the others, and each plane of hs has a number there
 pub record AreTaken (gs hs : List Plane) (ns : List ℕ) (others : List Plane) (ks : List ℕ) : Type 0 where
   pub enough : length gs ≤ length ns
   pub each : (i k : ℕ) → IsAt ns i k → StandsAmong gs hs i k
+  pub rise : DoRise ns
   pub others_enough : length others ≤ length ks
   pub others_each : (i k : ℕ) → IsAt ks i k → StandsAmong others hs i k
   pub all : (k : ℕ) → k < length hs → HasEntry ns k ⊎ HasEntry ks k

@@ -1,5 +1,5 @@
-//! What a complex is made of, its vertices by their points, and its index: the planes of the items, with the edges and the
-//! vertices of each; and the carriers that hold a vertex or an edge.
+//! What a complex is made of, its vertices by their points, and its index: what each carrier holds, and the carriers that
+//! hold a vertex or an edge.
 
 ghost use Rattle.std.specs.Prelude.{◌<◌};
 ghost use Rattle.nef_geo.specs.Prelude.{ℕ, IsNone, IfSome, IfOk, IfErr, length, place_of, form_of, IsAt, Set};
@@ -9,6 +9,7 @@ ghost use Rattle.nef_complex.specs.Complexes.{complex_of, AreSorted, AreBelow, A
 ghost use Rattle.nef_complex.specs.declared.complex.Edge.{Edge as EdgeValue};
 ghost use Rattle.nef_complex.specs.declared.complex.Vertex.{Vertex as VertexValue};
 ghost use Rattle.nef_complex.specs.Index.{HasItemIn, LiesOn, EdgeLiesIn, AreNumbersWith, AreHolders, AreHoldersAlong, AreSpans, AreClusters};
+ghost use Rattle.nef_complex.specs.Indexing.{AreAlone};
 ghost use Rattle.nef_complex.specs.Peaks.{ArePeaks};
 
 use crate::groups::Cluster;
@@ -87,25 +88,22 @@ pub fn vertex_at(c: &Complex, p: &Point) -> Option<usize>
     }
 }
 
-/// The planes of the items of all vertices, in order of their four numbers, once each; and for each of them the numbers
-/// of the edges that lie in it and those of the vertices on it, in increasing order. Besides, for each vertex the numbers
-/// of the carriers that hold it, and for each edge those of the carriers that hold both of its ends, in increasing order;
-/// and for each carrier the numbers of the vertices on it, those of the edges in it, and a span of these vertices; and the
-/// carriers in clusters of groups of such as lie close to one another. The long ones of the rows of edges in a carrier and
-/// in a plane have peaks.
+/// For each carrier whether some vertex has an item in it, as the plane of each item is a carrier; the numbers of the
+/// vertices on it and those of the edges that lie in it, in increasing order; and a span of these vertices. For each vertex
+/// the numbers of the carriers that hold it and the span of its point, and for each edge the numbers of the carriers that
+/// hold both of its ends, in increasing order. Besides, the carriers in clusters of groups of such as lie close to one
+/// another. The long ones of the rows of edges in a carrier have peaks.
 #[derive(Debug, Drop)]
 pub struct PlaneIndex {
-    pub planes: List<Plane>,
-    pub edges: Table,
-    pub vertices: Table,
+    pub has_item: List<bool>,
     pub at_vertex: Table,
     pub at_edge: Table,
     pub on_carrier: List<List<usize>>,
     pub in_carrier: List<List<usize>>,
+    pub points: List<Span>,
     pub spans: List<Span>,
     pub clusters: List<Cluster>,
     pub peaks: Table,
-    pub plane_peaks: Table,
 }
 
 /// The numbers of the edges that lie in a plane, and of the vertices on it, in increasing order; and the peaks of the edges.
@@ -116,7 +114,8 @@ pub struct PlaneItems<'a> {
     pub peaks: &'a [usize],
 }
 
-/// The edges and vertices of the plane, by halving. `None` comes exactly where no vertex has an item in the plane.
+/// The edges and vertices of the plane, which is looked up among the carriers by halving. `None` comes exactly where no
+/// vertex has an item in the plane.
 pub fn plane_items<'a>(c: &'a Complex, h: &Plane) -> Option<PlaneItems<'a>>
     requires shows { (s : Set) × ShowsSet s c.now }
     ensures item { IfSome result (λ r. HasItemIn c.now.vertices (form_of h.now)) }
@@ -125,12 +124,14 @@ pub fn plane_items<'a>(c: &'a Complex, h: &Plane) -> Option<PlaneItems<'a>>
     ensures peaks { IfSome result (λ r. ArePeaks c.now.edges r.edges.now r.peaks.now) }
     ensures none { IsNone result → HasItemIn c.now.vertices (form_of h.now) → ⊥ }
 {
-    match c.index.planes.as_slice().binary_search(h) {
-        Ok(number) => Some(PlaneItems {
-            edges: c.index.edges.row(number),
-            vertices: c.index.vertices.row(number),
-            peaks: c.index.plane_peaks.row_or_none(number),
-        }),
+    match c.carriers.as_slice().binary_search(h) {
+        Ok(number) => {
+            if *c.index.has_item.at(number) {
+                Some(carrier_items(c, number))
+            } else {
+                None
+            }
+        }
         Err(_place) => None,
     }
 }
@@ -166,6 +167,14 @@ pub fn carrier_items<'a>(c: &'a Complex, number: usize) -> PlaneItems<'a>
         vertices: c.index.on_carrier.at(number).as_slice(),
         peaks: c.index.peaks.row_or_none(number),
     }
+}
+
+/// For each vertex the span of its point alone.
+pub fn point_spans(c: &Complex) -> &[Span]
+    requires shows { (s : Set) × ShowsSet s c.now }
+    ensures alone { AreAlone c.now.vertices result.now }
+{
+    c.index.points.as_slice()
 }
 
 /// For each carrier a span of the vertices on it.

@@ -3,35 +3,46 @@
 ghost use Rattle.std.specs.Prelude.{◌≡◌, ◌↔◌, ◌<◌};
 ghost use Rattle.nef_geo.specs.Prelude.{List as Sequence, length, IsTrue, IfOk, ℕ, OnOk, form_of, place_of, IsAt, Place};
 ghost use Rattle.nef_complex.specs.declared.complex.Edge.{Edge};
-ghost use Rattle.nef_complex.specs.Index.{HasItemIn, LiesOn, AreNumbersWith, ArePlaneRows, IsIndexOf, HasHolders, AreHeld, AreInOrder, HaveEnds, AreVertexHolders, AreCarrierVertices, AreCarrierEdges, AreWithin, AreHolders, AreEdgeHolders};
-ghost use Rattle.nef_complex.specs.Peaks.{HavePeaks};
+ghost use Rattle.nef_complex.specs.Index.{HasItemIn, LiesOn, AreNumbersWith, AreItemFlags, IsIndexOf, HasHolders, AreHeld, AreInOrder, HaveEnds, AreVertexHolders, AreCarrierVertices, AreCarrierEdges, AreWithin, AreHolders, AreEdgeHolders};
 ghost use Rattle.nef_complex.specs.Indexing.{AreOnce, AreRowsOfOnce, HaveOneMore, HasNumber};
+ghost use Rattle.nef_complex.specs.Taken.{DoRise};
+ghost use Rattle.nef_complex.specs.Common.{DoAllRise, HaveRows, AreCommon, AreCommonRows};
 
 use crate::OutOfMemory;
 use crate::complex::{Complex, Edge, PlaneIndex, Vertex};
 use crate::groups::clusters_of;
 use crate::peaks::peaks_of;
 use crate::sorted_carriers::{SortedCarriers, holds};
-use crate::spans::spans_of;
+use crate::spans::{spans_of, vertex_spans};
 use crate::table::Table;
 use nef_classes::empty_rows;
 use nef_geo::{List, Plane, Point, plane_normal};
 use std::alloc::Global;
 
-// Puts those of the listed numbers whose carriers hold the point too into the list, in place of what it had.
-fn common_holders(
-    carriers: &[Plane],
-    listed: &[usize],
-    point: &Point,
+// Puts the numbers that stand in both rows into the list, in place of what it had, by one way through both rows.
+fn common_numbers(
+    first: &[usize],
+    second: &[usize],
     numbers: &mut Vec<usize>,
 ) -> Result<(), OutOfMemory>
-    requires within { AreWithin carriers.now listed.now }
-    ensures common { OnOk result ((a : Place) → AreHolders carriers.now a a listed.now → AreHolders carriers.now a (place_of point.now) numbers.new.items) }
+    requires first { DoRise first.now }
+    requires second { DoRise second.now }
+    ensures common { OnOk result (AreCommon first.now second.now numbers.new.items) }
 {
     numbers.clear();
-    for number in listed {
-        if holds(&carriers[*number], point) {
-            numbers.push(*number)?;
+    let mut at_first = 0;
+    let mut at_second = 0;
+    while at_first < first.len() && at_second < second.len() {
+        let number = first[at_first];
+        let other = second[at_second];
+        if number < other {
+            at_first += 1;
+        } else if other < number {
+            at_second += 1;
+        } else {
+            numbers.push(number)?;
+            at_first += 1;
+            at_second += 1;
         }
     }
     Ok(())
@@ -60,24 +71,20 @@ pub fn vertex_rows(
     Ok(rows)
 }
 
-// For each edge the numbers of the carriers that hold both of its ends: those of the lower end whose carriers hold the upper
-// one.
-fn edge_rows(
-    alloc: Global,
-    carriers: &[Plane],
-    vertices: &[Vertex],
-    edges: &[Edge],
-    at_vertex: &Table,
-) -> Result<Table, OutOfMemory>
-    requires at_vertex { AreVertexHolders carriers.now vertices.now at_vertex.now }
-    requires ends { HaveEnds vertices.now edges.now }
-    ensures rows { IfOk result (λ rows. AreEdgeHolders carriers.now vertices.now edges.now rows) }
+// For each edge the numbers of the carriers that hold both of its ends: those that stand in the rows of both.
+fn edge_rows(alloc: Global, edges: &[Edge], at_vertex: &Table) -> Result<Table, OutOfMemory>
+    requires rise { DoAllRise at_vertex.now }
+    requires ends { HaveRows at_vertex.now edges.now }
+    ensures common { IfOk result (λ rows. AreCommonRows at_vertex.now edges.now rows) }
 {
     let mut rows = Table::with_rows(alloc, edges.len(), CARRIERS_AT_EDGE)?;
     let mut numbers = Vec::new(alloc);
     for edge in edges {
-        let at_low = at_vertex.row(edge.low);
-        common_holders(carriers, at_low, &vertices[edge.high].point, &mut numbers)?;
+        common_numbers(
+            at_vertex.row(edge.low),
+            at_vertex.row(edge.high),
+            &mut numbers,
+        )?;
         rows.push(numbers.as_slice())?;
     }
     Ok(rows)
@@ -124,43 +131,26 @@ fn has_item(h: &Plane, vertices: &[Vertex], on: &[usize]) -> bool
     false
 }
 
-// The planes of all items, each of which is a carrier, and for each of them the numbers of the edges in it and of the vertices
-// on it; and the peaks of these edges. The vertices, edges and peaks of each carrier are given.
-fn plane_rows(
+// For each carrier whether some vertex has an item in it. The vertices on each are given.
+fn item_flags(
     alloc: Global,
     carriers: &[Plane],
     vertices: &[Vertex],
     on_carrier: &List<List<usize>>,
-    in_carrier: &List<List<usize>>,
-    peaks: &Table,
-) -> Result<(List<Plane>, Table, Table, Table), OutOfMemory>
-    requires ordered { AreInOrder carriers.now }
-    requires held { AreHeld carriers.now vertices.now }
+) -> Result<List<bool>, OutOfMemory>
     requires on { AreCarrierVertices carriers.now vertices.now on_carrier.now }
-    requires within { length in_carrier.now ≡ length carriers.now }
-    ensures rows { IfOk result (λ r. (es : Sequence Edge) → AreCarrierEdges carriers.now vertices.now es in_carrier.now → ArePlaneRows vertices.now es r.0 r.1 r.2) }
-    ensures peaks { IfOk result (λ r. (es : Sequence Edge) → HavePeaks es in_carrier.now peaks.now → HavePeaks es r.1 r.3) }
+    ensures flags { IfOk result (λ flags. AreItemFlags carriers.now vertices.now flags) }
 {
-    let mut planes = List::new(alloc);
-    let mut in_plane = Table::with_rows(alloc, carriers.len(), ON_CARRIER)?;
-    let mut on_plane = Table::with_rows(alloc, carriers.len(), ON_CARRIER)?;
-    let mut plane_peaks = Table::with_rows(alloc, 0, 0)?;
+    let mut flags = List::from_vec(Vec::with_capacity(alloc, carriers.len())?);
     for (number, h) in carriers.iter().enumerate() {
-        let on = on_carrier.at(number).as_slice();
-        let within = in_carrier.at(number).as_slice();
-        if has_item(h, vertices, on) {
-            plane_peaks.set_next(in_plane.len(), peaks.row_or_none(number))?;
-            planes.push(*h)?;
-            in_plane.push(within)?;
-            on_plane.push(on)?;
-        }
+        flags.push(has_item(h, vertices, on_carrier.at(number).as_slice()))?;
     }
-    Ok((planes, in_plane, on_plane, plane_peaks))
+    Ok(flags)
 }
 
 impl Complex {
-    /// The complex with these carriers, vertices and edges, and with the index of its planes and of the carriers that hold
-    /// each vertex and edge; those that hold each vertex are given. The carriers stand in order, and some of them holds
+    /// The complex with these carriers, vertices and edges, and with the index of its carriers and of those that hold each
+    /// vertex and edge; those that hold each vertex are given. The carriers stand in order, and some of them holds
     /// each item. `OutOfMemory` says that memory was wanted and not found.
     pub fn of(
         alloc: Global,
@@ -174,41 +164,27 @@ impl Complex {
         requires rows { AreVertexHolders carriers vertices at_vertex }
         requires ends { HaveEnds vertices edges }
         ensures kept { IfOk result (λ c. (c.carriers ≡ carriers) × (c.vertices ≡ vertices) × (c.edges ≡ edges)) }
-        ensures index { IfOk result (λ c. IsIndexOf c.vertices c.edges c.index) }
+        ensures index { IfOk result (λ c. IsIndexOf c.carriers c.vertices c.index) }
         ensures holders { IfOk result (λ c. HasHolders c.carriers c.vertices c.edges c.index) }
     {
-        let at_edge = edge_rows(
-            alloc,
-            carriers.as_slice(),
-            vertices.as_slice(),
-            edges.as_slice(),
-            &at_vertex,
-        )?;
+        let at_edge = edge_rows(alloc, edges.as_slice(), &at_vertex)?;
         let on_carrier = transposed(alloc, &at_vertex, carriers.len())?;
         let in_carrier = transposed(alloc, &at_edge, carriers.len())?;
-        let spans = spans_of(alloc, vertices.as_slice(), on_carrier.as_slice())?;
+        let points = List::from_vec(vertex_spans(alloc, vertices.as_slice())?);
+        let spans = spans_of(alloc, points.as_slice(), on_carrier.as_slice())?;
         let peaks = peaks_of(alloc, edges.as_slice(), &in_carrier)?;
-        let (planes, in_plane, on_plane, plane_peaks) = plane_rows(
-            alloc,
-            carriers.as_slice(),
-            vertices.as_slice(),
-            &on_carrier,
-            &in_carrier,
-            &peaks,
-        )?;
+        let has_item = item_flags(alloc, carriers.as_slice(), vertices.as_slice(), &on_carrier)?;
         let clusters = clusters_of(alloc, spans.as_slice())?;
         let index = PlaneIndex {
-            planes,
-            edges: in_plane,
-            vertices: on_plane,
+            has_item,
             at_vertex,
             at_edge,
             on_carrier,
             in_carrier,
+            points,
             spans,
             clusters,
             peaks,
-            plane_peaks,
         };
         Ok(Complex {
             carriers,

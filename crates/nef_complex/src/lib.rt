@@ -17,7 +17,7 @@ mod walk;
 
 pub use complex::{
     Complex, Corner, Edge, PlaneIndex, PlaneItems, PlaneMeet, Vertex, carrier_items, carrier_spans,
-    edge_holders, find_vertex, plane_items, vertex_at, vertex_holders,
+    edge_holders, find_vertex, plane_items, point_spans, vertex_at, vertex_holders,
 };
 pub use indexing::vertex_rows;
 pub use parts::{Cycle, Facet, Parts, Shell, Side};

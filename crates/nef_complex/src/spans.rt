@@ -4,7 +4,7 @@ ghost use Rattle.std.specs.Prelude.{◌≡◌, ◌*ℤ◌, ◌<ℤ◌, ◌≤ℤ
 ghost use Rattle.nef_geo.specs.Prelude.{ℕ, pos, nat_abs, List as Sequence, length, IsTrue, IfOk, point_limit, IsAt, Place, place_of};
 ghost use Rattle.nef_complex.specs.declared.complex.Vertex.{Vertex};
 ghost use Rattle.nef_complex.specs.Index.{AreWithin};
-ghost use Rattle.nef_complex.specs.Spans.{IsInSpan, AreInSpan, AreNarrower, IsNarrower, AreSmall, HaveCommon, DoOverlap};
+ghost use Rattle.nef_complex.specs.Spans.{IsInSpan, AreNarrower, IsNarrower, AreSmall, HaveCommon, DoOverlap};
 ghost use Rattle.nef_complex.specs.Indexing.{AreAlone, AreNarrowerListed};
 
 use crate::OutOfMemory;
@@ -141,22 +141,20 @@ fn span_of(alone: &[Span], listed: &[usize]) -> Span
     span
 }
 
-/// For each row of numbers the span of the vertices with these numbers. A vertex lies in several rows, so the span of each
-/// is worked out once, before all rows.
+/// For each row of numbers the span of the vertices with these numbers. The spans of the vertices alone are given.
 pub(crate) fn spans_of(
     alloc: Global,
-    vertices: &[Vertex],
+    alone: &[Span],
     rows: &[List<usize>],
 ) -> Result<List<Span>, OutOfMemory>
-    requires within { (k : ℕ) (row : Sequence ℕ) → IsAt rows.now k row → AreWithin vertices.now row }
+    requires within { (k : ℕ) (row : Sequence ℕ) → IsAt rows.now k row → AreWithin alone.now row }
     ensures as_many { IfOk result (λ v. length v ≡ length rows.now) }
-    ensures spanned { IfOk result (λ v. (k : ℕ) (row : Sequence ℕ) (span : Span) → IsAt rows.now k row → IsAt v k span → AreInSpan vertices.now row (length row) span) }
+    ensures spanned { IfOk result (λ v. (k : ℕ) (row : Sequence ℕ) (span : Span) → IsAt rows.now k row → IsAt v k span → AreNarrowerListed alone.now row (length row) span) }
 {
-    let alone = vertex_spans(alloc, vertices)?;
     let room = Vec::with_capacity(alloc, rows.len())?;
     let mut spans = List::from_vec(room);
     for row in rows {
-        spans.push(span_of(alone.as_slice(), row.as_slice()))?;
+        spans.push(span_of(alone, row.as_slice()))?;
     }
     Ok(spans)
 }

@@ -2,11 +2,11 @@
 //! stand among its own, and which of its own aren't theirs.
 
 ghost use Rattle.std.specs.Prelude.{◌≡◌};
-ghost use Rattle.nef_geo.specs.Prelude.{length, IsTrue, IfSome, IfOk, OnOk, IsAt, Set, place_of};
+ghost use Rattle.nef_geo.specs.Prelude.{[], length, IsTrue, IfSome, IfOk, OnOk, IsAt, Set, place_of};
 ghost use Rattle.nef_complex.specs.declared.complex.Vertex.{Vertex as VertexValue};
 ghost use Rattle.nef_complex.specs.Complexes.{ShowsSet};
 ghost use Rattle.nef_complex.specs.Index.{AreWithin, AreHolders, AreVertexHolders, AreInOrder};
-ghost use Rattle.nef_complex.specs.Taken.{AreAdded, AreTaken};
+ghost use Rattle.nef_complex.specs.Taken.{DoRise, AreAdded, AreTaken};
 
 use crate::OutOfMemory;
 use crate::complex::{Complex, Vertex, vertex_holders};
@@ -78,6 +78,7 @@ fn source_of<'a>(
 fn add_numbers(table: &[usize], listed: &[usize], row: &mut Vec<usize>) -> Result<(), OutOfMemory>
     requires within { AreWithin table.now listed.now }
     ensures added { OnOk result (AreAdded table.now listed.now (length listed.now) row.old.items row.new.items) }
+    ensures rise { OnOk result (row.old.items ≡ [] → DoRise table.now → DoRise listed.now → DoRise row.new.items) }
 {
     for place in listed {
         row.push(table[*place])?;
@@ -106,8 +107,8 @@ fn is_vertex_at(vertices: &[Vertex], number: usize, point: &Point) -> bool
 }
 
 // Where the vertex of the source with this number stands at the point, puts the numbers of all carriers that hold it into the
-// row, in place of what it had: those of the source are listed, and the others are asked. Says whether it did. What `found`
-// has is of no use before or after.
+// row, in place of what it had: those of the source are listed, in increasing order, and the others are asked. Says whether it
+// did. What `found` has is of no use before or after.
 fn row_from(
     carriers: &SortedCarriers,
     source: &Option<Source>,
@@ -133,6 +134,9 @@ fn row_from(
                 vertex_holders(complex, number),
                 row,
             )?;
+            if found.is_empty() {
+                return Ok(true);
+            }
             add_numbers(taken.other_numbers.as_slice(), found.as_slice(), row)?;
             row.sort_unstable();
             row.dedup();

@@ -1,5 +1,4 @@
 use Rattle.std.proofs.Common.{List, ℕ, sym, subst}
-use Rattle.nef_space.specs.Lists.{IsAt}
 use Rattle.nef_complex.specs.Peaks.{ArePeaks}
 use Rattle.nef_complex.proofs.Peaked.{row-peaks}
 use Rattle.nef_complex.proofs.complex.carrier_items.Goals as goal

@@ -1,7 +1,7 @@
-use Rattle.std.proofs.Common.{◌≡◌, ℕ, ◌+◌, ◌*◌, ◌<◌, ◌≤◌, ◌/◌, List, [], ◌∷◌, ◌++◌, length, length-append, arith, ap, refl, sym, subst, ◌∙◌}
+use Rattle.std.proofs.Common.{◌≡◌, ℕ, ◌+◌, ◌*◌, List, [], ◌∷◌, ◌++◌, length, length-append, arith, ap, sym, subst, ◌∙◌}
 use Rattle.nef_complex.specs.declared.complex.Edge.{Edge}
-use Rattle.nef_complex.specs.Peaks.{EndBelow, ArePeaks}
-use Rattle.nef_complex.proofs.Peaked.{end-at, peaks-none, peaks-more}
+use Rattle.nef_complex.specs.Peaks.{ArePeaks}
+use Rattle.nef_complex.proofs.Peaked.{end-at, peaks-more}
 use Rattle.nef_complex.proofs.peaks.put_peaks.Goals as goal
 
 pub loop-block-preserved : goal.loop-block-preserved

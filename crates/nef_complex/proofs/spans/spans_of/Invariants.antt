@@ -1,8 +1,8 @@
 use Rattle.std.specs.Prelude.{◌≡◌, ℕ, List, length}
 use Rattle.nef_space.specs.Lists.{IsAt}
 use Rattle.nef_complex.specs.declared.spans.Span.{Span}
-use Rattle.nef_complex.specs.Spans.{AreInSpan}
+use Rattle.nef_complex.specs.Indexing.{AreNarrowerListed}
 use Rattle.nef_complex.proofs.spans.spans_of.Given as goal
 
 abbrev pub invariant-loop-row : goal.invariant-loop-row
-invariant-loop-row l = record { as_many : length l.spans ≡ l.row-index; spanned : (k : ℕ) (row : List ℕ) (span : Span) → IsAt l.rows k row → IsAt l.spans k span → AreInSpan l.vertices row (length row) span }
+invariant-loop-row l = record { as_many : length l.spans ≡ l.row-index; spanned : (k : ℕ) (row : List ℕ) (span : Span) → IsAt l.rows k row → IsAt l.spans k span → AreNarrowerListed l.alone row (length row) span }

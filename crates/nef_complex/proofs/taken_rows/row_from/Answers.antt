@@ -1,4 +1,6 @@
-use Rattle.std.proofs.Common.{◌≡◌, ℕ, List, Option, Some, IfSome, [], length, rules, sym, subst}
+use Rattle.std.proofs.Common.{◌≡◌, ℕ, List, Option, Some, IfSome, [], length, arith, rules, sym, ◌∙◌, subst}
+use Rattle.std.specs.Vec.{vec_len}
+use Rattle.std.proofs.lemmas.Bool.{eqb-true}
 use Rattle.std.proofs.lemmas.List.Filters.{dedup_is}
 use Rattle.std.proofs.Math.Dec.{eqb}
 use Rattle.nef_space.specs.Lists.{IsAt}
@@ -8,8 +10,8 @@ use Rattle.nef_geo.specs.declared.point.Point.{Point}
 use Rattle.nef_complex.specs.declared.complex.Vertex.{Vertex}
 use Rattle.nef_complex.specs.declared.taken_rows.Source.{Source}
 use Rattle.nef_complex.specs.Index.{AreWithin, AreHolders}
-use Rattle.nef_complex.specs.Taken.{AreAdded, AreTaken}
-use Rattle.nef_complex.proofs.TakenRows.{holders-places, row-once}
+use Rattle.nef_complex.specs.Taken.{DoRise, AreAdded, AreTaken}
+use Rattle.nef_complex.proofs.TakenRows.{holders-places, row-once, row-read}
 use Rattle.nef_complex.proofs.taken_rows.row_from.Goals as goal
 
 -- what is known of a source that there is
@@ -44,6 +46,27 @@ add_numbers-requires-in-Some c =
           (subst (λ (xs : List ℕ). AreWithin t.other_numbers.items xs) (sym c.as_slice-in-Some-3.ensures.value)
           (holders-places t.others (place_of c.args.point.now) t.other_numbers.items found T.others_enough c.in_ok-holders-in-Some.ensures.holders));
     }
+
+pub returns-then-is_empty : goal.returns-then-is_empty
+returns-then-is_empty c = record {
+  row = λ _.
+      let t = c.in-Some.taken in
+      let gs : List Plane = t.complex.now.carriers in
+      let hs : List Plane = c.args.carriers.now in
+      let listed : List ℕ = c.vertex_holders.result.now in
+      let found : List ℕ = c.holders.new.numbers.items in
+      let mid : List ℕ = c.add_numbers.new.row.items in
+      let ns : List ℕ = t.numbers.items in
+      let p = place_of c.args.point.now in
+      let T = taken-at c.args.source.now t hs c.in-Some.is c.requires.taken in
+      let H = holders-at gs t.complex.now.vertices c.as_slice.result.now c.args.number c.args.point.now listed c.as_slice.ensures.all c.vertex_holders.ensures.holders (c.is_vertex_at.ensures.at (search (rules, c.if-not-is_vertex_at.false))) in
+      let A : AreAdded ns listed (length listed) [] mid = subst (λ (xs : List ℕ). AreAdded xs listed (length listed) [] mid) c.as_slice-in-Some.ensures.value
+      (subst (λ (xs : List ℕ). AreAdded c.as_slice-in-Some.result.now listed (length listed) xs mid) c.clear.ensures.items c.in_ok-add_numbers-in-Some.ensures.added) in
+      let rise = c.in_ok-add_numbers-in-Some.ensures.rise c.clear.ensures.items (subst DoRise (sym c.as_slice-in-Some.ensures.value) T.rise) H.ordered in
+      let e = eqb-true (vec_len c.holders.new.numbers) 0 (sym c.is_empty.ensures ∙ c.if-is_empty.true) in
+      let none : length found ≡ 0 = omega (arith, e, c.holders.new.numbers.ok.0) in
+      row-read gs hs ns t.others t.other_numbers.items p listed found mid T H c.in_ok-holders-in-Some.ensures.holders none A rise;
+}
 
 pub returns-in_ok-add_numbers-in-Some-2 : goal.returns-in_ok-add_numbers-in-Some-2
 returns-in_ok-add_numbers-in-Some-2 c = record {

@@ -1,0 +1,27 @@
+-- Numbers that stand in two rows.
+use Rattle.std.specs.Prelude.{◌≡◌, ℕ, ◌<◌, List, length}
+use Rattle.nef_space.specs.Lists.{IsAt}
+use Rattle.nef_complex.specs.declared.complex.Edge.{Edge}
+use Rattle.nef_complex.specs.Index.{AreNumbersWith}
+use Rattle.nef_complex.specs.Taken.{HasEntry, DoRise}
+
+-- those of each row do
+abbrev pub DoAllRise : List (List ℕ) → Type 0
+DoAllRise rows = (i : ℕ) (ns : List ℕ) → IsAt rows i ns → DoRise ns
+
+-- there is a row for each end of an edge
+abbrev pub HaveRows : List (List ℕ) → List Edge → Type 0
+HaveRows rows es = (k : ℕ) (e : Edge) → IsAt es k e → (e.low < length rows) × (e.high < length rows)
+
+-- the numbers are those that stand in both rows, in increasing order
+abbrev pub AreCommon : List ℕ → List ℕ → List ℕ → Type 0
+AreCommon ms ns common = AreNumbersWith (λ k. HasEntry ms k × HasEntry ns k) common
+
+-- they are those that stand in the rows of both ends of the edge
+abbrev pub AreCommonAlong : List (List ℕ) → Edge → List ℕ → Type 0
+AreCommonAlong rows e common = (ms ns : List ℕ) → IsAt rows e.low ms → IsAt rows e.high ns → AreCommon ms ns common
+
+-- so are the rows of the edges
+pub record AreCommonRows (rows : List (List ℕ)) (es : List Edge) (commons : List (List ℕ)) : Type 0 where
+  pub as_many : length commons ≡ length es
+  pub each : (k : ℕ) (e : Edge) (common : List ℕ) → IsAt es k e → IsAt commons k common → AreCommonAlong rows e common
