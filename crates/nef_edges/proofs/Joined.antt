@@ -20,11 +20,6 @@ use Rattle.nef_edges.proofs.Existing.{edges-exist}
 use Rattle.nef_edges.proofs.Partners.{partner, partner-back}
 use Rattle.nef_edges.proofs.Places.{at-some, some-at, at-map, map-at, at-within}
 
--- the list of the edges as it is read
-pub paired-edges : (vertices read : List Vertex) (pushed edges : List Edge) → read ≡ vertices → edges ≡ pushed → Edges (map vertex_of read) (map edge_of pushed) → Edges (map vertex_of vertices) (map edge_of edges)
-paired-edges vertices read pushed edges e f E =
-    subst (λ (es : List Edge). Edges (map vertex_of vertices) (map edge_of es)) (sym f) (subst (λ (vs : List Vertex). Edges (map vertex_of vs) (map edge_of pushed)) e E)
-
 module _ (s : Set) (carriers : List Plane) (vertices : List Vertex) (V : AreVerticesOf s carriers vertices) where
   ordered : InOrder (λ u v. IsPlaceBelow u.point v.point) (map vertex_of vertices)
   ordered i k x y l a b =
@@ -63,7 +58,7 @@ module _ (s : Set) (carriers : List Plane) (vertices : List Vertex) (V : AreVert
         vertex-within : (i : ℕ) (v : PlainVertex) → At (map vertex_of vertices) i v → i < length vertices
         vertex-within i v b = let u = map-at vertex_of vertices i v b in at-within vertices i u.0 u.1
 
-    pub shows-set : (c : Complex) → c.carriers ≡ carriers → c.vertices ≡ vertices → c.edges ≡ es → IsIndexOf c.vertices c.edges c.index → HasHolders c.carriers c.vertices c.edges c.index → ShowsSet s c
+    pub shows-set : (c : Complex) → c.carriers ≡ carriers → c.vertices ≡ vertices → c.edges ≡ es → IsIndexOf c.carriers c.vertices c.index → HasHolders c.carriers c.vertices c.edges c.index → ShowsSet s c
     shows-set c h v e I H = record {
       shows = subst (λ (hs : List Plane). Shows s (record { carriers = map form_of hs; vertices = map vertex_of c.vertices; edges = map edge_of c.edges })) (sym h)
           (subst (λ (vs : List Vertex). Shows s (record { carriers = map form_of carriers; vertices = map vertex_of vs; edges = map edge_of c.edges })) (sym v)

@@ -12,4 +12,5 @@ pub mod Joined
 pub mod Matched
 pub mod Checked
 pub mod Walked
+pub mod Sources
 pub mod Ways

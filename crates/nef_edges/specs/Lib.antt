@@ -4,3 +4,4 @@ pub mod Order
 pub mod EdgeEnds
 pub mod Pairs
 pub mod Matched
+pub mod Laid

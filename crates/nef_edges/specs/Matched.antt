@@ -49,18 +49,19 @@ MatchedAreEdges = (vs : List Vertex) (es : List Edge) → AreJoined vs → AreMa
 abbrev pub EdgesAreMatched : Type 0
 EdgesAreMatched = (vs : List Vertex) (es : List Edge) → AreJoined vs → Edges vs es → AreMatched vs es
 
--- ---- edges that are checked svertex by svertex
--- the matched edges from the svertices that count
-pub record AreMatchedFrom (vs : List ProgramVertex) (Counts : ℕ → ℕ → Type 0) (es : List ProgramEdge) : Type 0 where
-  pub each : (k : ℕ) (e : ProgramEdge) → At es k e → IsMatched (map vertex_of vs) (edge_of e) × Counts e.low e.low_svertex
-  pub all : (i a : ℕ) (v : ProgramVertex) (s : SVertex) → At vs i v → At v.map.svertices a s → IsNormal (vector_of s.dir) → Counts i a → (k : ℕ) × (e : ProgramEdge) × At es k e × (e.low ≡ i) × (e.low_svertex ≡ a)
-  pub once : (k l : ℕ) (e f : ProgramEdge) → At es k e → At es l f → e.high ≡ f.high → e.high_svertex ≡ f.high_svertex → k ≡ l
-  pub ordered : InOrder (λ e f. IsEdgeBelow (edge_of e) (edge_of f)) es
+-- ---- edges that are checked one by one
+-- each of the edges is matched
+abbrev pub AreAllMatched : List ProgramVertex → List ProgramEdge → Type 0
+AreAllMatched vs es = (k : ℕ) (e : ProgramEdge) → At es k e → IsMatched (map vertex_of vs) (edge_of e)
+
+-- of the first n edges no two arrive at one svertex
+abbrev pub AreApart : List ProgramEdge → ℕ → Type 0
+AreApart es n = (k l : ℕ) (e f : ProgramEdge) → At es k e → At es l f → k < n → l < n → e.high ≡ f.high → e.high_svertex ≡ f.high_svertex → k ≡ l
 
 -- the mark at which svertex t of vertex j is told as taken, where the marks of a vertex begin at a number
 abbrev pub slot_of : List ℕ → ℕ → ℕ → ℕ
 slot_of starts j t = min (get_or starts j 0 + t) (2 ^ 64 - 1)
 
--- the marks at the higher ends of all edges are set
-abbrev pub AreTaken : List ℕ → List Bool → List ProgramEdge → Type 0
-AreTaken starts marks es = (k : ℕ) (e : ProgramEdge) → At es k e → At marks (slot_of starts e.high e.high_svertex) true
+-- the marks at the higher ends of the first n edges are set
+abbrev pub AreTaken : List ℕ → List Bool → List ProgramEdge → ℕ → Type 0
+AreTaken starts marks es n = (k : ℕ) (e : ProgramEdge) → At es k e → k < n → At marks (slot_of starts e.high e.high_svertex) true

@@ -1,19 +1,25 @@
-//! Edges by guesses, each of which is checked alone.
+//! Edges by guesses. Those that are edges of other sets are known to be matched, and each other one is checked alone.
 
-ghost use Rattle.std.specs.Prelude.{◌≡◌, ◌<◌, ◌≤◌, ◌+◌, ◌-ℤ◌, ◌*ℤ◌, true};
-ghost use Rattle.nef_complex.specs.Prelude.{ℕ, length, map, nat_abs, direction_limit, point_limit, IsTrue, IfSome, IfOk, OnOk, At, vertex_of, edge_of, Edges, place_of};
+ghost use Rattle.std.specs.Prelude.{◌≡◌, ◌<◌, ◌≤◌, ◌+◌, ◌-ℤ◌, ◌*ℤ◌, [], set, true};
+ghost use Rattle.nef_complex.specs.Prelude.{ℕ, length, map, nat_abs, direction_limit, point_limit, IsTrue, IfSome, IfOk, At, vertex_of, edge_of, Edges, place_of};
+ghost use Rattle.nef_complex.specs.declared.complex.Edge.{Edge as EdgeValue};
 ghost use Rattle.nef_space.specs.Limits.{weight_limit};
 ghost use Rattle.nef_space.specs.Place.{toward};
 ghost use Rattle.nef_space.specs.Vectors.{cross, IsZero};
 ghost use Rattle.nef_geo.specs.Shapes.{vector_of};
 ghost use Rattle.nef_edges.specs.Widths.{way_limit};
-ghost use Rattle.nef_edges.specs.Matched.{IsMatched, AreMatchedEnds, AreMatchedFrom, AreTaken, slot_of};
+ghost use Rattle.nef_edges.specs.Matched.{IsMatched, AreMatchedEnds, AreApart, slot_of};
+ghost use Rattle.nef_edges.specs.Laid.{AreLaid, IsJoinedAt};
 ghost use Rattle.nef_edges.specs.EdgeEnds.{IsBefore};
 ghost use Rattle.nef_edges.specs.Pairs.{AreJoined};
 
 use crate::OutOfMemory;
-use crate::guesses::{Guesses, slot};
-use nef_complex::{Edge, Vertex};
+use crate::arriving::end_cmp;
+use crate::edge_end::EdgeEnd;
+use crate::guesses::{Kept, lay_edges};
+use crate::kept::kept_edges;
+use crate::loose::{Loose, part_edges};
+use nef_complex::{Complex, Edge, Vertex};
 use nef_geo::{Dir, Point};
 use nef_smap::SVertex;
 use std::alloc::Global;
@@ -122,8 +128,8 @@ pub(crate) fn matched_edge(
     None
 }
 
-// Sets a mark. Says whether there is one that wasn't set.
-fn take(marks: &mut Vec<bool>, slot: usize) -> bool
+/// Sets a mark. Says whether there is one that wasn't set.
+pub(crate) fn take(marks: &mut Vec<bool>, slot: usize) -> bool
     ensures free { IsTrue result → At marks.old.items slot true → ⊥ }
     ensures taken { IsTrue result → At marks.new.items slot true }
     ensures kept { (k : ℕ) → At marks.old.items k true → At marks.new.items k true }
@@ -135,98 +141,144 @@ fn take(marks: &mut Vec<bool>, slot: usize) -> bool
     false
 }
 
-// The guessed edge from a svertex, where it is matched and its higher end isn't taken: now it is.
-fn taken_edge(
-    marks: &mut Vec<bool>,
-    starts: &[usize],
-    vertices: &[Vertex],
-    low: usize,
-    low_svertex: usize,
-    guesses: &Guesses,
-) -> Option<Edge>
-    ensures matched { IfSome result (λ e. IsMatched (map vertex_of vertices.now) (edge_of e)) }
-    ensures low { IfSome result (λ e. e.low ≡ low) }
-    ensures low_svertex { IfSome result (λ e. e.low_svertex ≡ low_svertex) }
-    ensures free { IfSome result (λ e. At marks.old.items (slot_of starts.now e.high e.high_svertex) true → ⊥) }
-    ensures taken { IfSome result (λ e. At marks.new.items (slot_of starts.now e.high e.high_svertex) true) }
-    ensures kept { (k : ℕ) → At marks.old.items k true → At marks.new.items k true }
+/// The number of a svertex among those of all vertices.
+pub(crate) fn slot(starts: &[usize], vertex: usize, svertex: usize) -> usize
+    ensures slot { result ≡ slot_of starts.now vertex svertex }
 {
-    let guess = guesses.at(low, low_svertex)?;
-    let edge = matched_edge(vertices, low, low_svertex, guess.vertex, guess.svertex)?;
-    if take(marks, slot(starts, edge.high, edge.high_svertex)) {
-        return Some(edge);
-    }
-    None
+    let start = match starts.get(vertex) {
+        Some(start) => *start,
+        None => 0,
+    };
+    start.saturating_add(svertex)
 }
 
-// Adds the guessed edge from a svertex. Says whether the guess is right.
-fn add_guess(
+// Where the svertices of each vertex begin in the list of all, and how many there are.
+fn starts_of(alloc: Global, vertices: &[Vertex]) -> Result<(Vec<usize>, usize), OutOfMemory> {
+    let mut starts = Vec::with_capacity(alloc, vertices.len())?;
+    let mut count: usize = 0;
+    for vertex in vertices {
+        starts.push(count)?;
+        count = count.saturating_add(vertex.map.svertices.as_slice().len());
+    }
+    Ok((starts, count))
+}
+
+// The matched edge to this end from the svertex from which the edge with this number leads on.
+fn joined_edge(edges: &[Edge], vertices: &[Vertex], number: usize, end: &EdgeEnd) -> Option<Edge>
+    ensures matched { IfSome result (λ f. IsMatched (map vertex_of vertices.now) (edge_of f)) }
+    ensures old { IfSome result (λ f. (e : EdgeValue) × At edges.now number e × (f.low ≡ e.low) × (f.low_svertex ≡ e.low_svertex)) }
+{
+    let edge = edges.get(number)?;
+    matched_edge(
+        vertices,
+        edge.low,
+        edge.low_svertex,
+        end.vertex,
+        end.svertex,
+    )
+}
+
+// Puts an edge into the place of the one with this number. Says whether there is one.
+fn put(edges: &mut Vec<Edge>, number: usize, edge: Edge) -> bool
+    ensures put { IsTrue result → edges.new.items ≡ set edges.old.items number edge }
+{
+    if number < edges.len() {
+        edges[number] = edge;
+        return true;
+    }
+    false
+}
+
+// Leads the edge with this number to the end. Says whether it is matched there.
+fn join(edges: &mut Vec<Edge>, vertices: &[Vertex], number: usize, end: &EdgeEnd) -> bool
+    ensures joined { IsTrue result → IsJoinedAt vertices.now number edges.old.items edges.new.items }
+{
+    match joined_edge(edges.as_slice(), vertices, number, end) {
+        Some(edge) => put(edges, number, edge),
+        None => false,
+    }
+}
+
+// The first of the sorted ends that stands after the end with this number among those that lead on.
+fn first_after(arriving: &[EdgeEnd], leading: &[EdgeEnd], number: usize) -> Option<EdgeEnd> {
+    let from = leading.get(number)?;
+    let next = arriving.partition_point(|end| end_cmp(end, from).is_le());
+    arriving.get(next).copied()
+}
+
+// Leads each of the edges with these numbers, whose lower ends are given, to the first of the sorted ends after its own. Says whether
+// all of them are matched.
+fn join_loose(
     edges: &mut Vec<Edge>,
-    marks: &mut Vec<bool>,
-    starts: &[usize],
     vertices: &[Vertex],
-    i: usize,
-    k: usize,
-    guesses: &Guesses,
-) -> Result<bool, OutOfMemory>
-    requires before { AreMatchedFrom vertices.now (IsBefore i k) edges.old.items }
-    requires taken { AreTaken starts.now marks.old.items edges.old.items }
-    ensures added { IfOk result (λ right. IsTrue right → AreMatchedFrom vertices.now (IsBefore i (k + 1)) edges.new.items) }
-    ensures taken { IfOk result (λ right. IsTrue right → AreTaken starts.now marks.new.items edges.new.items) }
+    numbers: &[usize],
+    leading: &[EdgeEnd],
+    arriving: &[EdgeEnd],
+) -> bool
+    requires laid { AreLaid vertices.now (IsBefore (length vertices.now) 0) edges.old.items numbers.now 0 }
+    ensures joined { IsTrue result → AreLaid vertices.now (IsBefore (length vertices.now) 0) edges.new.items [] 0 }
 {
-    match taken_edge(marks, starts, vertices, i, k, guesses) {
-        Some(edge) => {
-            edges.push(edge)?;
-            Ok(true)
-        }
-        None => Ok(false),
-    }
-}
-
-// Adds the guessed edges that lead on from vertex number i. Says whether all their guesses are right.
-fn add_guessed(
-    edges: &mut Vec<Edge>,
-    marks: &mut Vec<bool>,
-    starts: &[usize],
-    vertices: &[Vertex],
-    i: usize,
-    guesses: &Guesses,
-) -> Result<bool, OutOfMemory>
-    requires within { i < length vertices.now }
-    requires before { AreMatchedFrom vertices.now (IsBefore i 0) edges.old.items }
-    requires taken { AreTaken starts.now marks.old.items edges.old.items }
-    ensures added { IfOk result (λ right. IsTrue right → AreMatchedFrom vertices.now (IsBefore (i + 1) 0) edges.new.items) }
-    ensures taken { IfOk result (λ right. IsTrue right → AreTaken starts.now marks.new.items edges.new.items) }
-{
-    let vertex = &vertices[i];
-    for (k, svertex) in vertex.map.svertices.as_slice().iter().enumerate() {
-        if svertex.dir.is_normal() {
-            let right = add_guess(edges, marks, starts, vertices, i, k, guesses)?;
-            if !right {
-                return Ok(false);
-            }
+    for j in 0..numbers.len() {
+        let number = numbers[j];
+        let Some(end) = first_after(arriving, leading, j) else {
+            return false;
+        };
+        if !join(edges, vertices, number, &end) {
+            return false;
         }
     }
-    Ok(true)
+    true
 }
 
-/// All edges of the vertices, in order, by guesses. `None` says that one is missing or wrong.
+// Whether no two of the edges arrive at one svertex.
+fn are_apart(marks: &mut Vec<bool>, starts: &[usize], edges: &[Edge]) -> bool
+    ensures apart { IsTrue result → AreApart edges.now (length edges.now) }
+{
+    for k in 0..edges.len() {
+        let edge = &edges[k];
+        if !take(marks, slot(starts, edge.high, edge.high_svertex)) {
+            return false;
+        }
+    }
+    true
+}
+
+/// All edges of the vertices, in order, by guesses: most are edges of the complexes. `None` says that guesses don't pay, since more
+/// than half of the ends have none, or that one is wrong.
 pub(crate) fn edges_guessed(
     alloc: Global,
     vertices: &[Vertex],
-    guesses: &Guesses,
+    first: &Complex,
+    second: &Complex,
 ) -> Result<Option<Vec<Edge>>, OutOfMemory>
     requires joined { AreJoined (map vertex_of vertices.now) }
     ensures edges { IfOk result (λ o. IfSome o (λ v. Edges (map vertex_of vertices.now) (map edge_of v.items))) }
 {
-    let starts = guesses.starts();
-    let mut marks = vec![in alloc; false; guesses.len()]?;
-    let mut edges = Vec::with_capacity(alloc, guesses.len() / 2)?;
-    for i in 0..vertices.len() {
-        let right = add_guessed(&mut edges, &mut marks, starts, vertices, i, guesses)?;
-        if !right {
-            return Ok(None);
-        }
+    let kept = Kept {
+        first: kept_edges(alloc, first, vertices)?,
+        second: kept_edges(alloc, second, vertices)?,
+    };
+    let (starts, count) = starts_of(alloc, vertices)?;
+    let starts = starts.as_slice();
+    let mut loose = Loose::none(alloc);
+    let mut edges = lay_edges(alloc, vertices, starts, count, &kept, &mut loose)?;
+    if loose.len() > count / 2 {
+        return Ok(None);
+    }
+    part_edges(alloc, &mut loose, vertices, edges.as_slice())?;
+    let is_joined = join_loose(
+        &mut edges,
+        vertices,
+        loose.numbers.as_slice(),
+        loose.leading.as_slice(),
+        loose.arriving.as_slice(),
+    );
+    if !is_joined {
+        return Ok(None);
+    }
+    let mut marks = vec![in alloc; false; count]?;
+    if !are_apart(&mut marks, starts, edges.as_slice()) {
+        return Ok(None);
     }
     Ok(Some(edges))
 }

@@ -1,391 +1,206 @@
-//! Guesses of the other ends of edges, by the edges of the sets that a set is made of. A wrong guess costs time alone, since
-//! each is checked.
+//! Edges laid out from all svertices that lead on, by the edges of the sets that a set is made of. Ends for which there is none are
+//! loose.
 
-ghost use Rattle.std.specs.Prelude.{◌≡◌};
-ghost use Rattle.nef_edges.specs.Matched.{slot_of};
+ghost use Rattle.std.specs.Prelude.{◌≡◌, ◌<◌, ◌+◌, ◌⊎◌, Some};
+ghost use Rattle.nef_complex.specs.Prelude.{ℕ, length, IfSome, IfOk, OnOk, At};
+ghost use Rattle.nef_edges.specs.EdgeEnds.{IsBefore};
+ghost use Rattle.nef_edges.specs.Matched.{AreAllMatched};
+ghost use Rattle.nef_edges.specs.Laid.{AreLaid};
 
 use crate::OutOfMemory;
-use crate::arriving::end_cmp;
-use crate::edge_end::{EdgeEnd, line_key};
-use nef_complex::{Complex, Vertex};
-use nef_geo::{Dir, Point, lex_cmp};
+use crate::edge_end::EdgeEnd;
+use crate::guessed::{slot, take};
+use crate::loose::Loose;
+use nef_complex::{Edge, Vertex};
 use nef_smap::SVertex;
 use std::alloc::Global;
 
-/// The other end of an edge: a vertex with one of its svertices.
-#[derive(Debug, Clone, Copy, PartialEq, Eq)]
-pub(crate) struct Guess {
-    pub(crate) vertex: usize,
-    pub(crate) svertex: usize,
-}
-
-/// For each svertex of each vertex the other end of its edge, where there is a guess. Where the svertices of a vertex begin in
-/// the list of all is kept.
+/// Edges of two complexes that still join two vertices, in order.
 #[derive(Debug, Drop)]
-pub(crate) struct Guesses {
-    starts: Vec<usize>,
-    ends: Vec<Option<Guess>>,
+pub(crate) struct Kept {
+    pub(crate) first: Vec<Edge>,
+    pub(crate) second: Vec<Edge>,
 }
 
-/// The number of a svertex among those of all vertices.
-pub(crate) fn slot(starts: &[usize], vertex: usize, svertex: usize) -> usize
-    ensures slot { result ≡ slot_of starts.now vertex svertex }
-{
-    let start = match starts.get(vertex) {
-        Some(start) => *start,
-        None => 0,
-    };
-    start.saturating_add(svertex)
-}
-
-impl Guesses {
-    // No guess for any svertex.
-    fn none(alloc: Global, vertices: &[Vertex]) -> Result<Guesses, OutOfMemory> {
-        let mut starts = Vec::with_capacity(alloc, vertices.len())?;
-        let mut count: usize = 0;
-        for vertex in vertices {
-            starts.push(count)?;
-            count = count.saturating_add(vertex.map.svertices.as_slice().len());
-        }
-        let ends = vec![in alloc; None; count]?;
-        Ok(Guesses { starts, ends })
-    }
-
-    /// Where the svertices of each vertex begin.
-    pub(crate) fn starts(&self) -> &[usize] {
-        self.starts.as_slice()
-    }
-
-    /// How many svertices there are.
-    pub(crate) fn len(&self) -> usize {
-        self.ends.len()
-    }
-
-    /// The guess for a svertex.
-    pub(crate) fn at(&self, vertex: usize, svertex: usize) -> Option<Guess> {
-        match self.ends.get(slot(self.starts.as_slice(), vertex, svertex)) {
-            Some(guess) => *guess,
-            None => None,
-        }
-    }
-
-    fn set(&mut self, end: Guess, guess: Option<Guess>) {
-        let slot = slot(self.starts.as_slice(), end.vertex, end.svertex);
-        if slot < self.ends.len() {
-            self.ends[slot] = guess;
-        }
-    }
-
-    // Makes each of two ends the guess for the other, where neither has one.
-    fn join(&mut self, low: Guess, high: Guess) {
-        if self.at(low.vertex, low.svertex).is_none()
-            && self.at(high.vertex, high.svertex).is_none()
-        {
-            self.set(low, Some(high));
-            self.set(high, Some(low));
-        }
-    }
-
-    // Takes the guesses for both back.
-    fn part(&mut self, low: Guess, high: Guess) {
-        self.set(low, None);
-        self.set(high, None);
-    }
-}
-
-// The first of the vertices from number `from` on that isn't below the point.
-fn next_vertex(vertices: &[Vertex], from: usize, point: &Point) -> usize {
-    for number in from..vertices.len() {
-        if lex_cmp(&vertices[number].point, point).is_ge() {
-            return number;
-        }
-    }
-    vertices.len()
-}
-
-// For each of the old vertices the number of the new one at its point. Both stand in order, so one way through them is enough.
-fn numbers_of(
-    alloc: Global,
-    old: &[Vertex],
-    new: &[Vertex],
-) -> Result<Vec<Option<usize>>, OutOfMemory> {
-    let mut numbers = Vec::with_capacity(alloc, old.len())?;
-    let mut number = 0;
-    for vertex in old {
-        number = next_vertex(new, number, &vertex.point);
-        let is_there = match new.get(number) {
-            Some(found) => found.point == vertex.point,
-            None => false,
-        };
-        numbers.push(is_there.then_some(number))?;
-    }
-    Ok(numbers)
-}
-
-// The number of the svertex with this direction. Mostly it is the given one, as in a map that was taken over.
-fn svertex_along(svertices: &[SVertex], number: usize, dir: &Dir) -> Option<usize> {
-    if let Some(svertex) = svertices.get(number) {
-        if svertex.dir == *dir {
-            return Some(number);
-        }
-    }
-    svertices
-        .binary_search_by(|svertex| svertex.dir.cmp(dir))
-        .ok()
-}
-
-// What a svertex of an old vertex is among the new vertices, whose numbers are given. `None` says that it is none of theirs.
-fn renumbered(
-    old: &[Vertex],
-    new: &[Vertex],
-    numbers: &[Option<usize>],
-    vertex: usize,
-    svertex: usize,
-) -> Option<Guess> {
-    let number = match numbers.get(vertex) {
-        Some(number) => *number,
-        None => None,
-    }?;
-    let dir = old.get(vertex)?.map.svertices.as_slice().get(svertex)?.dir;
-    let svertices = new.get(number)?.map.svertices.as_slice();
-    let svertex = svertex_along(svertices, svertex, &dir)?;
-    Some(Guess {
-        vertex: number,
-        svertex,
-    })
-}
-
-// Adds the edges of the complex whose ends are svertices of the vertices.
-fn add_edges_of(
-    guesses: &mut Guesses,
-    alloc: Global,
-    source: &Complex,
-    vertices: &[Vertex],
-) -> Result<(), OutOfMemory> {
-    let old = source.vertices.as_slice();
-    let numbers = numbers_of(alloc, old, vertices)?;
-    for edge in source.edges.as_slice() {
-        let low = renumbered(
-            old,
-            vertices,
-            numbers.as_slice(),
-            edge.low,
-            edge.low_svertex,
-        );
-        let high = renumbered(
-            old,
-            vertices,
-            numbers.as_slice(),
-            edge.high,
-            edge.high_svertex,
-        );
-        if let (Some(low), Some(high)) = (low, high) {
-            guesses.join(low, high);
-        }
-    }
-    Ok(())
-}
-
-// Ends for which there is no guess: those that edges lead on from, and those at which they arrive.
-#[derive(Debug, Drop)]
-struct Loose {
-    leading: Vec<EdgeEnd>,
-    arriving: Vec<EdgeEnd>,
-}
-
-impl Loose {
-    fn len(&self) -> usize {
-        self.leading.len().saturating_add(self.arriving.len())
-    }
-
-    // Adds svertex k of vertex i, which has this direction.
-    fn push(&mut self, point: Point, dir: &Dir, i: usize, k: usize) -> Result<(), OutOfMemory> {
-        if dir.is_normal() {
-            self.leading.push(EdgeEnd::of(point, *dir, i, k))?;
-        } else {
-            self.arriving.push(EdgeEnd::of(point, dir.back(), i, k))?;
-        }
-        Ok(())
-    }
-}
-
-// Adds the svertices of vertex i for which there is no guess.
-fn add_loose(
-    loose: &mut Loose,
-    guesses: &Guesses,
-    vertex: &Vertex,
-    i: usize,
-) -> Result<(), OutOfMemory> {
-    for (k, svertex) in vertex.map.svertices.as_slice().iter().enumerate() {
-        if guesses.at(i, k).is_none() {
-            loose.push(vertex.point, &svertex.dir, i, k)?;
-        }
-    }
-    Ok(())
-}
-
-// The ends for which there is no guess.
-fn loose_ends(alloc: Global, guesses: &Guesses, vertices: &[Vertex]) -> Result<Loose, OutOfMemory> {
-    let mut loose = Loose {
-        leading: Vec::new(alloc),
-        arriving: Vec::new(alloc),
-    };
-    for (i, vertex) in vertices.iter().enumerate() {
-        add_loose(&mut loose, guesses, vertex, i)?;
-    }
-    Ok(loose)
-}
-
-// The lines with one key on which loose ends lie: the first and the last of the vertices of these.
+// How many edges of each complex the way along the svertices has passed.
 #[derive(Debug, Clone, Copy)]
-struct LooseLine {
-    key: i64,
+struct Passed {
     first: usize,
-    last: usize,
+    second: usize,
 }
 
-// Adds a loose end to the last line, where that has its key, or as a line of its own.
-fn add_to_lines(lines: &mut Vec<LooseLine>, key: i64, vertex: usize) -> Result<(), OutOfMemory> {
-    let count = lines.len();
-    if count > 0 && lines[count - 1].key == key {
-        lines[count - 1].last = vertex;
+// The next of the edges, where it leads on from svertex k of vertex i: then it is passed.
+fn next_from(edges: &[Edge], passed: &mut usize, i: usize, k: usize) -> Option<Edge>
+    ensures listed { IfSome result (λ e. (n : ℕ) × At edges.now n e) }
+    ensures low { IfSome result (λ e. e.low ≡ i) }
+    ensures low_svertex { IfSome result (λ e. e.low_svertex ≡ k) }
+{
+    let edge = *edges.get(*passed)?;
+    if edge.low == i && edge.low_svertex == k {
+        *passed = passed.saturating_add(1);
+        return Some(edge);
+    }
+    None
+}
+
+// The edge, where none arrives yet at its higher end: now it does.
+fn free_edge(arrived: &mut Vec<bool>, starts: &[usize], edge: Option<Edge>) -> Option<Edge>
+    ensures same { IfSome result (λ e. edge ≡ Some e) }
+{
+    let edge = edge?;
+    if take(arrived, slot(starts, edge.high, edge.high_svertex)) {
+        return Some(edge);
+    }
+    None
+}
+
+// An edge of one of the complexes that leads on from svertex k of vertex i, where none arrives yet at its higher end.
+fn kept_from(
+    arrived: &mut Vec<bool>,
+    starts: &[usize],
+    kept: &Kept,
+    passed: &mut Passed,
+    i: usize,
+    k: usize,
+) -> Option<Edge>
+    ensures listed { IfSome result (λ e. ((n : ℕ) × At kept.now.first.items n e) ⊎ ((n : ℕ) × At kept.now.second.items n e)) }
+    ensures low { IfSome result (λ e. e.low ≡ i) }
+    ensures low_svertex { IfSome result (λ e. e.low_svertex ≡ k) }
+{
+    let one = next_from(kept.first.as_slice(), &mut passed.first, i, k);
+    let other = next_from(kept.second.as_slice(), &mut passed.second, i, k);
+    let edge = free_edge(arrived, starts, one);
+    if edge.is_some() {
+        return edge;
+    }
+    free_edge(arrived, starts, other)
+}
+
+// Lays out the edge from svertex k of vertex i, which leads on.
+fn lay_edge(
+    edges: &mut Vec<Edge>,
+    loose: &mut Loose,
+    arrived: &mut Vec<bool>,
+    starts: &[usize],
+    kept: &Kept,
+    passed: &mut Passed,
+    vertices: &[Vertex],
+    svertex: &SVertex,
+    i: usize,
+    k: usize,
+) -> Result<(), OutOfMemory>
+    requires within { i < length vertices.now }
+    requires first { AreAllMatched vertices.now kept.now.first.items }
+    requires second { AreAllMatched vertices.now kept.now.second.items }
+    requires before { AreLaid vertices.now (IsBefore i k) edges.old.items loose.old.numbers.items 0 }
+    ensures added { OnOk result (AreLaid vertices.now (IsBefore i (k + 1)) edges.new.items loose.new.numbers.items 0) }
+{
+    if let Some(edge) = kept_from(arrived, starts, kept, passed, i, k) {
+        edges.push(edge)?;
         return Ok(());
     }
-    lines.push(LooseLine {
-        key,
-        first: vertex,
-        last: vertex,
+    loose.numbers.push(edges.len())?;
+    loose
+        .leading
+        .push(EdgeEnd::of(vertices[i].point, svertex.dir, i, k))?;
+    edges.push(Edge {
+        low: i,
+        low_svertex: k,
+        high: 0,
+        high_svertex: 0,
+        mark: svertex.mark,
     })?;
     Ok(())
 }
 
-// The lines of the loose ends, in the order of their keys.
-fn lines_of(alloc: Global, loose: &Loose) -> Result<Vec<LooseLine>, OutOfMemory> {
-    let mut ends = Vec::with_capacity(alloc, loose.len())?;
-    for end in loose.leading.iter().chain(loose.arriving.iter()) {
-        ends.push((end.key, end.vertex))?;
-    }
-    ends.sort_unstable();
-    let mut lines = Vec::new(alloc);
-    for (key, vertex) in ends {
-        add_to_lines(&mut lines, key, vertex)?;
-    }
-    Ok(lines)
-}
-
-// Whether an edge from vertex `low` to vertex `high` on a line with the key passes between loose ends: only then may
-// it be cut.
-fn may_be_cut(lines: &[LooseLine], key: i64, low: usize, high: usize) -> bool {
-    match lines.binary_search_by(|line| line.key.cmp(&key)) {
-        Ok(number) => match lines.get(number) {
-            Some(line) => low < line.last && line.first < high,
-            None => false,
-        },
-        Err(_place) => false,
-    }
-}
-
-// Takes the guesses for two ends back: both are loose then.
-fn part_ends(
-    loose: &mut Loose,
-    guesses: &mut Guesses,
-    vertices: &[Vertex],
-    dir: &Dir,
-    low: Guess,
-    high: Guess,
-) -> Result<(), OutOfMemory> {
-    guesses.part(low, high);
-    if let (Some(first), Some(second)) = (vertices.get(low.vertex), vertices.get(high.vertex)) {
-        loose.push(first.point, dir, low.vertex, low.svertex)?;
-        loose.push(second.point, &dir.back(), high.vertex, high.svertex)?;
-    }
-    Ok(())
-}
-
-// Takes back the guesses for svertices of vertex i that lead on to where their edge may be cut.
-fn part_guesses(
-    loose: &mut Loose,
-    guesses: &mut Guesses,
-    lines: &[LooseLine],
-    vertices: &[Vertex],
+// Adds svertex k of vertex i, at which an edge arrives, where none does yet.
+fn add_arrival(
+    arriving: &mut Vec<EdgeEnd>,
+    arrived: &[bool],
+    starts: &[usize],
     vertex: &Vertex,
+    svertex: &SVertex,
     i: usize,
+    k: usize,
 ) -> Result<(), OutOfMemory> {
-    for (k, svertex) in vertex.map.svertices.as_slice().iter().enumerate() {
-        let dir = &svertex.dir;
-        if !dir.is_normal() {
-            continue;
-        }
-        let Some(high) = guesses.at(i, k) else {
-            continue;
-        };
-        if may_be_cut(lines, line_key(&vertex.point, dir), i, high.vertex) {
-            let low = Guess {
-                vertex: i,
-                svertex: k,
-            };
-            part_ends(loose, guesses, vertices, dir, low, high)?;
-        }
+    let is_met = match arrived.get(slot(starts, i, k)) {
+        Some(mark) => *mark,
+        None => false,
+    };
+    if !is_met {
+        arriving.push(EdgeEnd::of(vertex.point, svertex.dir.back(), i, k))?;
     }
     Ok(())
 }
 
-// Guesses for loose ends: the other end of one that an edge leads on from is the first after it at which one arrives on its
-// line.
-fn join_loose(guesses: &mut Guesses, loose: &mut Loose) {
-    loose.arriving.sort_unstable_by(end_cmp);
-    let arriving = loose.arriving.as_slice();
-    for from in &loose.leading {
-        let next = arriving.partition_point(|end| end_cmp(end, from).is_le());
-        if let Some(end) = arriving.get(next) {
-            let low = Guess {
-                vertex: from.vertex,
-                svertex: from.svertex,
-            };
-            let high = Guess {
-                vertex: end.vertex,
-                svertex: end.svertex,
-            };
-            guesses.join(low, high);
-        }
-    }
-}
-
-// Pairs the loose ends, and with them those of edges between them.
-fn pair_loose(
-    alloc: Global,
-    guesses: &mut Guesses,
+// Lays out the edges that lead on from vertex number i. All that arrive there come from earlier vertices.
+fn lay_edges_from(
+    edges: &mut Vec<Edge>,
     loose: &mut Loose,
+    arrived: &mut Vec<bool>,
+    starts: &[usize],
+    kept: &Kept,
+    passed: &mut Passed,
     vertices: &[Vertex],
-) -> Result<(), OutOfMemory> {
-    let lines = lines_of(alloc, loose)?;
-    if lines.is_empty() {
-        return Ok(());
+    i: usize,
+) -> Result<(), OutOfMemory>
+    requires within { i < length vertices.now }
+    requires first { AreAllMatched vertices.now kept.now.first.items }
+    requires second { AreAllMatched vertices.now kept.now.second.items }
+    requires before { AreLaid vertices.now (IsBefore i 0) edges.old.items loose.old.numbers.items 0 }
+    ensures added { OnOk result (AreLaid vertices.now (IsBefore (i + 1) 0) edges.new.items loose.new.numbers.items 0) }
+{
+    let vertex = &vertices[i];
+    for (k, svertex) in vertex.map.svertices.as_slice().iter().enumerate() {
+        if svertex.dir.is_normal() {
+            lay_edge(
+                edges, loose, arrived, starts, kept, passed, vertices, svertex, i, k,
+            )?;
+        } else {
+            add_arrival(
+                &mut loose.arriving,
+                arrived.as_slice(),
+                starts,
+                vertex,
+                svertex,
+                i,
+                k,
+            )?;
+        }
     }
-    for (i, vertex) in vertices.iter().enumerate() {
-        part_guesses(loose, guesses, lines.as_slice(), vertices, vertex, i)?;
-    }
-    join_loose(guesses, loose);
     Ok(())
 }
 
-/// Guesses for the svertices of the vertices, by the edges of complexes: most edges are theirs. Wrong guesses on a line, as
-/// that of an edge that was cut, leave ends without a guess: along the line the first and the last of these have all wrong
-/// ones between or across them. So what lies there is paired anew. `None` says that guesses don't pay, since more than half of
-/// the ends have none.
-pub(crate) fn guesses_from(
+/// Lays out the edges from all svertices that lead on, in order, and notes the ends for which there is none.
+pub(crate) fn lay_edges(
     alloc: Global,
     vertices: &[Vertex],
-    sources: &[&Complex],
-) -> Result<Option<Guesses>, OutOfMemory> {
-    let mut guesses = Guesses::none(alloc, vertices)?;
-    for source in sources {
-        add_edges_of(&mut guesses, alloc, source, vertices)?;
+    starts: &[usize],
+    count: usize,
+    kept: &Kept,
+    loose: &mut Loose,
+) -> Result<Vec<Edge>, OutOfMemory>
+    requires first { AreAllMatched vertices.now kept.now.first.items }
+    requires second { AreAllMatched vertices.now kept.now.second.items }
+    ensures laid { IfOk result (λ es. AreLaid vertices.now (IsBefore (length vertices.now) 0) es.items loose.new.numbers.items 0) }
+{
+    let mut arrived = vec![in alloc; false; count]?;
+    let mut edges = Vec::with_capacity(alloc, count / 2)?;
+    let mut passed = Passed {
+        first: 0,
+        second: 0,
+    };
+    for i in 0..vertices.len() {
+        lay_edges_from(
+            &mut edges,
+            loose,
+            &mut arrived,
+            starts,
+            kept,
+            &mut passed,
+            vertices,
+            i,
+        )?;
     }
-    let mut loose = loose_ends(alloc, &guesses, vertices)?;
-    if loose.len() > guesses.len() / 2 {
-        return Ok(None);
-    }
-    pair_loose(alloc, &mut guesses, &mut loose, vertices)?;
-    Ok(Some(guesses))
+    Ok(edges)
 }

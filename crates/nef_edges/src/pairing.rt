@@ -10,8 +10,7 @@ use crate::OutOfMemory;
 use crate::arriving::{next_after, sorted_arriving};
 use crate::edge_end::EdgeEnd;
 use crate::guessed::edges_guessed;
-use crate::guesses::guesses_from;
-use nef_complex::{Complex, Edge, SortedCarriers, Table, Vertex, vertex_rows, vertex_rows_from};
+use nef_complex::{Complex, Edge, SortedCarriers, Table, Vertex, vertex_rows};
 use nef_geo::{List, Plane};
 use std::alloc::Global;
 
@@ -62,11 +61,12 @@ fn edges_of(alloc: Global, vertices: &[Vertex]) -> Result<Vec<Edge>, OutOfMemory
 // Below so many vertices all ends are sorted sooner than guesses are made and checked.
 const GUESSED_FROM: usize = 64;
 
-// As `edges_of`, for vertices most of whose edges are edges of these complexes.
+// As `edges_of`, for vertices most of whose edges are edges of the two complexes.
 fn edges_from(
     alloc: Global,
     vertices: &[Vertex],
-    sources: &[&Complex],
+    first: &Complex,
+    second: &Complex,
 ) -> Result<Vec<Edge>, OutOfMemory>
     requires joined { AreJoined (map vertex_of vertices.now) }
     ensures edges { IfOk result (λ v. Edges (map vertex_of vertices.now) (map edge_of v.items)) }
@@ -74,32 +74,28 @@ fn edges_from(
     if vertices.len() < GUESSED_FROM {
         return edges_of(alloc, vertices);
     }
-    let Some(guesses) = guesses_from(alloc, vertices, sources)? else {
-        return edges_of(alloc, vertices);
-    };
-    match edges_guessed(alloc, vertices, &guesses)? {
+    match edges_guessed(alloc, vertices, first, second)? {
         Some(edges) => Ok(edges),
         None => edges_of(alloc, vertices),
     }
 }
 
-// As `pair`, where for each vertex the numbers of the carriers that hold it are given, and most edges are edges of these
-// complexes.
+// As `pair`, where the edges are given, and for each vertex the numbers of the carriers that hold it.
 fn pair_held(
     alloc: Global,
     carriers: List<Plane>,
     vertices: List<Vertex>,
+    edges: Vec<Edge>,
     at_vertex: Table,
-    sources: &[&Complex],
 ) -> Result<Complex, OutOfMemory>
     requires vertices { (s : Set) × AreVerticesOf s carriers vertices }
+    requires edges { Edges (map vertex_of vertices) (map edge_of edges.items) }
     requires holders { AreVertexHolders carriers vertices at_vertex }
     ensures kept { IfOk result (λ c. (c.carriers ≡ carriers) × (c.vertices ≡ vertices)) }
     ensures edges { IfOk result (λ c. Edges (map vertex_of c.vertices) (map edge_of c.edges)) }
     ensures shows { IfOk result (λ c. (s : Set) → AreVerticesOf s carriers vertices → ShowsSet s c) }
 {
-    let edges = List::from_vec(edges_from(alloc, vertices.as_slice(), sources)?);
-    Complex::of(alloc, carriers, vertices, edges, at_vertex)
+    Complex::of(alloc, carriers, vertices, List::from_vec(edges), at_vertex)
 }
 
 /// The complex with these carriers and vertices, and with all edges between the vertices. Some set has exactly these
@@ -117,32 +113,27 @@ pub fn pair(
 {
     let carriers = SortedCarriers::of(alloc, carriers)?;
     let rows = vertex_rows(alloc, &carriers, vertices.as_slice())?;
-    pair_held(alloc, carriers.into_planes(), vertices, rows, &[])
+    let edges = edges_of(alloc, vertices.as_slice())?;
+    pair_held(alloc, carriers.into_planes(), vertices, edges, rows)
 }
 
-/// As `pair`, for a set that is made of those of two complexes: what these say of their vertices is taken over, and their
-/// edges are tried first.
-pub fn pair_from(
+/// As `pair`, for a set that is made of those of two complexes, where for each vertex the numbers of the carriers that hold it
+/// are given. The edges of the two complexes are tried first. Nothing is asked of these: maps may have been moved out of them
+/// into the vertices.
+pub fn pair_rows(
     alloc: Global,
     carriers: List<Plane>,
     vertices: List<Vertex>,
+    at_vertex: Table,
     first: &Complex,
     second: &Complex,
 ) -> Result<Complex, OutOfMemory>
     requires vertices { (s : Set) × AreVerticesOf s carriers vertices }
-    requires first { (s : Set) × ShowsSet s first.now }
-    requires second { (s : Set) × ShowsSet s second.now }
+    requires holders { AreVertexHolders carriers vertices at_vertex }
     ensures kept { IfOk result (λ c. (c.carriers ≡ carriers) × (c.vertices ≡ vertices)) }
     ensures edges { IfOk result (λ c. Edges (map vertex_of c.vertices) (map edge_of c.edges)) }
     ensures shows { IfOk result (λ c. (s : Set) → AreVerticesOf s carriers vertices → ShowsSet s c) }
 {
-    let carriers = SortedCarriers::of(alloc, carriers)?;
-    let rows = vertex_rows_from(alloc, &carriers, vertices.as_slice(), first, second)?;
-    pair_held(
-        alloc,
-        carriers.into_planes(),
-        vertices,
-        rows,
-        &[first, second],
-    )
+    let edges = edges_from(alloc, vertices.as_slice(), first, second)?;
+    pair_held(alloc, carriers, vertices, edges, at_vertex)
 }

@@ -1,12 +1,23 @@
-use Rattle.std.proofs.Common.{◌≡◌, ℕ, length, arith, subst}
+use Rattle.std.proofs.Common.{List, ℕ, length, rules, sym, subst}
+use Rattle.nef_complex.specs.declared.complex.Edge.{Edge}
 use Rattle.nef_edges.specs.EdgeEnds.{IsBefore}
-use Rattle.nef_edges.specs.Matched.{AreMatchedFrom}
-use Rattle.nef_edges.proofs.Walked.{walked-are_edges}
+use Rattle.nef_edges.specs.Laid.{AreLaid}
+use Rattle.nef_edges.specs.Matched.{AreApart}
+use Rattle.nef_edges.proofs.Walked.{laid-part, laid-are_edges}
 use Rattle.nef_edges.proofs.guessed.edges_guessed.Goals as goal
+
+pub join_loose-is_joined-requires : goal.join_loose-is_joined-requires
+join_loose-is_joined-requires c =
+    let vs = c.args.vertices.now in let es : List Edge = c.in_ok-edges.edges.items in
+    record {
+      laid = subst (λ (ns : List ℕ). AreLaid vs (IsBefore (length vs) 0) es ns 0) (sym c.as_slice-2.ensures.value)
+          (laid-part vs (IsBefore (length vs) 0) es c.lay_edges.new.loose.numbers.items c.part_edges.new.loose.numbers.items c.in_ok-part_edges.ensures.kept c.in_ok-edges.ensures.laid);
+    }
 
 pub returns : goal.returns
 returns c =
     let vs = c.args.vertices.now in
-    let l = c.loop-i.auto.i-end in let m = c.loop-i-test.false in
-    let e : c.loop-i.i ≡ length vs = omega arith in
-    record { edges = walked-are_edges vs c.loop-i.edges.items c.requires.joined (subst (λ (n : ℕ). AreMatchedFrom vs (IsBefore n 0) c.loop-i.edges.items) e c.loop-i.invariant.added) }
+    record {
+      edges = laid-are_edges vs c.join_loose-is_joined.new.edges.items c.requires.joined (c.join_loose-is_joined.ensures.joined c.if-not-is_joined.false)
+          (subst (λ (xs : List Edge). AreApart xs (length xs)) c.as_slice-5.ensures.value (c.are_apart.ensures.apart (search (rules, c.if-not-are_apart.false))));
+    }

@@ -1,15 +1,23 @@
-use Rattle.std.proofs.Common.{List, IfOk, sym, subst, ◌∙◌}
+use Rattle.std.proofs.Common.{List, map, IfOk, sym, subst, ◌∙◌}
 use Rattle.nef_space.specs.Sets.{Set}
 use Rattle.nef_geo.specs.declared.plane.Plane.{Plane}
-use Rattle.nef_complex.specs.Complexes.{AreVerticesOf, ShowsSet}
+use Rattle.law_complex.specs.Complexes.{Edges}
+use Rattle.nef_complex.specs.Complexes.{vertex_of, edge_of, AreVerticesOf, ShowsSet}
 use Rattle.nef_complex.specs.Index.{AreVertexHolders}
 use Rattle.nef_complex.specs.declared.complex.Complex.{Complex}
 use Rattle.nef_complex.specs.declared.complex.Vertex.{Vertex}
-use Rattle.nef_edges.proofs.Joined.{carriers-ordered}
+use Rattle.nef_edges.specs.Pairs.{AreJoined}
+use Rattle.nef_edges.proofs.Joined.{are-joined, carriers-ordered}
 use Rattle.nef_edges.proofs.pairing.pair.Goals as goal
 
 pub of-requires : goal.of-requires
 of-requires c = record { ordered = let V = c.requires.vertices in carriers-ordered V.0 c.args.carriers c.args.vertices V.1 }
+
+pub edges_of-requires : goal.edges_of-requires
+edges_of-requires c = record { joined = let V = c.requires.vertices in subst (λ (vs : List Vertex). AreJoined (map vertex_of vs)) (sym c.as_slice-2.ensures.all) (are-joined V.0 c.args.carriers c.args.vertices V.1) }
+
+pub pair_held-requires-clause-edges : goal.pair_held-requires-clause-edges
+pair_held-requires-clause-edges c = subst (λ (vs : List Vertex). Edges (map vertex_of vs) (map edge_of c.in_ok-edges.edges.items)) c.as_slice-2.ensures.all c.in_ok-edges.ensures.edges
 
 pub pair_held-requires-clause-vertices : goal.pair_held-requires-clause-vertices
 pair_held-requires-clause-vertices c =

@@ -1,14 +1,9 @@
 use Rattle.std.proofs.Common.{List, map, Result, Ok, Err, IfOk, sym, subst}
-use Rattle.nef_complex.specs.Complexes.{vertex_of}
-use Rattle.nef_complex.specs.declared.complex.Vertex.{Vertex}
-use Rattle.nef_edges.specs.Pairs.{AreJoined}
-use Rattle.nef_edges.proofs.Joined.{are-joined, paired-edges, carriers-ordered, all-held, have-ends, shows-set}
+use Rattle.law_complex.specs.Complexes.{Edges}
+use Rattle.nef_complex.specs.Complexes.{vertex_of, edge_of}
+use Rattle.nef_complex.specs.declared.complex.Edge.{Edge}
+use Rattle.nef_edges.proofs.Joined.{carriers-ordered, all-held, have-ends, shows-set}
 use Rattle.nef_edges.proofs.pairing.pair_held.Goals as goal
-
-pub edges_from-requires : goal.edges_from-requires
-edges_from-requires c = record {
-  joined = subst (λ (vs : List Vertex). AreJoined (map vertex_of vs)) (sym c.as_slice.ensures.all) (are-joined c.requires.vertices.0 c.args.carriers c.args.vertices c.requires.vertices.1);
-}
 
 pub of-requires-clause-ordered : goal.of-requires-clause-ordered
 of-requires-clause-ordered c = let V = c.requires.vertices in carriers-ordered V.0 c.args.carriers c.args.vertices V.1
@@ -16,14 +11,14 @@ of-requires-clause-ordered c = let V = c.requires.vertices in carriers-ordered V
 pub of-requires-clause-held : goal.of-requires-clause-held
 of-requires-clause-held c =
     let V = c.requires.vertices in
-    all-held V.0 c.args.carriers c.args.vertices V.1 c.from_vec-edges.result
-    (paired-edges c.args.vertices c.as_slice.result.now c.in_ok-edges_from.field-0.items c.from_vec-edges.result c.as_slice.ensures.all c.from_vec-edges.ensures.all c.in_ok-edges_from.ensures.edges)
+    all-held V.0 c.args.carriers c.args.vertices V.1 c.from_vec.result
+    (subst (λ (es : List Edge). Edges (map vertex_of c.args.vertices) (map edge_of es)) (sym c.from_vec.ensures.all) c.requires.edges)
 
 pub of-requires-clause-ends : goal.of-requires-clause-ends
 of-requires-clause-ends c =
     let V = c.requires.vertices in
-    have-ends V.0 c.args.carriers c.args.vertices V.1 c.from_vec-edges.result
-    (paired-edges c.args.vertices c.as_slice.result.now c.in_ok-edges_from.field-0.items c.from_vec-edges.result c.as_slice.ensures.all c.from_vec-edges.ensures.all c.in_ok-edges_from.ensures.edges)
+    have-ends V.0 c.args.carriers c.args.vertices V.1 c.from_vec.result
+    (subst (λ (es : List Edge). Edges (map vertex_of c.args.vertices) (map edge_of es)) (sym c.from_vec.ensures.all) c.requires.edges)
 
 if-all : {A D : Type 0} (P Q R T : A → Type 0) → ((x : A) → P x → Q x → R x → T x) → (r : Result A D) → IfOk r P → IfOk r Q → IfOk r R → IfOk r T
 if-all P Q R T f (Ok x) p q r = f x p q r
@@ -31,5 +26,5 @@ if-all P Q R T f (Err e) p q r = tt
 
 pub returns-clause-shows : goal.returns-clause-shows
 returns-clause-shows c =
-    let E = paired-edges c.args.vertices c.as_slice.result.now c.in_ok-edges_from.field-0.items c.from_vec-edges.result c.as_slice.ensures.all c.from_vec-edges.ensures.all c.in_ok-edges_from.ensures.edges in
-    if-all _ _ _ _ (λ d k i h s V. shows-set s c.args.carriers c.args.vertices V c.from_vec-edges.result E d k.0 k.1 k.2 i h) c.of.result c.of.ensures.kept c.of.ensures.index c.of.ensures.holders
+    let E = subst (λ (es : List Edge). Edges (map vertex_of c.args.vertices) (map edge_of es)) (sym c.from_vec.ensures.all) c.requires.edges in
+    if-all _ _ _ _ (λ d k i h s V. shows-set s c.args.carriers c.args.vertices V c.from_vec.result E d k.0 k.1 k.2 i h) c.of.result c.of.ensures.kept c.of.ensures.index c.of.ensures.holders

@@ -1,0 +1,5 @@
+use Rattle.nef_edges.specs.Laid.{IsPart}
+use Rattle.nef_edges.proofs.loose.part_edges.Given as goal
+
+abbrev pub invariant-loop-k : goal.invariant-loop-k
+invariant-loop-k l = record { kept : IsPart l.initial.loose.numbers.items l.loose.numbers.items }

@@ -1,0 +1,33 @@
+-- Edges that are laid out from all svertices that lead on, of which some are loose.
+use Rattle.std.specs.Prelude.{◌≡◌, ℕ, ◌≤◌, ◌⊎◌, List, map, set}
+use Rattle.nef_space.specs.Vectors.{IsNormal}
+use Rattle.law_sphere.specs.Maps.{At}
+use Rattle.law_sphere.specs.Least.{InOrder}
+use Rattle.law_complex.specs.Complexes.{IsEdgeBelow}
+use Rattle.nef_geo.specs.Shapes.{vector_of}
+use Rattle.nef_smap.specs.declared.map.SVertex.{SVertex}
+use Rattle.nef_complex.specs.declared.complex.Vertex.{Vertex}
+use Rattle.nef_complex.specs.declared.complex.Edge.{Edge}
+use Rattle.nef_complex.specs.Complexes.{vertex_of, edge_of}
+use Rattle.nef_edges.specs.Matched.{IsMatched}
+
+-- one edge from each of the svertices that count and lead to later points, in order; each is matched, or its number is listed as loose, at the given place or behind it
+pub record AreLaid (vs : List Vertex) (Counts : ℕ → ℕ → Type 0) (es : List Edge) (loose : List ℕ) (from : ℕ) : Type 0 where
+  pub each : (k : ℕ) (e : Edge) → At es k e → Counts e.low e.low_svertex
+  pub matched : (k : ℕ) (e : Edge) → At es k e → IsMatched (map vertex_of vs) (edge_of e) ⊎ ((j : ℕ) × (from ≤ j) × At loose j k)
+  pub all : (i a : ℕ) (v : Vertex) (s : SVertex) → At vs i v → At v.map.svertices a s → IsNormal (vector_of s.dir) → Counts i a → (k : ℕ) × (e : Edge) × At es k e × (e.low ≡ i) × (e.low_svertex ≡ a)
+  pub ordered : InOrder (λ e f. IsEdgeBelow (edge_of e) (edge_of f)) es
+
+-- all of the first numbers are among the second
+abbrev pub IsPart : List ℕ → List ℕ → Type 0
+IsPart ns ms = (j k : ℕ) → At ns j k → (l : ℕ) × At ms l k
+
+-- in the place of the edge with this number stands a matched one from the same svertex
+pub record IsJoinedAt (vs : List Vertex) (n : ℕ) (es fs : List Edge) : Type 0 where
+  pub old : Edge
+  pub new : Edge
+  pub is_old : At es n old
+  pub changed : fs ≡ set es n new
+  pub matched : IsMatched (map vertex_of vs) (edge_of new)
+  pub low : new.low ≡ old.low
+  pub low_svertex : new.low_svertex ≡ old.low_svertex
