@@ -15,7 +15,7 @@ use Rattle.law_near.proofs.PlaceOrder.{place_below-same, same-place_below, place
 use Rattle.law_near.proofs.Rays.{same-place_sym}
 use Rattle.law_sphere.specs.Maps.{At}
 use Rattle.law_sphere.proofs.Compare.{SameDirection-turned}
-use Rattle.nef_smap.proofs.Lists.{map-at}
+use Rattle.nef_smap.proofs.Lists.{map-at, at-map}
 use Rattle.nef_smap.proofs.SideLists.{get-from_at, at-from_get}
 use Rattle.nef_classes.proofs.ClassLists.{is-at_one}
 use Rattle.law_complex.specs.Shows.{Shows}
@@ -37,7 +37,11 @@ use Rattle.nef_plane.proofs.Crossed.{edge-along}
 use Rattle.nef_plane.proofs.Listed.{lies, lying-ends}
 use Rattle.nef_plane.proofs.Meeting.{level-same}
 use Rattle.nef_complex.proofs.Rising.{BeginFrom}
-use Rattle.nef_locate.specs.Orders.{PartsOn}
+use Rattle.nef_complex.specs.declared.spans.Span.{Span}
+use Rattle.nef_complex.specs.Indexing.{AreAlone}
+use Rattle.nef_complex.specs.Spans.{IsInSpan, IsNarrower}
+use Rattle.nef_complex.proofs.Spanned.{span-between}
+use Rattle.nef_locate.specs.Orders.{PartsOn, AreThroughEnds}
 
 -- where q - p begins with a positive number, q is a later point
 normal-below : (p q : PlainPlace) → IsNormal (toward p q) → IsPlaceBelow p q
@@ -100,9 +104,45 @@ module _ (s : Set) (c : Complex) (S : Shows s (complex_of c)) (k : ℕ) (e : Edg
       turned : IsZero (cross (toward low y) (toward y high))
       turned = cross-back (toward low y) high y (aligned low y high (cross-turned (toward low high) (toward low y) line))
 
+  -- what holds both ends holds a point of the edge
+  pub edge-through : (y : PlainPlace) → IsEdgePoint (complex_of c) k y → AllThrough c.carriers low high y
+  edge-through y x = λ g f o H. held-between (form_of f) low high y (edge-inside s c S k e u v l i j y x) H
+
+  -- a span as wide as those of the ends holds it too
+  pub edge-spanned : (ss : List Span) → AreAlone c.vertices ss → (a b t : Span) → IsAt ss e.low a → IsAt ss e.high b → IsNarrower a t → IsNarrower b t → (y : PlainPlace) → IsEdgePoint (complex_of c) k y → IsInSpan t y
+  edge-spanned ss A a b t o r m n y x = span-between a b t low y high (edge-inside s c S k e u v l i j y x) (A.each e.low u a (get-from_at c.vertices e.low u i) o) (A.each e.high v b (get-from_at c.vertices e.high v j) r) m n
+
   -- so it does where the numbers of the plane's vertices tell that it comes between
   pub parted-edge : (h : Form) (y : PlainPlace) (n : ℕ) → PartsOn c.vertices h y n → form_at h low ≡ pos 0 → form_at h high ≡ pos 0 → e.low < n → n ≤ e.high → AllThrough c.carriers low high y → IsEdgePoint (complex_of c) k y
   parted-edge h y n P f g m r T = line-edge y (P.before e.low u m (get-from_at c.vertices e.low u i) f) (P.after e.high v r (get-from_at c.vertices e.high v j) g) T
+
+-- ---- an edge alone
+module _ (s : Set) (c : Complex) (S : Shows s (complex_of c)) (k : ℕ) (e : Edge) (a : IsAt c.edges k e) where
+  l : At c.edges k e
+  l = at-from_get c.edges k e a
+
+  record HasBoth : Type 0 where
+    pub low : Vertex
+    pub high : Vertex
+    pub low_at : At c.vertices e.low low
+    pub high_at : At c.vertices e.high high
+
+  both : HasBoth
+  both =
+      let E = S.edges.edges k (edge_of e) (map-at edge_of c.edges k e l) in
+      let u = at-map vertex_of c.vertices e.low E.low_vertex E.is_low in let v = at-map vertex_of c.vertices e.high E.high_vertex E.is_high in
+      record { low = u.0; high = v.0; low_at = u.1; high_at = v.1 }
+
+  -- a span as wide as those of its ends holds the points of the edge
+  pub told-spanned : (ss : List Span) → AreAlone c.vertices ss → (x z t : Span) → IsAt ss e.low x → IsAt ss e.high z → IsNarrower x t → IsNarrower z t → (y : PlainPlace) → IsEdgePoint (complex_of c) k y → IsInSpan t y
+  told-spanned = edge-spanned s c S k e both.low both.high l both.low_at both.high_at
+
+  -- and what holds both ends holds these points
+  pub told-line : (b : Bool) (y : PlainPlace)
+      → ((e : Edge) (u v : Vertex) → IsAt c.edges k e → IsAt c.vertices e.low u → IsAt c.vertices e.high v → (IsTrue b ↔ AllThrough c.carriers (place_of u.point) (place_of v.point) y))
+      → IsEdgePoint (complex_of c) k y → IsTrue b
+  told-line b y line x =
+      (line e both.low both.high a (get-from_at c.vertices e.low both.low both.low_at) (get-from_at c.vertices e.high both.high both.high_at)).1 (edge-through s c S k e both.low both.high l both.low_at both.high_at y x)
 
 -- such a point is no vertex
 pub parts-off : (c : Complex) (h : Form) (y : PlainPlace) (n : ℕ) → form_at h y ≡ pos 0 → PartsOn c.vertices h y n → (k : ℕ) → IsVertexPoint (complex_of c) k y → ⊥
@@ -130,19 +170,13 @@ module _ (s : Set) (c : Complex) (S : Shows s (complex_of c)) (h : Form) (y : Pl
       let E = lying-ends c.vertices c.edges h k e a L in
       edge-parted s c S k e E.0.0 E.1.0 l (at-from_get c.vertices e.low E.0.0 E.0.1) (at-from_get c.vertices e.high E.1.0 E.1.1) h y n P E.0.2 E.1.2 x
 
-  -- where the ends' numbers tell that, the edge has the point on it exactly where its line does
-  pub number-edge : (k : ℕ) (e : Edge) → IsAt c.edges k e → EdgeLiesIn c.vertices c.edges h k → e.low < n → n ≤ e.high
-      → (b : Bool) → ((e : Edge) (u v : Vertex) → IsAt c.edges k e → IsAt c.vertices e.low u → IsAt c.vertices e.high v → (IsTrue b ↔ AllThrough c.carriers (place_of u.point) (place_of v.point) y))
-      → IsTrue b ↔ IsEdgePoint (complex_of c) k y
-  number-edge k e a L m r b line =
+  -- where the ends' numbers tell that, the edge has the point on it if its line does
+  pub number-edge : (k : ℕ) (e : Edge) → IsAt c.edges k e → EdgeLiesIn c.vertices c.edges h k → e.low < n → n ≤ e.high → AreThroughEnds c k y → IsEdgePoint (complex_of c) k y
+  number-edge k e a L m r line =
       let l = at-from_get c.edges k e a in
       let E = lying-ends c.vertices c.edges h k e a L in
       let u = E.0.0 in let v = E.1.0 in
-      let i = at-from_get c.vertices e.low u E.0.1 in let j = at-from_get c.vertices e.high v E.1.1 in
-      let T = line e u v a E.0.1 E.1.1 in (
-        λ t. parted-edge s c S k e u v l i j h y n P E.0.2 E.1.2 m r (T.0 t),
-        λ x. T.1 (λ g f o H. held-between (form_of f) (place_of u.point) (place_of v.point) y (edge-inside s c S k e u v l i j y x) H),
-      )
+      parted-edge s c S k e u v l (at-from_get c.vertices e.low u E.0.1) (at-from_get c.vertices e.high v E.1.1) h y n P E.0.2 E.1.2 m r (line e u v a E.0.1 E.1.1)
 
   -- from a place of a row of them on the point lies on none
   abbrev pub NoneFrom : List ℕ → ℕ → Type 0

@@ -21,3 +21,4 @@ pub mod EdgeOrder
 pub mod HitOrder
 pub mod Listed
 pub mod Windows
+mod FramedBounds

@@ -1,8 +1,9 @@
 -- What a ray along an upright direction meets in one plane, and what it meets first.
-use Rattle.std.proofs.Common.{◌≡◌, ℕ, ◌<◌, length, neg_ℤ, arith, Option, Some, None, IfSome, [], ◌∷◌, slice_get, subst}
+use Rattle.std.proofs.Common.{◌≡◌, ℕ, ◌<◌, length, neg_ℤ, arith, Option, Some, None, IfSome, List, [], ◌∷◌, ◌⊎◌, inl, inr, slice_get, sym, subst}
 use Rattle.std.proofs.lemmas.Int.{ints}
 use Rattle.nef_space.proofs.Ring.{ring, at, neg, ◌⊕◌, ◌⊗◌}
-use Rattle.nef_space.specs.Place.{Place as PlainPlace, SamePlace, toward, IsAhead, IsBetween}
+use Rattle.nef_space.specs.Lists.{IsAt}
+use Rattle.nef_space.specs.Place.{Place as PlainPlace, InClosedFrame, SamePlace, toward, IsAhead, IsBetween}
 use Rattle.nef_space.specs.Sets.{Set}
 use Rattle.nef_space.specs.Vectors.{Vector, dot, opposite}
 use Rattle.nef_geo.specs.Hits.{IsUpright, IsCrossing}
@@ -20,7 +21,12 @@ use Rattle.nef_complex.proofs.Lines.{one-crossing}
 use Rattle.nef_plane.proofs.Found.{not-end}
 use Rattle.nef_plane.proofs.Nearest.{between-ahead}
 use Rattle.nef_complex.specs.declared.complex.Complex.{Complex}
+use Rattle.nef_complex.specs.declared.spans.Span.{Span}
 use Rattle.nef_complex.specs.Complexes.{complex_of, ShowsSet}
+use Rattle.nef_complex.specs.Index.{AreSpans}
+use Rattle.nef_complex.specs.Spans.{IsInSpan}
+use Rattle.nef_complex.proofs.Framed.{skeleton-framed}
+use Rattle.nef_complex.proofs.Spanned.{spanned}
 use Rattle.nef_classes.proofs.ClassLists.{is-at_one}
 use Rattle.nef_smap.proofs.Lists.{at-within}
 use Rattle.nef_smap.proofs.SideLists.{get-from_at}
@@ -55,6 +61,16 @@ on-carrier c p d best k g e N h a = subst (HasNoneOn c p d best) (is-at_one c.ca
 
 pub at-carrier : (c : Complex) (y : PlainPlace) (k : ℕ) (g : Plane) → slice_get c.carriers k ≡ Some g → HasNotAt c y g → HasNotAtCarrier c y k
 at-carrier c y k g e N h a = subst (HasNotAt c y) (is-at_one c.carriers k g h e a) N
+
+-- it stays so where what is known to be met is taken over
+pub kept-begun : (c : Complex) (p : PlainPlace) (d : Vector) (old new : Option Met) → (old ≡ None) ⊎ (new ≡ old) → (k : ℕ) → HasNoneOnCarrier c p d old k → HasNoneOnCarrier c p d new k
+kept-begun c p d old new (inl e) k N h a s y S X I = absurd (subst (IsNotBefore p y) e (N h a s y S X I))
+kept-begun c p d old new (inr e) k N h a s y S X I = subst (IsNotBefore p y) (sym e) (N h a s y S X I)
+
+-- a carrier whose span the ray doesn't lead into has nothing ahead
+pub span-passed : (c : Complex) (p : PlainPlace) (d : Vector) (best : Option Met) (k : ℕ) (spans : List Span) (span : Span) → AreSpans c.carriers c.vertices spans → IsAt spans k span
+    → ((y : PlainPlace) → InClosedFrame y → IsAhead p d y → IsInSpan span y → ⊥) → HasNoneOnCarrier c p d best k
+span-passed c p d best k spans span A b off h a s y S X I = absurd (off y (skeleton-framed s c S (form_of h) y I) X.ahead (spanned s c S (form_of h) span (A.each k h span a b) y X.on I))
 
 -- ---- one plane
 module _ (p : PlainPlace) (d : Vector) (h : Plane) (hit : Hit) (X : IsCrossing p d (form_of h) (hit_place hit)) where

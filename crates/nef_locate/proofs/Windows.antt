@@ -1,7 +1,7 @@
 -- Points of the frame ahead of a point lie within its window.
 use Rattle.std.proofs.Common.{◌≡◌, ℕ, ◌+◌, ◌*◌, ◌≤◌, ℤ, pos, neg_ℤ, ◌+ℤ◌, ◌-ℤ◌, ◌*ℤ◌, ◌<ℤ◌, ◌≤ℤ◌, nat_abs, [], ◌∷◌, arith, ap, sym, inl, inr, subst}
 use Rattle.std.proofs.lemmas.Int.{ints}
-use Rattle.nef_space.proofs.Order.{mul_nonneg, mul_le_right, cancel_le}
+use Rattle.nef_space.proofs.Order.{mul_nonneg, mul_le_right, cancel_le, cancel_lt}
 use Rattle.nef_space.proofs.Ring.{ring, at, num, ◌⊕◌, ◌⊖◌, ◌⊗◌}
 use Rattle.nef_space.specs.Limits.{half_side}
 use Rattle.nef_space.specs.Place.{Place, InClosedFrame, IsAhead}
@@ -13,6 +13,7 @@ use Rattle.law_complex.proofs.Spans.{stays-close}
 use Rattle.nef_complex.specs.declared.spans.Bounds.{Bounds}
 use Rattle.nef_complex.specs.declared.spans.Span.{Span}
 use Rattle.nef_complex.specs.Spans.{IsInSpan}
+use Rattle.nef_locate.specs.Frames.{IsInside, IsAmid}
 
 weight : (p : Place) → pos 0 <ℤ pos p.w
 weight p = let m = p.proper in omega (arith, ints)
@@ -74,7 +75,60 @@ within-below n c b r p q e f j i =
       subst (λ (r : ℤ). coordinate_of c q ≤ℤ (r *ℤ pos q.w)) (sym f) (high-falls c b.high p q (let a = j.0 in omega (arith, ints)) i.1),
     )
 
+-- they are less than one apart where 0 < d and (n + 2) d <= m
+less : (n : ℕ) (d m : ℤ) → pos 0 <ℤ d → (pos (n + 2) *ℤ d) ≤ℤ m → d <ℤ m
+less n d m p l =
+    let e = mul_nonneg (pos n) d (omega (arith, ints)) (omega (arith, ints)) in
+    let r : pos (n + 2) *ℤ d ≡ pos n *ℤ d +ℤ d +ℤ d = ring (pos n ∷ d ∷ []) ((at 0 ⊕ num (pos 2)) ⊗ at 1) (at 0 ⊗ at 1 ⊕ at 1 ⊕ at 1) tt in
+    omega (arith, ints)
+
+close : (n : ℕ) (y : ℤ) (w : ℕ) (z : ℤ) (v : ℕ) → IsJustAbove (n + 2) y w z v → (z *ℤ pos w) <ℤ (y *ℤ pos v +ℤ pos w *ℤ pos v)
+close n y w z v j = let l = less n (z *ℤ pos w -ℤ y *ℤ pos v) (pos w *ℤ pos v) (let a = j.0 in omega (arith, ints)) j.1 in omega (arith, ints)
+
+inside-above : (n : ℕ) (c : Coordinate) (b r : Bounds) (p q : Place) → r.low ≡ b.low → r.high ≡ b.high +ℤ pos 1 → IsJustAbove (n + 2) (coordinate_of c p) p.w (coordinate_of c q) q.w → IsWithin c b.low b.high p → IsInside c r q
+inside-above n c b r p q e f j i =
+    let a = j.0 in
+    let k = close n (coordinate_of c p) p.w (coordinate_of c q) q.w j in
+    let l = mul_le_right (b.low *ℤ pos p.w) (coordinate_of c p) (pos q.w) (some q) i.0 in
+    let x = exchange b.low (pos p.w) (pos q.w) in
+    let h = mul_le_right (coordinate_of c p) (b.high *ℤ pos p.w) (pos q.w) (some q) i.1 in
+    let s : (b.high +ℤ pos 1) *ℤ pos q.w *ℤ pos p.w ≡ b.high *ℤ pos p.w *ℤ pos q.w +ℤ pos p.w *ℤ pos q.w = ring (b.high ∷ pos p.w ∷ pos q.w ∷ []) ((at 0 ⊕ num (pos 1)) ⊗ at 2 ⊗ at 1) (at 0 ⊗ at 1 ⊗ at 2 ⊕ at 1 ⊗ at 2) tt in (
+      subst (λ (r : ℤ). (r *ℤ pos q.w) <ℤ coordinate_of c q) (sym e) (cancel_lt (b.low *ℤ pos q.w) (coordinate_of c q) (pos p.w) (weight p) (omega (arith, ints))),
+      subst (λ (r : ℤ). coordinate_of c q <ℤ (r *ℤ pos q.w)) (sym f) (cancel_lt (coordinate_of c q) ((b.high +ℤ pos 1) *ℤ pos q.w) (pos p.w) (weight p) (omega (arith, ints))),
+    )
+
+inside-below : (n : ℕ) (c : Coordinate) (b r : Bounds) (p q : Place) → r.low ≡ b.low -ℤ pos 1 → r.high ≡ b.high → IsJustAbove (n + 2) (coordinate_of c q) q.w (coordinate_of c p) p.w → IsWithin c b.low b.high p → IsInside c r q
+inside-below n c b r p q e f j i =
+    let a = j.0 in
+    let k = close n (coordinate_of c q) q.w (coordinate_of c p) p.w j in
+    let l = mul_le_right (b.low *ℤ pos p.w) (coordinate_of c p) (pos q.w) (some q) i.0 in
+    let m : pos q.w *ℤ pos p.w ≡ pos p.w *ℤ pos q.w = ring (pos p.w ∷ pos q.w ∷ []) (at 1 ⊗ at 0) (at 0 ⊗ at 1) tt in
+    let s : (b.low -ℤ pos 1) *ℤ pos q.w *ℤ pos p.w ≡ b.low *ℤ pos p.w *ℤ pos q.w -ℤ pos p.w *ℤ pos q.w = ring (b.low ∷ pos p.w ∷ pos q.w ∷ []) ((at 0 ⊖ num (pos 1)) ⊗ at 2 ⊗ at 1) (at 0 ⊗ at 1 ⊗ at 2 ⊖ at 1 ⊗ at 2) tt in
+    let h = mul_le_right (coordinate_of c p) (b.high *ℤ pos p.w) (pos q.w) (some q) i.1 in
+    let x = exchange b.high (pos p.w) (pos q.w) in (
+      subst (λ (r : ℤ). (r *ℤ pos q.w) <ℤ coordinate_of c q) (sym e) (cancel_lt ((b.low -ℤ pos 1) *ℤ pos q.w) (coordinate_of c q) (pos p.w) (weight p) (omega (arith, ints))),
+      subst (λ (r : ℤ). coordinate_of c q <ℤ (r *ℤ pos q.w)) (sym f) (cancel_lt (coordinate_of c q) (b.high *ℤ pos q.w) (pos p.w) (weight p) (omega (arith, ints))),
+    )
+
+-- what lies strictly within the one bounds and within the others lies within both
+reaches : (c : Coordinate) (b a : Bounds) (q : Place) → IsInside c b q → IsWithin c a.low a.high q → (a.low <ℤ b.high) × (b.low <ℤ a.high)
+reaches c b a q i j =
+    let k = i.0 in let l = i.1 in let m = j.0 in let n = j.1 in
+    (cancel_lt a.low b.high (pos q.w) (weight q) (omega (arith, ints)), cancel_lt b.low a.high (pos q.w) (weight q) (omega (arith, ints)))
+
+pub reaches-y : (w s : Span) (q : Place) → IsAmid w q → IsInSpan s q → (s.y.low <ℤ w.y.high) × (w.y.low <ℤ s.y.high)
+reaches-y w s q A I = reaches coordinate_y w.y s.y q A.0 I.1
+
+pub reaches-z : (w s : Span) (q : Place) → IsAmid w q → IsInSpan s q → (s.z.low <ℤ w.z.high) × (w.z.low <ℤ s.z.high)
+reaches-z w s q A I = reaches coordinate_z w.z s.z q A.1 I.2
+
 -- ---- along upright directions
+pub amid_up : (s t : Span) (p q : Place) → t.y.low ≡ s.y.low → t.y.high ≡ s.y.high +ℤ pos 1 → t.z.low ≡ s.z.low → t.z.high ≡ s.z.high +ℤ pos 1 → InClosedFrame p → InClosedFrame q → IsAhead p up q → IsInSpan s p → IsAmid t q
+amid_up s t p q c d e f i j w n = let k = (stays-close p q i j).0 w in (inside-above 0 coordinate_y s.y t.y p q c d k.0 n.1, inside-above 16382 coordinate_z s.z t.z p q e f k.1 n.2)
+
+pub amid_down : (s t : Span) (p q : Place) → t.y.low ≡ s.y.low -ℤ pos 1 → t.y.high ≡ s.y.high → t.z.low ≡ s.z.low -ℤ pos 1 → t.z.high ≡ s.z.high → InClosedFrame p → InClosedFrame q → IsAhead p (opposite up) q → IsInSpan s p → IsAmid t q
+amid_down s t p q c d e f i j w n = let k = (stays-close p q i j).1 w in (inside-below 0 coordinate_y s.y t.y p q c d k.0 n.1, inside-below 16382 coordinate_z s.z t.z p q e f k.1 n.2)
+
 -- x rises 2^26 times as much as z
 x-rises : (p q : Place) → IsAhead p up q → IsCloseAbove p q → (p.x *ℤ pos q.w) ≤ℤ (q.x *ℤ pos p.w)
 x-rises p q a k = let z = k.1.0 in by (q.x *ℤ pos p.w) (p.x *ℤ pos q.w) (q.z *ℤ pos p.w) (p.z *ℤ pos q.w) a.parallel.1 z

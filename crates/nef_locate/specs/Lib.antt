@@ -4,3 +4,4 @@ pub mod Ends
 pub mod Halves
 pub mod Facets
 pub mod Orders
+pub mod Frames

@@ -1,14 +1,19 @@
 //! What a ray up or down first meets. Where it can't lead within the frame is passed over.
 
-ghost use Rattle.std.specs.Prelude.{◌≡◌, ◌⊎◌, ◌↔◌, ◌+ℤ◌, ◌-ℤ◌};
-ghost use Rattle.nef_complex.specs.Prelude.{IsTrue, IsNone, IfSome, pos, Place as PlainPlace, InClosedFrame, IsAhead, Set, Vector, IsDirection, opposite, up, IsReached, IsUpright, vector_of, place_of, hit_place, IsSkeletonPoint, complex_of, ShowsSet, IsInSpan, AreSmall};
+ghost use Rattle.std.specs.Prelude.{◌≡◌, ◌⊎◌, ◌↔◌, ◌<◌, ◌<ℤ◌, ◌+ℤ◌, ◌-ℤ◌};
+ghost use Rattle.nef_complex.specs.Prelude.{IsTrue, IsNone, IfSome, None, length, pos, Place as PlainPlace, InClosedFrame, IsAhead, Set, Vector, IsDirection, opposite, up, IsReached, IsUpright, vector_of, place_of, hit_place, IsSkeletonPoint, complex_of, ShowsSet, IsInSpan, AreSmall};
+ghost use Rattle.law_complex.specs.Complexes.{Complex as PlainComplex};
+ghost use Rattle.nef_locate.specs.Frames.{IsAmid};
 ghost use Rattle.nef_locate.specs.Places.{IsPlaceIn, IsFirstHit};
 ghost use Rattle.nef_locate.specs.Rays.{IsReachedMet, IsMet, IsSooner, HasNoneOnCarrier};
 
-use crate::carrier::place_on;
+use crate::carrier::{is_in_span, place_on};
 use crate::point::Place;
-use nef_complex::{Bounds, Complex, Search, Span, search_carriers};
+use nef_complex::{Bounds, Complex, Search, Span, carrier_spans, search_carriers};
 use nef_geo::{Dir, HALF_SIDE, Hit, Point, hit_order, ray_hit};
+
+// Carriers are crowded from so many vertices for each of them on, if these are no fewer than the carriers.
+const LEAST_CROWD: usize = 64;
 
 // The bounds of what lies at most one above the numbers within these.
 fn above(bounds: &Bounds) -> Bounds
@@ -43,10 +48,12 @@ fn is_up(d: &Dir) -> bool
 }
 
 // A span of all points of the frame that the ray from the point leads to along the upward direction or the downward one. From
-// point to point of the frame y and z change by less than one, and all three coordinates rise along the upward direction.
+// point to point of the frame y and z change by less than one, and all three coordinates rise along the upward direction. So
+// these points' y and z lie strictly within those of the span.
 fn ray_window(p: &Point, d: &Dir) -> Span
     requires upright { IsUpright (vector_of d.now) }
     ensures ahead { (q : PlainPlace) → InClosedFrame (place_of p.now) → InClosedFrame q → IsAhead (place_of p.now) (vector_of d.now) q → IsInSpan result q }
+    ensures amid { (q : PlainPlace) → InClosedFrame (place_of p.now) → InClosedFrame q → IsAhead (place_of p.now) (vector_of d.now) q → IsAmid result q }
 {
     let here = Span::of(p);
     if is_up(d) {
@@ -70,6 +77,23 @@ fn ray_window(p: &Point, d: &Dir) -> Span
     }
 }
 
+// Whether a number strictly within the window's bounds may lie within the others.
+fn reach_into(window: &Bounds, bounds: &Bounds) -> bool
+    ensures reach { IsTrue result ↔ ((bounds.now.low <ℤ window.now.high) × (window.now.low <ℤ bounds.now.high)) }
+{
+    bounds.low < window.high && window.low < bounds.high
+}
+
+// Whether a point whose y and z lie strictly within those of the window may lie within the span.
+fn may_lead_into(window: &Span, span: &Span) -> bool
+    ensures leads { (q : PlainPlace) → IsAmid window.now q → IsInSpan span.now q → IsTrue result }
+{
+    if !reach_into(&window.y, &span.y) {
+        return false;
+    }
+    reach_into(&window.z, &span.z)
+}
+
 // What a ray meets, and the hit there.
 #[derive(Debug, Clone, Copy)]
 struct Met {
@@ -78,13 +102,17 @@ struct Met {
 }
 
 // A ray up or down that is asked what it meets first of a complex, and a window within which all points of the frame
-// ahead lie.
+// ahead lie, with y and z strictly within the window's. What it meets on some carrier may be known before, or that it meets
+// nothing on the carrier with a number.
 #[derive(Clone, Copy)]
 struct Beam<'a> {
     start: &'a Point,
     direction: &'a Dir,
     window: Span,
+    guess: Option<Met>,
+    missed: usize,
     ghost ahead: { (q : PlainPlace) → InClosedFrame q → IsAhead (place_of start.now) (vector_of direction.now) q → IsInSpan window q },
+    ghost amid: { (q : PlainPlace) → InClosedFrame q → IsAhead (place_of start.now) (vector_of direction.now) q → IsAmid window q },
 }
 
 // Whether the hit lies before what was met, which it does where nothing was.
@@ -97,12 +125,31 @@ fn is_sooner(hit: &Hit, best: &Option<Met>) -> bool
     }
 }
 
+// Takes over what is known to be met where nothing was found before.
+fn begin_with(best: &mut Option<Met>, guess: &Option<Met>)
+    ensures met { (c : PlainComplex) (p : PlainPlace) (d : Vector) → IfSome best.old (IsMet c p d) → IfSome guess.now (IsMet c p d) → IfSome best.new (IsMet c p d) }
+    ensures kept { (best.old ≡ None) ⊎ (best.new ≡ best.old) }
+{
+    if let Some(met) = guess {
+        if best.is_none() {
+            *best = Some(*met);
+        }
+    }
+}
+
+// Whether the carrier with this number is known to hold nothing that the ray meets.
+fn is_missed(guess: &Option<Met>, missed: usize, number: usize) -> bool
+    ensures missed { IsTrue result → IsNone guess.now × (number ≡ missed) }
+{
+    guess.is_none() && number == missed
+}
+
 impl Search for Beam<'_> {
     type Found = Met;
 
     ghost within = { λ x. x.window };
 
-    ghost right = { λ x c f. IsUpright (vector_of x.direction.now) × IfSome f (IsMet (complex_of c) (place_of x.start.now) (vector_of x.direction.now)) };
+    ghost right = { λ x c f. IsUpright (vector_of x.direction.now) × IfSome f (IsMet (complex_of c) (place_of x.start.now) (vector_of x.direction.now)) × IfSome x.guess (IsMet (complex_of c) (place_of x.start.now) (vector_of x.direction.now)) × (IsNone x.guess → HasNoneOnCarrier c (place_of x.start.now) (vector_of x.direction.now) None x.missed) };
 
     ghost passed = { λ x c f k. HasNoneOnCarrier c (place_of x.start.now) (vector_of x.direction.now) f k };
 
@@ -116,10 +163,17 @@ impl Search for Beam<'_> {
 
     // What the carrier holds of the skeleton takes the place of what was met before if it lies before that.
     fn ask(&self, c: &Complex, number: usize, best: &mut Option<Met>) {
+        if !may_lead_into(&self.window, &carrier_spans(c)[number]) {
+            return;
+        }
+        if is_missed(&self.guess, self.missed, number) {
+            return;
+        }
         let h = c.carriers.at(number);
         let Some(hit) = ray_hit(self.start, self.direction, h) else {
             return;
         };
+        begin_with(best, &self.guess);
         if !is_sooner(&hit, best) {
             return;
         }
@@ -129,6 +183,118 @@ impl Search for Beam<'_> {
     }
 
     ghost apart = { λ x c f k o h a s y S X i. absurd ((o h a s y S X.on i).1 (x.ahead y (o h a s y S X.on i).0 X.ahead)) };
+}
+
+// Where a ray crosses a carrier, and the carrier's number.
+#[derive(Debug, Clone, Copy)]
+struct Crossing {
+    number: usize,
+    at: Hit,
+}
+
+// A ray up or down that is asked which carrier it crosses first within the carrier's span, whatever that holds there.
+#[derive(Clone, Copy)]
+struct Scout<'a> {
+    start: &'a Point,
+    direction: &'a Dir,
+    window: Span,
+}
+
+// Whether the hit lies before the crossing, if there is one.
+fn is_nearer(hit: &Hit, nearest: &Option<Crossing>) -> bool {
+    match nearest {
+        Some(crossing) => hit_order(hit, &crossing.at).is_lt(),
+        None => true,
+    }
+}
+
+impl Search for Scout<'_> {
+    type Found = Crossing;
+
+    ghost within = { λ x. x.window };
+
+    ghost right = { λ x c f. IsUpright (vector_of x.direction.now) × IfSome f (λ m. m.number < length c.carriers) };
+
+    ghost passed = { λ x c f k. Unit {0} };
+
+    fn window(&self) -> &Span {
+        &self.window
+    }
+
+    fn is_over(&self, _nearest: &Option<Crossing>) -> bool {
+        false
+    }
+
+    // A carrier that the ray crosses before the others takes their place.
+    fn ask(&self, c: &Complex, number: usize, nearest: &mut Option<Crossing>) {
+        let span = &carrier_spans(c)[number];
+        if !may_lead_into(&self.window, span) {
+            return;
+        }
+        let Some(hit) = ray_hit(self.start, self.direction, c.carriers.at(number)) else {
+            return;
+        };
+        if is_nearer(&hit, nearest) && is_in_span(&hit, span) {
+            *nearest = Some(Crossing { number, at: hit });
+        }
+    }
+
+    ghost apart = { λ x c f k o. tt };
+}
+
+// Whether carriers hold so much of the skeleton that it takes longer to ask one of them what it holds at a point than to find
+// where a ray crosses each of them.
+fn is_crowded(c: &Complex) -> bool {
+    let share = c.vertices.len() / c.carriers.len().max(1);
+    share >= c.carriers.len().max(LEAST_CROWD)
+}
+
+// The carrier that the ray from `p` crosses first within the carrier's span. It is asked for where carriers are crowded.
+fn first_crossed(c: &Complex, p: &Point, d: &Dir, window: &Span) -> Option<usize>
+    requires shows { (s : Set) × ShowsSet s c.now }
+    requires upright { IsUpright (vector_of d.now) }
+    ensures within { IfSome result (λ k. k < length c.now.carriers) }
+{
+    if !is_crowded(c) {
+        return None;
+    }
+    let scout = Scout {
+        start: p,
+        direction: d,
+        window: *window,
+    };
+    match search_carriers(&scout, c) {
+        Some(crossing) => Some(crossing.number),
+        None => None,
+    }
+}
+
+// What the ray from `p` meets on the carrier with this number.
+fn met_on(c: &Complex, p: &Point, d: &Dir, number: usize) -> Option<Met>
+    requires shows { (s : Set) × ShowsSet s c.now }
+    requires upright { IsUpright (vector_of d.now) }
+    requires within { number < length c.now.carriers }
+    ensures met { IfSome result (IsMet (complex_of c.now) (place_of p.now) (vector_of d.now)) }
+    ensures none { IsNone result → HasNoneOnCarrier c.now (place_of p.now) (vector_of d.now) None number }
+{
+    let h = c.carriers.at(number);
+    let hit = ray_hit(p, d, h)?;
+    let place = place_on(c, number, h, &hit)?;
+    Some(Met { place, at: hit })
+}
+
+// What the ray from `p` meets on the carrier that it crosses first, and the carrier's number. Nearly nothing else needs to be
+// asked closely then. Where carriers aren't crowded, nothing is asked, and the number is that of no carrier.
+fn first_guess(c: &Complex, p: &Point, d: &Dir, window: &Span) -> (Option<Met>, usize)
+    requires shows { (s : Set) × ShowsSet s c.now }
+    requires upright { IsUpright (vector_of d.now) }
+    ensures met { IfSome result.0 (IsMet (complex_of c.now) (place_of p.now) (vector_of d.now)) }
+    ensures none { IsNone result.0 → HasNoneOnCarrier c.now (place_of p.now) (vector_of d.now) None result.1 }
+{
+    match first_crossed(c, p, d, window) {
+        Some(number) => (met_on(c, p, d, number), number),
+        None => (None, c.carriers.len()),
+    }
 }
 
 /// The place of the first skeleton point that the ray from `p` meets strictly ahead, along the upward direction or the
@@ -143,10 +309,14 @@ pub fn first_hit(c: &Complex, p: &Point, d: &Dir) -> Option<Place>
     ensures some { IfSome result (λ a. IsFirstHit (complex_of c.now) (place_of p.now) (vector_of d.now) a) }
     ensures none { IsNone result → (q : PlainPlace) → IsAhead (place_of p.now) (vector_of d.now) q → IsSkeletonPoint (complex_of c.now) q → ⊥ }
 {
+    let window = ray_window(p, d);
+    let (guess, missed) = first_guess(c, p, d, &window);
     let beam = Beam {
         start: p,
         direction: d,
-        window: ray_window(p, d),
+        window,
+        guess,
+        missed,
     };
     match search_carriers(&beam, c) {
         Some(met) => Some(met.place),

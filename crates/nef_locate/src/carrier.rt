@@ -1,65 +1,64 @@
 //! What of the skeleton stands at a point of a carrier. Vertices have numbers in the order of points, so the numbers alone tell
 //! of most vertices and edges that a hit isn't there.
 
-ghost use Rattle.std.specs.Prelude.{◌≡◌, ◌≤◌, ◌*ℤ◌, ◌<ℤ◌, ◌*◌, ◌≤ℤ◌, ◌↔◌};
-ghost use Rattle.nef_complex.specs.Prelude.{ℕ, pos, IsNone, IfSome, nat_abs, IfOk, IfErr, IsTrue, MatchOption, IsAt, Form, InClosedFrame, form_at, SamePlace, IsPlaceBelow, Set, IsPlaceAtMost, form_of, hit_place, place_of, upright_limit, upright_weight_limit, IsEdgePoint, IsVertexPoint, complex_of, ShowsSet, AreNumbersWith, EdgeLiesIn, LiesOn, IsSkeletonIn, MatchOrdering, point_limit, weight_limit, half_side, IsInSpan};
+ghost use Rattle.std.specs.Prelude.{◌≡◌, ◌≤◌, ◌*ℤ◌, ◌<ℤ◌, ◌*◌, ◌<◌, ◌≤ℤ◌, ◌↔◌};
+ghost use Rattle.nef_complex.specs.Prelude.{ℕ, pos, length, IsNone, IfSome, nat_abs, IfOk, IfErr, IsTrue, MatchOption, IsAt, Form, InClosedFrame, form_at, SamePlace, IsPlaceBelow, Set, IsPlaceAtMost, form_of, hit_place, place_of, upright_limit, upright_weight_limit, IsEdgePoint, IsVertexPoint, complex_of, ShowsSet, AreNumbersWith, EdgeLiesIn, LiesOn, IsSkeletonIn, MatchOrdering, point_limit, weight_limit, half_side, IsInSpan};
 ghost use Rattle.nef_complex.specs.Peaks.{ArePeaks};
-ghost use Rattle.nef_locate.specs.Orders.{PartsOn};
+ghost use Rattle.nef_locate.specs.Frames.{IsFramedLow, IsFramedHigh};
+ghost use Rattle.nef_locate.specs.Orders.{PartsOn, AreThroughEnds};
 ghost use Rattle.nef_locate.specs.Rays.{IsSkeletonAt};
 
 use crate::facet::in_facet;
 use crate::point::Place;
-use nef_complex::{Bounds, Complex, PlaneItems, Span, carrier_items, carrier_spans};
+use nef_complex::{Bounds, Complex, PlaneItems, Span, carrier_items, carrier_spans, point_spans};
 use nef_geo::{HALF_SIDE, Hit, Plane, Point};
 use nef_plane::is_in_line;
 use std::cmp::Ordering;
 
-// Whether n/w is at most half the length of the frame's sides in size.
-fn is_within(n: i128, w: i128) -> bool
-    requires w_small { nat_abs w ≤ upright_weight_limit }
-    requires positive { pos 0 <ℤ w }
-    ensures within { IsTrue result ↔ (nat_abs n ≤ half_side * nat_abs w) }
+// The lower one of bounds, or where it lies beyond the frame what parts the numbers of the frame as it does. Products
+// with the result are small.
+fn framed_low(low: i64) -> i64
+    ensures low { IsFramedLow low result }
 {
-    let end = i128::from(HALF_SIDE) * w;
-    -end <= n && n <= end
-}
-
-// Whether the hit lies in the closed frame.
-fn is_framed(q: &Hit) -> bool
-    requires numbers { IsPlaceAtMost upright_limit upright_weight_limit (hit_place q.now) }
-    ensures framed { IsTrue result ↔ InClosedFrame (hit_place q.now) }
-{
-    is_within(q.x(), q.w()) && is_within(q.y(), q.w()) && is_within(q.z(), q.w())
-}
-
-// Whether n/w is at least the whole number. A number of the frame takes a product, which is cheaper than the quotient.
-fn is_at_least(n: i128, w: i128, low: i128) -> bool
-    requires small { nat_abs n ≤ upright_limit }
-    requires w_small { nat_abs w ≤ upright_weight_limit }
-    requires positive { pos 0 <ℤ w }
-    ensures least { IsTrue result ↔ ((low *ℤ w) ≤ℤ n) }
-{
-    if is_within(low, 1) {
-        low * w <= n
+    if low < -HALF_SIDE {
+        -HALF_SIDE
+    } else if HALF_SIDE < low {
+        HALF_SIDE + 1
     } else {
-        low <= n.div_euclid(w)
+        low
     }
 }
 
-// Whether n/w lies within the bounds.
-fn lies_between(n: i128, w: i128, bounds: &Bounds) -> bool
-    requires small { nat_abs n ≤ upright_limit }
-    requires w_small { nat_abs w ≤ upright_weight_limit }
-    requires positive { pos 0 <ℤ w }
-    ensures between { IsTrue result ↔ (((bounds.now.low *ℤ w) ≤ℤ n) × (n ≤ℤ (bounds.now.high *ℤ w))) }
+// And the upper one.
+fn framed_high(high: i64) -> i64
+    ensures high { IsFramedHigh high result }
 {
-    is_at_least(n, w, i128::from(bounds.low)) && is_at_least(-n, w, -i128::from(bounds.high))
+    if HALF_SIDE < high {
+        HALF_SIDE
+    } else if high < -HALF_SIDE {
+        -HALF_SIDE - 1
+    } else {
+        high
+    }
 }
 
-// Whether the hit lies within the span.
-fn is_in_span(q: &Hit, span: &Span) -> bool
+// Whether n/w lies within the bounds, and is at most half the length of the frame's sides in size. Products are cheaper than
+// a quotient.
+fn lies_between(n: i128, w: i128, bounds: &Bounds) -> bool
+    requires w_small { nat_abs w ≤ upright_weight_limit }
+    requires positive { pos 0 <ℤ w }
+    ensures between { IsTrue result ↔ ((nat_abs n ≤ half_side * nat_abs w) × ((bounds.now.low *ℤ w) ≤ℤ n) × (n ≤ℤ (bounds.now.high *ℤ w))) }
+{
+    if n < i128::from(framed_low(bounds.low)) * w {
+        return false;
+    }
+    n <= i128::from(framed_high(bounds.high)) * w
+}
+
+// Whether the hit lies in the closed frame and within the span.
+pub(crate) fn is_in_span(q: &Hit, span: &Span) -> bool
     requires numbers { IsPlaceAtMost upright_limit upright_weight_limit (hit_place q.now) }
-    ensures spanned { IsTrue result ↔ IsInSpan span.now (hit_place q.now) }
+    ensures spanned { IsTrue result ↔ (InClosedFrame (hit_place q.now) × IsInSpan span.now (hit_place q.now)) }
 {
     if !lies_between(q.x(), q.w(), &span.x) {
         return false;
@@ -125,11 +124,43 @@ fn find_among(c: &Complex, numbers: &[usize], q: &Hit) -> Result<usize, usize>
     }
 }
 
+// Whether the hit, which lies in the closed frame, lies within the span in y and in z.
+fn is_in_sides(q: &Hit, span: &Span) -> bool
+    requires numbers { IsPlaceAtMost upright_limit upright_weight_limit (hit_place q.now) }
+    ensures held { InClosedFrame (hit_place q.now) → IsInSpan span.now (hit_place q.now) → IsTrue result }
+{
+    if !lies_between(q.y(), q.w(), &span.y) {
+        return false;
+    }
+    lies_between(q.z(), q.w(), &span.z)
+}
+
+// Whether the hit, which lies in the closed frame, lies on the line of the edge with this number, and within the span of the
+// edge's ends in y and in z. Most edges that pass over a point in x lie beside it.
+fn is_along(c: &Complex, number: usize, q: &Hit) -> bool
+    requires shows { (s : Set) × ShowsSet s c.now }
+    requires within { number < length c.now.edges }
+    requires framed { InClosedFrame (hit_place q.now) }
+    requires numbers { IsPlaceAtMost upright_limit upright_weight_limit (hit_place q.now) }
+    ensures on { IsEdgePoint (complex_of c.now) number (hit_place q.now) → IsTrue result }
+    ensures line { IsTrue result → AreThroughEnds c.now number (hit_place q.now) }
+{
+    let edge = c.edges.at(number);
+    let spans = point_spans(c);
+    let ends = spans[edge.low].with_span(&spans[edge.high]);
+    if !is_in_sides(q, &ends) {
+        return false;
+    }
+    is_in_line(c, number, q)
+}
+
 // Of the edges in a plane, which are listed, that on which the hit lies. The vertices of the plane with numbers below the next
 // come before the hit, and the others after it. An edge on which the hit lies has its lower end among the former and its upper
 // end among the latter.
 fn edge_among(c: &Complex, items: &PlaneItems, q: &Hit, next: usize) -> Option<usize>
     requires shows { (s : Set) × ShowsSet s c.now }
+    requires framed { InClosedFrame (hit_place q.now) }
+    requires numbers { IsPlaceAtMost upright_limit upright_weight_limit (hit_place q.now) }
     requires parts { (h : Form) × AreNumbersWith (EdgeLiesIn c.now.vertices c.now.edges h) items.now.edges.now × PartsOn c.now.vertices h (hit_place q.now) next }
     requires peaks { ArePeaks c.now.edges items.now.edges.now items.now.peaks.now }
     ensures edge { MatchOption result ((i k : ℕ) → IsAt items.now.edges.now i k → IsEdgePoint (complex_of c.now) k (hit_place q.now) → ⊥) (λ k. IsEdgePoint (complex_of c.now) k (hit_place q.now)) }
@@ -138,7 +169,7 @@ fn edge_among(c: &Complex, items: &PlaneItems, q: &Hit, next: usize) -> Option<u
     let mut place = items.last_reaching(c, count, next);
     while 0 < place {
         let number = items.edges[place - 1];
-        if is_in_line(c, number, q) {
+        if is_along(c, number, q) {
             return Some(number);
         }
         place = items.last_reaching(c, place - 1, next);
@@ -183,9 +214,6 @@ pub fn place_on(c: &Complex, number: usize, h: &Plane, q: &Hit) -> Option<Place>
     ensures none { IsNone result → (s : Set) → ShowsSet s c.now → IsSkeletonIn s (complex_of c.now) (form_of h.now) (hit_place q.now) → ⊥ }
 {
     // what the carrier holds of the skeleton lies in the closed frame, and within the carrier's span
-    if !is_framed(q) {
-        return None;
-    }
     if !is_in_span(q, &carrier_spans(c)[number]) {
         return None;
     }

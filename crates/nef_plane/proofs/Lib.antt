@@ -21,3 +21,4 @@ pub mod Close
 pub mod Shifting
 pub mod Rising
 pub mod Below
+pub mod Windowed

@@ -12,7 +12,9 @@ use Rattle.law_complex.proofs.Ways.{between-way, same-itself}
 use Rattle.law_complex.specs.Skeleton.{PlaneMeet}
 use Rattle.std.specs.Prelude.{IfSome}
 use Rattle.nef_classes.proofs.ClassLists.{is-at_one}
+use Rattle.nef_complex.specs.declared.spans.Span.{Span}
 use Rattle.nef_plane.specs.Meets.{Encounter, IsReachedMet, IsMissed, IsNearest, IsNearestMet, IsNearer, IsNotPast}
+use Rattle.nef_plane.specs.Windows.{IsOutside, HoldsBefore}
 use Rattle.nef_plane.proofs.Choosing.{keep-first}
 
 -- what lies between a point and one ahead of it is ahead
@@ -69,6 +71,13 @@ module _ {X : Type 0} (seen : X → Encounter) (p : Place) (d : Vector) where
 
     pub nearest-either : (a b r : Option X) → NearerOf a b r → IsNearest seen p d P a → IsNearest seen p d Q b → IsNearest seen p d Either r
     nearest-either a b r N A B = either a b r (N (nearest-reached P a A) (nearest-reached Q b B)) A B
+
+    -- the nearest of what has P is the nearest of either where what has Q lies outside the window
+    nearest-apart : (a : Option X) (w : Option Span) → HoldsBefore seen p a w → IsNearest seen p d P a → ((m : PlaneMeet) (q : Place) → IsAhead p d q → Q m q → IsOutside w q) → IsNearest seen p d Either a
+    nearest-apart None None H A f = λ n q w. ⊎_elim (A n q w) (f n q w)
+    nearest-apart None (Some s) H A f = absurd H
+    nearest-apart (Some x) None H A f = record { reached = A.reached; ahead = A.ahead; met = inl A.met; first = λ n q b. ⊎_elim (A.first n q b) (f n q (between-ahead p q (seen x).at.place d b A.ahead)) }
+    nearest-apart (Some x) (Some s) H A f = record { reached = A.reached; ahead = A.ahead; met = inl A.met; first = λ n q b. ⊎_elim (A.first n q b) (λ y. f n q (between-ahead p q (seen x).at.place d b A.ahead) y (H q b)) }
 
     -- the same of what is the same ahead
     nearest-as : (o : Option X) → ((m : PlaneMeet) (q : Place) → P m q → Q m q) → ((m : PlaneMeet) (q : Place) → IsAhead p d q → Q m q → P m q) → IsNearest seen p d P o → IsNearest seen p d Q o
@@ -130,14 +139,21 @@ module _ {X : Type 0} (seen : X → Encounter) (p : Place) (d : Vector) where
     pub asked-none : (n : ℕ) → ((j k : ℕ) → n ≤ j → IsAt ns j k → IsMissed p d (R k)) → IsNearest seen p d (From n) None
     asked-none n off = λ m q w (j, t, (k, l, x)). off j k t l m q w x
 
-    -- with what is met of the one before, the nearest of one more
-    pub asked-before : (i n k : ℕ) (a b r o : Option X) → o ≡ r → n ≡ i + 1 → IsAt ns i k → NearerOf a b r → IsNearest seen p d (From n) a → IsNearest seen p d (R k) b → IsNearest seen p d (From i) o
-    asked-before i n k a b r o e f l M A B = subst (IsNearest seen p d (From i)) (sym e)
-        (nearest-as (λ m q. From n m q ⊎ R k m q) (From i) r
+    -- the nearest of those or of the one before is the nearest of one more
+    with-before : (i n k : ℕ) (r : Option X) → n ≡ i + 1 → IsAt ns i k → IsNearest seen p d (λ m q. From n m q ⊎ R k m q) r → IsNearest seen p d (From i) r
+    with-before i n k r f l A = nearest-as (λ m q. From n m q ⊎ R k m q) (From i) r
         (λ m q. ⊎_elim (λ (x : From n m q). let t = x.1 in (x.0, omega (arith, t, f), x.2)) (λ (x : R k m q). (i, omega arith, (k, l, x))))
         (λ m q w (j, t, (h, g, x)).
         ⊎_elim (λ u. inr (subst (λ z. R z m q) (is-at_one ns i h k (subst (λ z. IsAt ns z h) (sym u) g) l) x)) (λ u. inl (j, omega (arith, u, f), (h, g, x))) (eq-or-lt_of_le {n = i} {m = j} t))
-        (nearest-either (From n) (R k) a b r M A B))
+        A
+
+    -- with what is met of the one before, the nearest of one more
+    pub asked-before : (i n k : ℕ) (a b r o : Option X) → o ≡ r → n ≡ i + 1 → IsAt ns i k → NearerOf a b r → IsNearest seen p d (From n) a → IsNearest seen p d (R k) b → IsNearest seen p d (From i) o
+    asked-before i n k a b r o e f l M A B = subst (IsNearest seen p d (From i)) (sym e) (with-before i n k r f l (nearest-either (From n) (R k) a b r M A B))
+
+    -- one that lies outside the window is passed over
+    pub asked-apart : (i n k : ℕ) (a o : Option X) (w : Option Span) → o ≡ a → n ≡ i + 1 → IsAt ns i k → HoldsBefore seen p a w → IsNearest seen p d (From n) a → ((m : PlaneMeet) (q : Place) → IsAhead p d q → R k m q → IsOutside w q) → IsNearest seen p d (From i) o
+    asked-apart i n k a o w e f l H A out = subst (IsNearest seen p d (From i)) (sym e) (with-before i n k a f l (nearest-apart (From n) (R k) a w H A out))
 
     -- those before that aren't met are passed over
     pub asked-over : (i n : ℕ) (a o : Option X) → o ≡ a → i ≤ n → ((j k : ℕ) → i ≤ j → j < n → IsAt ns j k → IsMissed p d (R k)) → IsNearest seen p d (From n) a → IsNearest seen p d (From i) o

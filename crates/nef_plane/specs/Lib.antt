@@ -5,3 +5,4 @@ pub mod Courses
 pub mod Levels
 pub mod Asked
 pub mod Ends
+pub mod Windows

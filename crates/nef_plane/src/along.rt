@@ -11,7 +11,7 @@ use crate::course::{Course, VertexRay, may_pass};
 use crate::first::{Met, PlaneRay, met_of_all, nearest_met};
 use crate::places::{ends_of, holders_of, is_at, is_at_vertex, lies_in};
 use crate::plane::first_along_axis;
-use nef_complex::{Complex, PlaneItems, PlaneMeet, plane_items};
+use nef_complex::{Complex, PlaneItems, PlaneMeet, Span, plane_items};
 use nef_geo::{Dir, Hit, Plane, Sign, dir_side, plane_axis, ray_hit, side};
 
 fn is_along(g: &Plane, d: &Dir) -> bool
@@ -91,6 +91,10 @@ impl PlaneRay for VertexRay<'_> {
 
     fn past(&self, _c: &Complex, course: &Course) -> usize {
         course.past
+    }
+
+    fn start_span(&self) -> Option<Span> {
+        Some(Span::of(self.start))
     }
 
     ghost leads = { λ r. r.direction.now.some };

@@ -1,14 +1,16 @@
 //! What a ray meets first of the vertices and edges that it is asked about.
 
 ghost use Rattle.std.specs.Prelude.{◌≡◌, ◌<◌, ◌≤◌};
-ghost use Rattle.nef_complex.specs.Prelude.{ℕ, length, IsTrue, IfSome, Place, Form, SamePlace, IsAhead, Set, Vector, IsDirection, complex_of, ShowsSet, AreNumbersWith, LiesOn, IsAt, MatchOrdering};
+ghost use Rattle.nef_complex.specs.Prelude.{ℕ, length, IsTrue, IfSome, Place, Form, SamePlace, IsAhead, Set, Vector, IsDirection, complex_of, ShowsSet, AreNumbersWith, LiesOn, IsAt, MatchOrdering, PlaneMeet as PlainMeet, IsInSpan, AreAlone};
 ghost use Rattle.nef_complex.specs.declared.complex.Complex.{Complex as ComplexValue};
 ghost use Rattle.nef_complex.specs.declared.complex.PlaneMeet.{PlaneMeet as PlaneMeetValue};
 ghost use Rattle.nef_plane.specs.Asked.{meet_at, count_in, AreItems};
 ghost use Rattle.nef_plane.specs.Ends.{HasMeet, MeetLiesIn, AreEnds};
+ghost use Rattle.nef_plane.specs.Windows.{IsOutside, IsWindowTo};
 ghost use Rattle.nef_plane.specs.Meets.{HoldsRay, AtMeet, AtSome, AtSomeVertex, AtSomeEdge, AtVertexOrEdge, IsMissed, IsNearest, met_of, Reach, reach_of, far_reach_of, IsReachedAt, IsReachedMet, IsNearer};
 
-use nef_complex::{Complex, PlaneItems, PlaneMeet};
+use crate::window::{may_lie_within, span_up_to};
+use nef_complex::{Complex, PlaneItems, PlaneMeet, Span, point_spans};
 use nef_geo::{FarHit, Hit, far_order, hit_order};
 use std::cmp::Ordering;
 
@@ -112,6 +114,10 @@ pub(crate) trait PlaneRay {
         requires guide { guided self.now c.now guide.now }
         ensures missed { (m : PlaneMeetValue) (i j : ℕ) → AreEnds c.now m i j → MeetLiesIn c.now (plane self.now) m → result ≤ i → IsMissed (start self.now) (way self.now) (AtMeet (complex_of c.now) (plane self.now) (way self.now) m) };
 
+    // A span of the start, if its coordinates fit.
+    fn start_span(&self) -> Option<Span>
+        ensures start { IfSome result (λ s. IsInSpan s (start self.now)) };
+
     // The way of a ray isn't zero, so the ray leads somewhere.
     ghost leads: { (r : Self) → IsDirection (way r) };
 
@@ -172,27 +178,84 @@ fn nearest_vertex<R: PlaneRay>(
     best
 }
 
+// So many edges are asked before there is a window: it is of use only where more are left.
+const ASKED_AT_ONCE: usize = 4;
+
+// The span of the ray's start that was known, or the one that is made where one more edge is to be asked without a window.
+fn known_start<R: PlaneRay>(ray: &R, left: usize, known: Option<Span>) -> Option<Span>
+    requires known { IfSome known (λ s. IsInSpan s (R.start ray.now)) }
+    ensures start { IfSome result (λ s. IsInSpan s (R.start ray.now)) }
+{
+    if left == 1 { ray.start_span() } else { known }
+}
+
+// A window that holds all points between the start and what was met, where a span of the start is known.
+fn window_to<H>(
+    c: &Complex,
+    spans: &[Span],
+    start: &Option<Span>,
+    best: &Option<Met<H>>,
+) -> Option<Span>
+    requires shows { (s : Set) × ShowsSet s c.now }
+    requires alone { AreAlone c.now.vertices spans.now }
+    requires within { IfSome best.now (λ x. HasMeet c.now x.meet) }
+    ensures window { IsWindowTo (complex_of c.now) start.now best.now result }
+{
+    match (start, best) {
+        (Some(from), Some(met)) => Some(span_up_to(c, spans, from, met.meet)),
+        _ => None,
+    }
+}
+
+// Whether the ray may meet this vertex or edge of the plane within the window, if there is one. If it may, it can tell where.
+fn may_meet_within<R: PlaneRay>(
+    ray: &R,
+    c: &Complex,
+    guide: &R::Guide,
+    spans: &[Span],
+    window: &Option<Span>,
+    meet: PlaneMeet,
+) -> bool
+    requires shows { (s : Set) × ShowsSet s c.now }
+    requires guide { R.guided ray.now c.now guide.now }
+    requires alone { AreAlone c.now.vertices spans.now }
+    requires lies { MeetLiesIn c.now (R.plane ray.now) meet }
+    ensures told { IsTrue result → R.tells ray.now c.now meet }
+    ensures outside { (IsTrue result → ⊥) → (n : PlainMeet) (q : Place) → IsAhead (R.start ray.now) (R.way ray.now) q → AtMeet (complex_of c.now) (R.plane ray.now) (R.way ray.now) meet n q → IsOutside window.now q }
+{
+    may_lie_within(c, spans, window, meet) && ray.may_meet(c, guide, meet)
+}
+
 // The first that the ray meets of the edges of the plane that aren't along the ray. Where it meets an edge along it, it meets an
-// end of that edge sooner. Edges are asked from the last that may be met to the first, since peaks tell of those before.
+// end of that edge sooner. Edges are asked from the last that may be met to the first, since peaks tell of those before. The
+// spans are those of the vertices: most edges are far from the way to what was met so far.
 fn nearest_edge<R: PlaneRay>(
     ray: &R,
     c: &Complex,
     guide: &R::Guide,
+    spans: &[Span],
     items: &PlaneItems,
 ) -> Option<Met<R::At>>
     requires shows { (s : Set) × ShowsSet s c.now }
     requires guide { R.guided ray.now c.now guide.now }
+    requires alone { AreAlone c.now.vertices spans.now }
     requires items { AreItems c.now (R.plane ray.now) items.now }
     ensures nearest { IsNearest (met_of R.At.reach) (R.start ray.now) (R.way ray.now) (AtSomeEdge (complex_of c.now) (R.plane ray.now) (R.way ray.now)) result }
 {
     let mut best = None;
+    let mut left = ASKED_AT_ONCE;
+    let mut start = None;
+    let mut window = None;
     let first = ray.first(c, guide);
     let count = items.edges_before(c, ray.past(c, guide));
     let mut place = items.last_reaching(c, count, first);
     while 0 < place {
         let meet = PlaneMeet::AtEdge(items.edges[place - 1]);
-        if ray.may_meet(c, guide, meet) {
+        if may_meet_within(ray, c, guide, spans, &window, meet) {
             best = nearer(best, ray.met(c, meet));
+            start = known_start(ray, left, start);
+            left = left.saturating_sub(1);
+            window = window_to(c, spans, &start, &best);
         }
         place = items.last_reaching(c, place - 1, first);
     }
@@ -212,7 +275,7 @@ pub(crate) fn nearest_met<R: PlaneRay>(
     ensures nearest { IsNearest (met_of R.At.reach) (R.start ray.now) (R.way ray.now) (AtVertexOrEdge (complex_of c.now) (R.plane ray.now) (R.way ray.now)) result }
 {
     let vertex = nearest_vertex(ray, c, guide, items.vertices);
-    let edge = nearest_edge(ray, c, guide, &items);
+    let edge = nearest_edge(ray, c, guide, point_spans(c), &items);
     nearer(vertex, edge)
 }
 

@@ -6,6 +6,7 @@ mod course;
 mod first;
 mod places;
 mod plane;
+mod window;
 
 pub use along::{first_along_dir, first_in_plane};
 pub use places::{is_at_vertex, is_in_line, is_on_edge};

@@ -10,7 +10,8 @@ ghost use Rattle.nef_plane.specs.Meets.{IsAlongAxis, IsParallelToAxis, sweep_for
 
 use crate::first::{Met, PlaneRay, met_of_all, nearest_met};
 use crate::places::{ends_of, holders_of, lies_in};
-use nef_complex::{Complex, PlaneItems, PlaneMeet};
+use crate::window::hit_span;
+use nef_complex::{Complex, PlaneItems, PlaneMeet, Span};
 use nef_geo::{Dir, FarHit, Hit, Plane, Point, Sign, far_hit};
 
 // A line of a plane along its axis.
@@ -189,6 +190,10 @@ impl PlaneRay for AxisRay<'_> {
 
     fn past(&self, _c: &Complex, level: &Level) -> usize {
         level.past
+    }
+
+    fn start_span(&self) -> Option<Span> {
+        hit_span(self.start)
     }
 
     ghost leads = { λ r. r.axis.0 };

@@ -7,10 +7,10 @@ use Rattle.nef_locate.proofs.RayMeets.{first-some, first-none}
 use Rattle.nef_locate.proofs.beam.first_hit.Goals as goal
 
 pub invariant_of-beam : goal.invariant_of-beam
-invariant_of-beam c = record { ahead = λ q f a. c.ray_window.ensures.ahead q c.requires.framed f a }
+invariant_of-beam c = record { ahead = λ q f a. c.ray_window-window.ensures.ahead q c.requires.framed f a; amid = λ q f a. c.ray_window-window.ensures.amid q c.requires.framed f a }
 
 pub search_carriers-requires-clause-right : goal.search_carriers-requires-clause-right
-search_carriers-requires-clause-right c = (c.requires.upright, tt)
+search_carriers-requires-clause-right c = (c.requires.upright, tt, c.first_guess-guess.ensures.met, c.first_guess-guess.ensures.none)
 
 pub returns-in-Some-clause-place : goal.returns-in-Some-clause-place
 returns-in-Some-clause-place c =

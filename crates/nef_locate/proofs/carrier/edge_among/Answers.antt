@@ -21,8 +21,8 @@ loop-place-init c =
           (none-beyond S.0 C S.1.shows P.0 q c.args.next P.2 ns P.1 c.edges_before-count.result c.edges_before-count.ensures.beyond),
     )
 
-pub is_in_line-requires-clause-within : goal.is_in_line-requires-clause-within
-is_in_line-requires-clause-within c =
+pub is_along-requires-clause-within : goal.is_along-requires-clause-within
+is_along-requires-clause-within c =
     let P = c.requires.parts in let ns = c.args.items.now.edges.now in let i = c.loop-place.place - 1 in
     let t = c.loop-place-test.true in let w = c.loop-place.invariant.0 in let b = c.edges_before-count.ensures.within in
     let inside : i < length ns = omega (arith, t, w, b) in
@@ -33,16 +33,15 @@ last_reaching-place-requires-in-loop-place c =
     let P = c.requires.parts in let w = c.loop-place.invariant.0 in let b = c.edges_before-count.ensures.within in
     record { within = edges-within c.args.c.now P.0 c.args.items.now.edges.now P.1; peaks = c.requires.peaks; count = omega (arith, w, b) }
 
-pub returns-then-is_in_line : goal.returns-then-is_in_line
-returns-then-is_in_line c =
+pub returns-then-is_along : goal.returns-then-is_along
+returns-then-is_along c =
     let S = c.requires.shows in let P = c.requires.parts in let C = c.args.c.now in let ns = c.args.items.now.edges.now in let n = c.loop-place.place in let i = n - 1 in let k = get_or ns i 0 in
     let t = c.loop-place-test.true in let w = c.loop-place.invariant in let o = w.0 in let b = c.edges_before-count.ensures.within in
     let inside : i < length ns = omega (arith, t, o, b) in
     let l = is-at_get ns i 0 inside in
     let L = P.1.each i k l in
     record {
-      edge = (number-edge S.0 C S.1.shows P.0 (hit_place c.args.q.now) c.args.next P.2 k L.0 L.1 L (c.edges_before-count.ensures.before i k L.0 (omega (arith, t, o)) l L.1) (w.1 i k L.0 (omega (arith, t)) l L.1)
-          c.is_in_line.result c.is_in_line.ensures.line).0 c.if-is_in_line.true;
+      edge = number-edge S.0 C S.1.shows P.0 (hit_place c.args.q.now) c.args.next P.2 k L.0 L.1 L (c.edges_before-count.ensures.before i k L.0 (omega (arith, t, o)) l L.1) (w.1 i k L.0 (omega (arith, t)) l L.1) (c.is_along.ensures.line c.if-is_along.true);
     }
 
 pub loop-place-preserved : goal.loop-place-preserved
@@ -54,12 +53,11 @@ loop-place-preserved c =
     let next : n ≡ i + 1 = omega (arith, t) in
     let l = is-at_get ns i 0 inside in
     let L = P.1.each i k l in
-    let on = number-edge S.0 C S.1.shows P.0 q c.args.next P.2 k L.0 L.1 L (c.edges_before-count.ensures.before i k L.0 (omega (arith, t, o)) l L.1) (w.1 i k L.0 next l L.1) c.is_in_line.result c.is_in_line.ensures.line in
-    let off : IsTrue c.is_in_line.result → ⊥ = λ u. absurd (search (rules, u, c.if-is_in_line.false)) in
+    let off : IsTrue c.is_along.result → ⊥ = λ u. absurd (search (rules, u, c.if-is_along.false)) in
     let m = c.last_reaching-place-in-loop-place.result in let f = c.last_reaching-place-in-loop-place.ensures.count in (
       omega (arith, f, o),
       c.last_reaching-place-in-loop-place.ensures.reaches,
-      none-below S.0 C S.1.shows P.0 q c.args.next P.2 ns P.1 m i c.last_reaching-place-in-loop-place.ensures.passed (none-more S.0 C S.1.shows P.0 q c.args.next P.2 ns P.1 i n k next l (λ x. off (on.1 x)) w.2),
+      none-below S.0 C S.1.shows P.0 q c.args.next P.2 ns P.1 m i c.last_reaching-place-in-loop-place.ensures.passed (none-more S.0 C S.1.shows P.0 q c.args.next P.2 ns P.1 i n k next l (λ x. off (c.is_along.ensures.on x)) w.2),
     )
 
 pub returns : goal.returns

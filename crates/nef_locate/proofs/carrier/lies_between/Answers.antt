@@ -1,47 +1,64 @@
-use Rattle.std.proofs.Common.{◌≡◌, ℤ, pos, ◌-ℤ◌, ◌*ℤ◌, ◌≤ℤ◌, ◌≤◌, nat_abs, ◌↔◌, IsTrue, FitsSigned, w64, [], ◌∷◌, arith, rules, ap, sym, ◌∙◌, subst}
+use Rattle.std.proofs.Common.{◌≡◌, ℕ, ℤ, ◌+◌, ◌*ℤ◌, ◌<ℤ◌, ◌≤ℤ◌, ◌≤◌, nat_abs, FitsSigned, w64, List, [], ◌∷◌, arith, rules, sym, ◌∙◌, subst}
 use Rattle.std.proofs.lemmas.Int.{ints, to_z-of_z}
 use mir.Syntax.{w128}
-use mir.Val.{to_z, of_z}
-use Rattle.nef_space.proofs.Ring.{ring, at, num, ◌⊖◌, ◌⊗◌}
-use Rattle.nef_arc.proofs.SignNumbers.{not_true}
-use Rattle.nef_geo.specs.Widths.{upright_limit}
+use Rattle.nef_arc.proofs.SignNumbers.{not_true, true_of}
+use Rattle.nef_space.specs.Limits.{half_side}
+use Rattle.nef_space.proofs.Machine.{Code, load, wrap, ◌⊠◌, Limited, exact_of, fits_of}
+use Rattle.nef_geo.specs.Widths.{upright_weight_limit}
+use Rattle.nef_locate.specs.Frames.{IsFramedLow, IsFramedHigh}
+use Rattle.nef_locate.proofs.FramedBounds.{low-small, high-small, to-low, to-high, from-both}
 use Rattle.nef_locate.proofs.carrier.lies_between.Goals as goal
 
--- opposite numbers are in the opposite order
-turned : (h w n : ℤ) → (((pos 0 -ℤ h) *ℤ w) ≤ℤ (pos 0 -ℤ n)) ↔ (n ≤ℤ (h *ℤ w))
-turned h w n =
-    let r : (pos 0 -ℤ h) *ℤ w ≡ pos 0 -ℤ h *ℤ w = ring (h ∷ w ∷ []) ((num (pos 0) ⊖ at 0) ⊗ at 1) (num (pos 0) ⊖ at 0 ⊗ at 1) tt in
-    (λ l. omega (arith, ints), λ l. omega (arith, ints))
+-- ---- a number next to the frame's times the weight
+abbrev sizes : List ℕ
+sizes = (half_side + 1) ∷ upright_weight_limit ∷ []
 
--- a number of 64 bits is widened, and turned, without loss
-widened : (z x : ℤ) → FitsSigned w64 z → x ≡ to_z w64 (of_z w64 z) → to_z w128 (of_z w128 x) ≡ z
-widened z x f e =
-    let k = e ∙ to_z-of_z w64 z f in
-    ap (λ (r : ℤ). to_z w128 (of_z w128 r)) k ∙ to_z-of_z w128 z (let l = f.sfits in omega (arith, ints, l))
+abbrev product : Code
+product = wrap w128 (load 0) ⊠ wrap w128 (load 1)
 
-opposite : (z x : ℤ) → FitsSigned w64 z → x ≡ to_z w64 (of_z w64 z) → to_z w128 (of_z w128 (pos 0 -ℤ to_z w128 (of_z w128 x))) ≡ pos 0 -ℤ z
-opposite z x f e = ap (λ (r : ℤ). to_z w128 (of_z w128 (pos 0 -ℤ r))) (widened z x f e) ∙ to_z-of_z w128 (pos 0 -ℤ z) (let l = f.sfits in omega (arith, ints, l))
+limits : (k w : ℤ) → nat_abs k ≤ half_side + 1 → nat_abs w ≤ upright_weight_limit → Limited sizes (k ∷ w ∷ [])
+limits k w l m = (l, (m, tt))
 
-small-opposite : (z : ℤ) → FitsSigned w128 z → nat_abs z ≤ upright_limit → to_z w128 (of_z w128 (pos 0 -ℤ to_z w128 (of_z w128 z))) ≡ pos 0 -ℤ z
-small-opposite z f l = ap (λ (r : ℤ). to_z w128 (of_z w128 (pos 0 -ℤ r))) (to_z-of_z w128 z f) ∙ to_z-of_z w128 (pos 0 -ℤ z) (omega (arith, ints, l))
+small : (k m : ℤ) → k ≡ m → nat_abs m ≤ half_side + 1 → nat_abs k ≤ half_side + 1
+small k m e l = subst (λ (r : ℤ). nat_abs r ≤ half_side + 1) (sym e) l
 
--- a test of numbers that are read is one of the numbers
-read : (t : Type 0) (a w n b v m : ℤ) → a ≡ b → w ≡ v → n ≡ m → t ↔ ((a *ℤ w) ≤ℤ n) → t ↔ ((b *ℤ v) ≤ℤ m)
-read t a w n b v m e f g r = subst (λ (k : ℤ). t ↔ ((b *ℤ v) ≤ℤ k)) g (subst (λ (k : ℤ). t ↔ ((b *ℤ k) ≤ℤ n)) f (subst (λ (k : ℤ). t ↔ ((k *ℤ w) ≤ℤ n)) e r))
+pub overflow_mul-result : goal.overflow_mul-result
+overflow_mul-result c =
+    let m = c.framed_high.result in let k = c.from-2.result in let w = c.args.w in
+    let f : FitsSigned w64 m = search rules in
+    fits_of sizes (k ∷ w ∷ []) w128 product (limits k w (small k m (c.from-2.ensures ∙ to_z-of_z w64 m f) (high-small _ m c.framed_high.ensures.high)) c.requires.w_small) tt
 
-pub returns-then-is_at_least : goal.returns-then-is_at_least
-returns-then-is_at_least c =
-    let b = c.args.bounds.now in let n = c.args.n in let w = c.args.w in
-    let fl : FitsSigned w64 b.low = search rules in let fh : FitsSigned w64 b.high = search rules in
-    let r = read (IsTrue c.is_at_least.result) _ _ _ b.low w n (widened b.low c.from.result fl c.from.ensures) (to_z-of_z w128 w c.ranges.w) (to_z-of_z w128 n c.ranges.n) c.is_at_least.ensures.least in
-    let s = read (IsTrue c.is_at_least-then-is_at_least.result) _ _ _ (pos 0 -ℤ b.high) w (pos 0 -ℤ n) (opposite b.high c.from-then-is_at_least.result fh c.from-then-is_at_least.ensures) (to_z-of_z w128 w c.ranges.w) (small-opposite n c.ranges.n c.requires.small)
-    c.is_at_least-then-is_at_least.ensures.least in
-    let t = turned b.high w n in
-    record { between = (λ k. (r.0 c.if-is_at_least.true, t.0 (s.0 k)), λ i. s.1 (t.1 i.1)) }
+pub returns-then-n-from : goal.returns-then-n-from
+returns-then-n-from c =
+    let n = c.args.n in let w = c.args.w in let l = c.args.bounds.now.low in let m = c.framed_low.result in let k = c.from.result in
+    let f : FitsSigned w64 m = search rules in
+    let g : FitsSigned w64 l = search rules in
+    let L : IsFramedLow l m = rw (to_z-of_z w64 l g) at c.framed_low.ensures.low in
+    let s = c.from.ensures ∙ to_z-of_z w64 m f in
+    let e = exact_of sizes (k ∷ w ∷ []) (wrap w128 product) (limits k w (small k m s (low-small l m L)) c.requires.w_small) tt in
+    let t : n <ℤ (k *ℤ w) = let u = rw (e, to_z-of_z w128 n c.ranges.n) at c.if-n-from.true in search (rules, u) in
+    let r : n <ℤ (m *ℤ w) = subst (λ (z : ℤ). n <ℤ (z *ℤ w)) s t in
+    record { between = (λ z. absurd (not_true z), λ i. absurd (let o = to-low n w c.requires.positive l m L i.0 i.1 in omega (arith, ints, o, r))) }
 
-pub returns-else-is_at_least : goal.returns-else-is_at_least
-returns-else-is_at_least c =
-    let b = c.args.bounds.now in let n = c.args.n in let w = c.args.w in
-    let f : FitsSigned w64 b.low = search rules in
-    let r = read (IsTrue c.is_at_least.result) _ _ _ b.low w n (widened b.low c.from.result f c.from.ensures) (to_z-of_z w128 w c.ranges.w) (to_z-of_z w128 n c.ranges.n) c.is_at_least.ensures.least in
-    record { between = (λ k. absurd (not_true (sym c.if-is_at_least.false ∙ k)), λ i. r.1 i.0) }
+pub returns : goal.returns
+returns c =
+    let n = c.args.n in let w = c.args.w in
+    let l = c.args.bounds.now.low in let m = c.framed_low.result in let k = c.from.result in
+    let h = c.args.bounds.now.high in let q = c.framed_high.result in let j = c.from-2.result in
+    let f : FitsSigned w64 m = search rules in let g : FitsSigned w64 l = search rules in
+    let fq : FitsSigned w64 q = search rules in let fh : FitsSigned w64 h = search rules in
+    let L : IsFramedLow l m = rw (to_z-of_z w64 l g) at c.framed_low.ensures.low in
+    let H : IsFramedHigh h q = rw (to_z-of_z w64 h fh) at c.framed_high.ensures.high in
+    let s = c.from.ensures ∙ to_z-of_z w64 m f in
+    let u = c.from-2.ensures ∙ to_z-of_z w64 q fq in
+    let e = exact_of sizes (k ∷ w ∷ []) (wrap w128 product) (limits k w (small k m s (low-small l m L)) c.requires.w_small) tt in
+    let d = exact_of sizes (j ∷ w ∷ []) (wrap w128 product) (limits j w (small j q u (high-small h q H)) c.requires.w_small) tt in
+    let t : (k *ℤ w) ≤ℤ n = let u = rw (e, to_z-of_z w128 n c.ranges.n) at c.if-n-from.false in search (rules, u) in
+    let r : (m *ℤ w) ≤ℤ n = subst (λ (z : ℤ). (z *ℤ w) ≤ℤ n) s t in
+    let p = c.requires.positive in
+    rw (d, to_z-of_z w128 n c.ranges.n) (record {
+      between = (
+        λ z. from-both n w p l m h q L H r (subst (λ (x : ℤ). n ≤ℤ (x *ℤ w)) u (search (rules, z))),
+        λ i. let o : n ≤ℤ (j *ℤ w) = subst (λ (x : ℤ). n ≤ℤ (x *ℤ w)) (sym u) (to-high n w p h q H i.0 i.2) in true_of _ o.le,
+      );
+    })

@@ -9,17 +9,15 @@ use Rattle.nef_complex.proofs.Spanned.{spanned}
 use Rattle.nef_locate.proofs.Located.{vertex-at}
 use Rattle.nef_locate.proofs.carrier.place_on.Goals as goal
 
-pub returns-then-not-is_framed-clause-none : goal.returns-then-not-is_framed-clause-none
-returns-then-not-is_framed-clause-none c =
-    let off : IsTrue c.is_framed.result → ⊥ = search rules in
-    λ e s S i. off (c.is_framed.ensures.framed.1 (skeleton-framed s c.args.c.now S (form_of c.args.h.now) (hit_place c.args.q.now) i))
-
 pub returns-then-not-is_in_span-clause-none : goal.returns-then-not-is_in_span-clause-none
 returns-then-not-is_in_span-clause-none c =
     let off : IsTrue c.is_in_span.result → ⊥ = search rules in
     let A = c.carrier_spans.ensures.spans in let n = c.args.number in let spans : List Span = c.carrier_spans.result.now in
     let m = A.as_many in let l = is-at_within c.args.c.now.carriers n c.args.h.now c.requires.number in
-    λ e s S i. off (c.is_in_span.ensures.spanned.1 (spanned s c.args.c.now S (form_of c.args.h.now) (get_or spans n no_span) (A.each n c.args.h.now (get_or spans n no_span) c.requires.number (is-at_get spans n no_span (omega (arith, m, l)))) (hit_place c.args.q.now) c.requires.on i))
+    λ e s S i. off (c.is_in_span.ensures.spanned.1 (
+      skeleton-framed s c.args.c.now S (form_of c.args.h.now) (hit_place c.args.q.now) i,
+      spanned s c.args.c.now S (form_of c.args.h.now) (get_or spans n no_span) (A.each n c.args.h.now (get_or spans n no_span) c.requires.number (is-at_get spans n no_span (omega (arith, m, l)))) (hit_place c.args.q.now) c.requires.on i,
+    ))
 
 pub carrier_items-requires : goal.carrier_items-requires
 carrier_items-requires c = record { shows = c.requires.shows; within = is-at_within c.args.c.now.carriers c.args.number c.args.h.now c.requires.number }

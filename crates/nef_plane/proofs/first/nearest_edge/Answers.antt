@@ -1,14 +1,18 @@
-use Rattle.std.proofs.Common.{◌≡◌, ℕ, ◌-◌, ◌+◌, ◌<◌, length, get_or, arith, rules, refl, ⊎_elim, None}
+use Rattle.std.proofs.Common.{◌≡◌, ℕ, ◌-◌, ◌+◌, ◌<◌, length, get_or, arith, rules, refl, sym, subst, ⊎_elim, Option}
+use Rattle.std.specs.Prelude.{IfSome}
 use Rattle.std.proofs.lemmas.Bool.{cases_lt}
 use Rattle.nef_classes.proofs.ClassLists.{is-at_get}
 use Rattle.nef_complex.specs.Complexes.{complex_of}
 use Rattle.nef_complex.specs.declared.complex.PlaneMeet.TheVariants.{AtEdge}
-use Rattle.nef_plane.specs.Meets.{AtEdgeNumber, met_of}
-use Rattle.nef_plane.proofs.Choosing.{keep-first}
+use Rattle.nef_complex.specs.Spans.{IsInSpan}
+use Rattle.nef_complex.specs.declared.spans.Span.{Span}
+use Rattle.nef_plane.specs.Meets.{AtEdgeNumber, IsNearest, met_of}
+use Rattle.nef_plane.specs.Windows.{HoldsBefore}
 use Rattle.nef_plane.proofs.Listed.{met-lies}
-use Rattle.nef_plane.proofs.Nearest.{asked-none, asked-before, asked-over, asked-each}
+use Rattle.nef_plane.proofs.Nearest.{From, asked-none, asked-before, asked-apart, asked-over, asked-each}
+use Rattle.nef_plane.proofs.Windowed.{best-has, best-held}
 use Rattle.nef_plane.proofs.Rising.{edges-within, both-below}
-use Rattle.nef_plane.proofs.first.nearest_edge.Goals.{then-may_meet, else-may_meet}
+use Rattle.nef_plane.proofs.first.nearest_edge.Goals.{then-may_meet_within, else-may_meet_within}
 use Rattle.nef_plane.proofs.first.nearest_edge.Goals as goal
 
 pub edges_before-count-requires : goal.edges_before-count-requires
@@ -23,14 +27,14 @@ last_reaching-place-requires-in-loop-place g c =
     let I = c.requires.items in let w = c.loop-place.invariant.0 in
     record { within = edges-within c.args.c.now (g.R.PlaneRay.plane c.args.ray.now) c.args.items.now.edges.now I.edges; peaks = I.peaks; count = omega (arith, w) }
 
-pub may_meet-requires-clause-lies : goal.may_meet-requires-clause-lies
-may_meet-requires-clause-lies g c =
+pub may_meet_within-requires-clause-lies : goal.may_meet_within-requires-clause-lies
+may_meet_within-requires-clause-lies g c =
     let ns = c.args.items.now.edges.now in let i = c.loop-place.place - 1 in let t = c.loop-place-test.true in let e = c.loop-place.invariant.0 in
     let inside : i < length ns = omega (arith, t, e) in
     c.requires.items.edges.each i (get_or ns i 0) (is-at_get ns i 0 inside)
 
 pub met-requires-clause-told : goal.met-requires-clause-told
-met-requires-clause-told g c = c.may_meet.ensures.told c.if-may_meet.true
+met-requires-clause-told g c = c.may_meet_within.ensures.told c.if-may_meet_within.true
 
 pub loop-place-init : goal.loop-place-init
 loop-place-init g c =
@@ -44,7 +48,22 @@ loop-place-init g c =
           (λ t. let B = both-below S.0 C S.1.shows h ns n count c.first-first.result c.last_reaching-place.ensures.passed j k l t a L in c.first-first.ensures.missed (AtEdge k) B.0 B.1 B.2 L B.3 B.4)
           (λ t. c.past.ensures.missed (AtEdge k) L.0.low L.0.high (L.0, L.1, refl, refl) L (c.edges_before-count.ensures.beyond j k L.0 t a L.1))
           (cases_lt j count)),
+      tt,
+      tt,
     )
+
+pub known_start-start-requires : goal.known_start-start-requires
+known_start-start-requires g c = record { known = c.loop-place.invariant.2 }
+
+pub window_to-window-requires-clause-within : goal.window_to-window-requires-clause-within
+window_to-window-requires-clause-within g c =
+    let C = c.args.c.now in let ray = c.args.ray.now in let h = g.R.PlaneRay.plane ray in let p = g.R.PlaneRay.start ray in let d = g.R.PlaneRay.way ray in
+    let ns = c.args.items.now.edges.now in let n = c.loop-place.place in let i = n - 1 in let k = get_or ns i 0 in let t = c.loop-place-test.true in let e = c.loop-place.invariant.0 in
+    let inside : i < length ns = omega (arith, t, e) in
+    let next : n ≡ i + 1 = omega (arith, t) in
+    best-has C h d g.R.At.Stepped.reach p ns i c.nearer-best.result
+    (asked-before (met_of g.R.At.Stepped.reach) p d ns (λ (k : ℕ). AtEdgeNumber (complex_of C) h d k) i n k c.loop-place.best c.met.result c.nearer-best.result c.nearer-best.result refl next (is-at_get ns i 0 inside)
+    (c.nearer-best.ensures.nearer p d (g.met.R.PlaneRay.leads ray)) c.loop-place.invariant.1 c.met.ensures.nearest)
 
 pub loop-place-preserved : goal.loop-place-preserved
 loop-place-preserved g c =
@@ -55,14 +74,30 @@ loop-place-preserved g c =
     let next : n ≡ i + 1 = omega (arith, t) in
     let l = is-at_get ns i 0 inside in let a = c.loop-place.best in let A = c.loop-place.invariant.1 in
     let R = λ (k : ℕ). AtEdgeNumber (complex_of C) h d k in
-    let m = c.last_reaching-place-in-loop-place.result in let f = c.last_reaching-place-in-loop-place.ensures.count in (
+    let m = c.last_reaching-place-in-loop-place.result in let f = c.last_reaching-place-in-loop-place.ensures.count in
+    let J = c.if-may_meet_within in
+    let B : IsNearest seen p d (From seen p d ns R i) J.best × IfSome J.start (λ s. IsInSpan s p) × HoldsBefore seen p J.best J.window = elim J.branch [
+      | then-may_meet_within w ↦
+          let r = w.nearer-best.result in
+          let near : IsNearest seen p d (From seen p d ns R i) r = asked-before seen p d ns R i n k a w.met.result r r refl next l (w.nearer-best.ensures.nearer p d (g.met.R.PlaneRay.leads ray)) A w.met.ensures.nearest in
+          let from = w.known_start-start.ensures.start in (
+            subst (λ (o : Option _). IsNearest seen p d (From seen p d ns R i) o) (sym w.best-is) near,
+            subst (λ (o : Option Span). IfSome o (λ s. IsInSpan s p)) (sym w.start-is) from,
+            subst (λ (o : Option _). HoldsBefore seen p o J.window) (sym w.best-is) (subst (λ (o : Option Span). HoldsBefore seen p r o) (sym w.window-is)
+                (best-held C h d g.R.At.Stepped.reach p ns i r w.known_start-start.result w.window_to-window.result near from w.window_to-window.ensures.window)),
+          )
+      | else-may_meet_within w ↦ (
+        asked-apart seen p d ns R i n k a J.best c.loop-place.window w.best-is next l c.loop-place.invariant.3 A (c.may_meet_within.ensures.outside (λ t. absurd (search (rules, t, w.if-may_meet_within.false)))),
+        subst (λ (o : Option Span). IfSome o (λ s. IsInSpan s p)) (sym w.start-is) c.loop-place.invariant.2,
+        subst (λ (o : Option _). HoldsBefore seen p o J.window) (sym w.best-is) (subst (λ (o : Option Span). HoldsBefore seen p a o) (sym w.window-is) c.loop-place.invariant.3),
+      )
+    ] in (
       omega (arith, e, f, t),
-      asked-over seen p d ns R m i c.if-may_meet.best c.if-may_meet.best refl f
+      asked-over seen p d ns R m i J.best J.best refl f
           (λ j r o u b. let L = N.each j r b in let B = both-below S.0 C S.1.shows h ns m i c.first-first.result c.last_reaching-place-in-loop-place.ensures.passed j r o u b L in c.first-first.ensures.missed (AtEdge r) B.0 B.1 B.2 L B.3 B.4)
-          (elim c.if-may_meet.branch [
-            | then-may_meet w ↦ asked-before seen p d ns R i n k a w.met.result w.nearer-best.result c.if-may_meet.best w.best-is next l (w.nearer-best.ensures.nearer p d (g.met.R.PlaneRay.leads ray)) A w.met.ensures.nearest
-            | else-may_meet w ↦ asked-before seen p d ns R i n k a None a c.if-may_meet.best w.best-is next l (λ x y. keep-first seen d a None a refl refl) A (c.may_meet.ensures.off (λ t. absurd (search (rules, t, w.if-may_meet.false))))
-          ]),
+          B.0,
+      B.1,
+      B.2,
     )
 
 pub returns : goal.returns

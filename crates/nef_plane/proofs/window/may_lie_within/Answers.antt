@@ -1,0 +1,10 @@
+use Rattle.std.proofs.Common.{◌≡◌, Some, rules, sym, subst}
+use Rattle.std.specs.Prelude.{Option}
+use Rattle.nef_complex.specs.declared.spans.Span.{Span}
+use Rattle.nef_plane.specs.Windows.{IsOutside}
+use Rattle.nef_plane.proofs.window.may_lie_within.Goals as goal
+
+pub returns-in-Some : goal.returns-in-Some
+returns-in-Some c =
+    let e : c.args.window.now ≡ Some c.in-Some.span = search rules in
+    record { outside = λ f y m. subst (λ (w : Option Span). IsOutside w y) (sym e) (λ i. f (c.may_meet.ensures.meets y i (c.meet_span.ensures.meet y m))) }
