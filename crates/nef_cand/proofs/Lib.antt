@@ -12,3 +12,4 @@ pub mod Framed
 pub mod Apart
 pub mod Both
 pub mod NearCuts
+pub mod Merging

@@ -28,6 +28,8 @@ use Rattle.nef_complex.specs.Indexing.{AreAlone}
 use Rattle.nef_complex.specs.Spans.{IsInSpan, IsNarrower}
 use Rattle.nef_complex.proofs.Reading.{got-at}
 use Rattle.nef_complex.proofs.Spanned.{span-between, spanned}
+use Rattle.nef_complex.proofs.Spanning.{span-wider, narrower-still}
+use Rattle.nef_classes.proofs.ClassLists.{is-at_some}
 use Rattle.nef_locate.specs.declared.point.Place.{Place as FoundPlace}
 use Rattle.nef_locate.specs.Rays.{IsSkeletonAt}
 use Rattle.nef_locate.proofs.Located.{held-same, skeleton-same}
@@ -39,7 +41,7 @@ use Rattle.nef_cand.specs.declared.listing.Spanned.{Spanned}
 use Rattle.nef_cand.specs.Candidates.{IsVertexOf, IsCutBy}
 use Rattle.nef_cand.specs.Names.{named_point, IsNamedBetween}
 use Rattle.nef_cand.specs.Points.{AddsAll, CutsEdge, MissesFrame}
-use Rattle.nef_cand.specs.Near.{IsSpannedIn, AreSpannedIn, IsSpanned, AreSpannedCarriers, IsHeldIn, CutsBy, CutsHeld, CutsEdgeHeld, CutsEdgeByOne, CutsEdgeHeldOne, IsHeldCutOf, HasTogether, IsCandidate, ListsNear}
+use Rattle.nef_cand.specs.Near.{IsSpannedIn, AreSpannedIn, IsSpanned, AreSpannedCarriers, AreWithinSpan, AreThoseNear, IsHeldIn, CutsBy, CutsHeld, CutsEdgeHeld, CutsEdgeByOne, CutsEdgeHeldOne, IsHeldCutOf, HasTogether, IsCandidate, ListsNear}
 use Rattle.nef_cand.proofs.Adding.{AnyAt, adds-as}
 use Rattle.nef_cand.proofs.Complete.{Has, vertex-of, cuts-any, together-ordered, together-each, together-all, together-named}
 use Rattle.nef_cand.proofs.Framed.{each-framed}
@@ -124,6 +126,73 @@ ends-spanned c ss A h e s t r i j n m y (u, v, a, b, o) =
 pub held-spanned : (c d : Complex) (e : Edge) (x : Spanned) → IsSpannedIn d x → (y : Place) → CutsEdgeHeld c d e x y → IsInSpan x.span y
 held-spanned c d e x s y ((u, v, a, b, o), (t, T, i)) =
     spanned t d T (form_of x.plane) x.span s.1 y (edge-crosses c x.plane e u v a b y (u, v, a, b, o)).on i
+
+-- all edges lie within what is as wide as the spans of all vertices
+pub edge-around : (c : Complex) (ss : List Span) → AreAlone c.vertices ss → (r : Span) → ((k : ℕ) (s : Span) → IsAt ss k s → IsNarrower s r) → (h : Plane) (e : Edge) (y : Place) → CutsEdge c h e y → IsInSpan r y
+edge-around c ss A r wide h e y (u, v, a, b, o) =
+    let m = A.as_many in
+    let i = at-within c.vertices e.low u a in let j = at-within c.vertices e.high v b in
+    let s = is-at_some ss e.low (omega (arith, i, m)) in let t = is-at_some ss e.high (omega (arith, j, m)) in
+    ends-spanned c ss A h e s.0 t.0 r s.1 t.1 (wide e.low s.0 s.1) (wide e.high t.0 t.1) y (u, v, a, b, o)
+
+-- an edge that has no point of the span around all carriers is cut nowhere where the other set has something
+pub edge-passed : (c d : Complex) (e : Edge) (xs : List Spanned) → AreSpannedIn d xs → (around : Span) → AreWithinSpan xs around → ((y : Place) (h : Plane) → CutsEdge c h e y → IsInSpan around y → ⊥) → (y : Place) → CutsEdgeHeldOne c d xs e y → ⊥
+edge-passed c d e xs A around W far y (i, x, a, h) =
+    let has = at-contains xs i x a in
+    far y x.plane h.0 (span-wider x.span around y (W x has) (held-spanned c d e x (A x has) y h))
+
+-- ---- a span around carriers, one after the other
+pub around-none : (s : Span) → AreWithinSpan [] s
+around-none s x (k, l, e) = absurd (omega (arith, l))
+
+pub around-more : (xs : List Spanned) (s : Span) (x : Spanned) (t : Span) → AreWithinSpan xs s → IsNarrower s t → IsNarrower x.span t → AreWithinSpan (xs ++ x ∷ []) t
+around-more xs s x t W n m z h = by (Contains-push_cases xs x z h)
+  where
+    by : Contains xs z ⊎ (x ≡ z) → IsNarrower z.span t
+    by (inl i) = narrower-still z.span s t (W z i) n
+    by (inr e) = subst (λ (w : Spanned). IsNarrower w.span t) e m
+
+-- ---- the carriers near a span, one after the other
+pub near-none : (s : Span) → AreThoseNear [] s []
+near-none s = record { only = λ x h. h; all = λ x h y i j. h }
+
+module _ (xs : List Spanned) (s : Span) (ys : List Spanned) (A : AreThoseNear xs s ys) (x : Spanned) where
+  pub near-more : AreThoseNear (xs ++ x ∷ []) s (ys ++ x ∷ [])
+  near-more = record { only = λ z h. only z (Contains-push_cases ys x z h); all = λ z h y i j. all z y i j (Contains-push_cases xs x z h) }
+    where
+      only : (z : Spanned) → Contains ys z ⊎ (x ≡ z) → Contains (xs ++ x ∷ []) z
+      only z (inl h) = Contains-append_left xs (x ∷ []) z (A.only z h)
+      only z (inr e) = subst (Contains (xs ++ x ∷ [])) e (Contains-push xs x)
+
+      all : (z : Spanned) (y : Place) → IsInSpan z.span y → IsInSpan s y → Contains xs z ⊎ (x ≡ z) → Contains (ys ++ x ∷ []) z
+      all z y i j (inl h) = Contains-append_left ys (x ∷ []) z (A.all z h y i j)
+      all z y i j (inr e) = subst (Contains (ys ++ x ∷ [])) e (Contains-push ys x)
+
+  pub near-passed : ((y : Place) → IsInSpan x.span y → IsInSpan s y → ⊥) → AreThoseNear (xs ++ x ∷ []) s ys
+  near-passed far = record { only = λ z h. Contains-append_left xs (x ∷ []) z (A.only z h); all = λ z h y i j. all z y i j (Contains-push_cases xs x z h) }
+    where
+      all : (z : Spanned) (y : Place) → IsInSpan z.span y → IsInSpan s y → Contains xs z ⊎ (x ≡ z) → Contains ys z
+      all z y i j (inl h) = A.all z h y i j
+      all z y i j (inr e) = absurd (far y (subst (λ (w : Spanned). IsInSpan w.span y) (sym e) i) j)
+
+-- the cuts by those near a span in which all edges lie are those by all
+module _ (c d : Complex) (ss : List Span) (E : AreAlone c.vertices ss) (r : Span) (wide : (k : ℕ) (s : Span) → IsAt ss k s → IsNarrower s r)
+    (xs ys : List Spanned) (A : AreSpannedIn d xs) (T : AreThoseNear xs r ys) where
+  pub close-spanned : AreSpannedIn d ys
+  close-spanned x h = A x (T.only x h)
+
+  pub close-all : (N : Named → Type 0) (ps qs : List Named) → AddsAll (CutsBy (complex_of c) ys) (CutsHeld (complex_of c) d ys) N ps qs → AddsAll (CutsBy (complex_of c) xs) (CutsHeld (complex_of c) d xs) N ps qs
+  close-all N ps qs = adds-as (CutsBy (complex_of c) ys) (CutsHeld (complex_of c) d ys) (CutsBy (complex_of c) xs) (CutsHeld (complex_of c) d xs) N ps qs forth back
+    where
+      forth : (y : Place) → CutsBy (complex_of c) ys y → CutsBy (complex_of c) xs y
+      forth y (i, x, a, h) = let k = contains-at xs x (T.only x (at-contains ys i x a)) in (k.0, x, k.1, h)
+
+      back : (y : Place) → CutsHeld (complex_of c) d xs y → CutsHeld (complex_of c) d ys y
+      back y (i, x, a, (h, s)) =
+          let has = at-contains xs i x a in
+          let z = cut-some c x.plane y h in
+          let k = contains-at ys x (T.all x has y (held-spanned c d z.1 x (A x has) y (z.3, s)) (edge-around c ss E r wide x.plane z.1 y z.3)) in
+          (k.0, x, k.1, (h, s))
 
 -- ---- all edges
 pub near-all : (c d : Complex) (xs : List Spanned) (N : Named → Type 0) (ps qs : List Named) → AddsAll (AnyAt (CutsEdgeByOne c xs) c.edges) (AnyAt (CutsEdgeHeldOne c d xs) c.edges) N ps qs

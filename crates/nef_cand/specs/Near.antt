@@ -1,5 +1,5 @@
 -- Candidates near what the sets have in the planes that cut.
-use Rattle.std.specs.Prelude.{◌≡◌, ℕ, ◌<◌, ◌⊎◌, List, [], ◌++◌, map, Option}
+use Rattle.std.specs.Prelude.{◌≡◌, ℕ, ◌<◌, ◌≤◌, ◌⊎◌, List, [], ◌∷◌, ◌++◌, take, map, Option}
 use Rattle.std.specs.List.{Contains}
 use Rattle.std.specs.Option.{MatchOption}
 use Rattle.nef_space.specs.Lists.{IsAt}
@@ -16,12 +16,14 @@ use Rattle.nef_complex.specs.declared.complex.Complex.{Complex}
 use Rattle.nef_complex.specs.declared.complex.Edge.{Edge}
 use Rattle.nef_complex.specs.Complexes.{complex_of, ShowsSet}
 use Rattle.nef_complex.specs.Index.{IsSpanOn}
+use Rattle.nef_complex.specs.Spans.{IsInSpan, IsNarrower}
+use Rattle.nef_complex.specs.declared.spans.Span.{Span}
 use Rattle.nef_cand.specs.declared.named.Named.{Named}
 use Rattle.nef_cand.specs.declared.named.Operand.{Operand}
 use Rattle.nef_cand.specs.declared.named.Operand.TheVariants.{First, Second}
 use Rattle.nef_cand.specs.declared.listing.Spanned.{Spanned}
 use Rattle.nef_cand.specs.Candidates.{IsListed, IsVertexOf, IsCutBy, AreFramed}
-use Rattle.nef_cand.specs.Names.{named_point, AreNamed, IsNamedIn, IsNamedBetween, IsOnceEach}
+use Rattle.nef_cand.specs.Names.{named_point, AreNamed, IsNamedIn, IsNamedBetween, IsOnceEach, AreNamedBelow, AreNamedUpTo}
 use Rattle.nef_cand.specs.Points.{Adds, AddsAll, CutsEdge, MissesFrame}
 
 -- ---- carriers with their spans
@@ -40,6 +42,15 @@ IsSpanned xs h = (x : Spanned) × Contains xs x × (x.plane ≡ h)
 pub record AreSpannedCarriers (c : Complex) (n : ℕ) (xs : List Spanned) : Type 0 where
   pub each : AreSpannedIn c xs
   pub all : (k : ℕ) (h : Plane) → k < n → At c.carriers k h → MissesFrame (form_of h) ⊎ IsSpanned xs h
+
+-- the span is as wide as those of all these carriers
+abbrev pub AreWithinSpan : List Spanned → Span → Type 0
+AreWithinSpan xs s = (x : Spanned) → Contains xs x → IsNarrower x.span s
+
+-- these are some of the carriers, among them all whose spans have a point of this span
+pub record AreThoseNear (xs : List Spanned) (s : Span) (ys : List Spanned) : Type 0 where
+  pub only : (x : Spanned) → Contains ys x → Contains xs x
+  pub all : (x : Spanned) → Contains xs x → (y : Place) → IsInSpan x.span y → IsInSpan s y → Contains ys x
 
 -- ---- cuts where the other set has something
 -- the set that the complex shows has something in the plane at y
@@ -84,6 +95,30 @@ CutsEdgeHeldOne c d xs e y = (i : ℕ) × (x : Spanned) × At xs i x × CutsEdge
 abbrev pub IsHeldCutOf : Complex → Operand → Complex → Edge → Spanned → Option Named → Type 0
 IsHeldCutOf c o d e x cut = MatchOption cut ((y : Place) → CutsEdgeHeld c d e x y → ⊥)
     (λ n. CutsEdgeBy c e x (place_of n.point) × IsNamedBetween o (complex_of c) (complex_of d) n × ((y : Place) → CutsEdgeBy c e x y → SamePlace (place_of n.point) y))
+
+-- ---- two lists in order, merged
+-- ns are us and the first m of xs, in order, once each, and below the others of xs
+pub record AreMerged (us xs : List Named) (m : ℕ) (ns : List Named) : Type 0 where
+  pub once : IsOnceEach (us ++ take m xs) ns
+  pub ahead : (k : ℕ) (x : Named) → m ≤ k → At xs k x → AreNamedBelow ns (place_of x.point)
+
+-- the same with one more of us, and none is above that
+abbrev pub AreMergedUpTo : List Named → Named → List Named → ℕ → List Named → Type 0
+AreMergedUpTo us v xs m ns = AreMerged (us ++ v ∷ []) xs m ns × AreNamedUpTo ns (place_of v.point)
+
+-- the vertices of the complex, which is this operand, and what is given, in order, once each
+pub record HasVertices (o : Operand) (c : Complex) (xs ns : List Named) : Type 0 where
+  pub us : List Named
+  pub vertices : Adds (IsVertexOf (complex_of c)) (IsNamedIn o (complex_of c)) [] us
+  pub once : IsOnceEach (us ++ xs) ns
+
+-- and the same of two complexes
+pub record HasBothVertices (o : Operand) (c : Complex) (p : Operand) (d : Complex) (xs ns : List Named) : Type 0 where
+  pub us : List Named
+  pub vs : List Named
+  pub of_first : Adds (IsVertexOf (complex_of c)) (IsNamedIn o (complex_of c)) [] us
+  pub of_second : Adds (IsVertexOf (complex_of d)) (IsNamedIn p (complex_of d)) [] vs
+  pub once : IsOnceEach ((us ++ vs) ++ xs) ns
 
 -- ---- what is listed
 -- the vertices of both complexes, and those given for each, in order, once each

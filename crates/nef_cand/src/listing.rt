@@ -4,18 +4,20 @@
 //! set there. So cuts where the other set has nothing in the carrier that cuts may be left out; and it has something only
 //! within a span of the vertices on the carrier.
 
-ghost use Rattle.std.specs.Prelude.{◌≡◌, ◌<◌, ◌↔◌};
+ghost use Rattle.std.specs.Prelude.{◌≡◌, ◌<◌, ◌↔◌, ℕ};
 ghost use Rattle.nef_complex.specs.Prelude.{IfOk, Bool, pos, length, IsTrue, OnOk, [], MatchOption, Place, Form, InFrame, SamePlace, form_at, Set, IsVertex, IsAt, form_of, place_of, SamePlane, IsVertexOfBoth, complex_of, ShowsSet, AreAlone};
 ghost use Rattle.nef_complex.specs.declared.complex.Edge.{Edge};
 ghost use Rattle.nef_complex.specs.declared.complex.Vertex.{Vertex};
+ghost use Rattle.nef_complex.specs.declared.spans.Span.{Span as SpanValue};
+ghost use Rattle.nef_complex.specs.Spans.{IsNarrower};
 ghost use Rattle.nef_cand.specs.Candidates.{IsListed, IsCutBy, AreCandidates, AreCutCandidates, AreFramed};
 ghost use Rattle.nef_cand.specs.Names.{IsNamedIn, IsNamedBetween};
 ghost use Rattle.nef_cand.specs.Points.{Adds, AddsAll, CutsOne, CutsEdge, MissesFrame};
-ghost use Rattle.nef_cand.specs.Near.{AreSpannedIn, AreSpannedCarriers, CutsBy, CutsHeld, CutsEdgeByOne, CutsEdgeHeldOne, IsHeldCutOf, ListsCuts, ListsNear};
+ghost use Rattle.nef_cand.specs.Near.{AreSpannedIn, AreSpannedCarriers, AreWithinSpan, AreThoseNear, CutsBy, CutsHeld, CutsEdgeByOne, CutsEdgeHeldOne, IsHeldCutOf, ListsCuts, ListsNear};
 
 use crate::OutOfMemory;
 use crate::named::{Name, Named, Operand, merged, named_points, sort_once, together, vertices_of};
-use nef_complex::{Complex, Span, carrier_spans, edge_holders, may_meet, vertex_spans};
+use nef_complex::{Complex, Span, carrier_spans, edge_holders, may_meet, point_spans};
 use nef_geo::{HALF_SIDE, Plane, Point, hit_at, lex_cmp, meet, side};
 use nef_locate::place_on;
 use std::alloc::Global;
@@ -139,8 +141,44 @@ fn held_cut(
     })
 }
 
+// A span as wide as all of the spans.
+fn around_all(spans: &[Span]) -> Span
+    ensures wide { (k : ℕ) (s : SpanValue) → IsAt spans.now k s → IsNarrower s result }
+{
+    let mut around = Span::none();
+    for span in spans {
+        around = around.with_span(span);
+    }
+    around
+}
+
+// A span as wide as those of all carriers.
+fn around_carriers(near: &[Spanned]) -> Span
+    ensures wide { AreWithinSpan near.now result }
+{
+    let mut around = Span::none();
+    for carrier in near {
+        around = around.with_span(&carrier.span);
+    }
+    around
+}
+
+// The carriers whose spans may have a point of this span.
+fn carriers_near(alloc: Global, near: &[Spanned], span: &Span) -> Result<Vec<Spanned>, OutOfMemory>
+    ensures close { IfOk result (λ v. AreThoseNear near.now span.now v.items) }
+{
+    let mut close = Vec::new(alloc);
+    for carrier in near {
+        if may_meet(&carrier.span, span) {
+            close.push(*carrier)?;
+        }
+    }
+    Ok(close)
+}
+
 // Adds the points strictly inside the edge with this number where one of the carriers of the other complex crosses it and
-// that has something in the carrier. Most carriers have it far from the edge, which the spans of its ends tell.
+// that has something in the carrier. Most carriers have it far from the edge, which the spans of its ends tell, and most
+// edges of a large set lie far from all that a small one has, which the span around all carriers tells.
 fn add_edge_cuts(
     listed: &mut Vec<Named>,
     c: &Complex,
@@ -149,16 +187,21 @@ fn add_edge_cuts(
     ends: &[Span],
     other: &Complex,
     near: &[Spanned],
+    around: &Span,
 ) -> Result<(), OutOfMemory>
     requires shows { (s : Set) × ShowsSet s c.now }
     requires within { number < length c.now.edges }
     requires ends { AreAlone c.now.vertices ends.now }
     requires other { (t : Set) × ShowsSet t other.now }
     requires near { AreSpannedIn other.now near.now }
+    requires around { AreWithinSpan near.now around.now }
     ensures added { OnOk result ((e : Edge) → IsAt c.now.edges number e → AddsAll (CutsEdgeByOne c.now near.now e) (CutsEdgeHeldOne c.now other.now near.now e) (IsNamedBetween operand (complex_of c.now) (complex_of other.now)) listed.old.items listed.new.items) }
 {
     let edge = c.edges.at(number);
     let span = ends[edge.low].with_span(&ends[edge.high]);
+    if !may_meet(&span, around) {
+        return Ok(());
+    }
     for carrier in near {
         if may_meet(&span, &carrier.span) {
             if let Some(cut) = held_cut(c, operand, number, other, carrier) {
@@ -185,14 +228,39 @@ fn add_near_cuts(
     requires near { AreSpannedIn other.now near.now }
     ensures added { OnOk result (AddsAll (CutsBy (complex_of c.now) near.now) (CutsHeld (complex_of c.now) other.now near.now) (IsNamedBetween operand (complex_of c.now) (complex_of other.now)) listed.old.items listed.new.items) }
 {
+    let around = around_carriers(near);
     for number in 0..c.edges.len() {
-        add_edge_cuts(listed, c, operand, number, ends, other, near)?;
+        add_edge_cuts(listed, c, operand, number, ends, other, near, &around)?;
     }
     Ok(())
 }
 
-// Few carriers cross more edges where they hold something.
-const CUTS_OF_CARRIER: usize = 4;
+// As `add_near_cuts`. Where the other complex has more carriers than this one has vertices, those far from all of the
+// vertices are left out once, before any edge asks.
+fn add_close_cuts(
+    alloc: Global,
+    listed: &mut Vec<Named>,
+    c: &Complex,
+    operand: Operand,
+    ends: &[Span],
+    other: &Complex,
+    near: &[Spanned],
+) -> Result<(), OutOfMemory>
+    requires shows { (s : Set) × ShowsSet s c.now }
+    requires ends { AreAlone c.now.vertices ends.now }
+    requires other { (t : Set) × ShowsSet t other.now }
+    requires near { AreSpannedIn other.now near.now }
+    ensures added { OnOk result (AddsAll (CutsBy (complex_of c.now) near.now) (CutsHeld (complex_of c.now) other.now near.now) (IsNamedBetween operand (complex_of c.now) (complex_of other.now)) listed.old.items listed.new.items) }
+{
+    if near.len() <= ends.len() {
+        return add_near_cuts(listed, c, operand, ends, other, near);
+    }
+    let close = carriers_near(alloc, near, &around_all(ends))?;
+    add_near_cuts(listed, c, operand, ends, other, close.as_slice())
+}
+
+// Few carriers cross more edges where they hold something, and few edges are crossed by more such carriers.
+const CUTS_OF_ONE: usize = 4;
 
 /// The points strictly inside an edge of the complex, which is that of this operand, that lie on one of the carriers of the
 /// other, which doesn't hold the edge, but for some where the other has nothing in the carrier.
@@ -208,9 +276,10 @@ pub(crate) fn near_cuts(
     requires near { AreSpannedIn other.now near.now }
     ensures cuts { IfOk result (λ v. ListsCuts operand c.now other.now near.now v.items) }
 {
-    let mut listed = Vec::with_capacity(alloc, near.len().saturating_mul(CUTS_OF_CARRIER))?;
-    let ends = vertex_spans(alloc, c.vertices.as_slice())?;
-    add_near_cuts(&mut listed, c, operand, ends.as_slice(), other, near)?;
+    let room = near.len().min(c.edges.len()).saturating_mul(CUTS_OF_ONE);
+    let mut listed = Vec::with_capacity(alloc, room)?;
+    let ends = point_spans(c);
+    add_close_cuts(alloc, &mut listed, c, operand, ends, other, near)?;
     // Only speed needs the order: what is sorted is merged with the other candidates, which is cheap.
     listed.sort_unstable_by(|m, n| lex_cmp(&m.point, &n.point));
     Ok(listed)

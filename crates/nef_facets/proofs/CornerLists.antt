@@ -10,7 +10,7 @@ use Rattle.law_complex.specs.Complexes.{Vertex as PlainVertex, Complex as PlainC
 use Rattle.nef_complex.specs.declared.complex.Corner.{Corner}
 use Rattle.nef_complex.specs.Complexes.{corner_of}
 use Rattle.nef_complex.specs.Cycles.{IsCornerBelow}
-use Rattle.nef_facets.specs.Corners.{corner_from, corners_at, HasItem, AreCorners}
+use Rattle.nef_facets.specs.Corners.{corner_from, corners_at, HasItem, AreCorners, StandFrom}
 use Rattle.nef_facets.proofs.Lists.{is-at_parts, is-at_second}
 
 abbrev pub corner : ℕ → ℕ → Corner
@@ -89,6 +89,21 @@ module _ (C : PlainComplex) (n : ℕ) (ks : List Corner) (A : AreCornersTo C n k
           let g : x.item ≡ p = ap (λ (t : Corner). t.item) r.1 in
           let h : y.item ≡ q = ap (λ (t : Corner). t.item) t.1 in
           inr (ap pos f, inl (omega (arith, ints)))
+
+-- the vertices' first corners
+pub starts-none : (ks : List Corner) (starts : List ℕ) → ks ≡ [] → StandFrom ks starts
+starts-none ks starts e i k a = absurd (let l = is-at_within ks i k a in let m = ap length e in omega (arith, l, m))
+
+pub starts-next : (ks : List Corner) (starts : List ℕ) (n m : ℕ) → length starts ≡ n → StandFrom ks starts → StandFrom (ks ++ corners_at n m) (starts ++ length ks ∷ [])
+starts-next ks starts n m e S i k a = by (is-at_parts ks (corners_at n m) i k a)
+  where
+    by : IsAt ks i k ⊎ ((j : ℕ) × (i ≡ length ks + j) × IsAt (corners_at n m) j k) → (f : ℕ) × IsAt (starts ++ length ks ∷ []) k.vertex f × (f + k.item ≡ i)
+    by (inl b) = let s = S i k b in (s.0, is-at_left starts (length ks ∷ []) k.vertex s.0 s.1, s.2)
+    by (inr (j, g, b)) =
+        let r = at-corners n m j k b in
+        let v : length starts ≡ k.vertex = e ∙ sym (ap (λ (t : Corner). t.vertex) r.1) in
+        let t : k.item ≡ j = ap (λ (t : Corner). t.item) r.1 in
+        (length ks, subst (λ (x : ℕ). IsAt (starts ++ length ks ∷ []) x (length ks)) v (is-at_last starts (length ks)), omega (arith, g, t))
 
 pub all-corners : (C : PlainComplex) (n : ℕ) (ks : List Corner) → AreCornersTo C n ks → ((k : ℕ) (v : PlainVertex) → At C.vertices k v → k < n) → AreCorners C ks
 all-corners C n ks A within = record {

@@ -1,5 +1,5 @@
 -- Lists of corners.
-use Rattle.std.specs.Prelude.{ℕ, zero, suc, ◌<◌, Bool, true, false, cond, eqb, ltb, List, [], ◌∷◌, ◌++◌}
+use Rattle.std.specs.Prelude.{◌≡◌, ℕ, zero, suc, ◌+◌, ◌<◌, List, [], ◌∷◌, ◌++◌}
 use Rattle.nef_space.specs.Lists.{IsAt}
 use Rattle.law_complex.specs.Complexes.{Complex, Corner as PlainCorner}
 use Rattle.nef_complex.specs.declared.complex.Corner.{Corner}
@@ -9,10 +9,6 @@ pub use Rattle.nef_facets.specs.Carriers.{HasItem}
 
 abbrev pub corner_from : PlainCorner → Corner
 corner_from k = record { vertex = k.vertex; item = k.item }
-
--- whether corner j stands before corner k
-abbrev pub stands_before : Corner → Corner → Bool
-stands_before j k = cond (ltb j.vertex k.vertex) true (cond (eqb j.vertex k.vertex) (ltb j.item k.item) false)
 
 -- the corners of a vertex with so many items
 abbrev pub corners_at : ℕ → ℕ → List Corner
@@ -32,3 +28,7 @@ pub record AreCorners (C : Complex) (ks : List Corner) : Type 0 where
   pub each : AreListed C ks
   pub all : (k : PlainCorner) → HasItem C k → (i : ℕ) × IsAt ks i (corner_from k)
   pub ordered : AreInOrder ks
+
+-- the starts are the numbers of the vertices' first corners, from which those of the other corners follow
+abbrev pub StandFrom : List Corner → List ℕ → Type 0
+StandFrom ks starts = (i : ℕ) (k : Corner) → IsAt ks i k → (f : ℕ) × IsAt starts k.vertex f × (f + k.item ≡ i)

@@ -4,7 +4,7 @@ ghost use Rattle.std.specs.Prelude.{◌≡◌, ◌<◌};
 ghost use Rattle.nef_complex.specs.Prelude.{ℕ, length, IfOk, false, IsAt, Set, vector_of, At, complex_of, corner_of, ShowsSet, IsFacetOf, FacetNumbers, Leads};
 ghost use Rattle.law_complex.specs.Complexes.{Edge as PlainEdge};
 ghost use Rattle.nef_smap.specs.Maps.{map_of};
-ghost use Rattle.nef_facets.specs.Corners.{AreCorners, AreInOrder, stands_before};
+ghost use Rattle.nef_facets.specs.Corners.{AreCorners, StandFrom};
 ghost use Rattle.nef_facets.specs.Facets.{AreCyclesOf};
 ghost use Rattle.nef_facets.specs.Orbits.{AreCornersOf, AreNumbered, AreGrouped, IsStep, IsClosed, ComesBack, AreMarked, AreOrbits};
 ghost use Rattle.nef_facets.specs.Next.{IsArcInto, HaveNextFrom, KeepsNext, AreNext};
@@ -36,25 +36,27 @@ fn arc_into(map: &SphereMap, svertex: usize, normal: &Dir) -> usize
     unreachable!()
 }
 
-fn is_before(j: &Corner, k: &Corner) -> bool
-    ensures before { result ≡ stands_before j.now k.now }
-{
-    j.vertex < k.vertex || j.vertex == k.vertex && j.item < k.item
-}
-
-// The number of a listed corner: how many stand before it.
-fn position(corners: &[Corner], k: &Corner) -> usize
-    requires ordered { AreInOrder corners.now }
+// The number of a listed corner: that of its vertex's first corner and that of its item.
+fn position(corners: &[Corner], starts: &[usize], k: &Corner) -> usize
+    requires starts { StandFrom corners.now starts.now }
     requires listed { (i : ℕ) × IsAt corners.now i k.now }
     ensures position { IsAt corners.now result k.now }
 {
-    corners.partition_point(|j| is_before(j, k))
+    starts[k.vertex] + k.item
 }
 
 // Notes the next corners of the arcs that begin where an edge leaves, which leads to the other end.
-fn add_next(next: &mut Vec<usize>, c: &Complex, corners: &[Corner], from: &End, to: &End)
+fn add_next(
+    next: &mut Vec<usize>,
+    c: &Complex,
+    corners: &[Corner],
+    starts: &[usize],
+    from: &End,
+    to: &End,
+)
     requires shows { (s : Set) × ShowsSet s c.now }
     requires corners { AreCorners (complex_of c.now) corners.now }
+    requires starts { StandFrom corners.now starts.now }
     requires edge { (n : ℕ) × (e : PlainEdge) × At (complex_of c.now).edges n e × Leads e from.now.vertex from.now.svertex to.now.vertex to.now.svertex }
     requires as_many { length next.old.items ≡ length corners.now }
     ensures as_many { length next.new.items ≡ length corners.now }
@@ -73,8 +75,8 @@ fn add_next(next: &mut Vec<usize>, c: &Complex, corners: &[Corner], from: &End, 
                 vertex: to.vertex,
                 item,
             };
-            let following = position(corners, &k);
-            let place = position(corners, &j);
+            let following = position(corners, starts, &k);
+            let place = position(corners, starts, &j);
             next[place] = following;
         }
     }
@@ -85,9 +87,11 @@ pub(crate) fn next_corners(
     alloc: Global,
     c: &Complex,
     corners: &[Corner],
+    starts: &[usize],
 ) -> Result<Vec<usize>, OutOfMemory>
     requires shows { (s : Set) × ShowsSet s c.now }
     requires corners { AreCorners (complex_of c.now) corners.now }
+    requires starts { StandFrom corners.now starts.now }
     ensures next { IfOk result (λ v. AreNext (complex_of c.now) corners.now v.items) }
 {
     let mut next = own_numbers(alloc, corners.len())?;
@@ -100,8 +104,8 @@ pub(crate) fn next_corners(
             vertex: edge.high,
             svertex: edge.high_svertex,
         };
-        add_next(&mut next, c, corners, &low, &high);
-        add_next(&mut next, c, corners, &high, &low);
+        add_next(&mut next, c, corners, starts, &low, &high);
+        add_next(&mut next, c, corners, starts, &high, &low);
     }
     Ok(next)
 }
@@ -187,16 +191,18 @@ pub(crate) fn facet_cycles(
     c: &Complex,
     rows: &List<List<usize>>,
     corners: &[Corner],
+    starts: &[usize],
     count: usize,
 ) -> Result<List<List<Cycle>>, OutOfMemory>
     requires shows { (s : Set) × ShowsSet s c.now }
     requires numbers { FacetNumbers (complex_of c.now) rows.now }
     requires corners { AreCorners (complex_of c.now) corners.now }
+    requires starts { StandFrom corners.now starts.now }
     requires count { (i : ℕ) (k : Corner) (n : ℕ) → IsAt corners.now i k → IsFacetOf rows.now (corner_of k) n → n < count }
     ensures as_many { IfOk result (λ ys. length ys ≡ count) }
     ensures cycles { IfOk result (λ ys. AreCyclesOf (complex_of c.now) rows.now ys) }
 {
-    let next = next_corners(alloc, c, corners)?;
+    let next = next_corners(alloc, c, corners, starts)?;
     let orbits = orbits(alloc, &next)?;
     grouped(alloc, rows, corners, orbits.as_slice(), count)
 }

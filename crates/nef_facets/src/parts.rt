@@ -7,7 +7,7 @@ ghost use Rattle.law_links.specs.Links.{FacetLink};
 ghost use Rattle.nef_classes.specs.Tables.{AreTied, AreTiedWithin};
 ghost use Rattle.nef_facets.specs.Ties.{cell_of};
 ghost use Rattle.nef_facets.specs.Facets.{IsFacetParts, AreFirsts, ArePlanesAt, AreMarksAt};
-ghost use Rattle.nef_facets.specs.Corners.{corners_at, AreCorners, AreListed};
+ghost use Rattle.nef_facets.specs.Corners.{corners_at, AreCorners, AreListed, StandFrom};
 
 use crate::OutOfMemory;
 use crate::cycles::facet_cycles;
@@ -65,15 +65,26 @@ fn add_corners(corners: &mut Vec<Corner>, vertex: usize, count: usize) -> Result
     Ok(())
 }
 
-// The corners of the vertices in order, and of each the items in order.
-fn corners(alloc: Global, c: &Complex) -> Result<Vec<Corner>, OutOfMemory>
-    ensures all { IfOk result (λ v. AreCorners (complex_of c.now) v.items) }
+// The corners of the vertices in order, and of each the items in order; and for each vertex the number of its first corner.
+#[derive(Drop)]
+struct CornerList {
+    all: Vec<Corner>,
+    starts: Vec<usize>,
+}
+
+// The corners of all vertices.
+fn corners(alloc: Global, c: &Complex) -> Result<CornerList, OutOfMemory>
+    ensures all { IfOk result (λ l. AreCorners (complex_of c.now) l.all.items) }
+    ensures starts { IfOk result (λ l. StandFrom l.all.items l.starts.items) }
 {
-    let mut corners = Vec::new(alloc);
+    let mut all = Vec::new(alloc);
+    let mut starts = Vec::with_capacity(alloc, c.vertices.len())?;
     for (number, vertex) in c.vertices.as_slice().iter().enumerate() {
-        add_corners(&mut corners, number, vertex.map.item_count())?;
+        let start = all.len();
+        starts.push(start)?;
+        add_corners(&mut all, number, vertex.map.item_count())?;
     }
-    Ok(corners)
+    Ok(CornerList { all, starts })
 }
 
 // For each facet the first of its corners.
@@ -141,11 +152,14 @@ pub fn facets_of_ties(alloc: Global, c: &Complex, ties: &[Tie]) -> Result<FacetP
     ensures parts { IfOk result (λ p. IsFacetParts (complex_of c.now) p) }
 {
     let facet_of = facet_numbers(alloc, c, ties)?;
-    let corners = corners(alloc, c)?;
+    let CornerList {
+        all: corners,
+        starts,
+    } = corners(alloc, c)?;
     let firsts = first_corners(alloc, &facet_of, &corners)?;
     let planes = planes(alloc, c, &firsts)?;
     let marks = marks(alloc, c, &firsts)?;
-    let cycles = facet_cycles(alloc, c, &facet_of, &corners, firsts.len())?;
+    let cycles = facet_cycles(alloc, c, &facet_of, &corners, &starts, firsts.len())?;
     Ok(FacetParts {
         planes,
         marks,

@@ -6,13 +6,16 @@ use Rattle.nef_complex.specs.declared.complex.Edge.{Edge}
 use Rattle.nef_complex.specs.declared.spans.Bounds.{Bounds}
 use Rattle.nef_complex.specs.declared.spans.Span.{Span}
 use Rattle.nef_complex.specs.Complexes.{complex_of}
+use Rattle.nef_complex.specs.Spans.{IsInSpan}
+use Rattle.nef_geo.specs.declared.plane.Plane.{Plane}
+use Rattle.nef_space.specs.Place.{Place}
 use Rattle.nef_complex.proofs.Ends.{low-within, high-within}
 use Rattle.nef_complex.proofs.Reading.{got-at, read-at}
 use Rattle.nef_cand.specs.Names.{IsNamedBetween}
-use Rattle.nef_cand.specs.Points.{AddsAll}
-use Rattle.nef_cand.specs.Near.{IsSpannedIn, CutsEdgeBy, CutsEdgeHeld}
+use Rattle.nef_cand.specs.Points.{AddsAll, CutsEdge}
+use Rattle.nef_cand.specs.Near.{IsSpannedIn, CutsEdgeBy, CutsEdgeHeld, CutsEdgeByOne, CutsEdgeHeldOne}
 use Rattle.nef_cand.proofs.Adding.{adds-none, adds-one, any-more, any-all}
-use Rattle.nef_cand.proofs.NearCuts.{ends-spanned, held-spanned}
+use Rattle.nef_cand.proofs.NearCuts.{ends-spanned, held-spanned, edge-passed}
 use Rattle.nef_cand.proofs.listing.add_edge_cuts.Goals.{then-may_meet+in-Some+in_ok-push, then-may_meet+in_default, else-may_meet}
 use Rattle.nef_cand.proofs.listing.add_edge_cuts.Goals as goal
 
@@ -77,8 +80,25 @@ loop-carrier-preserved c =
             | then-may_meet+in_default w ↦ subst (AddsAll (P x) (Q x) N old) (sym (ap (λ v. v.items) w.listed-is)) (adds-none (P x) (Q x) N old (w.in_default.ensures.cut e j))
             | else-may_meet w ↦ subst (AddsAll (P x) (Q x) N old) (sym (ap (λ v. v.items) w.listed-is))
                 (subst (λ (f : Edge). AddsAll (CutsEdgeBy C f x) (CutsEdgeHeld C D f x) N old old) same
-                (adds-none (CutsEdgeBy C g x) (CutsEdgeHeld C D g x) N old (λ y d. absurd (search (rules, c.may_meet.ensures.meets y (within y d.0) (held-spanned C D g x spanned y d), w.if-may_meet.false)))))
+                (adds-none (CutsEdgeBy C g x) (CutsEdgeHeld C D g x) N old (λ y d. absurd (search (rules, c.may_meet-in-loop-carrier.ensures.meets y (within y d.0) (held-spanned C D g x spanned y d), w.if-may_meet.false)))))
           ]);
+    }
+
+pub returns-then-not-may_meet : goal.returns-then-not-may_meet
+returns-then-not-may_meet c =
+    let C = c.args.c.now in let D = c.args.other.now in let k = c.args.number in let N = IsNamedBetween c.args.operand (complex_of C) (complex_of D) in
+    let xs = c.args.near.now in let ss = c.args.ends.now in let g = c.at-edge.result.now in let old = c.args.listed.now.items in
+    let S = c.requires.shows in let m = c.requires.ends.as_many in
+    let at = got-at C.edges k g c.at-edge.ensures.element in
+    let low = low-within S.0 C S.1.shows k g at in let high = high-within S.0 C S.1.shows k g at in
+    let s : Span = get_or ss g.low none in let t : Span = get_or ss g.high none in
+    let i = is-at_get ss g.low none (omega (arith, low, m)) in let j = is-at_get ss g.high none (omega (arith, high, m)) in
+    let far = λ (y : Place) (h : Plane) (d : CutsEdge C h g y) (o : IsInSpan c.args.around.now y).
+    absurd (search (rules, c.may_meet.ensures.meets y (ends-spanned C ss c.requires.ends h g s t c.with_span-span.result i j c.with_span-span.ensures.wider c.with_span-span.ensures.other y d) o, c.if-not-may_meet.true)) in
+    record {
+      added = λ e l.
+          subst (λ (f : Edge). AddsAll (CutsEdgeByOne C xs f) (CutsEdgeHeldOne C D xs f) N old old) (at-one C.edges k g e at (got-at C.edges k e l))
+          (adds-none (CutsEdgeByOne C xs g) (CutsEdgeHeldOne C D xs g) N old (edge-passed C D g xs c.requires.near c.args.around.now c.requires.around far));
     }
 
 pub returns : goal.returns

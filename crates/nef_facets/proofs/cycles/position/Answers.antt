@@ -1,15 +1,16 @@
-use Rattle.std.proofs.Common.{rules}
-use Rattle.std.proofs.lemmas.List.Sorted.{IsPartitionPoint-from_clause}
+use Rattle.std.proofs.Common.{ℕ, ◌+◌, List, arith, sym, ap, ◌∙◌, subst}
+use Rattle.nef_space.specs.Lists.{IsAt}
+use Rattle.nef_classes.proofs.ClassLists.{is-at_within, is-at_is}
 use Rattle.nef_complex.specs.declared.complex.Corner.{Corner}
-use Rattle.nef_facets.specs.Corners.{stands_before}
-use Rattle.nef_facets.proofs.Order.{parted, at-point}
 use Rattle.nef_facets.proofs.cycles.position.Goals as goal
+
+pub bounds-starts-k : goal.bounds-starts-k
+bounds-starts-k c =
+    let L = c.requires.listed in let s = c.requires.starts L.0 c.args.k.now L.1 in let l = is-at_within c.args.starts.now c.args.k.now.vertex s.0 s.1 in
+    omega (arith, l)
 
 pub returns : goal.returns
 returns c =
-    let ks = c.args.corners.now in
-    let k = c.args.k.now in
-    record {
-      position = at-point ks k c.partition_point.result c.requires.ordered c.requires.listed
-          (IsPartitionPoint-from_clause (λ (j : Corner). stands_before j k) ks c.partition_point.result c.partition_point.ensures.partitioned (parted ks k c.requires.ordered) (λ x r f' q. search rules));
-    }
+    let ks : List Corner = c.args.corners.now in let k = c.args.k.now in let starts : List ℕ = c.args.starts.now in
+    let L = c.requires.listed in let s = c.requires.starts L.0 k L.1 in
+    record { position = subst (λ (n : ℕ). IsAt ks n k) (sym (ap (λ (f : ℕ). f + k.item) (is-at_is starts k.vertex s.0 0 s.1) ∙ s.2)) L.1 }

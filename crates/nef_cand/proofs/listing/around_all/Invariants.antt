@@ -1,0 +1,8 @@
+use Rattle.std.proofs.Common.{ℕ, ◌<◌}
+use Rattle.nef_space.specs.Lists.{IsAt}
+use Rattle.nef_complex.specs.declared.spans.Span.{Span}
+use Rattle.nef_complex.specs.Spans.{IsNarrower}
+use Rattle.nef_cand.proofs.listing.around_all.Given as goal
+
+abbrev pub invariant-loop-span : goal.invariant-loop-span
+invariant-loop-span l = (k : ℕ) (s : Span) → k < l.span-index → IsAt l.spans k s → IsNarrower s l.around

@@ -1,0 +1,6 @@
+use Rattle.std.proofs.Common.{take}
+use Rattle.nef_cand.specs.Near.{AreThoseNear}
+use Rattle.nef_cand.proofs.listing.carriers_near.Given as goal
+
+abbrev pub invariant-loop-carrier : goal.invariant-loop-carrier
+invariant-loop-carrier l = record { close : AreThoseNear (take l.carrier-index l.near) l.span l.close.items }
