@@ -3,7 +3,7 @@ use Rattle.std.proofs.Common.{ℕ, ◌≤◌, Bool, true, false, ◌&&◌, arith
 use Rattle.std.specs.Prelude.{nat_le, if◌then◌else◌}
 use Rattle.nef_core.specs.declared.work.BoardKind.TheVariants.{Lock, Free}
 use Rattle.nef_core.specs.declared.work.Work.{Work}
-use Rattle.nef_core.specs.declared.work.Work.TheVariants.{LightJobs, HeavyJobs, Listing, Parts, Release, Round}
+use Rattle.nef_core.specs.declared.work.Work.TheVariants.{LightJobs, HeavyJobs, Listing, Parts, Round}
 use Rattle.nef_core.specs.Work.{crew_of}
 
 either : (b : Bool) (m n : ℕ) → m ≤ 64 → n ≤ 64 → (if b then m else n) ≤ 64
@@ -17,4 +17,3 @@ crew-few (HeavyJobs jobs) n l = omega arith
 crew-few (Round numbers load) n l = omega arith
 crew-few (Listing carriers) n l = either (nat_le 4 n && nat_le 48 carriers) 4 1 (omega arith) (omega arith)
 crew-few (Parts vertices) n l = either (nat_le 4 n && nat_le 128 vertices) 4 _ (omega arith) (either (nat_le 2 n && nat_le 128 vertices) 2 1 (omega arith) (omega arith))
-crew-few (Release points) n l = either (nat_le 2 n && nat_le 2048 points) 2 1 (omega arith) (omega arith)

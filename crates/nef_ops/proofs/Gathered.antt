@@ -29,8 +29,9 @@ use Rattle.nef_cand.specs.Candidates.{IsListed, AreFramed}
 use Rattle.nef_cand.specs.Names.{named_point, IsNamed, AreNamed}
 use Rattle.nef_cand.specs.Near.{ListsNear}
 use Rattle.nef_cand.specs.Points.{points_of}
-use Rattle.nef_result.specs.declared.candidate_map.CandidateMap.{CandidateMap}
-use Rattle.nef_result.specs.Results.{AreMapsOf, maps_at}
+use Rattle.nef_result.specs.declared.outcome.Outcome.{Outcome}
+use Rattle.nef_result.specs.Givens.{moved_if}
+use Rattle.nef_result.specs.Outcomes.{IsOutcomeAt, AreOutcomesOf}
 use Rattle.nef_ops.specs.declared.operations.UnaryOp.{UnaryOp}
 use Rattle.nef_ops.specs.Nodes.{unary_set}
 use Rattle.nef_ops.specs.Rights.{IsRight, IsWorkedBy}
@@ -45,23 +46,14 @@ at-got (y ∷ ys) (suc k) x h = at-got ys k x h
 pub at-listed : {X : Type 0} (xs : List X) (k : ℕ) (x : X) → At xs k x → Contains xs x
 at-listed xs k x h = (k, at-within xs k x h, at-get xs k x x h)
 
--- ---- the maps at candidates
-pub each-map : (P : ℕ → SphereMap → Type 0) (cs : List CandidateMap) → ((i : ℕ) (c : CandidateMap) → slice_get cs i ≡ Some c → P i c.map) → (i : ℕ) (m : SphereMap) → slice_get (maps_at cs) i ≡ Some m → P i m
-each-map P cs f i m e = by (slice_get cs i) refl (sym (slice_get-map (λ (c : CandidateMap). c.map) cs i) ∙ e)
-  where
-    by : (o : Option CandidateMap) → slice_get cs i ≡ o → option_map (λ (c : CandidateMap). c.map) o ≡ Some m → P i m
-    by None h g = let g : None ≡ Some m = g in absurd (cc)
-    by (Some c) h g = let g : c.map ≡ m = cc in subst (P i) g (f i c h)
+-- ---- a right outcome
+pub right-at : (s : Set) (us vs : List Vertex) (ps : List Point) (i : ℕ) (q : Point) (o : Outcome) → i < length ps → IsOutcomeAt us vs s (place_of (get_or ps i q)) o → IsRight s us vs ps i o
+right-at s us vs ps i q o l r p a = subst (λ (k : Point). IsOutcomeAt us vs s (place_of k) o) (at-one ps i (get_or ps i q) p (get-at ps i q l) a) r
 
--- ---- a right map
-pub right-at : (s : Set) (ps : List Point) (i : ℕ) (q : Point) (m : SphereMap) → i < length ps → IsLeastMap m → Cone (map_of m) s (place_of (get_or ps i q)) → IsRight s ps i m
-right-at s ps i q m l L C = record { least = L; cone = λ p a. subst (λ (r : Point). Cone (map_of m) s (place_of r)) (at-one ps i (get_or ps i q) p (get-at ps i q l) a) C }
-
-pub right-named : (s : Set) (ns : List Named) (i : ℕ) (n : Named) (m : SphereMap) → i < length ns → IsLeastMap m → Cone (map_of m) s (place_of (get_or ns i n).point) → IsRight s (map named_point ns) i m
-right-named s ns i n m l L C = record {
-  least = L;
-  cone = λ p a. let u = at-map named_point ns i p a in subst (λ (r : Point). Cone (map_of m) s (place_of r)) (ap named_point (at-one ns i (get_or ns i n) u.0 (get-at ns i n l) u.1) ∙ u.2) C;
-}
+pub right-named : (s : Set) (us vs : List Vertex) (ns : List Named) (i : ℕ) (n : Named) (o : Outcome) → i < length ns → IsOutcomeAt us vs s (place_of (get_or ns i n).point) o → IsRight s us vs (map named_point ns) i o
+right-named s us vs ns i n o l r p a =
+    let u = at-map named_point ns i p a in
+    subst (λ (k : Point). IsOutcomeAt us vs s (place_of k) o) (ap named_point (at-one ns i (get_or ns i n) u.0 (get-at ns i n l) u.1) ∙ u.2) r
 
 -- ---- a listed candidate
 pub named-framed : (ns : List Named) (i : ℕ) (n : Named) → i < length ns → AreFramed (map named_point ns) → InClosedFrame (place_of (get_or ns i n).point)
@@ -71,16 +63,15 @@ pub named-at : (C D : PlainComplex) (ns : List Named) (i : ℕ) (n : Named) → 
 named-at C D ns i n l N = N (get_or ns i n) (at-listed ns i (get_or ns i n) (get-at ns i n l))
 
 -- ---- the results of all jobs
-pub worked-maps : (Right : ℕ → CandidateMap → Type 0) (s : Set) (hs : List Plane) (ps : List Point) (cs : List CandidateMap) → IsWorkedBy Right s hs ps → length cs ≡ length ps → ((i : ℕ) (c : CandidateMap) → slice_get cs i ≡ Some c → Right i c)
-    → AreMapsOf s hs ps (maps_at cs)
-worked-maps Right s hs ps cs W alike each =
-    let right = each-map (IsRight s ps) cs (λ i c e. W.right i c (each i c e)) in
-    record {
-      carriers = W.carriers;
-      least_at = record { alike = length-map cs (λ (c : CandidateMap). c.map) ∙ alike; ordered = W.ordered; least = λ k m h. let r = right k m (at-got (maps_at cs) k m h) in r.least };
-      cones = λ k p m a h. let r = right k m (at-got (maps_at cs) k m h) in r.cone p a;
-      complete = W.complete;
-    }
+pub worked-outcomes : (Right : ℕ → Outcome → Type 0) (us vs : List Vertex) (s : Set) (hs : List Plane) (ps : List Point) (os : List Outcome) → IsWorkedBy Right us vs s hs ps → length os ≡ length ps
+    → ((i : ℕ) (o : Outcome) → slice_get os i ≡ Some o → Right i o) → AreOutcomesOf s hs ps us vs os
+worked-outcomes Right us vs s hs ps os W alike each = record {
+  carriers = W.carriers;
+  alike = alike;
+  ordered = W.ordered;
+  right = λ k p o a h. W.right k o (each k o (at-got os k o h)) p a;
+  complete = W.complete;
+}
 
 -- ---- a vertex of a combination
 pub vertex-of_both : (op : Op) (s t : Set) (y : Place) → IsVertex (op_set op s t) y → IsVertexOfBoth s t y
@@ -93,33 +84,43 @@ vertex-of_both Xor s t y v = inr (inr (inr v))
 abbrev pub AreInOrder : List Point → Type 0
 AreInOrder ps = InOrder (λ (p q : Point). IsPlaceBelow (place_of p) (place_of q)) ps
 
--- of a combination of two sets, by the candidates ns, lent as ks and js, and their points qs, lent as ps
-pub both-worked : (op : Op) (a b : Complex) (hs : List Plane) (ns ks js : List Named) (qs ps : List Point) → ks ≡ ns → js ≡ ns → qs ≡ map named_point ks → ps ≡ qs → ListsNear a b ns
-    → ((s t : Set) (o : Op) → ShowsSet s a → ShowsSet t b → Carriers (op_set o s t) (map form_of hs)) → (s t : Set) → ShowsSet s a → ShowsSet t b
-    → IsWorkedBy (λ i c. (s t : Set) → ShowsSet s a → ShowsSet t b → IsRight (op_set op s t) (map named_point js) i c.map) (op_set op s t) hs ps
-both-worked op a b hs ns ks js qs ps asked worked made lent L carried s t S T = record {
+-- of a combination of two sets, by the candidates ns, lent as ks and js, and their points qs
+pub both-outcomes : (op : Op) (a b : Complex) (hs : List Plane) (ns ks js : List Named) (qs : List Point) (us vs : List Vertex) (os : List Outcome) → ks ≡ ns → js ≡ ns → qs ≡ map named_point ks → ListsNear a b ns
+    → ((s t : Set) (o : Op) → ShowsSet s a → ShowsSet t b → Carriers (op_set o s t) (map form_of hs)) → length os ≡ length js
+    → ((i : ℕ) (o : Outcome) → slice_get os i ≡ Some o → (s t : Set) → ShowsSet s a → ShowsSet t b → IsRight (op_set op s t) us vs (map named_point js) i o)
+    → (s t : Set) → ShowsSet s a → ShowsSet t b → AreOutcomesOf (op_set op s t) hs qs us vs os
+both-outcomes op a b hs ns ks js qs us vs os asked worked made L carried alike each s t S T = record {
   carriers = carried s t op S T;
+  alike = alike ∙ sym (length-map js named_point) ∙ ap length of-jobs;
   ordered = subst AreInOrder same L.ordered;
+  right = λ k p o a h. each k o (at-got os k o h) s t S T p (subst (λ (rs : List Point). At rs k p) (sym of-jobs) a);
   complete = λ y v. subst (λ (rs : List Point). IsListed rs y) same (L.complete s t y S T (vertex-of_both op s t y v));
-  right = λ i c r. subst (λ (rs : List Point). IsRight (op_set op s t) rs i c.map) (ap (map named_point) worked ∙ same) (r s t S T);
 }
   where
-    same : map named_point ns ≡ ps
-    same = sym (lent ∙ made ∙ ap (map named_point) asked)
+    same : map named_point ns ≡ qs
+    same = sym (made ∙ ap (map named_point) asked)
 
-pub both-alike : (ns ks js : List Named) (qs ps : List Point) → ks ≡ ns → js ≡ ns → qs ≡ map named_point ks → ps ≡ qs → length js ≡ length ps
-both-alike ns ks js qs ps asked worked made lent = sym (length-map js named_point) ∙ ap length (ap (map named_point) (worked ∙ sym asked) ∙ sym (lent ∙ made))
+    of-jobs : map named_point js ≡ qs
+    of-jobs = ap (map named_point) worked ∙ same
+
+-- the same where the two complexes are given
+pub both-given : (r : Set) (hs : List Plane) (qs ps : List Point) (own-a own-b : Bool) (a b first second : Complex) (us vs : List Vertex) (os : List Outcome) → ps ≡ qs → first ≡ a → second ≡ b → moved_if own-a a ≡ us → moved_if own-b b ≡ vs
+    → AreOutcomesOf r hs qs (moved_if own-a first) (moved_if own-b second) os → AreOutcomesOf r hs ps us vs os
+both-given r hs qs ps own-a own-b a b first second us vs os lent is-first is-second of-a of-b A =
+    subst (λ (rs : List Point). AreOutcomesOf r hs rs us vs os) (sym lent)
+    (subst (λ (ws : List Vertex). AreOutcomesOf r hs qs ws vs os) (ap (moved_if own-a) is-first ∙ of-a)
+    (subst (λ (ws : List Vertex). AreOutcomesOf r hs qs (moved_if own-a first) ws os) (ap (moved_if own-b) is-second ∙ of-b) A))
 
 -- of a half
 pub half-worked : (f : Form) (closed : Bool) (h : Plane) (whole : Complex) (hs : List Plane) (vs ps : List Point) → ShowsSet Set.full whole → SamePlane (form_of h) f → ps ≡ vs → AreInOrder vs
     → ((g : Form) (c : Bool) (y : Place) → SamePlane (form_of h) g → ShowsSet Set.full whole → IsVertex (Set.half g c) y → IsListed vs y)
     → ((g : Form) (c : Bool) → ShowsSet Set.full whole → SamePlane (form_of h) g → Carriers (Set.half g c) (map form_of hs))
-    → IsWorkedBy (λ i c. IsRight (Set.half f closed) ps i c.map) (Set.half f closed) hs ps
+    → IsWorkedBy (λ i o. IsRight (Set.half f closed) [] [] ps i o) [] [] (Set.half f closed) hs ps
 half-worked f closed h whole hs vs ps S P same order complete carried = record {
   carriers = carried f closed S P;
   ordered = subst AreInOrder (sym same) order;
   complete = λ y v. subst (λ (qs : List Point). IsListed qs y) (sym same) (complete f closed y P S v);
-  right = λ i c r. r;
+  right = λ i o r. r;
 }
 
 -- ---- the vertices of a complex
@@ -137,21 +138,19 @@ module _ (s : Set) (c : Complex) (S : ShowsSet s c) where
       let u = at-map vertex_of c.vertices f.0 f.1 f.2 in
       (u.0.point, at-listed (points_of c) f.0 u.0.point (map-at (λ (w : Vertex). w.point) c.vertices f.0 u.0 u.1), subst (λ (w : PlainVertex). SamePlace w.point y) (sym u.2) f.3)
 
-  -- what the operation makes of the map of a vertex is right at its point
-  pub vertex-right : (op : UnaryOp) (k : ℕ) (v : Vertex) (m : SphereMap) → At c.vertices k v → IsLeastMap m → (Cone (map_of v.map) s (place_of v.point) → Cone (map_of m) (unary_set op s) (place_of v.point))
-      → IsRight (unary_set op s) (points_of c) k m
-  vertex-right op k v m h L f = record {
-    least = L;
-    cone = λ p a. subst (λ (r : Point). Cone (map_of m) (unary_set op s) (place_of r)) (at-one (points_of c) k v.point p (map-at (λ (w : Vertex). w.point) c.vertices k v h) a)
-        (f (S.shows.cones k (vertex_of v) (map-at vertex_of c.vertices k v h)));
-  }
+  -- what the map that the operation makes of that of a vertex says is right at its point
+  pub vertex-right : (op : UnaryOp) (k : ℕ) (v : Vertex) (m : SphereMap) (o : Outcome) → At c.vertices k v → ((p : Place) → Cone (map_of m) (unary_set op s) p → IsOutcomeAt [] [] (unary_set op s) p o)
+      → (Cone (map_of v.map) s (place_of v.point) → Cone (map_of m) (unary_set op s) (place_of v.point)) → IsRight (unary_set op s) [] [] (points_of c) k o
+  vertex-right op k v m o h of f p a =
+      subst (λ (r : Point). IsOutcomeAt [] [] (unary_set op s) (place_of r) o) (at-one (points_of c) k v.point p (map-at (λ (w : Vertex). w.point) c.vertices k v h) a)
+      (of (place_of v.point) (f (S.shows.cones k (vertex_of v) (map-at vertex_of c.vertices k v h))))
 
 -- of an operation on one set
 pub one-worked : (op : UnaryOp) (a : Complex) (hs : List Plane) (vs ps : List Point) → ps ≡ vs → vs ≡ points_of a → hs ≡ a.carriers → (s : Set) → ShowsSet s a
-    → IsWorkedBy (λ i c. (s : Set) → ShowsSet s a → IsRight (unary_set op s) (points_of a) i c.map) (unary_set op s) hs ps
+    → IsWorkedBy (λ i o. (s : Set) → ShowsSet s a → IsRight (unary_set op s) [] [] (points_of a) i o) [] [] (unary_set op s) hs ps
 one-worked op a hs vs ps same listed copied s S = record {
   carriers = subst (λ (gs : List Plane). Carriers (unary_set op s) (map form_of gs)) (sym copied) (unary-carriers op s (map form_of a.carriers) S.shows.carriers);
   ordered = subst AreInOrder (sym (same ∙ listed)) (points-ordered s a S);
   complete = λ y v. subst (λ (qs : List Point). IsListed qs y) (sym (same ∙ listed)) (vertices-listed s a S y (unary-vertex op s y v));
-  right = λ i c r. subst (λ (qs : List Point). IsRight (unary_set op s) qs i c.map) (sym (same ∙ listed)) (r s S);
+  right = λ i o r. subst (λ (qs : List Point). IsRight (unary_set op s) [] [] qs i o) (sym (same ∙ listed)) (r s S);
 }

@@ -1,7 +1,8 @@
 pub mod Crews
-pub mod Given
+pub mod GivenPlanes
 pub mod OneSet
 pub mod Gathered
+pub mod Kept
 pub mod ByShare
 pub mod PlaceShares
 pub mod Lacking

@@ -1,7 +1,7 @@
 //! All jobs of an operation, worked over the board that was chosen, and the complex that their results make.
 
 ghost use Rattle.std.specs.Prelude.{◌≡◌, ◌≤◌};
-ghost use Rattle.nef_complex.specs.Prelude.{ℕ, true, false, length, IfOk, Some, slice_get, vec_len, Set, ShowsSet};
+ghost use Rattle.nef_complex.specs.Prelude.{ℕ, [], true, false, length, IfOk, Some, slice_get, vec_len, Set, ShowsSet};
 ghost use Rattle.nef_core.specs.Work.{crew_of};
 ghost use Rattle.nef_ops.specs.Rights.{IsWorkedBy};
 
@@ -13,7 +13,7 @@ use nef_free::FreeBoard;
 use nef_geo::{List, Plane, Point};
 use nef_io::Gate;
 use nef_pool::finish;
-use nef_result::{CandidateMap, assemble};
+use nef_result::{Outcome, assemble_lent};
 use std::alloc::Global;
 use std::sync::Wait;
 use std::thread::Threads;
@@ -59,9 +59,26 @@ fn finished<R: Threads + Wait + Sync, J: Job, G: Gate + Sync>(
     }
 }
 
-/// The complex of a set with these carriers. The points are its candidates, and each job makes its least map at one of
-/// them. The jobs are this work, and so many workers share them. What two complexes say of their vertices is taken over.
-pub(crate) fn complex_by_jobs<R: Threads + Wait + Sync, J: Job<Out = CandidateMap>, G: Gate + Sync>(
+/// The results of all jobs, in their order. The jobs are this work, and so many workers share them.
+pub(crate) fn all_worked<R: Threads + Wait + Sync, J: Job, G: Gate + Sync>(
+    rt: &R,
+    alloc: Global,
+    job: &J,
+    work: Work,
+    how: &How,
+    gate: &G,
+) -> Result<Vec<J::Out>, OutOfMemory>
+    requires workable { J.workable job.now }
+    ensures len { IfOk result (λ v. vec_len v ≡ J.count job.now) }
+    ensures right { IfOk result (λ v. (i : ℕ) (out : _) → slice_get v.items i ≡ Some out → J.right job.now i out) }
+{
+    let workers = crew(how, work, gate.holds());
+    finished(rt, alloc, job, how.board, workers, gate)
+}
+
+/// The complex of a set with these carriers. The points are its candidates, and each job says what it has at one of them.
+/// What two complexes say of their vertices and edges is taken over.
+pub(crate) fn complex_by_jobs<R: Threads + Wait + Sync, J: Job<Out = Outcome>, G: Gate + Sync>(
     rt: &R,
     alloc: Global,
     job: &J,
@@ -77,11 +94,9 @@ pub(crate) fn complex_by_jobs<R: Threads + Wait + Sync, J: Job<Out = CandidateMa
     requires second { (s : Set) × ShowsSet s second.now }
     requires workable { J.workable job.now }
     requires alike { J.count job.now ≡ length points.now }
-    requires set { (s : Set) × IsWorkedBy (J.right job.now) s carriers points.now }
-    ensures shows { IfOk result (λ c. (s : Set) → IsWorkedBy (J.right job.now) s carriers points.now → ShowsSet s c) }
+    requires set { (s : Set) × IsWorkedBy (J.right job.now) [] [] s carriers points.now }
+    ensures shows { IfOk result (λ c. (s : Set) → IsWorkedBy (J.right job.now) [] [] s carriers points.now → ShowsSet s c) }
 {
-    let workers = crew(how, work, gate.holds());
-    let maps = finished(rt, alloc, job, how.board, workers, gate)?;
-    let complex = assemble(rt, alloc, carriers, points, maps, first, second, workers)?;
-    Ok(complex)
+    let outcomes = all_worked(rt, alloc, job, work, how, gate)?;
+    assemble_lent(alloc, carriers, points, outcomes, first, second)
 }

@@ -12,6 +12,7 @@ mod operations;
 mod regions;
 mod share;
 
+pub use nef_result::Given;
 pub use nef_unique::compare as same;
-pub use operations::{UnaryOp, binary, constant, half, half_within, unary};
+pub use operations::{UnaryOp, binary, binary_given, constant, half, half_within, unary};
 pub use std::alloc::AllocError as OutOfMemory;

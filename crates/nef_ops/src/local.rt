@@ -1,17 +1,21 @@
-//! The map of a combination at a point, of two complexes.
+//! What a combination of two complexes has at a point.
 
 ghost use Rattle.std.specs.Prelude.{◌≡◌};
-ghost use Rattle.nef_complex.specs.Prelude.{length, map, IfOk, IfSome, IsTrue, Place as PlainPlace, InClosedFrame, Set, Label as PlainLabel, place_of, Cone, complex_of, ShowsSet};
+ghost use Rattle.nef_complex.specs.Prelude.{List as Sequence, length, map, IfOk, IfSome, IsTrue, IsVertexPoint, Place as PlainPlace, InClosedFrame, Set, Label as PlainLabel, place_of, Cone, complex_of, ShowsSet};
 ghost use Rattle.nef_star.specs.Ops.{op_label};
 ghost use Rattle.nef_smap.specs.Maps.{map_of, IsLeastMap};
 ghost use Rattle.nef_stopo.specs.Sets.{op_set};
 ghost use Rattle.law_complex.specs.Complexes.{Complex as PlainComplex};
+ghost use Rattle.nef_complex.specs.declared.complex.Complex.{Complex as ShownComplex};
+ghost use Rattle.nef_complex.specs.declared.complex.Vertex.{Vertex as ShownVertex};
 ghost use Rattle.nef_cand.specs.Candidates.{AreFramed};
 ghost use Rattle.nef_cand.specs.Names.{operand_of, other_of, named_point, IsNameAt, IsNamed, AreNamed};
 ghost use Rattle.nef_locate.specs.Places.{IsPlaceIn, IsPlaceAt};
 ghost use Rattle.nef_ops.specs.Shares.{IsCombined, HasShare, Leads, LeadsAt, IsFindingIn, IsFoundAt};
 ghost use Rattle.nef_ops.specs.Far.{AreTold};
-ghost use Rattle.nef_ops.specs.Rights.{IsRight};
+ghost use Rattle.nef_ops.specs.Rights.{IsAsIn, IsRight};
+ghost use Rattle.nef_result.specs.Givens.{moved_if};
+ghost use Rattle.nef_result.specs.Outcomes.{of_operand, IsOutcomeAt};
 
 use crate::OutOfMemory;
 use crate::regions::{Regions, label_among};
@@ -21,7 +25,7 @@ use nef_complex::Complex;
 use nef_core::Job;
 use nef_geo::Label;
 use nef_locate::{Place, locate, place_map};
-use nef_result::CandidateMap;
+use nef_result::Outcome;
 use nef_smap::{SphereMap, face_map};
 use nef_star::Op;
 use nef_stopo::{combine, exchanged};
@@ -73,6 +77,71 @@ fn found_map(alloc: Global, c: &Complex, found: &Finding) -> Result<SphereMap, O
         Finding::At(place) => place_map(alloc, c, &place),
         Finding::Far(label) => Ok(face_map(alloc, label, label)),
     }
+}
+
+// The number of the vertex, where the place is one.
+fn vertex_number(place: &Place) -> Option<usize>
+    ensures vertex { (C : PlainComplex) (y : PlainPlace) → IsPlaceAt C y place.now → IfSome result (λ k. IsVertexPoint C k y) }
+{
+    match *place {
+        Place::Vertex(number) => Some(number),
+        Place::OnEdge(_) => None,
+        Place::InFacet(_) => None,
+        Place::InVolume { .. } => None,
+    }
+}
+
+// The number of the vertex that was found, where there is one.
+fn found_vertex(found: &Finding) -> Option<usize>
+    ensures vertex { (c : ShownComplex) (y : PlainPlace) → IsFoundAt c y found.now → IfSome result (λ k. IsVertexPoint (complex_of c) k y) }
+{
+    match *found {
+        Finding::At(place) => vertex_number(&place),
+        Finding::Far(_) => None,
+    }
+}
+
+// What another set has where it is as this one, of which this is found there: the vertex that this one has there, where its
+// map may be moved, or else what its map says.
+fn same_outcome(
+    alloc: Global,
+    c: &Complex,
+    operand: Operand,
+    is_own: bool,
+    found: &Finding,
+) -> Result<Outcome, OutOfMemory>
+    requires shows { (s : Set) × ShowsSet s c.now }
+    requires has { IsFindingIn c.now found.now }
+    ensures outcome { IfOk result (λ o. (us vs : Sequence ShownVertex) (r s : Set) (y : PlainPlace) → of_operand operand us vs ≡ moved_if is_own c.now → ShowsSet s c.now → IsFoundAt c.now y found.now → IsAsIn s r y → IsOutcomeAt us vs r y o) }
+{
+    if is_own {
+        if let Some(number) = found_vertex(found) {
+            return Ok(Outcome::Stays(operand, number));
+        }
+    }
+    let map = found_map(alloc, c, found)?;
+    Ok(Outcome::of(map))
+}
+
+// What another set has where it is as the complement of this one, of which this is found there.
+fn turned_outcome(
+    alloc: Global,
+    c: &Complex,
+    operand: Operand,
+    is_own: bool,
+    found: &Finding,
+) -> Result<Outcome, OutOfMemory>
+    requires shows { (s : Set) × ShowsSet s c.now }
+    requires has { IsFindingIn c.now found.now }
+    ensures outcome { IfOk result (λ o. (us vs : Sequence ShownVertex) (r s : Set) (y : PlainPlace) → of_operand operand us vs ≡ moved_if is_own c.now → ShowsSet s c.now → IsFoundAt c.now y found.now → IsAsIn (Set.other s) r y → IsOutcomeAt us vs r y o) }
+{
+    if is_own {
+        if let Some(number) = found_vertex(found) {
+            return Ok(Outcome::Turned(operand, number));
+        }
+    }
+    let map = found_map(alloc, c, found)?;
+    Ok(Outcome::of(exchanged(map)))
 }
 
 // The vertex or the edge that the name tells, of which set, and the place in the other set if the name tells one.
@@ -188,12 +257,15 @@ fn merged(
     }
 }
 
-/// The least map of the combination of the sets of two complexes at each candidate.
+/// What the combination of the sets of two complexes has at each candidate. The maps of a complex may be moved where it is the
+/// operation's own.
 #[derive(Drop)]
 pub(crate) struct BinaryJob<'a> {
     pub(crate) op: Op,
     pub(crate) first: &'a Complex,
     pub(crate) second: &'a Complex,
+    pub(crate) own_first: bool,
+    pub(crate) own_second: bool,
     pub(crate) far_first: &'a Regions,
     pub(crate) far_second: &'a Regions,
     pub(crate) listed: &'a [Named],
@@ -220,46 +292,91 @@ impl<'a> BinaryJob<'a> {
         choice_of(self.op, first_share, second_share)
     }
 
-    // The map at a candidate. Where what is found of it says that one set holds all of the frame close to it, or nothing,
-    // no more than one map is made.
-    fn combined_map(&self, alloc: Global, candidate: &Named) -> Result<SphereMap, OutOfMemory>
+    // What the combination has at a candidate. Where what is found of it says that one set holds all of the frame close to it,
+    // or nothing, no more than one map is made.
+    fn outcome_at(&self, alloc: Global, candidate: &Named) -> Result<Outcome, OutOfMemory>
         requires first { (s : Set) × ShowsSet s self.now.first.now }
         requires second { (t : Set) × ShowsSet t self.now.second.now }
         requires first_told { AreTold self.now.first.now self.now.far_first.now }
         requires second_told { AreTold self.now.second.now self.now.far_second.now }
         requires framed { InClosedFrame (place_of candidate.now.point) }
         requires named { IsNamed (complex_of self.now.first.now) (complex_of self.now.second.now) candidate.now }
-        ensures least { IfOk result IsLeastMap }
-        ensures cone { IfOk result (λ m. (s t : Set) → ShowsSet s self.now.first.now → ShowsSet t self.now.second.now → Cone (map_of m) (op_set self.now.op s t) (place_of candidate.now.point)) }
+        ensures outcome { IfOk result (λ o. (s t : Set) → ShowsSet s self.now.first.now → ShowsSet t self.now.second.now → IsOutcomeAt (moved_if self.now.own_first self.now.first.now) (moved_if self.now.own_second self.now.second.now) (op_set self.now.op s t) (place_of candidate.now.point) o) }
     {
         let first = finding_in(self.first, Operand::First, self.far_first, candidate);
         let second = finding_in(self.second, Operand::Second, self.far_second, candidate);
         match self.choice(&first, &second) {
-            Choice::First => found_map(alloc, self.first, &first),
-            Choice::Second => found_map(alloc, self.second, &second),
+            Choice::First => {
+                same_outcome(alloc, self.first, Operand::First, self.own_first, &first)
+            }
+            Choice::Second => {
+                same_outcome(
+                    alloc,
+                    self.second,
+                    Operand::Second,
+                    self.own_second,
+                    &second,
+                )
+            }
             Choice::NotFirst => {
-                let map = found_map(alloc, self.first, &first)?;
-                Ok(exchanged(map))
+                turned_outcome(alloc, self.first, Operand::First, self.own_first, &first)
             }
             Choice::NotSecond => {
-                let map = found_map(alloc, self.second, &second)?;
-                Ok(exchanged(map))
+                turned_outcome(
+                    alloc,
+                    self.second,
+                    Operand::Second,
+                    self.own_second,
+                    &second,
+                )
             }
             Choice::Both => {
                 let map = found_map(alloc, self.first, &first)?;
                 let other = found_map(alloc, self.second, &second)?;
-                merged(alloc, map, other, self.op)
+                let both = merged(alloc, map, other, self.op)?;
+                Ok(Outcome::of(both))
             }
         }
+    }
+
+    // Whether one look tells what the combination has at the candidate: a vertex of one set, in a region far from the other
+    // where that one's label is known.
+    fn is_told(&self, candidate: &Named) -> bool {
+        match candidate.name {
+            Name::Vertex(operand, _) => {
+                label_among(self.far_other(operand), &candidate.point).is_some()
+            }
+            Name::Edge(_, _) => false,
+            Name::Cut(_, _, _) => false,
+        }
+    }
+
+    // The regions of the set that isn't this operand.
+    fn far_other(&self, operand: Operand) -> &Regions {
+        match operand {
+            Operand::First => self.far_second,
+            Operand::Second => self.far_first,
+        }
+    }
+
+    /// How many jobs take more than one look.
+    pub(crate) fn busy_jobs(&self) -> u64 {
+        let mut count: u64 = 0;
+        for candidate in self.listed {
+            if !self.is_told(candidate) {
+                count = count.saturating_add(1);
+            }
+        }
+        count
     }
 }
 
 impl<'a> Job for BinaryJob<'a> {
-    type Out = CandidateMap;
+    type Out = Outcome;
 
     ghost count = { λ j. length j.listed.now };
 
-    ghost right = { λ j i m. (s t : Set) → ShowsSet s j.first.now → ShowsSet t j.second.now → IsRight (op_set j.op s t) (map named_point j.listed.now) i m.map };
+    ghost right = { λ j i o. (s t : Set) → ShowsSet s j.first.now → ShowsSet t j.second.now → IsRight (op_set j.op s t) (moved_if j.own_first j.first.now) (moved_if j.own_second j.second.now) (map named_point j.listed.now) i o };
 
     ghost workable = { λ j. ((s : Set) × ShowsSet s j.first.now) × ((t : Set) × ShowsSet t j.second.now) × AreFramed (map named_point j.listed.now) × AreNamed (complex_of j.first.now) (complex_of j.second.now) j.listed.now × AreTold j.first.now j.far_first.now × AreTold j.second.now j.far_second.now };
 
@@ -267,9 +384,7 @@ impl<'a> Job for BinaryJob<'a> {
         self.listed.len() as u64
     }
 
-    fn work(&self, alloc: Global, job: u64) -> Result<CandidateMap, OutOfMemory> {
-        let candidate = &self.listed[job as usize];
-        let map = self.combined_map(alloc, candidate)?;
-        Ok(CandidateMap::new(map))
+    fn work(&self, alloc: Global, job: u64) -> Result<Outcome, OutOfMemory> {
+        self.outcome_at(alloc, &self.listed[job as usize])
     }
 }

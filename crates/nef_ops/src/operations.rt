@@ -2,7 +2,7 @@
 //! regularisation of a set, and combinations of two.
 
 ghost use Rattle.std.specs.Prelude.{◌≡◌, ◌+◌, ◌-◌, ◌^◌};
-ghost use Rattle.nef_complex.specs.Prelude.{length, min, IfOk, Set, given_form, ShowsSet, Place, Cone};
+ghost use Rattle.nef_complex.specs.Prelude.{[], length, min, IfOk, Set, given_form, ShowsSet, Place, Cone};
 ghost use Rattle.nef_cand.specs.Candidates.{AreFramed};
 ghost use Rattle.nef_ops.specs.Nodes.{constant_set, unary_set};
 ghost use Rattle.nef_ops.specs.Rights.{IsRight};
@@ -10,18 +10,23 @@ ghost use Rattle.nef_smap.specs.Maps.{map_of, IsSphereMap, IsLeastMap};
 ghost use Rattle.nef_cand.specs.Points.{points_of};
 ghost use Rattle.nef_stopo.specs.Sets.{op_set};
 ghost use Rattle.nef_core.specs.Work.{combination_work};
+ghost use Rattle.nef_result.specs.Givens.{given_of, moved_if};
+ghost use Rattle.nef_result.specs.Outcomes.{AreOutcomesOf};
 
 use crate::OutOfMemory;
-use crate::finished::complex_by_jobs;
+use crate::finished::{all_worked, complex_by_jobs};
 use crate::local::BinaryJob;
 use crate::regions::regions_of;
 use nef_cand::{cut_candidates, named_points, near_candidates_by_threads, vertex_points};
 use nef_complex::Complex;
 use nef_core::{BoardKind, How, Job, Work};
-use nef_geo::{Label, Oriented, Point};
+use nef_geo::{Label, List, Oriented, Plane, Point};
 use nef_io::Gate;
 use nef_locate::local_map;
-use nef_result::{CandidateMap, add_carrier, copy_carriers, frame, half_map, merge_carriers};
+use nef_result::{
+    Given, Outcome, add_carrier, assemble, assemble_lent, copy_carriers, frame, half_map,
+    merge_carriers,
+};
 use nef_smap::SphereMap;
 use nef_star::Op;
 use nef_stopo::{boundary, closure, complement, interior};
@@ -39,11 +44,11 @@ struct HalfJob<'a> {
 }
 
 impl<'a> Job for HalfJob<'a> {
-    type Out = CandidateMap;
+    type Out = Outcome;
 
     ghost count = { λ j. length j.points.now };
 
-    ghost right = { λ j i m. IsRight (Set.half (given_form j.oriented.now) j.closed) j.points.now i m.map };
+    ghost right = { λ j i o. IsRight (Set.half (given_form j.oriented.now) j.closed) [] [] j.points.now i o };
 
     ghost workable = { λ j. ShowsSet Set.full j.whole.now × AreFramed j.points.now };
 
@@ -51,11 +56,11 @@ impl<'a> Job for HalfJob<'a> {
         self.points.len() as u64
     }
 
-    fn work(&self, alloc: Global, job: u64) -> Result<CandidateMap, OutOfMemory> {
+    fn work(&self, alloc: Global, job: u64) -> Result<Outcome, OutOfMemory> {
         let point = &self.points[job as usize];
         let whole = local_map(alloc, self.whole, point)?;
         let map = half_map(alloc, whole, self.oriented, self.closed, point)?;
-        Ok(CandidateMap::new(map))
+        Ok(Outcome::of(map))
     }
 }
 
@@ -162,11 +167,11 @@ struct UnaryJob<'a> {
 }
 
 impl<'a> Job for UnaryJob<'a> {
-    type Out = CandidateMap;
+    type Out = Outcome;
 
     ghost count = { λ j. length j.complex.now.vertices };
 
-    ghost right = { λ j i m. (s : Set) → ShowsSet s j.complex.now → IsRight (unary_set j.op s) (points_of j.complex.now) i m.map };
+    ghost right = { λ j i o. (s : Set) → ShowsSet s j.complex.now → IsRight (unary_set j.op s) [] [] (points_of j.complex.now) i o };
 
     ghost workable = { λ j. (s : Set) × ShowsSet s j.complex.now };
 
@@ -174,10 +179,10 @@ impl<'a> Job for UnaryJob<'a> {
         self.complex.vertices.len() as u64
     }
 
-    fn work(&self, alloc: Global, job: u64) -> Result<CandidateMap, OutOfMemory> {
+    fn work(&self, alloc: Global, job: u64) -> Result<Outcome, OutOfMemory> {
         let vertex = self.complex.vertices.at(job as usize);
         let map = changed(alloc, &vertex.map, self.op)?;
-        Ok(CandidateMap::new(map))
+        Ok(Outcome::of(map))
     }
 }
 
@@ -205,13 +210,99 @@ pub fn unary<R: Threads + Wait + Sync, G: Gate + Sync>(
     Ok(complex)
 }
 
-// What the jobs cost.
+// What so many jobs cost.
 fn work_of(a: &Complex, b: &Complex, jobs: u64, board: BoardKind) -> Work
     ensures work { result ≡ combination_work board jobs (min (length a.now.carriers) (length b.now.carriers)) (min (length a.now.vertices + length b.now.vertices) (2 ^ 64 - 1)) }
 {
     let carriers = a.carriers.len().min(b.carriers.len());
     let vertices = a.vertices.len().saturating_add(b.vertices.len());
     Work::of_combination(board, jobs, carriers, vertices)
+}
+
+// What the jobs cost, without those at which one look is enough. These are counted only where all jobs would pay for more
+// than one worker.
+fn busy_work(job: &BinaryJob, how: &How) -> Work {
+    let all = work_of(job.first, job.second, job.jobs(), how.board);
+    if all.crew(how.workers) < 2 {
+        return all;
+    }
+    work_of(job.first, job.second, job.busy_jobs(), how.board)
+}
+
+// What a combination has at its candidates, and its carriers.
+#[derive(Drop)]
+struct Gathered {
+    carriers: List<Plane>,
+    points: Vec<Point>,
+    outcomes: Vec<Outcome>,
+}
+
+// What the combination of the sets of two complexes has at its candidates. It is told which of the two may be taken apart.
+fn gather<R: Threads + Wait + Sync, G: Gate + Sync>(
+    rt: &R,
+    alloc: Global,
+    op: Op,
+    a: &Complex,
+    own_a: bool,
+    b: &Complex,
+    own_b: bool,
+    how: &How,
+    gate: &G,
+) -> Result<Gathered, OutOfMemory>
+    requires first { (s : Set) × ShowsSet s a.now }
+    requires second { (t : Set) × ShowsSet t b.now }
+    ensures gathered { IfOk result (λ g. (s t : Set) → ShowsSet s a.now → ShowsSet t b.now → AreOutcomesOf (op_set op s t) g.carriers g.points.items (moved_if own_a a.now) (moved_if own_b b.now) g.outcomes.items) }
+{
+    let listed = near_candidates_by_threads(rt, alloc, a, b, how.workers)?;
+    let candidates = listed.as_slice();
+    let points = named_points(alloc, candidates)?;
+    let far_first = regions_of(a, points.as_slice());
+    let far_second = regions_of(b, points.as_slice());
+    let job = BinaryJob {
+        op,
+        first: a,
+        second: b,
+        own_first: own_a,
+        own_second: own_b,
+        far_first: &far_first,
+        far_second: &far_second,
+        listed: candidates,
+    };
+    let work = busy_work(&job, how);
+    let outcomes = all_worked(rt, alloc, &job, work, how, gate)?;
+    let carriers = merge_carriers(alloc, a, b)?;
+    Ok(Gathered {
+        carriers,
+        points,
+        outcomes,
+    })
+}
+
+// As `binary_given`, of complexes that are let go of elsewhere.
+fn combined<R: Threads + Wait + Sync, G: Gate + Sync>(
+    rt: &R,
+    alloc: Global,
+    op: Op,
+    a: &mut Given,
+    b: &mut Given,
+    how: &How,
+    gate: &G,
+) -> Result<Complex, OutOfMemory>
+    requires first { (s : Set) × ShowsSet s (given_of a.old) }
+    requires second { (t : Set) × ShowsSet t (given_of b.old) }
+    ensures shows { IfOk result (λ c. (s t : Set) → ShowsSet s (given_of a.old) → ShowsSet t (given_of b.old) → ShowsSet (op_set op s t) c) }
+{
+    let first = a.complex();
+    let own_first = a.is_own();
+    let second = b.complex();
+    let own_second = b.is_own();
+    let parts = gather(
+        rt, alloc, op, first, own_first, second, own_second, how, gate,
+    )?;
+    let carriers = parts.carriers;
+    let points = parts.points;
+    let outcomes = parts.outcomes;
+    assemble(alloc, carriers, points.as_slice(), outcomes, a, b)
 }
 
 /// The complex of the combination of the sets of two complexes. One job for each near candidate, in their order, is worked over
@@ -230,21 +321,26 @@ pub fn binary<R: Threads + Wait + Sync, G: Gate + Sync>(
     requires second { (t : Set) × ShowsSet t b.now }
     ensures shows { IfOk result (λ c. (s t : Set) → ShowsSet s a.now → ShowsSet t b.now → ShowsSet (op_set op s t) c) }
 {
-    let listed = near_candidates_by_threads(rt, alloc, a, b, how.workers)?;
-    let points = named_points(alloc, listed.as_slice())?;
-    let points = points.as_slice();
-    let far_first = regions_of(a, points);
-    let far_second = regions_of(b, points);
-    let job = BinaryJob {
-        op,
-        first: a,
-        second: b,
-        far_first: &far_first,
-        far_second: &far_second,
-        listed: listed.as_slice(),
-    };
-    let work = work_of(a, b, job.jobs(), how.board);
-    let carriers = merge_carriers(alloc, a, b)?;
-    let complex = complex_by_jobs(rt, alloc, &job, work, points, carriers, a, b, how, gate)?;
-    Ok(complex)
+    let parts = gather(rt, alloc, op, a, false, b, false, how, gate)?;
+    let carriers = parts.carriers;
+    let points = parts.points;
+    let outcomes = parts.outcomes;
+    assemble_lent(alloc, carriers, points.as_slice(), outcomes, a, b)
+}
+
+/// As `binary`, of complexes some of which may be taken apart: the maps that the result has of these are moved.
+pub fn binary_given<R: Threads + Wait + Sync, G: Gate + Sync>(
+    rt: &R,
+    alloc: Global,
+    op: Op,
+    mut a: Given,
+    mut b: Given,
+    how: &How,
+    gate: &G,
+) -> Result<Complex, OutOfMemory>
+    requires first { (s : Set) × ShowsSet s (given_of a) }
+    requires second { (t : Set) × ShowsSet t (given_of b) }
+    ensures shows { IfOk result (λ c. (s t : Set) → ShowsSet s (given_of a.entry) → ShowsSet t (given_of b.entry) → ShowsSet (op_set op s t) c) }
+{
+    combined(rt, alloc, op, &mut a, &mut b, how, gate)
 }

@@ -1,6 +1,7 @@
 pub mod PlaneOrder
 pub mod Merging
 pub mod Vertices
+pub mod Filled
 pub mod HalfCones
 pub mod Zipped
 pub mod Walls

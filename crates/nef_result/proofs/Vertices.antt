@@ -1,9 +1,10 @@
--- The points of a set's maps that are vertices are all its vertices.
-use Rattle.std.proofs.Common.{◌≡◌, ℕ, ◌<◌, List, [], ◌∷◌, ◌++◌, length, map, arith, sym, subst, ◌⊎◌, inl, inr}
+-- The vertices of a set among its candidates, with their maps, are all its vertices.
+use Rattle.std.proofs.Common.{◌≡◌, ℕ, ◌<◌, ◌+◌, suc, List, [], ◌∷◌, ◌++◌, length, map, arith, refl, ap, sym, subst, ◌∙◌, ◌⊎◌, inl, inr}
+use Rattle.nef_space.specs.Lists.{IsAt}
 use Rattle.nef_space.specs.Local.{FlatDim, IsVertex}
-use Rattle.nef_space.specs.Place.{Place, IsPlaceBelow, SamePlace}
+use Rattle.nef_space.specs.Place.{Place, Form, IsPlaceBelow, SamePlace}
 use Rattle.nef_space.specs.Sets.{Set}
-use Rattle.nef_geo.specs.Shapes.{place_of}
+use Rattle.nef_geo.specs.Shapes.{place_of, form_of}
 use Rattle.nef_geo.specs.declared.plane.Plane.{Plane}
 use Rattle.nef_geo.specs.declared.point.Point.{Point}
 use Rattle.law_near.specs.Cells.{carriers}
@@ -13,71 +14,98 @@ use Rattle.law_sphere.specs.Maps.{Map, At}
 use Rattle.law_sphere.proofs.Dimensions.{volume-dimension, facet-dimension, edge-dimension}
 use Rattle.law_sphere.proofs.Lists.{at-one}
 use Rattle.law_sphere.specs.Least.{Cone, Least, Ordered, InOrder}
+use Rattle.law_complex.specs.Complexes.{Vertex as PlainVertex}
+use Rattle.law_complex.specs.Shows.{Carriers}
 use Rattle.nef_smap.specs.Maps.{map_of, IsLeastMap}
 use Rattle.nef_smap.specs.declared.map.SphereMap.{SphereMap}
+use Rattle.nef_smap.proofs.Lists.{contains-at}
+use Rattle.nef_smap.proofs.SideLists.{at-some as element-at}
 use Rattle.nef_spair.specs.Kinds.{IsVertex as IsVertexMap}
 use Rattle.nef_spair.specs.declared.answer.Kind.TheVariants.{Vertex as vertex_kind}
 use Rattle.nef_spair.proofs.OneKind.{fits}
-use Rattle.nef_smap.proofs.Lists.{contains-at}
-use Rattle.nef_smap.proofs.SideLists.{at-some as element-at}
-use Rattle.nef_edges.proofs.Places.{at-within, some-at, map-at, at-map, at-before, at-last, at-more}
-use Rattle.law_complex.specs.Complexes.{Vertex as PlainVertex}
+use Rattle.nef_edges.proofs.Places.{at-within, some-at, at-some, map-at, at-map, at-before, at-last, at-more}
 use Rattle.nef_complex.specs.Complexes.{vertex_of, AreVerticesOf}
+use Rattle.nef_complex.specs.Index.{AreHolders, AreInOrder, AreVertexHolders}
 use Rattle.nef_complex.specs.declared.complex.Vertex.{Vertex}
-use Rattle.nef_result.specs.Results.{ArePointsInOrder, AreMapsOf, AreVerticesAmong}
+use Rattle.nef_result.specs.declared.outcome.Outcome.{Outcome}
+use Rattle.nef_result.specs.declared.outcome.Outcome.TheVariants as outcome
+use Rattle.nef_result.specs.declared.parting.Source.{Source}
+use Rattle.nef_result.specs.declared.parting.Source.TheVariants.{Here, Kept, Turned}
+use Rattle.nef_result.specs.Results.{ArePointsInOrder}
+use Rattle.nef_result.specs.Outcomes.{IsOtherOf, IsOutcomeAt, AreOutcomesOf}
+use Rattle.nef_result.specs.Begun.{Begins, vertex_at, IsAdded, AreBegun, IsThere, AreThere, IsFilled, AreFilledTo}
 
 -- ---- one point after another
-pub vertices-none : (ps : List Point) → AreVerticesAmong ps [] []
-vertices-none ps = record { each = λ i v a. absurd a; all = λ k p m a b h. absurd b; ordered = λ i k u v l a b. absurd a }
+pub begun-none : (ps : List Point) → AreBegun ps [] [] []
+begun-none ps = record { alike = refl; each = λ i v f a b. absurd a; all = λ k p o a b h. absurd b; ordered = λ i k u v l a b. absurd a }
 
-module _ (ps : List Point) (ms : List SphereMap) (vs : List Vertex) (V : AreVerticesAmong ps ms vs) (m : SphereMap) where
-  pub vertices-left : (IsVertexMap (map_of m) → ⊥) → AreVerticesAmong ps (ms ++ m ∷ []) vs
-  vertices-left n = record {
-    each = λ i v a. let e = V.each i v a in (e.0, e.1, at-before ms (m ∷ []) e.0 v.map e.2, e.3);
-    all = λ k p l a b h. all k p l a h (at-more ms m k l b);
-    ordered = V.ordered;
+module _ (ps : List Point) (os : List Outcome) (vs : List Vertex) (fs : List Source) (B : AreBegun ps os vs fs) (o : Outcome) where
+  begun-left : o ≡ outcome.Gone → AreBegun ps (os ++ o ∷ []) vs fs
+  begun-left n = record {
+    alike = B.alike;
+    each = λ i v f a b. let e = B.each i v f a b in (e.0, e.1, e.2, at-before os (o ∷ []) e.0 e.1 e.3, e.4);
+    all = λ k p l a b h. all k p l a h (at-more os o k l b);
+    ordered = B.ordered;
   }
     where
-      all : (k : ℕ) (p : Point) (l : SphereMap) → At ps k p → IsVertexMap (map_of l) → At ms k l ⊎ ((k ≡ length ms) × (m ≡ l)) → (i : ℕ) × (v : Vertex) × At vs i v × (v.point ≡ p)
-      all k p l a h (inl b) = V.all k p l a b h
-      all k p l a h (inr e) = absurd (n (subst (λ (r : SphereMap). IsVertexMap (map_of r)) (sym e.1) h))
+      all : (k : ℕ) (p : Point) (l : Outcome) → At ps k p → (l ≡ outcome.Gone → ⊥) → At os k l ⊎ ((k ≡ length os) × (o ≡ l)) → (i : ℕ) × (v : Vertex) × At vs i v × (v.point ≡ p)
+      all k p l a h (inl b) = B.all k p l a b h
+      all k p l a h (inr e) = absurd (h (sym e.1 ∙ n))
 
-  pub vertices-kept : ArePointsInOrder ps → (p : Point) → At ps (length ms) p → IsVertexMap (map_of m) → AreVerticesAmong ps (ms ++ m ∷ []) (vs ++ record { point = p; map = m } ∷ [])
-  vertices-kept o p here i = record {
-    each = λ k v a. each k v (at-more vs new k v a);
-    all = λ k q l a b h. all k q l a h (at-more ms m k l b);
-    ordered = λ j k u v l a b. ordered j k u v l (at-more vs new j u a) (at-more vs new k v b);
+  begun-kept : ArePointsInOrder ps → (p : Point) → At ps (length os) p → (m : SphereMap) (f : Source) → Begins o m f → AreBegun ps (os ++ o ∷ []) (vs ++ vertex_at p m ∷ []) (fs ++ f ∷ [])
+  begun-kept r p here m f begins = record {
+    alike = let n = length-more vs (vertex_at p m) in let k = length-more fs f in let e = B.alike in omega (arith, n, k, e);
+    each = λ k v g a b. each k v g (at-more vs (vertex_at p m) k v a) (at-more fs f k g b);
+    all = λ k q l a b h. all k q l a h (at-more os o k l b);
+    ordered = λ j k u v l a b. ordered j k u v l (at-more vs (vertex_at p m) j u a) (at-more vs (vertex_at p m) k v b);
   }
     where
-      new : Vertex
-      new = record { point = p; map = m }
+      length-more : {A : Type 0} (xs : List A) (x : A) → length (xs ++ x ∷ []) ≡ length xs + 1
+      length-more [] x = refl
+      length-more (z ∷ zs) x = let e = length-more zs x in omega (arith, e)
 
-      Each : Vertex → Type 0
-      Each v = (k : ℕ) × At ps k v.point × At (ms ++ m ∷ []) k v.map × IsVertexMap (map_of v.map)
+      Each : Vertex → Source → Type 0
+      Each v g = (k : ℕ) × (l : Outcome) × At ps k v.point × At (os ++ o ∷ []) k l × Begins l v.map g
 
-      each : (k : ℕ) (v : Vertex) → At vs k v ⊎ ((k ≡ length vs) × (new ≡ v)) → Each v
-      each k v (inl a) = let e = V.each k v a in (e.0, e.1, at-before ms (m ∷ []) e.0 v.map e.2, e.3)
-      each k v (inr e) = subst Each e.1 (length ms, here, at-last ms m, i)
+      each : (k : ℕ) (v : Vertex) (g : Source) → At vs k v ⊎ ((k ≡ length vs) × (vertex_at p m ≡ v)) → At fs k g ⊎ ((k ≡ length fs) × (f ≡ g)) → Each v g
+      each k v g (inl a) (inl b) = let e = B.each k v g a b in (e.0, e.1, e.2, at-before os (o ∷ []) e.0 e.1 e.3, e.4)
+      each k v g (inl a) (inr e) = let l = at-within vs k v a in let d = e.0 in let n = B.alike in absurd (omega (arith, l, d, n))
+      each k v g (inr e) (inl b) = let l = at-within fs k g b in let d = e.0 in let n = B.alike in absurd (omega (arith, l, d, n))
+      each k v g (inr e) (inr d) = subst (λ (w : Vertex). Each w g) e.1 (subst (Each (vertex_at p m)) d.1 (length os, o, here, at-last os o, begins))
 
-      all : (k : ℕ) (q : Point) (l : SphereMap) → At ps k q → IsVertexMap (map_of l) → At ms k l ⊎ ((k ≡ length ms) × (m ≡ l)) → (j : ℕ) × (v : Vertex) × At (vs ++ new ∷ []) j v × (v.point ≡ q)
-      all k q l a h (inl b) = let e = V.all k q l a b h in (e.0, e.1, at-before vs (new ∷ []) e.0 e.1 e.2, e.3)
-      all k q l a h (inr e) = (length vs, new, at-last vs new, at-one ps (length ms) p q here (subst (λ (r : ℕ). At ps r q) e.0 a))
+      all : (k : ℕ) (q : Point) (l : Outcome) → At ps k q → (l ≡ outcome.Gone → ⊥) → At os k l ⊎ ((k ≡ length os) × (o ≡ l)) → (j : ℕ) × (v : Vertex) × At (vs ++ vertex_at p m ∷ []) j v × (v.point ≡ q)
+      all k q l a h (inl b) = let e = B.all k q l a b h in (e.0, e.1, at-before vs (vertex_at p m ∷ []) e.0 e.1 e.2, e.3)
+      all k q l a h (inr e) = (length vs, vertex_at p m, at-last vs (vertex_at p m), at-one ps (length os) p q here (subst (λ (n : ℕ). At ps n q) e.0 a))
 
       IsBefore : Vertex → Vertex → Type 0
       IsBefore u v = IsPlaceBelow (place_of u.point) (place_of v.point)
 
-      ordered : (j k : ℕ) (u v : Vertex) → j < k → At vs j u ⊎ ((j ≡ length vs) × (new ≡ u)) → At vs k v ⊎ ((k ≡ length vs) × (new ≡ v)) → IsBefore u v
-      ordered j k u v l (inl a) (inl b) = V.ordered j k u v l a b
-      ordered j k u v l (inl a) (inr e) = let f = V.each j u a in subst (IsBefore u) e.1 (o f.0 (length ms) u.point p (at-within ms f.0 u.map f.2) f.1 here)
+      -- what was added before is at an earlier point
+      before : (j : ℕ) (u : Vertex) → At vs j u → IsBefore u (vertex_at p m)
+      before j u a =
+          let l = at-within vs j u a in let n = B.alike in
+          let g = element-at fs j (omega (arith, l, n)) in
+          let e = B.each j u g.0 a g.1 in
+          r e.0 (length os) u.point p (at-within os e.0 e.1 e.3) e.2 here
+
+      ordered : (j k : ℕ) (u v : Vertex) → j < k → At vs j u ⊎ ((j ≡ length vs) × (vertex_at p m ≡ u)) → At vs k v ⊎ ((k ≡ length vs) × (vertex_at p m ≡ v)) → IsBefore u v
+      ordered j k u v l (inl a) (inl b) = B.ordered j k u v l a b
+      ordered j k u v l (inl a) (inr e) = subst (IsBefore u) e.1 (before j u a)
       ordered j k u v l (inr e) (inl b) = let h = at-within vs k v b in let d = e.0 in absurd (omega (arith, l, h, d))
       ordered j k u v l (inr e) (inr f) = let d = e.0 in let h = f.0 in absurd (omega (arith, l, d, h))
 
+  pub begun-added : ArePointsInOrder ps → (p : Point) → At ps (length os) p → (ws : List Vertex) (gs : List Source) → IsAdded p o vs fs ws gs → AreBegun ps (os ++ o ∷ []) ws gs
+  begun-added r p here ws gs (inl (n, e, d)) =
+      subst (λ (us : List Vertex). AreBegun ps (os ++ o ∷ []) us gs) (sym e) (subst (AreBegun ps (os ++ o ∷ []) vs) (sym d) (begun-left n))
+  begun-added r p here ws gs (inr (m, f, b, e, d)) =
+      subst (λ (us : List Vertex). AreBegun ps (os ++ o ∷ []) us gs) (sym e) (subst (AreBegun ps (os ++ o ∷ []) (vs ++ vertex_at p m ∷ [])) (sym d) (begun-kept r p here m f b))
+
 -- ---- a map by the flat directions of its set
 module _ (M : Map) (s : Set) (p : Place) (L : Least M) (C : Cone M s p) where
-  vertex-flat : IsVertexMap M → IsVertex s p
+  pub vertex-flat : IsVertexMap M → IsVertex s p
   vertex-flat i = fits M vertex_kind i L s p C
 
-  flat-vertex : IsVertex s p → IsVertexMap M
+  pub flat-vertex : IsVertex s p → IsVertexMap M
   flat-vertex f = record {
     no_volume = λ h. differ 3 (volume-dimension M s p C h) (omega arith);
     no_facet = λ n h. differ 2 (facet-dimension M s p C L n h) (omega arith);
@@ -88,61 +116,137 @@ module _ (M : Map) (s : Set) (p : Place) (L : Least M) (C : Cone M s p) where
       differ k g l = let e = FlatDim-one s p 0 k f g in omega (arith, l, e)
 
 -- ---- the vertices of the set
-vertex-same : (s : Set) (p q : Place) → SamePlace p q → IsVertex s p → IsVertex s q
+pub vertex-same : (s : Set) (p q : Place) → SamePlace p q → IsVertex s p → IsVertex s q
 vertex-same s p q same = FlatDim-by_germs s s p q (germs-by_cell s p q (signs-same (carriers s) p q same)) 0
 
 point-same : (y : Place) (p q : Point) → q ≡ p → SamePlace (place_of p) y → SamePlace (place_of q) y
 point-same y p q e = subst (λ (r : Point). SamePlace (place_of r) y) (sym e)
 
-module _ (s : Set) (hs : List Plane) (ps : List Point) (ms : List SphereMap) (vs : List Vertex) (A : AreMapsOf s hs ps ms) (V : AreVerticesAmong ps ms vs) where
-  least : (i : ℕ) (v : Vertex) → At vs i v → IsLeastMap v.map
-  least i v a = let e = V.each i v a in A.least_at.least e.0 v.map e.2
+-- ---- carriers
+pub carriers-in-order : (s : Set) (hs : List Plane) → Carriers s (map form_of hs) → AreInOrder hs
+carriers-in-order s hs C i j g h l a b = C.ordered i j (form_of g) (form_of h) l (at-map form_of hs i g (some-at hs i g a)) (at-map form_of hs j h (some-at hs j h b))
 
-  cone : (i : ℕ) (v : Vertex) → At vs i v → Cone (map_of v.map) s (place_of v.point)
-  cone i v a = let e = V.each i v a in A.cones e.0 v.point v.map e.1 e.2
+-- ---- what the outcome says of a vertex
+module _ (us vs : List Vertex) where
+  there-by : (s : Set) (p : Place) (o : Outcome) (m : SphereMap) (f : Source) → IsOutcomeAt us vs s p o → Begins o m f → IsThere us vs p f
+  there-by s p (outcome.Made n) m f i b = subst (IsThere us vs p) (sym b.1) tt
+  there-by s p (outcome.Stays o k) m f i b = let v = i.1 in subst (IsThere us vs p) (sym b) (v.0, v.1)
+  there-by s p (outcome.Turned o k) m f i b = let v = i.1 in subst (IsThere us vs p) (sym b) (v.0, v.1, v.2)
+  there-by s p outcome.Gone m f i b = absurd b
 
-  is-vertex : (i : ℕ) (v : Vertex) → At vs i v → IsVertex s (place_of v.point)
-  is-vertex i v a = let l = least i v a in vertex-flat (map_of v.map) s (place_of v.point) l.least (cone i v a) (V.each i v a).3
+  good-by : (s : Set) (p : Place) (o : Outcome) (m n : SphereMap) (f : Source) → IsOutcomeAt us vs s p o → Begins o m f → IsFilled us vs f m n → IsVertex s p × IsLeastMap n × Cone (map_of n) s p
+  good-by s p (outcome.Made l) m n f i b h =
+      let g : n ≡ m = subst (λ (r : Source). IsFilled us vs r m n) b.1 h in
+      let e : l ≡ n = sym (g ∙ b.0) in
+      (i.0, subst IsLeastMap e i.1, subst (λ (r : SphereMap). Cone (map_of r) s p) e i.2)
+  good-by s p (outcome.Stays o k) m n f i b h =
+      let g = subst (λ (r : Source). IsFilled us vs r m n) b h in
+      let v = i.1 in
+      let e : v.0.map ≡ n = ap (λ (w : Vertex). w.map) (at-one _ k v.0 g.0 v.1.0 g.1) ∙ sym g.2 in
+      (i.0, subst IsLeastMap e v.2, subst (λ (r : SphereMap). Cone (map_of r) s p) e v.3)
+  good-by s p (outcome.Turned o k) m n f i b h =
+      let g = subst (λ (r : Source). IsFilled us vs r m n) b h in
+      let v = i.1 in
+      let e : g.0 ≡ v.0 = at-one _ k g.0 v.0 g.1 v.1.0 in
+      let other = subst (λ (w : Vertex). IsOtherOf w.map n) e g.2 in
+      (i.0, other.0, v.3 n other)
+  good-by s p outcome.Gone m n f i b h = absurd b
 
-  -- each vertex of the set is listed, and has a map, which is kept
-  complete : (y : Place) → IsVertex s y → (i : ℕ) × (v : PlainVertex) × At (map vertex_of vs) i v × SamePlace v.point y
-  complete y f =
-      let q = A.complete y f in
-      let p = q.0 in
-      let k = contains-at ps p q.1 in
-      let within = at-within ps k.0 p k.1 in
-      let alike = A.least_at.alike in
-      let m = element-at ms k.0 (omega (arith, within, alike)) in
-      let l = A.least_at.least k.0 m.0 m.1 in
-      let there = vertex-same s y (place_of p) (same-place_sym (place_of p) y q.2) f in
-      let e = V.all k.0 p m.0 k.1 m.1 (flat-vertex (map_of m.0) s (place_of p) l.least (A.cones k.0 p m.0 k.1 m.1) there) in
-      (e.0, vertex_of e.1, at-map vertex_of vs e.0 e.1 e.2, point-same y p e.1.point e.3 q.2)
-
-  -- what holds of each vertex of the program holds of each vertex
-  each-vertex : (P : PlainVertex → Type 0) → ((i : ℕ) (v : Vertex) → At vs i v → P (vertex_of v)) → (n : ℕ) (v : PlainVertex) → At (map vertex_of vs) n v → P v
-  each-vertex P f n v a = let u = map-at vertex_of vs n v a in subst P u.2 (f n u.0 u.1)
-
-  placed : InOrder (λ u v. IsPlaceBelow u.point v.point) (map vertex_of vs)
-  placed i k x y h a b =
-      let u = map-at vertex_of vs i x a in let v = map-at vertex_of vs k y b in
-      subst (λ (w : PlainVertex). IsPlaceBelow x.point w.point) v.2 (subst (λ (w : PlainVertex). IsPlaceBelow w.point (place_of v.0.point)) u.2 (V.ordered i k u.0 v.0 h u.1 v.1))
-
-  pub are-vertices : AreVerticesOf s hs vs
-  are-vertices = record {
-    sorted = λ i k u v l a b. V.ordered i k u v l (some-at vs i u a) (some-at vs k v b);
-    maps = λ k v a. least k v (some-at vs k v a);
-    shown = λ es E. record {
-      vertices = each-vertex (λ v. IsVertex s v.point) is-vertex;
-      complete = complete;
-      ordered = placed;
-      cones = each-vertex (λ v. Cone v.map s v.point) cone;
-      least = each-vertex (λ v. Least v.map) (λ i v a. (least i v a).least);
-      maps_ordered = each-vertex (λ v. Ordered v.map) (λ i v a. (least i v a).sphere_map.ordered);
-      edges = E;
-      carriers = A.carriers;
-    };
+-- ---- the vertices of the set
+module _ (s : Set) (hs : List Plane) (ps : List Point) (us vs : List Vertex) (os : List Outcome) (A : AreOutcomesOf s hs ps us vs os) (ys : List Vertex) (fs : List Source) (B : AreBegun ps os ys fs) where
+  pub are-there : AreThere us vs ys fs
+  are-there = record {
+    alike = B.alike;
+    each = λ i y f a b. let e = B.each i y f a b in there-by us vs s (place_of y.point) e.1 y.map f (A.right e.0 y.point e.1 e.2 e.3) e.4;
+    ordered = B.ordered;
   }
 
--- the same list as it is handed on
-pub handed-on : (s : Set) (hs : List Plane) (ps : List Point) (ms : List SphereMap) (vs us : List Vertex) → us ≡ vs → AreVerticesAmong ps ms vs → AreMapsOf s hs ps ms → AreVerticesOf s hs us
-handed-on s hs ps ms vs us e V A = subst (AreVerticesOf s hs) (sym e) (are-vertices s hs ps ms vs A V)
+  module _ (xs : List Vertex) (F : AreFilledTo us vs ys fs (length fs) xs) where
+    -- what became of a vertex
+    became : (i : ℕ) (x : Vertex) → At xs i x → (y : Vertex) × (f : Source) × At ys i y × At fs i f × (x.point ≡ y.point) × IsFilled us vs f y.map x.map
+    became i x a =
+        let l = at-within xs i x a in let n = F.alike in let k = B.alike in
+        let y = element-at ys i (omega (arith, l, n)) in
+        let f = element-at fs i (omega (arith, l, n, k)) in
+        let d = F.done i y.0 f.0 (at-within fs i f.0 f.1) y.1 f.1 in
+        let e = at-one xs i d.0 x d.1 a in
+        (y.0, f.0, y.1, f.1, subst (λ (w : Vertex). w.point ≡ y.0.point) e d.2, subst (λ (w : Vertex). IsFilled us vs f.0 y.0.map w.map) e d.3)
+
+    good : (i : ℕ) (x : Vertex) → At xs i x → IsVertex s (place_of x.point) × IsLeastMap x.map × Cone (map_of x.map) s (place_of x.point)
+    good i x a =
+        let u = became i x a in
+        let e = B.each i u.0 u.1 u.2 u.3 in
+        subst (λ (q : Point). IsVertex s (place_of q) × IsLeastMap x.map × Cone (map_of x.map) s (place_of q)) (sym u.4)
+        (good-by us vs s (place_of u.0.point) e.1 u.0.map x.map u.1 (A.right e.0 u.0.point e.1 e.2 e.3) e.4 u.5)
+
+    placed : InOrder (λ (u v : Vertex). IsPlaceBelow (place_of u.point) (place_of v.point)) xs
+    placed i k u v l a b =
+        let f = became i u a in let g = became k v b in
+        subst (λ (q : Point). IsPlaceBelow (place_of q) (place_of v.point)) (sym f.4)
+        (subst (λ (q : Point). IsPlaceBelow (place_of f.0.point) (place_of q)) (sym g.4) (B.ordered i k f.0 g.0 l f.2 g.2))
+
+    -- each vertex of the set is listed, and says so
+    complete : (y : Place) → IsVertex s y → (i : ℕ) × (v : PlainVertex) × At (map vertex_of xs) i v × SamePlace v.point y
+    complete y v =
+        let q = A.complete y v in
+        let p = q.0 in
+        let k = contains-at ps p q.1 in
+        let l = at-within ps k.0 p k.1 in let n = A.alike in
+        let o = element-at os k.0 (omega (arith, l, n)) in
+        let there = vertex-same s y (place_of p) (same-place_sym (place_of p) y q.2) v in
+        let r = A.right k.0 p o.0 k.1 o.1 in
+        let e = B.all k.0 p o.0 k.1 o.1 (λ g. subst (IsOutcomeAt us vs s (place_of p)) g r there) in
+        let m = at-within ys e.0 e.1 e.2 in let j = B.alike in
+        let f = element-at fs e.0 (omega (arith, m, j)) in
+        let d = F.done e.0 e.1 f.0 (at-within fs e.0 f.0 f.1) e.2 f.1 in
+        (e.0, vertex_of d.0, at-map vertex_of xs e.0 d.0 d.1, point-same y p d.0.point (d.2 ∙ e.3) q.2)
+
+    -- what holds of each vertex of the program holds of each vertex
+    each-vertex : (P : PlainVertex → Type 0) → ((i : ℕ) (v : Vertex) → At xs i v → P (vertex_of v)) → (n : ℕ) (v : PlainVertex) → At (map vertex_of xs) n v → P v
+    each-vertex P f n v a = let u = map-at vertex_of xs n v a in subst P u.2 (f n u.0 u.1)
+
+    placed-plain : InOrder (λ u v. IsPlaceBelow u.point v.point) (map vertex_of xs)
+    placed-plain i k x y h a b =
+        let u = map-at vertex_of xs i x a in let v = map-at vertex_of xs k y b in
+        subst (λ (w : PlainVertex). IsPlaceBelow x.point w.point) v.2 (subst (λ (w : PlainVertex). IsPlaceBelow w.point (place_of v.0.point)) u.2 (placed i k u.0 v.0 h u.1 v.1))
+
+    pub are-vertices : AreVerticesOf s hs xs
+    are-vertices = record {
+      sorted = λ i k u v l a b. placed i k u v l (some-at xs i u a) (some-at xs k v b);
+      maps = λ k v a. (good k v (some-at xs k v a)).1;
+      shown = λ es E. record {
+        vertices = each-vertex (λ v. IsVertex s v.point) (λ i v a. (good i v a).0);
+        complete = complete;
+        ordered = placed-plain;
+        cones = each-vertex (λ v. Cone v.map s v.point) (λ i v a. (good i v a).2);
+        least = each-vertex (λ v. Least v.map) (λ i v a. (good i v a).1.least);
+        maps_ordered = each-vertex (λ v. Ordered v.map) (λ i v a. (good i v a).1.sphere_map.ordered);
+        edges = E;
+        carriers = A.carriers;
+      };
+    }
+
+    -- the carriers that hold a vertex hold it with its map
+    pub are-held : (gs : List Plane) (rows : List (List ℕ)) → AreVertexHolders gs ys rows → AreVertexHolders gs xs rows
+    are-held gs rows H = record {
+      as_many = H.as_many ∙ sym F.alike;
+      each = λ k x ns a b.
+          let u = became k x (some-at xs k x a) in
+          subst (λ (q : Point). AreHolders gs (place_of q) (place_of q) ns) (sym u.4) (H.each k u.0 ns (at-some ys k u.0 u.2) b);
+    }
+
+-- ---- the same lists as they are handed on
+pub there-as : (us ws vs zs ys : List Vertex) (fs gs : List Source) → ws ≡ us → zs ≡ vs → gs ≡ fs → AreThere us vs ys fs → AreThere ws zs ys gs
+there-as us ws vs zs ys fs gs a b c T =
+    subst (λ (ks : List Vertex). AreThere ks zs ys gs) (sym a) (subst (λ (ks : List Vertex). AreThere us ks ys gs) (sym b) (subst (AreThere us vs ys) (sym c) T))
+
+pub filled-as : (us ws vs zs ys : List Vertex) (fs gs : List Source) (xs : List Vertex) → ws ≡ us → zs ≡ vs → gs ≡ fs → AreFilledTo ws zs ys gs (length gs) xs → AreFilledTo us vs ys fs (length fs) xs
+filled-as us ws vs zs ys fs gs xs a b c F =
+    subst (λ (ks : List Vertex). AreFilledTo ks vs ys fs (length fs) xs) a
+    (subst (λ (ks : List Vertex). AreFilledTo ws ks ys fs (length fs) xs) b (subst (λ (hs : List Source). AreFilledTo ws zs ys hs (length hs) xs) c F))
+
+pub vertices-as : (s : Set) (hs ks : List Plane) (xs zs : List Vertex) → ks ≡ hs → zs ≡ xs → AreVerticesOf s hs xs → AreVerticesOf s ks zs
+vertices-as s hs ks xs zs a b V = subst (λ (gs : List Plane). AreVerticesOf s gs zs) (sym a) (subst (AreVerticesOf s hs) (sym b) V)
+
+pub held-as : (hs ks : List Plane) (xs zs : List Vertex) (rows : List (List ℕ)) → ks ≡ hs → zs ≡ xs → AreVertexHolders hs xs rows → AreVertexHolders ks zs rows
+held-as hs ks xs zs rows a b H = subst (λ (gs : List Plane). AreVertexHolders gs zs rows) (sym a) (subst (λ (us : List Vertex). AreVertexHolders hs us rows) (sym b) H)

@@ -2,7 +2,7 @@ use Rattle.std.proofs.Common.{sym, subst}
 use Rattle.nef_space.specs.Sets.{Set}
 use Rattle.nef_geo.specs.Shapes.{given_form}
 use Rattle.nef_cand.specs.Candidates.{AreFramed}
-use Rattle.nef_ops.proofs.Given.{given-plane}
+use Rattle.nef_ops.proofs.GivenPlanes.{given-plane}
 use Rattle.nef_ops.proofs.Gathered.{half-worked}
 use Rattle.nef_ops.proofs.operations.half_within.Goals as goal
 

@@ -1,7 +1,6 @@
-use Rattle.std.proofs.Common.{sym, subst}
+use Rattle.std.proofs.Common.{[], get_or}
 use Rattle.nef_space.specs.Sets.{Set}
-use Rattle.nef_geo.specs.Shapes.{given_form}
-use Rattle.nef_ops.specs.Rights.{IsRight}
+use Rattle.nef_geo.specs.Shapes.{given_form, place_of}
 use Rattle.nef_ops.proofs.Gathered.{right-at}
 use Rattle.nef_ops.proofs.operations.HalfJobJob.work.Goals as goal
 
@@ -10,6 +9,5 @@ half_map-requires-clause-frame c = c.in_ok-whole.ensures.cone Set.full c.require
 
 pub returns : goal.returns
 returns c =
-    let j = c.args.self.now in
-    subst (IsRight (Set.half (given_form j.oriented.now) j.closed) j.points.now c.args.job) (sym c.new.ensures.map)
-    (right-at (Set.half (given_form j.oriented.now) j.closed) j.points.now c.args.job c.index-self-job.result c.in_ok-map.map c.requires.job c.in_ok-map.ensures.least c.in_ok-map.ensures.cone)
+    let j = c.args.self.now in let f = Set.half (given_form j.oriented.now) j.closed in let q = c.index-self-job.result in
+    right-at f [] [] j.points.now c.args.job q c.of.result c.requires.job (c.of.ensures.outcome [] [] f (place_of (get_or j.points.now c.args.job q)) c.in_ok-map.ensures.cone)

@@ -1,8 +1,6 @@
-use Rattle.std.proofs.Common.{sym, subst}
+use Rattle.std.proofs.Common.{[]}
 use Rattle.nef_geo.specs.Shapes.{place_of}
-use Rattle.nef_cand.specs.Points.{points_of}
 use Rattle.nef_ops.specs.Nodes.{unary_set}
-use Rattle.nef_ops.specs.Rights.{IsRight}
 use Rattle.nef_complex.proofs.Reading.{got-at}
 use Rattle.nef_ops.proofs.Gathered.{vertex-right}
 use Rattle.nef_ops.proofs.operations.UnaryJobJob.work.Goals as goal
@@ -15,6 +13,5 @@ changed-requires c =
 pub returns : goal.returns
 returns c = λ s S.
     let j = c.args.self.now in let v = c.at-vertex.result.now in
-    subst (IsRight (unary_set j.op s) (points_of j.complex.now) c.args.job) (sym c.new.ensures.map)
-    (vertex-right s j.complex.now S j.op c.args.job v c.in_ok-map.map (got-at j.complex.now.vertices c.args.job v c.at-vertex.ensures.element) c.in_ok-map.ensures.least
-    (c.in_ok-map.ensures.cone s (place_of v.point)))
+    vertex-right s j.complex.now S j.op c.args.job v c.in_ok-map.map c.of.result (got-at j.complex.now.vertices c.args.job v c.at-vertex.ensures.element)
+    (λ p. c.of.ensures.outcome [] [] (unary_set j.op s) p) (c.in_ok-map.ensures.cone s (place_of v.point))

@@ -1,0 +1,20 @@
+use Rattle.std.proofs.Common.{◌≡◌, sym, subst, ◌∙◌, true, ap, Bool, Option, IfSome, ℕ}
+use Rattle.nef_space.specs.Place.{Place}
+use Rattle.nef_smap.specs.Maps.{map_of}
+use Rattle.law_complex.specs.Skeleton.{IsVertexPoint}
+use Rattle.nef_complex.specs.Complexes.{complex_of}
+use Rattle.nef_result.specs.Givens.{moved_if}
+use Rattle.nef_ops.proofs.Kept.{turned}
+use Rattle.nef_ops.proofs.local.turned_outcome.Goals as goal
+
+pub returns-in-Some : goal.returns-in-Some
+returns-in-Some c = record {
+  outcome = λ us vs r s y e S a h.
+      let b = c.args.c.now in
+      let own : moved_if c.args.is_own b ≡ b.vertices = ap (λ (o : Bool). moved_if o b) c.if-is_own.true in
+      let at = subst (λ (o : Option ℕ). IfSome o (λ (k : ℕ). IsVertexPoint (complex_of b) k y)) c.in-Some.is (c.found_vertex.ensures.vertex b y a) in
+      turned b c.in-Some.number y r s S at us vs c.args.operand (e ∙ own) h;
+}
+
+pub returns : goal.returns
+returns c = record { outcome = λ us vs r s y e S a h. c.of.ensures.outcome us vs r y (h (map_of c.exchanged.result) (c.exchanged.ensures.cone s y (c.in_ok-map.ensures.cone s y S a))) }

@@ -1,0 +1,6 @@
+use Rattle.std.proofs.Common.{subst}
+use Rattle.nef_locate.specs.Places.{IsPlaceAt}
+use Rattle.nef_ops.proofs.local.vertex_number.Goals as goal
+
+pub returns-in-Vertex : goal.returns-in-Vertex
+returns-in-Vertex c = record { vertex = λ C y a. subst (IsPlaceAt C y) c.in-Vertex.is a }

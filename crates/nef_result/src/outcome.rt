@@ -1,0 +1,48 @@
+//! What a set has at a candidate.
+
+ghost use Rattle.std.specs.Prelude.{◌↔◌};
+ghost use Rattle.nef_complex.specs.Prelude.{List as Sequence, IsTrue, Set, Place, Cone};
+ghost use Rattle.nef_complex.specs.declared.complex.Vertex.{Vertex};
+ghost use Rattle.nef_smap.specs.Maps.{map_of, IsLeastMap};
+ghost use Rattle.nef_spair.specs.Kinds.{IsVertex};
+ghost use Rattle.nef_result.specs.Outcomes.{IsOutcomeAt};
+
+use nef_cand::Operand;
+use nef_smap::SphereMap;
+use nef_spair::{Kind, kind};
+
+/// What a set that is made of two others has at a candidate. Where a vertex of one of the two has the map already, and its map
+/// may be moved, it isn't made again: that vertex is told by its number.
+#[derive(Debug, Drop)]
+pub enum Outcome {
+    /// A vertex with this least map.
+    Made(SphereMap),
+    /// A vertex with the map of this one.
+    Stays(Operand, usize),
+    /// A vertex with the map of this one in which In and `Not` are exchanged.
+    Turned(Operand, usize),
+    /// No vertex.
+    Gone,
+}
+
+// Whether no direction is flat at the point of the map.
+fn is_vertex(map: &SphereMap) -> bool
+    requires least { IsLeastMap map.now }
+    ensures vertex { IsTrue result ↔ IsVertex (map_of map.now) }
+{
+    matches!(kind(map), Kind::Vertex)
+}
+
+impl Outcome {
+    /// What a set has where this is its least map. The map of a point that is no vertex is let go.
+    pub fn of(map: SphereMap) -> Outcome
+        requires least { IsLeastMap map }
+        ensures outcome { (us vs : Sequence Vertex) (s : Set) (p : Place) → Cone (map_of map) s p → IsOutcomeAt us vs s p result }
+    {
+        if is_vertex(&map) {
+            Outcome::Made(map)
+        } else {
+            Outcome::Gone
+        }
+    }
+}
