@@ -9,7 +9,7 @@ use Rattle.nef_script.specs.Commands.{Binds}
 use Rattle.nef_plan.specs.declared.planner.Step.{Step}
 use Rattle.nef_plan.specs.declared.planner.Plan.{Plan}
 use Rattle.nef_plan.specs.Rows.{HasAdded, MakesOnly}
-use Rattle.nef_plan.specs.Steps.{AreTimely, HasMore, IsDue, IsOfOthers, Makes, asked, is_question}
+use Rattle.nef_plan.specs.Steps.{AreTimely, HasMore, IsDue, asked, is_question}
 use Rattle.nef_plan.proofs.Growth.{asked-append}
 
 -- ---- what is made
@@ -37,7 +37,7 @@ added-wider a b P Q f g = record { added = g.added; steps = g.steps; each = All-
 
 -- ---- when it is made
 -- an element of two lists, one behind the other, is one of either
-parted : {X : Type 0} (xs ys front rest : List X) (x : X) → xs ++ ys ≡ front ++ x ∷ rest
+pub parted : {X : Type 0} (xs ys front rest : List X) (x : X) → xs ++ ys ≡ front ++ x ∷ rest
     → ((last : List X) × (xs ≡ front ++ x ∷ last)) ⊎ ((first : List X) × (front ≡ xs ++ first) × (ys ≡ first ++ x ∷ rest))
 parted [] ys front rest x e = inr (front, refl, e)
 parted (a ∷ xs) ys [] rest x e = inl (xs, let head : a ∷ (xs ++ ys) ≡ x ∷ rest = e in cc)
@@ -49,7 +49,7 @@ parted (a ∷ xs) ys (b ∷ front) rest x e =
     (λ r. inr (r.0, subst (λ z. b ∷ front ≡ z ∷ (xs ++ r.0)) (sym same) (ap (λ z. b ∷ z) r.1), r.2))
     (parted xs ys front rest x (cc))
 
-all-at : {X : Type 0} (P : X → Type 0) (front rest : List X) (x : X) → All P (front ++ x ∷ rest) → P x
+pub all-at : {X : Type 0} (P : X → Type 0) (front rest : List X) (x : X) → All P (front ++ x ∷ rest) → P x
 all-at P [] rest x all = All-head P x rest all
 all-at P (a ∷ front) rest x all = all-at P front rest x (All-tail P a (front ++ x ∷ rest) all)
 

@@ -3,3 +3,5 @@ pub mod Growth
 pub mod Added
 pub mod Rows
 pub mod Bounds
+pub mod Grouping
+pub mod Ordering

@@ -1,4 +1,5 @@
 pub mod Alike
 pub mod Blocks
+pub mod Groups
 pub mod Rows
 pub mod Steps

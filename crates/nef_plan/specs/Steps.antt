@@ -97,3 +97,15 @@ IsOfOthers n s k = (n ≤ k) × ((m : ℕ) × LooksAt s m)
 -- no set is made before the questions of earlier lines are asked: the step that makes it stands behind the questions of all lines before one that binds its node, or no line can bind its node, and it's made of others, of which the same holds
 pub record AreTimely (nodes : List Node) (commands : List Command) (steps : List Step) : Type 0 where
   pub each : (front rest : List Step) (s : Step) → steps ≡ front ++ s ∷ rest → (k : ℕ) → Makes s k → IsDue commands front k ⊎ IsOfOthers (length nodes) s k
+
+-- of these steps the first that asks a question looks at the set of node k, or at a set that steps before it make of that one, or of others so made; where no question comes any more, a set may be made that none needs
+abbrev pub IsNeeded : List Step → ℕ → Type 0
+IsNeeded [] k = Unit {0}
+IsNeeded (Make n m ∷ rest) k = IsNeeded rest k ⊎ (IsOperand k m × IsNeeded rest n)
+IsNeeded (Turn n j t ∷ rest) k = IsNeeded rest k ⊎ ((k ≡ j) × IsNeeded rest n)
+IsNeeded (Ask c ∷ rest) k = AsksAbout c.now k
+
+-- each set that is made is needed by the first question after it, if there is one
+abbrev pub AreNeeded : List Step → Type 0
+AreNeeded [] = Unit {0}
+AreNeeded (s ∷ rest) = ((k : ℕ) → Makes s k → IsNeeded rest k) × AreNeeded rest

@@ -9,6 +9,7 @@
 
 mod blocks;
 mod hints;
+mod needed;
 mod notes;
 mod planner;
 mod planning;

@@ -6,11 +6,12 @@ ghost use Rattle.nef_expr.specs.declared.nodes.Node.{Node};
 ghost use Rattle.nef_script.specs.Commands.{LooksAt, Binds, TurnsRight};
 ghost use Rattle.nef_script.specs.Meaning.{IsWithin};
 ghost use Rattle.nef_plan.specs.Rows.{ArePlanned, GoesOn, IsBound};
-ghost use Rattle.nef_plan.specs.Steps.{AreWorkable, AreSteps, AreTimely, AsksAbout, HasMore, IsRight, LooksAt as StepLooksAt, asked, is_question};
+ghost use Rattle.nef_plan.specs.Steps.{AreWorkable, AreNeeded, AreSteps, AreTimely, AsksAbout, HasMore, IsRight, LooksAt as StepLooksAt, asked, is_question};
 ghost use Rattle.nef_plan.specs.declared.row.Bound.TheVariants as bound;
 
 use crate::OutOfMemory;
 use crate::hints::{Hint, hints_of};
+use crate::needed::as_needed;
 use crate::planner::{Plan, Step, add_question, bind, bind_made};
 use crate::row::Bound;
 use nef_expr::Nodes;
@@ -145,13 +146,15 @@ fn add_commands<'a>(
 }
 
 /// The steps of the script, in which its questions stand in their order, each behind the steps that make the sets that it
-/// asks about, and before those that make the sets of later lines. `OutOfMemory` says that memory was wanted and not found.
+/// asks about. A set is made before the first question that needs it and behind the one before that, and behind the last
+/// question if none needs it. `OutOfMemory` says that memory was wanted and not found.
 pub fn plan<'a>(alloc: Global, script: &'a Script) -> Result<Plan<'a>, OutOfMemory>
     requires workable { AreWorkable script.now.nodes script.now.commands }
     ensures steps { IfOk result (λ p. AreSteps p.nodes p.steps.items) }
     ensures nodes { IfOk result (λ p. HasMore script.entry.now.nodes p.nodes) }
     ensures asked { IfOk result (λ p. asked p.steps.items ≡ filter is_question script.entry.now.commands) }
     ensures timely { IfOk result (λ p. AreTimely script.entry.now.nodes script.entry.now.commands p.steps.items) }
+    ensures needed { IfOk result (λ p. AreNeeded p.steps.items) }
 {
     let nodes = &script.nodes;
     let hints = hints_of(alloc, script)?;
@@ -167,5 +170,6 @@ pub fn plan<'a>(alloc: Global, script: &'a Script) -> Result<Plan<'a>, OutOfMemo
         hints.as_slice(),
         script,
     )?;
+    plan.steps = as_needed(alloc, &plan.nodes, &plan.steps)?;
     Ok(plan)
 }

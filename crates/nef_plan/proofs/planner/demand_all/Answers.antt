@@ -1,4 +1,4 @@
-use Rattle.std.proofs.Common.{◌≡◌, ℕ, Option, [], subst, inl, inr}
+use Rattle.std.proofs.Common.{ℕ, Option, [], subst, inl, inr}
 use Rattle.std.specs.Prelude.{IfSome}
 use Rattle.nef_plan.specs.Rows.{IsBound, IsReady}
 use Rattle.nef_plan.proofs.Growth.{ready-grown}

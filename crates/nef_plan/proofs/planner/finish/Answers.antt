@@ -1,4 +1,4 @@
-use Rattle.std.proofs.Common.{◌≡◌, ◌<◌, ◌≤◌, ℕ, [], ap, length, refl, subst, sym, ◌∙◌, inl}
+use Rattle.std.proofs.Common.{◌≡◌, ◌<◌, ◌≤◌, [], ap, length, refl, subst, sym, ◌∙◌, inl}
 use Rattle.std.proofs.lemmas.Result.{on_ok_weaker}
 use Rattle.nef_plan.specs.Rows.{IsReady, IsRowOf, spare}
 use Rattle.nef_plan.specs.declared.planner.Step.TheVariants.{Make}

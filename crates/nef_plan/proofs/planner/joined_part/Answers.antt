@@ -4,7 +4,7 @@ use Rattle.nef_expr.specs.Nodes.{node_set, sets_after}
 use Rattle.nef_expr.proofs.Sets.{new-set}
 use Rattle.nef_plan.specs.declared.planner.Plan.{Plan}
 use Rattle.nef_plan.specs.declared.planner.Step.TheVariants.{Make}
-use Rattle.nef_plan.specs.Rows.{HasAdded, HasGrown}
+use Rattle.nef_plan.specs.Rows.{HasGrown}
 use Rattle.nef_plan.specs.Steps.{HasMore, IsMade, IsMadeAs, asked}
 use Rattle.nef_plan.proofs.Growth.{more-push, steps-more, made-new, grown-trans}
 use Rattle.nef_plan.proofs.Added.{added-one}

@@ -1,10 +1,10 @@
-use Rattle.std.proofs.Common.{◌≡◌, ◌∙◌, ◌<◌, ℕ, [], ap, sym, subst, length, arith, rules}
+use Rattle.std.proofs.Common.{◌≡◌, ◌∙◌, ℕ, [], ap, sym, subst}
 use Rattle.std.proofs.lemmas.Result.{IfOk-weaker}
 use Rattle.nef_expr.specs.Nodes.{node_set}
 use Rattle.nef_plan.specs.Rows.{IsReady, combined}
 use Rattle.nef_plan.proofs.Growth.{ready-grown}
 use Rattle.nef_plan.proofs.Rows.{combined-same, row-added}
-use Rattle.nef_plan.proofs.Bounds.{on-trans, bound-place}
+use Rattle.nef_plan.proofs.Bounds.{on-trans}
 use Rattle.nef_plan.proofs.planner.row_of.Goals as goal
 
 pub returns-in-Some-clause-row : goal.returns-in-Some-clause-row
