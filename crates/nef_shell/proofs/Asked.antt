@@ -1,8 +1,8 @@
 -- The complexes of the nodes that questions ask about.
-use Rattle.std.proofs.Common.{◌≡◌, ◌⊎◌, ◌∙◌, ℕ, Bool, true, false, zero, suc, ◌+◌, ◌<◌, ◌≤◌, ap, arith, refl, sym, subst, List, [], ◌∷◌, ◌++◌, length, Option, Some, None, IfSome, slice_get, inl, inr}
+use Rattle.std.proofs.Common.{◌≡◌, ◌⊎◌, ◌∙◌, ℕ, Bool, true, false, zero, suc, ◌+◌, ◌<◌, ◌≤◌, ap, arith, refl, sym, subst, List, [], ◌∷◌, ◌++◌, length, Option, Some, None, IfSome, get_or, slice_get, inl, inr}
 use Rattle.std.specs.Prelude.{slice_set, is_some}
 use Rattle.std.proofs.lemmas.Bool.{cases_eq, cases_lt}
-use Rattle.std.proofs.lemmas.Option.{slice_get_within}
+use Rattle.std.proofs.lemmas.Option.{slice_get_cases, slice_get_within}
 use Rattle.nef_complex.specs.declared.complex.Complex.{Complex}
 use Rattle.nef_complex.specs.Complexes.{ShowsSet}
 use Rattle.nef_core.proofs.Places.{get_set_here, get_set_other}
@@ -14,7 +14,7 @@ use Rattle.nef_plan.specs.declared.planner.Step.TheVariants.{Make, Turn, Ask}
 use Rattle.nef_plan.specs.Steps.{LooksAt, Makes, AreSteps}
 use Rattle.nef_shell.specs.declared.bindings.Binding.{Binding}
 use Rattle.nef_shell.specs.Bindings.{IsBoundAt, Asks, Needs, IsAskedAbout, AreMarkedAsked, AreAllBound, Fits, ArePlaced, AreFirst}
-use Rattle.nef_shell.specs.Operations.{AreShown, IsKept, IsGone, AreBound}
+use Rattle.nef_shell.specs.Operations.{AreShown, IsKept, AreBound}
 use Rattle.nef_shell.proofs.Complexes.{shown-put}
 
 -- a place more, with nothing there
@@ -23,12 +23,6 @@ none-more [] none zero x e = cc
 none-more [] none (suc k) x e = cc
 none-more (y ∷ ys) none zero x e = none 0 x e
 none-more (y ∷ ys) none (suc k) x e = none-more ys (λ j z h. none (suc j) z h) k x e
-
-pub gone-or-there : (list : List (Option Complex)) (k : ℕ) → k < length list → IsGone list k ⊎ ((c : Complex) × (slice_get list k ≡ Some (Some c)))
-gone-or-there [] k within = absurd (omega arith)
-gone-or-there (None ∷ list) zero within = inl refl
-gone-or-there (Some c ∷ list) zero within = inr (c, refl)
-gone-or-there (o ∷ list) (suc k) within = gone-or-there list k (omega arith)
 
 marked-or-not : (marks : List Bool) (k : ℕ) → k < length marks → IsMarked marks k ⊎ IsUnmarked marks k
 marked-or-not [] k within = absurd (omega arith)
@@ -53,6 +47,10 @@ those-marked nodes bindings wanted results list count has lean placed = record {
 -- no complex is there before the first step, unless all bindings are worked ahead
 pub none-first : (nodes : List Node) (steps : List Step) (list : List (Option Complex)) → ((k : ℕ) (c : Complex) → slice_get list k ≡ Some (Some c) → ⊥) → AreFirst nodes steps false list
 none-first nodes steps list none = record { shown = λ k c at. absurd (none k c at); asked = λ on. absurd (let f : false ≡ true = on in cc); only = λ k c at. absurd (none k c at) }
+
+-- the step with this number
+pub step-at : (steps : List Step) (i : ℕ) → i < length steps → (s : Step) × (slice_get steps i ≡ Some s) × (s ≡ get_or steps i s)
+step-at steps i within = elim (slice_get_cases steps i).1 [ inl (s, below, at, is) ↦ (s, at, sym is) | inr (past, none) ↦ absurd (omega arith) ]
 
 -- a step looks at what it asks about
 pub asks-looks : (s : Step) (k : ℕ) → Asks s k → LooksAt s k
@@ -97,11 +95,11 @@ marked-first nodes steps bindings wanted list are all marks placed = record {
 }
 
 -- where no node is in question nothing changes
-pub unbound : (nodes : List Node) (InQuestion : ℕ → Type 0) (list : List (Option Complex)) → ((k : ℕ) → InQuestion k → ⊥) → AreBound nodes InQuestion list list
-unbound nodes InQuestion list none = record {
+pub unbound : (nodes : List Node) (InQuestion Wanted : ℕ → Type 0) (list : List (Option Complex)) → ((k : ℕ) → InQuestion k → ⊥) → AreBound nodes InQuestion Wanted list list
+unbound nodes InQuestion Wanted list none = record {
   count = refl;
-  stays = λ k d at. at;
-  gone = λ k g. inl g;
+  stays = λ k c wanted at. at;
+  only = λ k c at. inl at;
   bound = λ k h. absurd (none k h);
 }
 

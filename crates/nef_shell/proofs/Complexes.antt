@@ -1,5 +1,5 @@
 -- The complexes of nodes: each is made of those of its operands, and is kept as long as a step looks at it.
-use Rattle.std.proofs.Common.{◌≡◌, ◌↔◌, ℕ, Bool, true, false, ◌<◌, ◌≤◌, ap, arith, refl, sym, ◌∙◌, subst, List, length, Option, Some, None, Result, Ok, Err, IfOk, inl, inr}
+use Rattle.std.proofs.Common.{◌≡◌, ◌↔◌, ◌⊎◌, ℕ, Bool, true, false, ◌<◌, ap, refl, sym, ◌∙◌, subst, List, length, Option, Some, None, Result, Ok, Err, IfOk, inl, inr}
 use Rattle.std.specs.Prelude.{slice_get, slice_set, slice_index, is_some}
 use Rattle.std.proofs.lemmas.Bool.{cases_eq}
 use Rattle.std.proofs.lemmas.List.{length-set}
@@ -16,8 +16,10 @@ use Rattle.nef_ops.specs.Nodes.{unary_set}
 use Rattle.nef_ops.specs.declared.operations.UnaryOp.{UnaryOp}
 use Rattle.nef_expr.specs.Nodes.{operand, node_set}
 use Rattle.nef_plan.specs.declared.planner.Step.{Step}
+use Rattle.nef_plan.specs.declared.planner.Step.TheVariants.{Make, Turn, Ask}
 use Rattle.nef_plan.specs.Steps.{Makes}
-use Rattle.nef_shell.specs.Operations.{set_by, first_operand, second_operand, HasOperand, IsLent, AreLent, AreShown, IsKept, IsGone, AreBound}
+use Rattle.nef_shell.specs.Bindings.{Asks}
+use Rattle.nef_shell.specs.Operations.{set_by, first_operand, second_operand, HasOperand, IsLent, AreLent, AreShown, IsKept, IsGone, AreLess, AreBound}
 use Rattle.nef_shell.specs.declared.operation.Operation.{Operation}
 use Rattle.nef_shell.specs.declared.operation.Operation.TheVariants.{Unary, Binary, Turned}
 
@@ -35,24 +37,22 @@ pub binary-made : {E : Type 0} (r : Result Complex E) (operation : Operation) (o
     → IfOk r (λ c. (s t : Set) → ShowsSet s a → ShowsSet t b → ShowsSet (op_set op s t) c) → IfOk r (λ c. (ss : List Set) → AreLent ss operation first second → ShowsSet (set_by ss operation) c)
 binary-made r _ op i j first second a b e f g shows = rw e (ok-then r _ _ (λ c h ss lent. h (operand ss i) (operand ss j) (subst (IsLent ss (Some i)) f lent.0) (subst (IsLent ss (Some j)) g lent.1)) shows)
 
--- a complex is put in the place of none: each that was there stays, and no other is there
-pub bound-put : (nodes : List Node) (list : List (Option Complex)) (n : ℕ) (c : Complex) → n < length list → IsGone list n → ShowsSet (node_set nodes n) c → AreBound nodes (λ k. k ≡ n) list (slice_set list n (Some c))
-bound-put nodes list n c within gone shows = record {
-  count = length-set list n (Some c);
-  stays = λ k d at. elim (cases_eq k n) [
-    | inl e ↦ let same : slice_get list n ≡ Some (Some d) = subst (λ z. slice_get list z ≡ Some (Some d)) e at in absurd (not-both n d gone same)
-    | inr other ↦ get_set_other list n k (Some c) other ∙ at
+-- some complexes go, and one is put in the place of none
+pub bound-put : (nodes : List Node) (uses : List ℕ) (now : ℕ) (old list : List (Option Complex)) (n : ℕ) (c : Complex) → n < length list → IsGone old n → AreLess uses now old list → ShowsSet (node_set nodes n) c
+    → AreBound nodes (λ k. k ≡ n) (λ k. now < slice_index uses k) old (slice_set list n (Some c))
+bound-put nodes uses now old list n c within gone less shows = record {
+  count = length-set list n (Some c) ∙ less.count;
+  stays = λ k d later at. elim (cases_eq k n) [
+    | inl e ↦ let same : slice_get old n ≡ Some (Some d) = subst (λ z. slice_get old z ≡ Some (Some d)) e at in absurd (let f : Some None ≡ Some (Some d) = sym gone ∙ same in cc)
+    | inr other ↦ get_set_other list n k (Some c) other ∙ less.stays k d later at
   ];
-  gone = λ k g. elim (cases_eq k n) [ inl e ↦ inr e | inr other ↦ inl (get_set_other list n k (Some c) other ∙ g) ];
+  only = λ k d at. elim (cases_eq k n) [ inl e ↦ inr e | inr other ↦ inl (less.only k d (sym (get_set_other list n k (Some c) other) ∙ at)) ];
   bound = λ k e. (c, subst (λ z. slice_get (slice_set list n (Some c)) z ≡ Some (Some c)) (sym e) (get_set_here list n (Some c) within), subst (λ z. ShowsSet (node_set nodes z) c) (sym e) shows);
 }
-  where
-    not-both : (k : ℕ) (d : Complex) → slice_get list k ≡ Some None → slice_get list k ≡ Some (Some d) → ⊥
-    not-both k d e f = let g : Some None ≡ Some (Some d) = sym e ∙ f in cc
 
 -- where a node's complex is there already
-pub bound-there : (nodes : List Node) (list : List (Option Complex)) (n : ℕ) (c : Complex) → slice_get list n ≡ Some (Some c) → AreShown nodes list → AreBound nodes (λ k. k ≡ n) list list
-bound-there nodes list n c there shown = record { count = refl; stays = λ k d at. at; gone = λ k g. inl g; bound = λ k e. subst (IsKept nodes list) (sym e) (c, there, shown n c there) }
+pub bound-there : (nodes : List Node) (Wanted : ℕ → Type 0) (list : List (Option Complex)) (n : ℕ) (c : Complex) → slice_get list n ≡ Some (Some c) → AreShown nodes list → AreBound nodes (λ k. k ≡ n) Wanted list list
+bound-there nodes Wanted list n c there shown = record { count = refl; stays = λ k d wanted at. at; only = λ k d at. inl at; bound = λ k e. subst (IsKept nodes list) (sym e) (c, there, shown n c there) }
 
 -- and shows its node's set
 pub shown-put : (nodes : List Node) (list : List (Option Complex)) (n : ℕ) (c : Complex) → n < length list → AreShown nodes list → ShowsSet (node_set nodes n) c → AreShown nodes (slice_set list n (Some c))
@@ -73,35 +73,25 @@ shown-less nodes list n within shown k d at = elim (cases_eq k n) [
   | inr other ↦ shown k d (sym (get_set_other list n k None other) ∙ at)
 ]
 
+-- a step that makes a set asks nothing
+makes-asks : (s : Step) (n k : ℕ) → Makes s n → Asks s k → ⊥
+makes-asks (Make m made) n k makes asks = asks
+makes-asks (Turn m j t) n k makes asks = asks
+makes-asks (Ask q) n k makes asks = makes
+
 -- a step that makes the set of a node has it bound
-pub binds-that : (nodes : List Node) (ahead : Bool) (s : Step) (n : ℕ) (old new : List (Option Complex)) → ((k : ℕ) → Makes s k ↔ (k ≡ n)) → ahead ≡ false → AreBound nodes (λ k. k ≡ n) old new
-    → AreBound nodes (λ k. (ahead ≡ false) × Makes s k) old new
-binds-that nodes ahead s n old new binds off b = record {
+pub binds-that : (nodes : List Node) (ahead : Bool) (uses : List ℕ) (now : ℕ) (s : Step) (n : ℕ) (old new : List (Option Complex)) → ((k : ℕ) → Makes s k ↔ (k ≡ n)) → ahead ≡ false → AreBound nodes (λ k. k ≡ n) (λ k. now < slice_index uses k) old new
+    → AreBound nodes (λ k. (ahead ≡ false) × Makes s k) (λ k. (now < slice_index uses k) ⊎ Asks s k) old new
+binds-that nodes ahead uses now s n old new binds off b = record {
   count = b.count;
-  stays = b.stays;
-  gone = λ k g. elim (b.gone k g) [ inl h ↦ inl h | inr is ↦ inr (off, (binds k).1 is) ];
+  stays = λ k c wanted at. elim wanted [ inl later ↦ b.stays k c later at | inr asks ↦ absurd (makes-asks s n k ((binds n).1 refl) asks) ];
+  only = λ k c at. elim (b.only k c at) [ inl was ↦ inl was | inr is ↦ inr (off, (binds k).1 is) ];
   bound = λ k h. b.bound k ((binds k).0 h.1);
 }
 
 -- a complex that stays is kept
-pub stays-kept : (nodes : List Node) (InQuestion : ℕ → Type 0) (old new : List (Option Complex)) (k : ℕ) → AreBound nodes InQuestion old new → IsKept nodes old k → IsKept nodes new k
-stays-kept nodes InQuestion old new k b (c, at, shows) = (c, b.stays k c at, shows)
-
--- the others are kept that a later step looks at
-pub kept-less : (nodes : List Node) (list : List (Option Complex)) (uses : List ℕ) (n k now : ℕ) → slice_index uses n ≤ now → now < slice_index uses k → IsKept nodes list k → IsKept nodes (slice_set list n None) k
-kept-less nodes list uses n k now done later (c, at, shows) = elim (cases_eq k n) [
-  | inl e ↦ let same : slice_index uses k ≡ slice_index uses n = ap (slice_index uses) e in absurd (omega arith)
-  | inr other ↦ (c, get_set_other list n k None other ∙ at, shows)
-]
-
-pub gone-here : (list : List (Option Complex)) (n k : ℕ) → n < length list → Some n ≡ Some k → IsGone (slice_set list n None) k
-gone-here list n k within e = let same : n ≡ k = cc in subst (IsGone (slice_set list n None)) same (get_set_here list n None within)
-
-pub gone-stays : (list : List (Option Complex)) (n k : ℕ) → n < length list → IsGone list k → IsGone (slice_set list n None) k
-gone-stays list n k within gone = elim (cases_eq k n) [
-  | inl e ↦ subst (IsGone (slice_set list n None)) (sym e) (get_set_here list n None within)
-  | inr other ↦ get_set_other list n k None other ∙ gone
-]
+pub stays-kept : (nodes : List Node) (InQuestion Wanted : ℕ → Type 0) (old new : List (Option Complex)) (k : ℕ) → AreBound nodes InQuestion Wanted old new → Wanted k → IsKept nodes old k → IsKept nodes new k
+stays-kept nodes InQuestion Wanted old new k b wanted (c, at, shows) = (c, b.stays k c wanted at, shows)
 
 -- whether something is there tells it
 pub there-of : {X : Type 0} (o : Option (Option X)) (x : Option X) → o ≡ Some x → is_some x ≡ true → (c : X) × (o ≡ Some (Some c))

@@ -7,15 +7,16 @@ use Rattle.nef_core.proofs.Places.{get_set_here, get_set_other}
 use Rattle.nef_core.specs.declared.work.TextVersion.{TextVersion}
 use Rattle.nef_space.specs.Sets.{Set}
 use Rattle.nef_complex.specs.declared.complex.Complex.{Complex}
+use Rattle.nef_complex.specs.Complexes.{ShowsSet}
 use Rattle.nef_expr.specs.declared.nodes.Node.{Node}
 use Rattle.nef_expr.specs.Nodes.{node_set}
 use Rattle.nef_complex.specs.declared.parts.Parts.{Parts}
 use Rattle.nef_complex.specs.Text.{text}
-use Rattle.nef_shell.specs.Operations.{AreShown, AreBound, AreMadeOf, AreHeld}
+use Rattle.nef_shell.specs.Operations.{AreMadeOf, AreHeld}
 use Rattle.nef_shell.specs.Output.{printed}
 use Rattle.nef_statement.specs.Output.{framed}
 use Rattle.nef_statement.specs.Texts.{IsWrittenOf}
-use Rattle.nef_shell.proofs.Complexes.{shown-less}
+use Rattle.nef_shell.proofs.Complexes.{shown-less, shown-put}
 
 -- nothing was worked
 pub made-none : {X : Type 0} (Is : Complex → X → Type 0) (list : List (Option Complex)) (things : List (Option X)) → ((k : ℕ) (x : X) → slice_get things k ≡ Some (Some x) → ⊥) → AreMadeOf Is list things
@@ -52,14 +53,20 @@ made-put Is list things n c x within here is made k y at = elim (cases_eq k n) [
   | inr other ↦ made k y (sym (get_set_other things n k (Some x) other) ∙ at)
 ]
 
--- nodes are bound, and what was worked is held
-pub held-bound : {Z : Type 0} (version : TextVersion) (nodes : List Node) (InQuestion : ℕ → Type 0) (old new : List (Option Complex)) (parts : List (Option Parts)) (texts : List (Option (Vec ℕ Z))) → AreBound nodes InQuestion old new → AreShown nodes new
-    → AreHeld version nodes old parts texts → AreHeld version nodes new parts texts
-held-bound version nodes InQuestion old new parts texts bound shown held = record {
-  shown = shown;
-  parts_of = made-stays _ old new parts bound.stays held.parts_of;
-  texts_of = made-stays _ old new texts bound.stays held.texts_of;
+-- a complex comes in the place of none, and what was worked is held
+pub held-put : {Z : Type 0} (version : TextVersion) (nodes : List Node) (list : List (Option Complex)) (parts : List (Option Parts)) (texts : List (Option (Vec ℕ Z))) (n : ℕ) (c : Complex) → n < length list → ((d : Complex) → slice_get list n ≡ Some (Some d) → ⊥) → ShowsSet (node_set nodes n) c
+    → AreHeld version nodes list parts texts → AreHeld version nodes (slice_set list n (Some c)) parts texts
+held-put version nodes list parts texts n c within none shows held = record {
+  shown = shown-put nodes list n c within held.shown shows;
+  parts_of = made-stays _ list (slice_set list n (Some c)) parts stays held.parts_of;
+  texts_of = made-stays _ list (slice_set list n (Some c)) texts stays held.texts_of;
 }
+  where
+    stays : (k : ℕ) (d : Complex) → slice_get list k ≡ Some (Some d) → slice_get (slice_set list n (Some c)) k ≡ Some (Some d)
+    stays k d at = elim (cases_eq k n) [
+      | inl e ↦ absurd (none d (subst (λ z. slice_get list z ≡ Some (Some d)) e at))
+      | inr other ↦ get_set_other list n k (Some c) other ∙ at
+    ]
 
 -- all that is held of a node goes
 pub held-less : {Z : Type 0} (version : TextVersion) (nodes : List Node) (list : List (Option Complex)) (parts : List (Option Parts)) (texts : List (Option (Vec ℕ Z))) (n : ℕ) → n < length list → n < length parts → n < length texts

@@ -10,3 +10,4 @@ pub mod GivenWords
 pub mod Bound
 pub mod Asked
 pub mod Held
+pub mod Spent

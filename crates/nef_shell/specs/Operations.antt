@@ -1,5 +1,5 @@
 -- The sets of operations, the sets that are kept, and what was worked of them.
-use Rattle.std.specs.Prelude.{◌≡◌, ◌⊎◌, ℕ, ◌<◌, List, Option, Some, None, slice_get, slice_index, length}
+use Rattle.std.specs.Prelude.{◌≡◌, ◌⊎◌, ℕ, ◌<◌, List, Option, Some, None, slice_get, slice_index, slice_set, ◌≤◌, length}
 use Rattle.nef_space.specs.Sets.{Set}
 use Rattle.nef_geo.specs.Shapes.{given_form}
 use Rattle.law_turns.specs.Turned.{turned_set}
@@ -80,10 +80,6 @@ IsKept nodes list k = (c : Complex) × (slice_get list k ≡ Some (Some c)) × S
 abbrev pub IsGone : {X : Type 0} → List (Option X) → ℕ → Type 0
 IsGone list k = slice_get list k ≡ Some None
 
--- no complex is kept whose last use is among the first n steps
-abbrev pub IsLean : List ℕ → ℕ → List (Option Complex) → Type 0
-IsLean uses n list = (k : ℕ) → k < length list → slice_index uses k < n → IsGone list k
-
 -- each thing that is there was made of the complex at its place, which is there too
 abbrev pub AreMadeOf : {X : Type 0} → (Complex → X → Type 0) → List (Option Complex) → List (Option X) → Type 0
 AreMadeOf {X} IsMade list things = (k : ℕ) (x : X) → slice_get things k ≡ Some (Some x) → (c : Complex) × (slice_get list k ≡ Some (Some c)) × IsMade c x
@@ -113,9 +109,25 @@ pub record AreHeld {Z : Type 0} (version : TextVersion) (nodes : List Node) (lis
   pub parts_of : ArePartsOf list parts
   pub texts_of : AreTextsOf version list texts
 
--- the nodes in question have their complexes; each complex that was there stays, and no other is there
-pub record AreBound (nodes : List Node) (InQuestion : ℕ → Type 0) (old new : List (Option Complex)) : Type 0 where
+-- no complex comes, and each that was there stays where a step after this one looks at its node. `now` is the number of the step, and `uses` has the last uses
+pub record AreLess (uses : List ℕ) (now : ℕ) (old new : List (Option Complex)) : Type 0 where
   pub count : length new ≡ length old
-  pub stays : (k : ℕ) (c : Complex) → slice_get old k ≡ Some (Some c) → slice_get new k ≡ Some (Some c)
-  pub gone : (k : ℕ) → IsGone old k → IsGone new k ⊎ InQuestion k
+  pub stays : (k : ℕ) (c : Complex) → now < slice_index uses k → slice_get old k ≡ Some (Some c) → slice_get new k ≡ Some (Some c)
+  pub only : (k : ℕ) (c : Complex) → slice_get new k ≡ Some (Some c) → slice_get old k ≡ Some (Some c)
+
+-- the complex of the node was taken from its place, where the other operand is another node and no step after this one looks at the node; or nothing was taken
+abbrev pub IsSpent : List ℕ → ℕ → ℕ → ℕ → List (Option Complex) → List (Option Complex) → Option Complex → Type 0
+IsSpent uses now node other old new None = new ≡ old
+IsSpent uses now node other old new (Some c) = (slice_get old node ≡ Some (Some c)) × (slice_index uses node ≤ now) × (node ≡ other → ⊥) × (new ≡ slice_set old node None)
+
+-- the complex of the node was taken from its place, or is there
+abbrev pub IsOnHand : List Node → List (Option Complex) → ℕ → Option Complex → Type 0
+IsOnHand nodes list node None = IsKept nodes list node
+IsOnHand nodes list node (Some c) = ShowsSet (node_set nodes node) c
+
+-- the nodes in question have their complexes, and those that are wanted keep theirs; no other complex comes
+pub record AreBound (nodes : List Node) (InQuestion Wanted : ℕ → Type 0) (old new : List (Option Complex)) : Type 0 where
+  pub count : length new ≡ length old
+  pub stays : (k : ℕ) (c : Complex) → Wanted k → slice_get old k ≡ Some (Some c) → slice_get new k ≡ Some (Some c)
+  pub only : (k : ℕ) (c : Complex) → slice_get new k ≡ Some (Some c) → (slice_get old k ≡ Some (Some c)) ⊎ InQuestion k
   pub bound : (k : ℕ) → InQuestion k → IsKept nodes new k

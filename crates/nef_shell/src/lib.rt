@@ -4,7 +4,8 @@
 //! What a run and the program say stands in the specs of `nef_statement`, where `Statement` is to be
 //! read first. The definitions in specs/ here are for the proofs, and for those who take apart what
 //! the texts tell of facets and shells: `Output` says what each command writes, `Ended` what a run
-//! that is done has written.
+//! that is done has written. `work_steps` and `work_step` are public for what they say of memory: no set
+//! is kept past its last use (`Uses`).
 #![tactic(auto)]
 
 mod ahead;
@@ -18,4 +19,7 @@ mod work;
 
 pub use comparison::{same_text, written_laws};
 pub use nef_statement::Status;
+pub use operation::{Means, last_uses};
+pub use sets::Sets;
 pub use top::{code, program, run};
+pub use work::{work_step, work_steps};

@@ -25,9 +25,9 @@ use std::thread::Threads;
 /// What operations are worked with: the complex of the whole frame, of which each half is cut, and the options that the
 /// words choose, of which some say how candidates are worked.
 #[derive(Debug, Clone, Copy)]
-pub(crate) struct Means<'a> {
-    pub(crate) whole: &'a Complex,
-    pub(crate) options: Options,
+pub struct Means<'a> {
+    pub whole: &'a Complex,
+    pub options: Options,
 }
 
 /// An operation on sets, which are named by the numbers of their nodes.
@@ -165,12 +165,9 @@ fn mark(uses: &mut [usize], node: Option<usize>, now: usize)
     }
 }
 
-/// For each node the number of the last step that looks at it, counted from 0, and 0 where none does.
-pub(crate) fn last_uses(
-    alloc: Global,
-    nodes: &Nodes,
-    steps: &[Step],
-) -> Result<Vec<usize>, AllocError>
+/// For each node the number of the last step that looks at it, counted from 0, and 0 where none does. `AllocError` says that
+/// memory was wanted and not found.
+pub fn last_uses(alloc: Global, nodes: &Nodes, steps: &[Step]) -> Result<Vec<usize>, AllocError>
     requires right { (i : ℕ) (s : Step) → slice_get steps.now i ≡ Some s → IsRight nodes.now s }
     ensures count { IfOk result (λ v. vec_len v ≡ length nodes.now) }
     ensures last { IfOk result (λ v. AreLastUses steps.now v.items) }

@@ -7,16 +7,20 @@ ghost use Rattle.nef_core.specs.declared.work.TextVersion.{TextVersion};
 ghost use Rattle.nef_expr.specs.Nodes.{node_set, sets_after};
 ghost use Rattle.nef_plan.specs.Alike.{AreAlike};
 ghost use Rattle.nef_plan.specs.Steps.{LooksAt, Makes, IsRight};
-ghost use Rattle.nef_shell.specs.Operations.{set_by, HasOperand, HasTurn, AreMeans, IsLent, IsKept, IsThere, IsGone, IsLean, AreBound, ArePartsOf, AreTextsOf, HasParts, HasText, AreHeld};
+ghost use Rattle.nef_result.specs.Givens.{given_of};
+ghost use Rattle.nef_shell.specs.Operations.{set_by, HasOperand, HasTurn, AreMeans, IsLent, IsKept, IsThere, IsGone, IsSpent, IsOnHand, AreLess, AreBound, ArePartsOf, AreTextsOf, HasParts, HasText, AreHeld};
 ghost use Rattle.nef_statement.specs.Texts.{IsWrittenOf};
+ghost use Rattle.nef_stopo.specs.Sets.{op_set};
 
 use crate::operation::{Means, Operation, bound, given, made};
 use nef_canon::write_text;
 use nef_complex::{Complex, Parts};
 use nef_expr::Nodes;
 use nef_io::Gate;
+use nef_ops::{Given, binary_given};
 use nef_plan::{Step, looked_at};
 use nef_sched::empty_places;
+use nef_star::Op;
 use nef_volumes::parts_by_threads;
 use nef_words::Options;
 use std::alloc::{AllocError, Global};
@@ -49,22 +53,34 @@ fn put_at<X: Drop>(places: &mut Vec<Option<X>>, k: usize, thing: Option<X>)
     places[k] = thing;
 }
 
+// Takes out what is there, and leaves the place empty.
+fn taken_from<X>(places: &mut Vec<Option<X>>, k: usize) -> Option<X>
+    requires within { k < length places.old.items }
+    ensures taken { slice_get places.old.items k ≡ Some result }
+    ensures put { places.new.items ≡ slice_set places.old.items k None }
+    ensures len { vec_len places.new ≡ vec_len places.old }
+{
+    places[k].take()
+}
+
 /// The complexes of a script's nodes: of each node whose set a step makes, from that step to the last
 /// one that looks at it. Parts and text of a complex are worked when they are first asked for, and go with it.
 #[derive(Drop)]
-pub(crate) struct Sets<'a> {
-    pub(crate) nodes: &'a Nodes,
-    // A place for each node, in their order, and so in the next two lists.
-    list: Vec<Option<Complex>>,
-    parts: Vec<Option<Parts>>,
-    texts: Vec<Option<Vec<u8>>>,
+pub struct Sets<'a> {
+    pub nodes: &'a Nodes,
+    /// The complexes, with a place for each node, in their order, and so in the next two lists.
+    pub list: Vec<Option<Complex>>,
+    /// The parts of the complexes that were asked for them.
+    pub parts: Vec<Option<Parts>>,
+    /// The texts of the complexes that were asked for them.
+    pub texts: Vec<Option<Vec<u8>>>,
     ghost counted: { vec_len list ≡ length nodes.now },
     ghost beside: { (vec_len parts ≡ length nodes.now) × (vec_len texts ≡ length nodes.now) },
 }
 
 impl<'a> Sets<'a> {
     /// These complexes of the nodes, at the nodes' places. `AllocError` says that memory was wanted and not found.
-    pub(crate) fn of(
+    pub fn of(
         alloc: Global,
         nodes: &'a Nodes,
         list: Vec<Option<Complex>>,
@@ -105,14 +121,102 @@ impl<'a> Sets<'a> {
         }
     }
 
-    /// Works the node by the operation that makes its set, unless its complex is there. `AllocError` says that
-    /// memory was wanted and not found.
+    // The complex of the node, taken from its place with its parts and its text, where the other operand is another node
+    // and no step after this one looks at the node.
+    fn spend(&mut self, node: usize, other: usize, now: usize, uses: &[usize]) -> Option<Complex>
+        requires kept { IsKept self.old.nodes.now self.old.list.items node }
+        requires uses { length uses.now ≡ length self.old.nodes.now }
+        ensures spent { IsSpent uses.now now node other self.old.list.items self.new.list.items result }
+        ensures held { (version : TextVersion) → AreHeld version self.old.nodes.now self.old.list.items self.old.parts.items self.old.texts.items → AreHeld version self.new.nodes.now self.new.list.items self.new.parts.items self.new.texts.items }
+        ensures nodes { self.new.nodes ≡ self.old.nodes }
+    {
+        if node == other || now < uses[node] {
+            return None;
+        }
+        put_at(&mut self.parts, node, None);
+        put_at(&mut self.texts, node, None);
+        taken_from(&mut self.list, node)
+    }
+
+    // The complex of the node, given away where it was taken from its place, and else lent.
+    fn handed(&self, node: usize, spent: Option<Complex>) -> Given
+        requires there { IsOnHand self.now.nodes.now self.now.list.items node spent }
+        ensures shows { ShowsSet (node_set self.now.nodes.now node) (given_of result) }
+    {
+        match spent {
+            Some(complex) => Given::Own(complex),
+            None => Given::Lent(self.get(node)),
+        }
+    }
+
+    // The complex of the combination of the sets of two nodes. The complexes of those at which no step after this one looks
+    // are given away.
+    fn combined<R: Threads + Wait + Sync, G: Gate + Sync>(
+        &mut self,
+        rt: &R,
+        alloc: Global,
+        op: Op,
+        i: usize,
+        j: usize,
+        now: usize,
+        uses: &[usize],
+        means: &Means,
+        gate: &G,
+    ) -> Result<Complex, AllocError>
+        requires first { IsKept self.old.nodes.now self.old.list.items i }
+        requires second { IsKept self.old.nodes.now self.old.list.items j }
+        requires uses { length uses.now ≡ length self.old.nodes.now }
+        ensures shows { IfOk result (ShowsSet (op_set op (node_set self.old.nodes.now i) (node_set self.old.nodes.now j))) }
+        ensures held { (version : TextVersion) → AreHeld version self.old.nodes.now self.old.list.items self.old.parts.items self.old.texts.items → AreHeld version self.new.nodes.now self.new.list.items self.new.parts.items self.new.texts.items }
+        ensures less { AreLess uses.now now self.old.list.items self.new.list.items }
+        ensures nodes { self.new.nodes ≡ self.old.nodes }
+    {
+        let first = self.spend(i, j, now, uses);
+        let second = self.spend(j, i, now, uses);
+        let a = self.handed(i, first);
+        let b = self.handed(j, second);
+        binary_given(rt, alloc, op, a, b, &means.options.how, gate)
+    }
+
+    // The complex of what the operation makes.
+    fn worked<R: Threads + Wait + Sync, G: Gate + Sync>(
+        &mut self,
+        rt: &R,
+        alloc: Global,
+        operation: Operation,
+        now: usize,
+        uses: &[usize],
+        means: &Means,
+        gate: &G,
+    ) -> Result<Complex, AllocError>
+        requires means { AreMeans means.now }
+        requires turn { HasTurn operation }
+        requires operands { (k : ℕ) → HasOperand operation k → IsKept self.old.nodes.now self.old.list.items k }
+        requires uses { length uses.now ≡ length self.old.nodes.now }
+        ensures shows { IfOk result (ShowsSet (set_by (sets_after [] self.old.nodes.now) operation)) }
+        ensures held { (version : TextVersion) → AreHeld version self.old.nodes.now self.old.list.items self.old.parts.items self.old.texts.items → AreHeld version self.new.nodes.now self.new.list.items self.new.parts.items self.new.texts.items }
+        ensures less { AreLess uses.now now self.old.list.items self.new.list.items }
+        ensures nodes { self.new.nodes ≡ self.old.nodes }
+    {
+        if let Operation::Binary(op, i, j) = operation {
+            return self.combined(rt, alloc, op, i, j, now, uses, means, gate);
+        }
+        let (first, second) = operation.operands();
+        let (a, b) = (self.lent(first), self.lent(second));
+        made(rt, alloc, operation, a, b, means, gate)
+    }
+
+    /// Works the node by the operation that makes its set, unless its complex is there. `now` is the number of the step,
+    /// counted from 0, and `uses` has the last uses: the complexes of two operands are given to the operation where no step
+    /// after this one looks at them, and are gone then. `AllocError` says that memory was wanted and not found.
     pub(crate) fn bind<R: Threads + Wait + Sync, G: Gate + Sync>(
         &mut self,
         rt: &R,
         alloc: Global,
         node: usize,
         operation: Operation,
+        now: usize,
+        uses: &[usize],
         means: &Means,
         gate: &G,
     ) -> Result<(), AllocError>
@@ -122,16 +226,15 @@ impl<'a> Sets<'a> {
         requires set { AreAlike (set_by (sets_after [] self.old.nodes.now) operation) (node_set self.old.nodes.now node) }
         requires held { AreHeld means.now.options.text self.old.nodes.now self.old.list.items self.old.parts.items self.old.texts.items }
         requires operands { (k : ℕ) → HasOperand operation k → IsKept self.old.nodes.now self.old.list.items k }
+        requires uses { length uses.now ≡ length self.old.nodes.now }
         ensures held { OnOk result (AreHeld means.now.options.text self.old.nodes.now self.new.list.items self.new.parts.items self.new.texts.items) }
-        ensures bound { OnOk result (AreBound self.old.nodes.now (λ k. k ≡ node) self.old.list.items self.new.list.items) }
+        ensures bound { OnOk result (AreBound self.old.nodes.now (λ k. k ≡ node) (λ k. now < slice_index uses.now k) self.old.list.items self.new.list.items) }
         ensures nodes { self.new.nodes ≡ self.old.nodes }
     {
         if is_there(&self.list, node) {
             return Ok(());
         }
-        let (first, second) = operation.operands();
-        let (a, b) = (self.lent(first), self.lent(second));
-        let complex = made(rt, alloc, operation, a, b, means, gate)?;
+        let complex = self.worked(rt, alloc, operation, now, uses, means, gate)?;
         put_at(&mut self.list, node, Some(complex));
         Ok(())
     }
@@ -209,11 +312,9 @@ impl<'a> Sets<'a> {
     fn release_one(&mut self, node: Option<usize>, now: usize, uses: &[usize])
         requires within { IfSome node (λ k. k < length self.old.nodes.now) }
         requires uses { length uses.now ≡ length self.old.nodes.now }
-        ensures count { length self.new.list.items ≡ length self.old.list.items }
         ensures held { (version : TextVersion) → AreHeld version self.old.nodes.now self.old.list.items self.old.parts.items self.old.texts.items → AreHeld version self.new.nodes.now self.new.list.items self.new.parts.items self.new.texts.items }
-        ensures kept { (k : ℕ) → now < slice_index uses.now k → IsKept self.old.nodes.now self.old.list.items k → IsKept self.new.nodes.now self.new.list.items k }
-        ensures gone { (k : ℕ) → node ≡ Some k → slice_index uses.now k ≤ now → IsGone self.new.list.items k }
-        ensures stays { (k : ℕ) → IsGone self.old.list.items k → IsGone self.new.list.items k }
+        ensures less { AreLess uses.now now self.old.list.items self.new.list.items }
+        ensures gone { (k : ℕ) (c : Complex) → node ≡ Some k → slice_index uses.now k ≤ now → slice_get self.new.list.items k ≡ Some (Some c) → ⊥ }
         ensures nodes { self.new.nodes ≡ self.old.nodes }
     {
         if let Some(k) = node
@@ -225,15 +326,14 @@ impl<'a> Sets<'a> {
         }
     }
 
-    /// Lets the complexes go, with their parts and texts, that no step after this one looks at. `now` is the number
-    /// of the step, counted from 0, and `uses` has the last uses.
+    /// Lets the complexes go, with their parts and texts, that the step looks at or makes, and no step after it looks at.
+    /// `now` is the number of the step, counted from 0, and `uses` has the last uses.
     pub(crate) fn release(&mut self, step: &Step, now: usize, uses: &[usize])
         requires right { IsRight self.old.nodes.now step.now }
         requires uses { length uses.now ≡ length self.old.nodes.now }
-        requires used { (k : ℕ) → k < length self.old.list.items → slice_index uses.now k < now + 1 → IsGone self.old.list.items k ⊎ (LooksAt step.now k ⊎ Makes step.now k) }
         ensures held { (version : TextVersion) → AreHeld version self.old.nodes.now self.old.list.items self.old.parts.items self.old.texts.items → AreHeld version self.new.nodes.now self.new.list.items self.new.parts.items self.new.texts.items }
-        ensures kept { (k : ℕ) → now < slice_index uses.now k → IsKept self.old.nodes.now self.old.list.items k → IsKept self.new.nodes.now self.new.list.items k }
-        ensures lean { IsLean uses.now (now + 1) self.new.list.items }
+        ensures less { AreLess uses.now now self.old.list.items self.new.list.items }
+        ensures gone { (k : ℕ) (c : Complex) → LooksAt step.now k ⊎ Makes step.now k → slice_index uses.now k ≤ now → slice_get self.new.list.items k ≡ Some (Some c) → ⊥ }
         ensures nodes { self.new.nodes ≡ self.old.nodes }
     {
         let (first, second) = looked_at(step);

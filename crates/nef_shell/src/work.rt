@@ -1,12 +1,13 @@
 //! Works a script: the steps of its plan, in order.
 
 ghost use Rattle.std.specs.Prelude.{◌≡◌, ◌+◌, ◌<◌, ◌⊎◌, ◌∷◌};
-ghost use Rattle.nef_complex.specs.Prelude.{ℕ, [], false, IfOk, OnOk, length, slice_index, vec_len};
-ghost use Rattle.nef_plan.specs.Steps.{AreWorkable, AreSteps, IsRight, LooksAt, Makes, asked};
+ghost use Rattle.nef_complex.specs.Prelude.{ℕ, [], false, Some, IfOk, OnOk, length, slice_get, slice_index, vec_len};
+ghost use Rattle.nef_plan.specs.declared.planner.Step.{Step};
+ghost use Rattle.nef_plan.specs.Steps.{AreWorkable, AreSteps, IsRight, Makes, asked};
 ghost use Rattle.nef_shell.specs.Bindings.{Asks, AreFirst};
-ghost use Rattle.nef_shell.specs.Operations.{AreMeans, IsKept, IsGone, IsLean, AreBound, AreHeld};
-ghost use Rattle.nef_shell.specs.Uses.{AreLastUses, AreUses};
-ghost use Rattle.nef_shell.specs.Working.{IsDue, WorkEnds};
+ghost use Rattle.nef_shell.specs.Operations.{AreMeans, IsKept, AreBound, AreHeld};
+ghost use Rattle.nef_shell.specs.Uses.{AreLastUses, AreUses, IsLean};
+ghost use Rattle.nef_shell.specs.Working.{IsDue, AreReady, WorkEnds};
 
 use crate::ahead::worked_ahead;
 use crate::operation::{Means, bound, last_uses};
@@ -25,27 +26,31 @@ use std::alloc::{AllocError, Global};
 use std::sync::Wait;
 use std::thread::Threads;
 
-// Works the node whose set the step makes, if it makes one, unless all bindings have been worked ahead.
+// Works the node whose set the step makes, if it makes one, unless all bindings have been worked ahead. What it is made of
+// may go where no step after this one looks at it.
 fn bind_step<R: Threads + Wait + Sync, G: Gate + Sync>(
     rt: &R,
     alloc: Global,
     sets: &mut Sets,
     step: &Step,
+    now: usize,
+    uses: &[usize],
     means: &Means,
     gate: &G,
 ) -> Result<(), AllocError>
     requires means { AreMeans means.now }
+    requires uses { length uses.now ≡ length sets.old.nodes.now }
     requires due { IsDue means.now.options.ahead sets.old.nodes.now sets.old.list.items step.now }
     requires held { AreHeld means.now.options.text sets.old.nodes.now sets.old.list.items sets.old.parts.items sets.old.texts.items }
     ensures held { OnOk result (AreHeld means.now.options.text sets.old.nodes.now sets.new.list.items sets.new.parts.items sets.new.texts.items) }
-    ensures bound { OnOk result (AreBound sets.old.nodes.now (λ k. (means.now.options.ahead ≡ false) × Makes step.now k) sets.old.list.items sets.new.list.items) }
+    ensures bound { OnOk result (AreBound sets.old.nodes.now (λ k. (means.now.options.ahead ≡ false) × Makes step.now k) (λ k. (now < slice_index uses.now k) ⊎ Asks step.now k) sets.old.list.items sets.new.list.items) }
     ensures nodes { sets.new.nodes ≡ sets.old.nodes }
 {
     if means.options.ahead {
         return Ok(());
     }
     match bound(sets.nodes, step) {
-        Some((node, operation)) => sets.bind(rt, alloc, node, operation, means, gate),
+        Some((node, operation)) => sets.bind(rt, alloc, node, operation, now, uses, means, gate),
         None => Ok(()),
     }
 }
@@ -75,14 +80,15 @@ fn write_piece<R: Threads + Sync, K: Sink>(
     Ok(())
 }
 
-// Works the step with this number, counted from 0: makes its set, or writes its answer, with a text of the version that
-// the options choose. Then it lets go what no later step looks at. No set is kept before whose last use has come, and none
-// after.
-fn work_step<R: Threads + Wait + Sync, K: Sink, G: Gate + Sync>(
+/// Works the step with this number, counted from 0: makes its set, or writes its answer, with a text of the version that
+/// the options choose. Then it lets go what no later step looks at. Where each set that is there before is one at which
+/// this step or a later one looks, each that is there afterwards is one at which a later step looks: none is kept past its
+/// last use.
+pub fn work_step<R: Threads + Wait + Sync, K: Sink, G: Gate + Sync>(
     rt: &R,
     alloc: Global,
     sets: &mut Sets,
-    step: &Step,
+    steps: &[Step],
     now: usize,
     uses: &[usize],
     means: &Means,
@@ -90,19 +96,22 @@ fn work_step<R: Threads + Wait + Sync, K: Sink, G: Gate + Sync>(
     gate: &G,
 ) -> Result<(), Status>
     requires means { AreMeans means.now }
-    requires due { IsDue means.now.options.ahead sets.old.nodes.now sets.old.list.items step.now }
-    requires held { AreHeld means.now.options.text sets.old.nodes.now sets.old.list.items sets.old.parts.items sets.old.texts.items }
+    requires steps { AreSteps sets.old.nodes.now steps.now }
+    requires now { now < length steps.now }
     requires uses { length uses.now ≡ length sets.old.nodes.now }
-    requires lean { IsLean uses.now now sets.old.list.items }
-    requires used { (k : ℕ) → k < length sets.old.list.items → slice_index uses.now k ≡ now → IsGone sets.old.list.items k ⊎ LooksAt step.now k }
-    ensures ends { WorkEnds means.now.options.text sets.old.nodes.now (asked (step.now ∷ [])) (K.written sink.old) (K.written sink.new) (K.faults sink.old) (K.faults sink.new) result }
+    requires last { AreLastUses steps.now uses.now }
+    requires used { AreUses sets.old.nodes.now steps.now uses.now }
+    requires ready { AreReady means.now.options.ahead sets.old.nodes.now steps.now now sets.old.list.items }
+    requires held { AreHeld means.now.options.text sets.old.nodes.now sets.old.list.items sets.old.parts.items sets.old.texts.items }
+    requires lean { IsLean steps.now now sets.old.list.items }
+    ensures ends { (step : Step) → slice_get steps.now now ≡ Some step → WorkEnds means.now.options.text sets.old.nodes.now (asked (step ∷ [])) (K.written sink.old) (K.written sink.new) (K.faults sink.old) (K.faults sink.new) result }
+    ensures ready { OnOk result (AreReady means.now.options.ahead sets.old.nodes.now steps.now (now + 1) sets.new.list.items) }
     ensures held { OnOk result (AreHeld means.now.options.text sets.old.nodes.now sets.new.list.items sets.new.parts.items sets.new.texts.items) }
-    ensures lean { OnOk result (IsLean uses.now (now + 1) sets.new.list.items) }
-    ensures kept { OnOk result ((k : ℕ) → now < slice_index uses.now k → IsKept sets.old.nodes.now sets.old.list.items k → IsKept sets.old.nodes.now sets.new.list.items k) }
-    ensures bound { OnOk result ((k : ℕ) → now < slice_index uses.now k → means.now.options.ahead ≡ false → Makes step.now k → IsKept sets.old.nodes.now sets.new.list.items k) }
+    ensures lean { OnOk result (IsLean steps.now (now + 1) sets.new.list.items) }
     ensures nodes { sets.new.nodes ≡ sets.old.nodes }
 {
-    bind_step(rt, alloc, sets, step, means, gate)?;
+    let step = &steps[now];
+    bind_step(rt, alloc, sets, step, now, uses, means, gate)?;
     write_piece(rt, alloc, sets, step, &means.options, sink)?;
     sets.release(step, now, uses);
     Ok(())
@@ -130,9 +139,9 @@ fn first_complexes<R: Threads + Wait + Sync, G: Gate + Sync>(
     }
 }
 
-// Works the steps in order, and writes each answer when its question's turn comes. Between them no set is kept whose last
-// use has come.
-fn work_steps<R: Threads + Wait + Sync, K: Sink, G: Gate + Sync>(
+/// Works the steps in order, and writes each answer when its question's turn comes. Before and after each step, each set
+/// that is there is one at which a later step looks; so none is left at the end.
+pub fn work_steps<R: Threads + Wait + Sync, K: Sink, G: Gate + Sync>(
     rt: &R,
     alloc: Global,
     sets: &mut Sets,
@@ -150,10 +159,10 @@ fn work_steps<R: Threads + Wait + Sync, K: Sink, G: Gate + Sync>(
     requires first { AreFirst sets.old.nodes.now steps.now means.now.options.ahead sets.old.list.items }
     requires held { AreHeld means.now.options.text sets.old.nodes.now sets.old.list.items sets.old.parts.items sets.old.texts.items }
     ensures ends { WorkEnds means.now.options.text sets.old.nodes.now (asked steps.now) (K.written sink.old) (K.written sink.new) (K.faults sink.old) (K.faults sink.new) result }
-    ensures lean { OnOk result (IsLean uses.now (length steps.now) sets.new.list.items) }
+    ensures lean { OnOk result (IsLean steps.now (length steps.now) sets.new.list.items) }
 {
-    for (now, step) in steps.iter().enumerate() {
-        work_step(rt, alloc, sets, step, now, uses, means, sink, gate)?;
+    for now in 0..steps.len() {
+        work_step(rt, alloc, sets, steps, now, uses, means, sink, gate)?;
     }
     Ok(())
 }

@@ -1,41 +1,53 @@
-use Rattle.std.proofs.Common.{◌<◌, arith, length, []}
+use Rattle.std.proofs.Common.{◌<◌, arith, length, subst}
+use Rattle.std.specs.Prelude.{slice_index}
 use Rattle.nef_complex.specs.Complexes.{ShowsSet}
-use Rattle.nef_expr.specs.Nodes.{node_set, sets_after}
-use Rattle.nef_shell.proofs.Complexes.{both-lent, bound-put, bound-there, shown-put}
-use Rattle.nef_shell.proofs.Held.{held-bound}
+use Rattle.nef_expr.specs.Nodes.{node_set}
+use Rattle.nef_shell.specs.Operations.{AreHeld}
+use Rattle.nef_shell.proofs.Complexes.{bound-put, bound-there}
+use Rattle.nef_shell.proofs.Held.{held-put}
 use Rattle.nef_shell.proofs.ShownAlike.{shown-alike}
+use Rattle.nef_shell.proofs.Spent.{gone-less}
 use Rattle.nef_shell.proofs.sets.Sets.bind.Goals as goal
 
 pub returns-then-is_there-clause-bound : goal.returns-then-is_there-clause-bound
 returns-then-is_there-clause-bound g c =
     let there = c.is_there.ensures.there c.if-is_there.true in
-    bound-there c.args.self.now.nodes.now c.args.self.now.list.items c.args.node there.0 there.1 c.requires.held.shown
+    bound-there c.args.self.now.nodes.now (λ k. c.args.now < slice_index c.args.uses.now k) c.args.self.now.list.items c.args.node there.0 there.1 c.requires.held.shown
+
+pub put_at-requires : goal.put_at-requires
+put_at-requires g c =
+    let counted = c.args.self.now.counted in
+    let ok = c.worked.new.self.list.ok in
+    let fine = c.args.self.now.list.ok in
+    record { within = omega (arith, c.requires.node, c.in_ok-complex.ensures.less.count) }
 
 pub returns-clause-held : goal.returns-clause-held
 returns-clause-held g c =
     let old = c.args.self.now in
-    let nodes = old.nodes.now in
-    let list = old.list.items in
+    let mid = c.worked.new.self in
+    let did = c.in_ok-complex.ensures in
     let counted = old.counted in
     let ok = old.list.ok in
-    let node = c.requires.node in
-    let ss = sets_after [] nodes in
-    let lent = both-lent ss c.args.operation _ _ _ _ c.operands-first.ensures.first c.operands-first.ensures.second c.lent-a.ensures.lent c.lent-b.ensures.lent in
+    let nodes = old.nodes.now in
+    let node = c.args.node in
     let complex = c.in_ok-complex.complex in
-    let shows : ShowsSet (node_set nodes c.args.node) complex = shown-alike _ _ complex c.requires.set (c.in_ok-complex.ensures.shows ss lent) in
-    let within : c.args.node < length list = omega arith in
-    let bound = bound-put nodes list c.args.node complex within (c.is_there.ensures.gone c.if-is_there.false) shows in
-    let shown = shown-put nodes list c.args.node complex within c.requires.held.shown shows in
-    rw c.put_at.ensures.put (held-bound c.args.means.now.options.text nodes _ list _ old.parts.items old.texts.items bound shown c.requires.held)
+    let within : node < length mid.list.items = omega (arith, c.requires.node, did.less.count) in
+    let shows : ShowsSet (node_set nodes node) complex = shown-alike _ _ complex c.requires.set did.shows in
+    let held : AreHeld c.args.means.now.options.text nodes mid.list.items mid.parts.items mid.texts.items =
+    subst (λ z. AreHeld c.args.means.now.options.text z.now mid.list.items mid.parts.items mid.texts.items) did.nodes (did.held c.args.means.now.options.text c.requires.held) in
+    rw c.put_at.ensures.put (held-put c.args.means.now.options.text nodes mid.list.items mid.parts.items mid.texts.items node complex within
+    (λ d. gone-less c.args.uses.now c.args.now old.list.items mid.list.items node d did.less (c.is_there.ensures.gone c.if-is_there.false)) shows held)
 
 pub returns-clause-bound : goal.returns-clause-bound
 returns-clause-bound g c =
-    let nodes = c.args.self.now.nodes.now in
-    let list = c.args.self.now.list.items in
-    let counted = c.args.self.now.counted in
-    let ok = c.args.self.now.list.ok in
-    let node = c.requires.node in
-    let ss = sets_after [] nodes in
-    let lent = both-lent ss c.args.operation _ _ _ _ c.operands-first.ensures.first c.operands-first.ensures.second c.lent-a.ensures.lent c.lent-b.ensures.lent in
-    let shows : ShowsSet (node_set nodes c.args.node) c.in_ok-complex.complex = shown-alike _ _ c.in_ok-complex.complex c.requires.set (c.in_ok-complex.ensures.shows ss lent) in
-    rw c.put_at.ensures.put (bound-put nodes list c.args.node c.in_ok-complex.complex (omega arith) (c.is_there.ensures.gone c.if-is_there.false) shows)
+    let old = c.args.self.now in
+    let mid = c.worked.new.self in
+    let did = c.in_ok-complex.ensures in
+    let counted = old.counted in
+    let ok = old.list.ok in
+    let nodes = old.nodes.now in
+    let node = c.args.node in
+    let complex = c.in_ok-complex.complex in
+    let within : node < length mid.list.items = omega (arith, c.requires.node, did.less.count) in
+    let shows : ShowsSet (node_set nodes node) complex = shown-alike _ _ complex c.requires.set did.shows in
+    rw c.put_at.ensures.put (bound-put nodes c.args.uses.now c.args.now old.list.items mid.list.items node complex within (c.is_there.ensures.gone c.if-is_there.false) did.less shows)

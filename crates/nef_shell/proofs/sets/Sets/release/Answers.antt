@@ -1,4 +1,5 @@
-use Rattle.std.proofs.Common.{◌≡◌, ◌∙◌, ◌<◌, ap, arith, sym, inl, inr, length, IfSome, Some}
+use Rattle.std.proofs.Common.{◌≡◌, ◌∙◌, ◌<◌, ap, sym, inl, inr, length, IfSome, Some}
+use Rattle.nef_shell.proofs.Spent.{less-more}
 use Rattle.nef_shell.proofs.sets.Sets.release.Goals as goal
 use Rattle.nef_shell.proofs.sets.Sets.release.Goals.{in-Some, in-None}
 
@@ -16,25 +17,25 @@ release_one-requires-3-clause-within c =
     ] in
     rw (c.release_one-2.ensures.nodes, c.release_one.ensures.nodes) below
 
-pub returns-clause-lean : goal.returns-clause-lean
-returns-clause-lean c k within used =
-    let one = c.release_one.ensures in
+pub returns-clause-less : goal.returns-clause-less
+returns-clause-less c = less-more _ _ _ _ _ (less-more _ _ _ _ _ c.release_one.ensures.less c.release_one-2.ensures.less) c.release_one-3.ensures.less
+
+pub returns-clause-gone : goal.returns-clause-gone
+returns-clause-gone c k x concerned last at =
     let two = c.release_one-2.ensures in
     let three = c.release_one-3.ensures in
-    elim (c.requires.used k (omega (arith, one.count, two.count, three.count)) used) [
-      | inl gone ↦ three.stays k (two.stays k (one.stays k gone))
-      | inr more ↦ elim more [
-        | inl looks ↦ elim ((c.looked_at-first.ensures.looked_at k).0 looks) [
-          | inl first ↦ three.stays k (two.stays k (one.gone k first (omega arith)))
-          | inr second ↦ three.stays k (two.gone k second (omega arith))
-        ]
-        | inr binds ↦
-            let named : c.match-bound.node ≡ Some k = elim c.match-bound.branch [
-              | in-Some w ↦ w.node-is ∙ ap Some (sym ((w.in-Some.ensures.bound.binds k).0 binds))
-              | in-None w ↦ absurd (c.bound.ensures.question w.in-None.is k binds)
-            ] in
-            three.gone k named (omega arith)
+    let before = three.less.only k x at in
+    elim concerned [
+      | inl looks ↦ elim ((c.looked_at-first.ensures.looked_at k).0 looks) [
+        | inl first ↦ c.release_one.ensures.gone k x first last (two.less.only k x before)
+        | inr second ↦ two.gone k x second last before
       ]
+      | inr binds ↦
+          let named : c.match-bound.node ≡ Some k = elim c.match-bound.branch [
+            | in-Some w ↦ w.node-is ∙ ap Some (sym ((w.in-Some.ensures.bound.binds k).0 binds))
+            | in-None w ↦ absurd (c.bound.ensures.question w.in-None.is k binds)
+          ] in
+          three.gone k x named last at
     ]
 
 pub returns-clause-held : goal.returns-clause-held
