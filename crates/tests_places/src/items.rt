@@ -4,7 +4,7 @@
 //! - `corner NUMBER`: the vertex with this number: its point and its mark, each svertex with its direction and its mark,
 //!   and each arc with its source, its target, its normal, and its mark and the labels beside it.
 //! - `edges`: of each edge the lower vertex and its svertex, the higher vertex and its svertex, and the mark.
-//! - `planes`: the planes of the index.
+//! - `planes`: the planes in which vertices have items.
 //! - `items PLANE`: the edges in the plane and the vertices on it, where the index has the plane.
 //! - `candidates`: how many points are candidates of the set and itself.
 //! - `cut PLANE`: how many points are candidates of the set and a half with this border.
@@ -122,6 +122,18 @@ pub(crate) fn add_planes(text: &mut String, planes: &[Plane]) -> Result<(), OutO
     Ok(())
 }
 
+// Adds the planes in which some vertex has an item, each after a blank.
+fn add_item_planes(text: &mut String, c: &Complex) -> Result<(), OutOfMemory>
+    requires shows { (s : Set) × ShowsSet s c.now }
+{
+    for h in c.carriers.as_slice() {
+        if plane_items(c, h).is_some() {
+            add_plane(text, h)?;
+        }
+    }
+    Ok(())
+}
+
 /// Adds the edges in the plane and the vertices on it, as the index has them.
 pub(crate) fn add_items(text: &mut String, c: &Complex, h: &Plane) -> Result<(), OutOfMemory>
     requires shows { (s : Set) × ShowsSet s c.now }
@@ -167,7 +179,7 @@ pub(crate) fn add_all(
     match verb {
         "counts" => write!(text, "{} {}", c.vertices.len(), c.edges.len()),
         "edges" => add_edges(text, c.edges.as_slice()),
-        "planes" => add_planes(text, c.index.planes.as_slice()),
+        "planes" => add_item_planes(text, c),
         "candidates" => add_candidates(alloc, text, c),
         _ => Ok(()),
     }

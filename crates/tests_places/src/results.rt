@@ -80,17 +80,15 @@ fn of_carriers(alloc: Global, first: usize, second: usize) -> Result<Complex, Ou
     carriers.push(Plane::frame(first))?;
     carriers.push(Plane::frame(second))?;
     let index = PlaneIndex {
-        planes: List::new(alloc),
-        edges: Table::with_rows(alloc, 0, 0)?,
-        vertices: Table::with_rows(alloc, 0, 0)?,
+        has_item: List::new(alloc),
         at_vertex: Table::with_rows(alloc, 0, 0)?,
         at_edge: Table::with_rows(alloc, 0, 0)?,
         on_carrier: List::new(alloc),
         in_carrier: List::new(alloc),
+        points: List::new(alloc),
         spans: List::new(alloc),
         clusters: List::new(alloc),
         peaks: Table::with_rows(alloc, 0, 0)?,
-        plane_peaks: Table::with_rows(alloc, 0, 0)?,
     };
     Ok(Complex {
         carriers,

@@ -26,3 +26,13 @@ pub(crate) fn grid(alloc: Global, last: u32) -> Result<String, AllocError> {
     let zs = slabs(alloc, "z", "0 0 1", last)?;
     format!(in alloc; "{xs}{ys}{zs}and xy x{last} y{last}\nand G xy z{last}\n")
 }
+
+/// Boxes by the name `G`, where the slabs along x meet the first one along y and along z.
+pub(crate) fn comb(alloc: Global, last: u32) -> Result<String, AllocError> {
+    let (xs, ys) = (
+        slabs(alloc, "x", "1 0 0", last)?,
+        slabs(alloc, "y", "0 1 0", 2)?,
+    );
+    let zs = slabs(alloc, "z", "0 0 1", 2)?;
+    format!(in alloc; "{xs}{ys}{zs}and xy x{last} y2\nand G xy z2\n")
+}

@@ -5,6 +5,8 @@
 #[cfg(test)]
 mod crews;
 #[cfg(test)]
+mod cuts;
+#[cfg(test)]
 mod empty_text;
 #[cfg(test)]
 mod extreme;

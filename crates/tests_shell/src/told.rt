@@ -11,8 +11,8 @@ use std::thread::Threads;
 
 // Words, a script, how it ends, and the calls for each of the jobs 0 to 17, for later ones, and from the board without a
 // lock: two half-spaces, with twelve candidates each, and their intersection, with eighteen; statements of each kind, of
-// which seven have the twelve candidates of a half-space and three have eighteen; and a script that is refused for a line
-// behind others that are not, of which nothing is worked.
+// which seven have the twelve candidates of a half-space and three have eighteen; sets of which one alone is asked about; and
+// a script that is refused for a line behind others that are not, of which nothing is worked.
 const COUNTED: &str = "--workers 3; half A 1 0 0 0 closed / half B 0 1 0 0 closed / and C A B => \
 Done: 3 3 3 3 3 3 3 3 3 3 3 3 1 1 1 1 1 1 0 0
 --workers 3 --board free; half A 1 0 0 0 closed / half B 0 1 0 0 closed / and C A B => \
@@ -21,6 +21,8 @@ Done: 3 3 3 3 3 3 3 3 3 3 3 3 1 1 1 1 1 1 0 42
 Done: 3 3 3 3 3 3 3 3 3 3 3 3 1 1 1 1 1 1 0 0
 --ahead --workers 2 --board free; half A 1 0 0 0 closed / half B 0 1 0 0 closed / and C A B => \
 Done: 3 3 3 3 3 3 3 3 3 3 3 3 1 1 1 1 1 1 0 42
+--workers 3; half A 1 0 0 0 closed / half B 0 1 0 0 closed / and C A B / not N A / has B 0 0 0 1 => \
+Done: 4 4 4 4 4 4 4 4 4 4 4 4 1 1 1 1 1 1 0 0
 --workers 3 --board lock; half A 1 0 0 0 closed / not N A / int I A / cl C A / bd D A / reg R A / \
 half B 0 1 0 0 closed / or O A B / diff E A B / xor X A B => \
 Done: 10 10 10 10 10 10 10 10 10 10 10 10 3 3 3 3 3 3 0 0

@@ -91,10 +91,12 @@ fn are_whole<R: Threads + Wait + Sync>(rt: &R, alloc: Global) -> Result<bool, Al
     begins(rt, alloc, script.as_str(), "0 70000 ")
 }
 
-// Scripts, and what is heard: two half-spaces of twelve jobs each, with a question between them; answers of several lines;
-// a refusal.
+// Scripts, and what is heard: two half-spaces of twelve jobs each, with a question between them, with both questions behind
+// them, and with one question, behind which the set comes that it doesn't need; answers of several lines; a refusal.
 const HEARD: &str =
     "half A 1 0 0 0 closed / has A 0 0 0 1 / half B 1 0 0 0 open / has B 0 0 0 1 => 0 2 12 12.
+half A 1 0 0 0 closed / half B 1 0 0 0 open / has B 0 0 0 1 / has A 0 0 0 1 => 0 2 12 12.
+half A 1 0 0 0 closed / half B 1 0 0 0 open / has A 0 0 0 1 => 0 1 12 12.
 empty E / count E / print E / has E 0 0 0 1 / same E E => 0 4 
 ball A => 1 1 ";
 
