@@ -2,6 +2,8 @@ pub mod Order
 pub mod Sorted
 pub mod Lines
 pub mod Parted
+pub mod Counted
+pub mod Placed
 pub mod Ends
 pub mod Reading
 pub mod Numbered

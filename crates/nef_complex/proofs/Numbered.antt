@@ -41,14 +41,6 @@ numbers-past P n next ns N le off = record {
   ordered = N.ordered;
 }
 
--- the next number has P, and is added
-pub numbers-more : (P : ℕ → Type 0) (n : ℕ) (ns : List ℕ) → AreNumbersWith (Before P n) ns → P n → AreNumbersWith (Before P (n + 1)) (ns ++ n ∷ [])
-numbers-more P n ns N p = numbers-in P n n (n + 1) ns N (omega arith) (omega arith) p (λ i l m q. omega arith)
-
--- it hasn't
-pub numbers-skip : (P : ℕ → Type 0) (n : ℕ) (ns : List ℕ) → AreNumbersWith (Before P n) ns → (P n → ⊥) → AreNumbersWith (Before P (n + 1)) ns
-numbers-skip P n ns N off = numbers-past P n (n + 1) ns N (omega arith) (λ i l m q. off (let e : i ≡ n = omega arith in subst P e q))
-
 -- no number from n on has P
 pub numbers-all : (P : ℕ → Type 0) (n : ℕ) (ns : List ℕ) → AreNumbersWith (Before P n) ns → ((k : ℕ) → P k → k < n) → AreNumbersWith P ns
 numbers-all P n ns N within = record { each = λ i k a. (N.each i k a).1; all = λ k p. N.all k (within k p, p); ordered = N.ordered }

@@ -14,8 +14,9 @@ use Rattle.nef_geo.specs.declared.plane.Plane.{Plane}
 use Rattle.nef_classes.proofs.ClassLists.{is-at_one, is-at_within, is-at_get, is-at_is}
 use Rattle.nef_complex.specs.Index.{AreNumbersWith, AreHolders, IsHolder, AreWithin}
 use Rattle.nef_complex.specs.Planes.{HoldsBoth}
-use Rattle.nef_complex.specs.Taken.{HasEntry, DoRise, StandsAmong, AreTaken, AreAdded}
-use Rattle.nef_complex.proofs.Walking.{added-none}
+use Rattle.nef_complex.specs.Tables.{AreRead}
+use Rattle.nef_complex.specs.Taken.{HasEntry, StandsAmong, AreTaken, AreAdded}
+use Rattle.nef_complex.proofs.Walking.{added-none, read-added, read-rise}
 
 entry-contained : (ns : List ℕ) (k : ℕ) → HasEntry ns k → Contains ns k
 entry-contained ns k (i, a) = (i, is-at_within ns i k a, is-at_is ns i k k a)
@@ -66,12 +67,12 @@ module _ (gs hs : List Plane) (ns : List ℕ) (others : List Plane) (ks : List �
   row-once sorted moved order = once-numbers (IsHolder hs p p) new sorted row-each row-all moved order
 
 -- where none of the others holds the point, the numbers that were read are in order already
-pub row-read : (gs hs : List Plane) (ns : List ℕ) (others : List Plane) (ks : List ℕ) (p : Place) (listed found mid : List ℕ) → AreTaken gs hs ns others ks → AreHolders gs p p listed → AreHolders others p p found → length found ≡ 0 → AreAdded ns listed (length listed) [] mid
-    → DoRise mid → AreHolders hs p p mid
-row-read gs hs ns others ks p listed found mid T H F e A rise =
-    let B : AreAdded ks found (length found) mid mid = subst (λ (n : ℕ). AreAdded ks found n mid mid) (sym e) (added-none ks found mid) in
+pub row-read : (gs hs : List Plane) (ns : List ℕ) (others : List Plane) (ks : List ℕ) (p : Place) (listed found row : List ℕ) → AreTaken gs hs ns others ks → AreHolders gs p p listed → AreHolders others p p found → length found ≡ 0 → AreRead ns listed (length listed) row → AreHolders hs p p row
+row-read gs hs ns others ks p listed found row T H F e R =
+    let A = read-added ns listed row R in
+    let B : AreAdded ks found (length found) row row = subst (λ (n : ℕ). AreAdded ks found n row row) (sym e) (added-none ks found row) in
     record {
-      each = λ i k a. row-each gs hs ns others ks T p listed found H F mid mid A B k (i, a);
-      all = row-all gs hs ns others ks T p listed found H F mid mid A B;
-      ordered = rise;
+      each = λ i k a. row-each gs hs ns others ks T p listed found H F row row A B k (i, a);
+      all = row-all gs hs ns others ks T p listed found H F row row A B;
+      ordered = read-rise ns listed row (length listed) R T.rise H.ordered;
     }

@@ -7,6 +7,7 @@ use Rattle.nef_geo.specs.Shapes.{form_of}
 use Rattle.nef_geo.specs.declared.plane.Plane.{Plane}
 use Rattle.nef_classes.proofs.ClassLists.{less-or-last, is-at_one, is-at_within, is-at_some, is-at_left, is-at_last, Either, earlier, last, is-at_either}
 use Rattle.nef_complex.specs.Index.{AreInOrder}
+use Rattle.nef_complex.specs.Tables.{AreRead}
 use Rattle.nef_complex.specs.Taken.{HasEntry, DoRise, StandsAmong, AreTaken, AreAdded}
 
 -- ---- entries
@@ -136,14 +137,10 @@ added-more table places n j m old new here there A = record {
     only k i (last e f) = inr (n, j, omega arith, here, subst (IsAt table j) (sym f) there)
 
 -- ---- numbers that are read
--- the row has, place by place, what stands in the table at the first n of the places
-abbrev pub AreReadTo : List ℕ → List ℕ → ℕ → List ℕ → Type 0
-AreReadTo table places n row = (length row ≡ n) × ((i k : ℕ) → IsAt row i k → (j : ℕ) × IsAt places i j × IsAt table j k)
+pub read-none : (table places row : List ℕ) → row ≡ [] → AreRead table places 0 row
+read-none table places row e = subst (AreRead table places 0) (sym e) (refl, λ i k a. cc)
 
-pub read-none : (table places row : List ℕ) → row ≡ [] → AreReadTo table places 0 row
-read-none table places row e = subst (AreReadTo table places 0) (sym e) (refl, λ i k a. cc)
-
-pub read-more : (table places : List ℕ) (n j m : ℕ) (row : List ℕ) → IsAt places n j → IsAt table j m → AreReadTo table places n row → AreReadTo table places (n + 1) (row ++ m ∷ [])
+pub read-more : (table places : List ℕ) (n j m : ℕ) (row : List ℕ) → IsAt places n j → IsAt table j m → AreRead table places n row → AreRead table places (n + 1) (row ++ m ∷ [])
 read-more table places n j m row here there R = ((let e = R.0 in let f = length-append row (m ∷ []) in omega arith), λ i k a. by i k (is-at_either row i k m a))
   where
     by : (i k : ℕ) → Either row i k m → (j : ℕ) × IsAt places i j × IsAt table j k
@@ -151,7 +148,19 @@ read-more table places n j m row here there R = ((let e = R.0 in let f = length-
     by i k (last e f) = (j, subst (λ (p : ℕ). IsAt places p j) (sym (e ∙ R.0)) here, subst (IsAt table j) (sym f) there)
 
 -- of places that increase, in a table of numbers that do, the numbers increase
-pub read-rise : (table places row : List ℕ) (n : ℕ) → AreReadTo table places n row → DoRise table → DoRise places → DoRise row
+pub read-rise : (table places row : List ℕ) (n : ℕ) → AreRead table places n row → DoRise table → DoRise places → DoRise row
 read-rise table places row n R rise rises i j k l h a b =
     let p = R.1 i k a in
     let q = R.1 j l b in rise p.0 q.0 k l (rises i j p.0 q.0 h p.1 q.1) p.2 q.2
+
+-- numbers that are read are added to none
+pub read-added : (table places row : List ℕ) → AreRead table places (length places) row → AreAdded table places (length places) [] row
+read-added table places row R = record {
+  kept = λ k e. absurd (let l = is-at_within [] e.0 k e.1 in omega arith);
+  added = λ i j k l a b.
+      let m = is-at_some row i (let e = R.0 in omega arith) in
+      let o = R.1 i m.0 m.1 in
+      let here : IsAt table j m.0 = subst (λ (q : ℕ). IsAt table q m.0) (is-at_one places i o.0 j o.1 a) o.2 in
+      (i, subst (IsAt row i) (is-at_one table j m.0 k here b) m.1);
+  only = λ k (i, a). let o = R.1 i k a in inr (i, o.0, is-at_within places i o.0 o.1, o.1, o.2);
+}

@@ -1,5 +1,5 @@
 -- Numbers that stand in two rows.
-use Rattle.std.specs.Prelude.{◌≡◌, ℕ, ◌<◌, List, length}
+use Rattle.std.specs.Prelude.{◌≡◌, ℕ, ◌<◌, List, ◌++◌, length}
 use Rattle.nef_space.specs.Lists.{IsAt}
 use Rattle.nef_complex.specs.declared.complex.Edge.{Edge}
 use Rattle.nef_complex.specs.Index.{AreNumbersWith}
@@ -12,6 +12,10 @@ DoAllRise rows = (i : ℕ) (ns : List ℕ) → IsAt rows i ns → DoRise ns
 -- there is a row for each end of an edge
 abbrev pub HaveRows : List (List ℕ) → List Edge → Type 0
 HaveRows rows es = (k : ℕ) (e : Edge) → IsAt es k e → (e.low < length rows) × (e.high < length rows)
+
+-- the new list has more numbers at its end, which have P
+abbrev pub HasAdded : (List ℕ → Type 0) → List ℕ → List ℕ → Type 0
+HasAdded P old new = (added : List ℕ) × (new ≡ old ++ added) × P added
 
 -- the numbers are those that stand in both rows, in increasing order
 abbrev pub AreCommon : List ℕ → List ℕ → List ℕ → Type 0

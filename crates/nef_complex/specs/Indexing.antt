@@ -1,5 +1,5 @@
 -- What the steps of an index's making give.
-use Rattle.std.specs.Prelude.{◌≡◌, ℕ, ◌<◌, ◌⊎◌, List, [], ◌∷◌, ◌++◌, length}
+use Rattle.std.specs.Prelude.{◌≡◌, ℕ, ◌<◌, List, length}
 use Rattle.nef_space.specs.Lists.{IsAt}
 use Rattle.nef_space.specs.Vectors.{Vector, SameDirection}
 use Rattle.nef_geo.specs.Shapes.{place_of}
@@ -20,15 +20,6 @@ pub record AreOnce (n : ℕ) (ns : List ℕ) : Type 0 where
 -- those of each row are
 abbrev pub AreRowsOfOnce : ℕ → List (List ℕ) → Type 0
 AreRowsOfOnce n rows = (i : ℕ) (row : List ℕ) → IsAt rows i row → AreOnce n row
-
--- one of the first n of the numbers is k
-abbrev pub IsAmongFirst : List ℕ → ℕ → ℕ → Type 0
-IsAmongFirst ns n k = (i : ℕ) × (i < n) × IsAt ns i k
-
--- each of the new rows is an old one, with m at its end where the row is one of the first n that are listed
-pub record HaveOneMore (listed : List ℕ) (n m : ℕ) (old new : List (List ℕ)) : Type 0 where
-  pub as_many : length new ≡ length old
-  pub each : (k : ℕ) (row : List ℕ) → IsAt new k row → (was : List ℕ) × IsAt old k was × ((IsAmongFirst listed n k × (row ≡ was ++ m ∷ [])) ⊎ ((IsAmongFirst listed n k → ⊥) × (row ≡ was)))
 
 -- row i has the number k
 abbrev pub HasNumber : List (List ℕ) → ℕ → ℕ → Type 0

@@ -9,6 +9,7 @@ pub mod Tables
 pub mod Taken
 pub mod Common
 pub mod Sides
+pub mod Counting
 pub mod Cycles
 pub mod Shells
 pub mod Numbers

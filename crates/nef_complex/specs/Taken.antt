@@ -1,7 +1,12 @@
 -- The carriers of a complex among others.
-use Rattle.std.specs.Prelude.{◌⊎◌, ℕ, ◌<◌, ◌≤◌, List, length}
+use Rattle.std.specs.Prelude.{◌≡◌, ◌⊎◌, ℕ, ◌<◌, ◌≤◌, List, [], ◌∷◌, ◌++◌, length}
 use Rattle.nef_space.specs.Lists.{IsAt}
+use Rattle.nef_space.specs.Place.{Place}
 use Rattle.nef_geo.specs.declared.plane.Plane.{Plane}
+use Rattle.nef_space.specs.Sets.{Set}
+use Rattle.nef_complex.specs.declared.taken_rows.Source.{Source}
+use Rattle.nef_complex.specs.Complexes.{ShowsSet}
+use Rattle.nef_complex.specs.Index.{AreHolders}
 
 -- the number stands in the list
 abbrev pub HasEntry : List ℕ → ℕ → Type 0
@@ -29,3 +34,11 @@ pub record AreAdded (table places : List ℕ) (n : ℕ) (old new : List ℕ) : T
   pub kept : (k : ℕ) → HasEntry old k → HasEntry new k
   pub added : (i j k : ℕ) → i < n → IsAt places i j → IsAt table j k → HasEntry new k
   pub only : (k : ℕ) → HasEntry new k → HasEntry old k ⊎ ((i : ℕ) × (j : ℕ) × (i < n) × IsAt places i j × IsAt table j k)
+
+-- the complex of the source shows a set, and hs has its carriers, and the others, at the numbers that it names
+abbrev pub IsSourceAmong : List Plane → Source → Type 0
+IsSourceAmong hs t = ((s : Set) × ShowsSet s t.complex.now) × AreTaken t.complex.now.carriers hs t.numbers.items t.others t.other_numbers.items
+
+-- one row more, of the numbers of the carriers that hold the point
+abbrev pub IsRowAdded : List Plane → Place → List (List ℕ) → List (List ℕ) → Type 0
+IsRowAdded hs p rows more = (ns : List ℕ) × AreHolders hs p p ns × (more ≡ rows ++ ns ∷ [])

@@ -98,8 +98,8 @@ pub struct PlaneIndex {
     pub has_item: List<bool>,
     pub at_vertex: Table,
     pub at_edge: Table,
-    pub on_carrier: List<List<usize>>,
-    pub in_carrier: List<List<usize>>,
+    pub on_carrier: Table,
+    pub in_carrier: Table,
     pub points: List<Span>,
     pub spans: List<Span>,
     pub clusters: List<Cluster>,
@@ -163,8 +163,8 @@ pub fn carrier_items<'a>(c: &'a Complex, number: usize) -> PlaneItems<'a>
     ensures peaks { ArePeaks c.now.edges result.edges.now result.peaks.now }
 {
     PlaneItems {
-        edges: c.index.in_carrier.at(number).as_slice(),
-        vertices: c.index.on_carrier.at(number).as_slice(),
+        edges: c.index.in_carrier.row(number),
+        vertices: c.index.on_carrier.row(number),
         peaks: c.index.peaks.row_or_none(number),
     }
 }

@@ -4,9 +4,9 @@ ghost use Rattle.std.specs.Prelude.{◌≡◌, ◌↔◌, ◌<◌};
 ghost use Rattle.nef_geo.specs.Prelude.{List as Sequence, length, IsTrue, IfOk, ℕ, OnOk, form_of, place_of, IsAt, Place};
 ghost use Rattle.nef_complex.specs.declared.complex.Edge.{Edge};
 ghost use Rattle.nef_complex.specs.Index.{HasItemIn, LiesOn, AreNumbersWith, AreItemFlags, IsIndexOf, HasHolders, AreHeld, AreInOrder, HaveEnds, AreVertexHolders, AreCarrierVertices, AreCarrierEdges, AreWithin, AreHolders, AreEdgeHolders};
-ghost use Rattle.nef_complex.specs.Indexing.{AreOnce, AreRowsOfOnce, HaveOneMore, HasNumber};
+ghost use Rattle.nef_complex.specs.Indexing.{AreRowsOfOnce};
 ghost use Rattle.nef_complex.specs.Taken.{DoRise};
-ghost use Rattle.nef_complex.specs.Common.{DoAllRise, HaveRows, AreCommon, AreCommonRows};
+ghost use Rattle.nef_complex.specs.Common.{DoAllRise, HaveRows, HasAdded, AreCommon, AreCommonRows};
 
 use crate::OutOfMemory;
 use crate::complex::{Complex, Edge, PlaneIndex, Vertex};
@@ -15,21 +15,19 @@ use crate::peaks::peaks_of;
 use crate::sorted_carriers::{SortedCarriers, holds};
 use crate::spans::{spans_of, vertex_spans};
 use crate::table::Table;
-use nef_classes::empty_rows;
 use nef_geo::{List, Plane, Point, plane_normal};
 use std::alloc::Global;
 
-// Puts the numbers that stand in both rows into the list, in place of what it had, by one way through both rows.
-fn common_numbers(
+// Adds the numbers that stand in both rows at the end of the list, by one way through both rows.
+fn add_common(
     first: &[usize],
     second: &[usize],
     numbers: &mut Vec<usize>,
 ) -> Result<(), OutOfMemory>
     requires first { DoRise first.now }
     requires second { DoRise second.now }
-    ensures common { OnOk result (AreCommon first.now second.now numbers.new.items) }
+    ensures common { OnOk result (HasAdded (AreCommon first.now second.now) numbers.old.items numbers.new.items) }
 {
-    numbers.clear();
     let mut at_first = 0;
     let mut at_second = 0;
     while at_first < first.len() && at_second < second.len() {
@@ -77,44 +75,18 @@ fn edge_rows(alloc: Global, edges: &[Edge], at_vertex: &Table) -> Result<Table, 
     requires ends { HaveRows at_vertex.now edges.now }
     ensures common { IfOk result (λ rows. AreCommonRows at_vertex.now edges.now rows) }
 {
-    let mut rows = Table::with_rows(alloc, edges.len(), CARRIERS_AT_EDGE)?;
-    let mut numbers = Vec::new(alloc);
+    let room = edges.len().saturating_mul(CARRIERS_AT_EDGE);
+    let mut numbers = Vec::with_capacity(alloc, room)?;
+    let mut ends = Vec::with_capacity(alloc, edges.len())?;
     for edge in edges {
-        common_numbers(
+        add_common(
             at_vertex.row(edge.low),
             at_vertex.row(edge.high),
             &mut numbers,
         )?;
-        rows.push(numbers.as_slice())?;
+        ends.push(numbers.len())?;
     }
-    Ok(rows)
-}
-
-// Most carriers of a small set have no more vertices or edges.
-const ON_CARRIER: usize = 8;
-
-// Adds the number at the end of each of the rows that are listed.
-fn add_to_rows(rows: &mut [List<usize>], listed: &[usize], number: usize) -> Result<(), OutOfMemory>
-    requires once { AreOnce (length rows.old) listed.now }
-    ensures added { OnOk result (HaveOneMore listed.now (length listed.now) number rows.old rows.new) }
-{
-    for row in listed {
-        rows[*row].push(number)?;
-    }
-    Ok(())
-}
-
-// The table transposed: for each number below `count` the numbers of the rows that have it, in increasing order.
-fn transposed(alloc: Global, rows: &Table, count: usize) -> Result<List<List<usize>>, OutOfMemory>
-    requires once { AreRowsOfOnce count rows.now }
-    ensures as_many { IfOk result (λ v. length v ≡ count) }
-    ensures transposed { IfOk result (λ v. (k : ℕ) (row : Sequence ℕ) → IsAt v k row → AreNumbersWith (HasNumber rows.now k) row) }
-{
-    let mut table = empty_rows(alloc, count, ON_CARRIER)?;
-    for number in 0..rows.len() {
-        add_to_rows(table.as_mut_slice(), rows.row(number), number)?;
-    }
-    Ok(List::from_vec(table))
+    Ok(Table::of(numbers, ends))
 }
 
 // Whether a vertex on the plane, whose numbers are given, has an item in it.
@@ -136,14 +108,14 @@ fn item_flags(
     alloc: Global,
     carriers: &[Plane],
     vertices: &[Vertex],
-    on_carrier: &List<List<usize>>,
+    on_carrier: &Table,
 ) -> Result<List<bool>, OutOfMemory>
     requires on { AreCarrierVertices carriers.now vertices.now on_carrier.now }
     ensures flags { IfOk result (λ flags. AreItemFlags carriers.now vertices.now flags) }
 {
     let mut flags = List::from_vec(Vec::with_capacity(alloc, carriers.len())?);
     for (number, h) in carriers.iter().enumerate() {
-        flags.push(has_item(h, vertices, on_carrier.at(number).as_slice()))?;
+        flags.push(has_item(h, vertices, on_carrier.row(number)))?;
     }
     Ok(flags)
 }
@@ -168,10 +140,10 @@ impl Complex {
         ensures holders { IfOk result (λ c. HasHolders c.carriers c.vertices c.edges c.index) }
     {
         let at_edge = edge_rows(alloc, edges.as_slice(), &at_vertex)?;
-        let on_carrier = transposed(alloc, &at_vertex, carriers.len())?;
-        let in_carrier = transposed(alloc, &at_edge, carriers.len())?;
+        let on_carrier = at_vertex.transposed(alloc, carriers.len())?;
+        let in_carrier = at_edge.transposed(alloc, carriers.len())?;
         let points = List::from_vec(vertex_spans(alloc, vertices.as_slice())?);
-        let spans = spans_of(alloc, points.as_slice(), on_carrier.as_slice())?;
+        let spans = spans_of(alloc, points.as_slice(), &on_carrier)?;
         let peaks = peaks_of(alloc, edges.as_slice(), &in_carrier)?;
         let has_item = item_flags(alloc, carriers.as_slice(), vertices.as_slice(), &on_carrier)?;
         let clusters = clusters_of(alloc, spans.as_slice())?;

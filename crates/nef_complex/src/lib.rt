@@ -5,6 +5,7 @@
 #![tactic(auto)]
 
 mod complex;
+mod counting;
 mod groups;
 mod indexing;
 mod parts;
@@ -22,7 +23,7 @@ pub use complex::{
 pub use indexing::vertex_rows;
 pub use parts::{Cycle, Facet, Parts, Shell, Side};
 pub use sorted_carriers::{SortedCarriers, holds};
-pub use spans::{Bounds, Span, may_meet, vertex_spans};
+pub use spans::{Bounds, Span, may_meet};
 pub use std::alloc::AllocError as OutOfMemory;
 pub use table::Table;
 pub use taken_rows::vertex_rows_from;

@@ -15,7 +15,6 @@ ghost use Rattle.nef_complex.specs.Peaks.{block_start, EndBelow, ArePeaks, HaveP
 use crate::OutOfMemory;
 use crate::complex::{Complex, Edge, PlaneItems};
 use crate::table::Table;
-use nef_geo::List;
 use std::alloc::Global;
 
 // So many edges are a block.
@@ -78,18 +77,14 @@ fn put_peaks(edges: &[Edge], numbers: &[usize], peaks: &mut Vec<usize>) -> Resul
 
 /// For each row of edges its peaks; the last rows, where they have no peaks, are left out. `OutOfMemory` says that memory was
 /// wanted and not found.
-pub(crate) fn peaks_of(
-    alloc: Global,
-    edges: &[Edge],
-    rows: &List<List<usize>>,
-) -> Result<Table, OutOfMemory>
+pub(crate) fn peaks_of(alloc: Global, edges: &[Edge], rows: &Table) -> Result<Table, OutOfMemory>
     requires within { (i : ℕ) (ns : Sequence ℕ) → IsAt rows.now i ns → AreWithin edges.now ns }
     ensures peaks { IfOk result (HavePeaks edges.now rows.now) }
 {
     let mut table = Table::with_rows(alloc, 0, 0)?;
     let mut peaks = Vec::new(alloc);
     for number in 0..rows.len() {
-        put_peaks(edges, rows.at(number).as_slice(), &mut peaks)?;
+        put_peaks(edges, rows.row(number), &mut peaks)?;
         table.set_next(number, peaks.as_slice())?;
     }
     Ok(table)

@@ -9,6 +9,7 @@ ghost use Rattle.nef_complex.specs.Indexing.{AreAlone, AreNarrowerListed};
 
 use crate::OutOfMemory;
 use crate::complex::Vertex;
+use crate::table::Table;
 use nef_geo::{List, Point};
 use std::alloc::Global;
 
@@ -118,8 +119,8 @@ pub fn may_meet(span: &Span, other: &Span) -> bool
     overlap(&span.x, &other.x)
 }
 
-/// For each vertex the span of its point alone. `OutOfMemory` says that memory was wanted and not found.
-pub fn vertex_spans(alloc: Global, vertices: &[Vertex]) -> Result<Vec<Span>, OutOfMemory>
+/// For each vertex the span of its point alone.
+pub(crate) fn vertex_spans(alloc: Global, vertices: &[Vertex]) -> Result<Vec<Span>, OutOfMemory>
     ensures alone { IfOk result (λ v. AreAlone vertices.now v.items) }
 {
     let mut spans = Vec::with_capacity(alloc, vertices.len())?;
@@ -145,7 +146,7 @@ fn span_of(alone: &[Span], listed: &[usize]) -> Span
 pub(crate) fn spans_of(
     alloc: Global,
     alone: &[Span],
-    rows: &[List<usize>],
+    rows: &Table,
 ) -> Result<List<Span>, OutOfMemory>
     requires within { (k : ℕ) (row : Sequence ℕ) → IsAt rows.now k row → AreWithin alone.now row }
     ensures as_many { IfOk result (λ v. length v ≡ length rows.now) }
@@ -153,8 +154,8 @@ pub(crate) fn spans_of(
 {
     let room = Vec::with_capacity(alloc, rows.len())?;
     let mut spans = List::from_vec(room);
-    for row in rows {
-        spans.push(span_of(alone, row.as_slice()))?;
+    for number in 0..rows.len() {
+        spans.push(span_of(alone, rows.row(number)))?;
     }
     Ok(spans)
 }

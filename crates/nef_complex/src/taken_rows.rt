@@ -1,12 +1,12 @@
 //! The carriers that hold each vertex of a set that is made of others, by what is known of these: where the carriers of these
 //! stand among its own, and which of its own aren't theirs.
 
-ghost use Rattle.std.specs.Prelude.{◌≡◌};
-ghost use Rattle.nef_geo.specs.Prelude.{[], length, IsTrue, IfSome, IfOk, OnOk, IsAt, Set, place_of};
+ghost use Rattle.std.specs.Prelude.{◌≡◌, ◌<◌, false};
+ghost use Rattle.nef_geo.specs.Prelude.{length, IsTrue, IfSome, IfOk, OnOk, IsAt, Set, place_of};
 ghost use Rattle.nef_complex.specs.declared.complex.Vertex.{Vertex as VertexValue};
 ghost use Rattle.nef_complex.specs.Complexes.{ShowsSet};
-ghost use Rattle.nef_complex.specs.Index.{AreWithin, AreHolders, AreVertexHolders, AreInOrder};
-ghost use Rattle.nef_complex.specs.Taken.{DoRise, AreAdded, AreTaken};
+ghost use Rattle.nef_complex.specs.Index.{AreWithin, AreVertexHolders, AreInOrder};
+ghost use Rattle.nef_complex.specs.Taken.{AreAdded, IsSourceAmong, IsRowAdded};
 
 use crate::OutOfMemory;
 use crate::complex::{Complex, Vertex, vertex_holders};
@@ -45,8 +45,7 @@ fn source_of<'a>(
 ) -> Result<Option<Source<'a>>, OutOfMemory>
     requires shows { (s : Set) × ShowsSet s complex.now }
     requires ordered { AreInOrder all.now }
-    ensures shows { IfOk result (λ o. IfSome o (λ t. (s : Set) × ShowsSet s t.complex.now)) }
-    ensures taken { IfOk result (λ o. IfSome o (λ t. AreTaken t.complex.now.carriers all.now t.numbers.items t.others t.other_numbers.items)) }
+    ensures source { IfOk result (λ o. IfSome o (IsSourceAmong all.now)) }
 {
     let carriers = complex.carriers.as_slice();
     let mut numbers = Vec::with_capacity(alloc, carriers.len())?;
@@ -78,7 +77,6 @@ fn source_of<'a>(
 fn add_numbers(table: &[usize], listed: &[usize], row: &mut Vec<usize>) -> Result<(), OutOfMemory>
     requires within { AreWithin table.now listed.now }
     ensures added { OnOk result (AreAdded table.now listed.now (length listed.now) row.old.items row.new.items) }
-    ensures rise { OnOk result (row.old.items ≡ [] → DoRise table.now → DoRise listed.now → DoRise row.new.items) }
 {
     for place in listed {
         row.push(table[*place])?;
@@ -86,91 +84,142 @@ fn add_numbers(table: &[usize], listed: &[usize], row: &mut Vec<usize>) -> Resul
     Ok(())
 }
 
-// The first of the vertices from number `from` on that isn't below the point.
-fn next_vertex(vertices: &[Vertex], from: usize, point: &Point) -> usize {
-    for number in from..vertices.len() {
-        if lex_cmp(&vertices[number].point, point) != Ordering::Less {
-            return number;
+// The number of the vertex that stands at the point, of those from number `next` on, of which those up to the point are passed.
+// Equal points are the same four numbers, which is soon seen; the order wants products.
+fn number_at(vertices: &[Vertex], next: &mut usize, point: &Point) -> Option<usize>
+    ensures at { IfSome result (λ k. (v : VertexValue) × IsAt vertices.now k v × (v.point ≡ point.now)) }
+{
+    for number in *next..vertices.len() {
+        let vertex = &vertices[number];
+        if vertex.point == *point {
+            *next = number + 1;
+            return Some(number);
+        }
+        if lex_cmp(&vertex.point, point) != Ordering::Less {
+            *next = number;
+            return None;
         }
     }
-    vertices.len()
+    *next = vertices.len();
+    None
 }
 
-// Whether the vertex with this number stands at the point.
-fn is_vertex_at(vertices: &[Vertex], number: usize, point: &Point) -> bool
-    ensures at { IsTrue result → (v : VertexValue) × IsAt vertices.now number v × (v.point ≡ point.now) }
+// A way through the vertices of a source, if there is one: those before number `next` are passed. With room for what is found
+// on it, which is of no use before or after.
+#[derive(Drop)]
+struct Way<'a> {
+    source: Option<Source<'a>>,
+    next: usize,
+    found: Vec<usize>,
+    row: Vec<usize>,
+}
+
+// The way from the first vertex of the complex on.
+fn way_of<'a>(alloc: Global, complex: &'a Complex, all: &[Plane]) -> Result<Way<'a>, OutOfMemory>
+    requires shows { (s : Set) × ShowsSet s complex.now }
+    requires ordered { AreInOrder all.now }
+    ensures source { IfOk result (λ w. IfSome w.source (IsSourceAmong all.now)) }
 {
-    match vertices.get(number) {
-        Some(vertex) => vertex.point == *point,
-        None => false,
-    }
+    let source = source_of(alloc, complex, all)?;
+    Ok(Way {
+        source,
+        next: 0,
+        found: Vec::new(alloc),
+        row: Vec::new(alloc),
+    })
 }
 
-// Where the vertex of the source with this number stands at the point, puts the numbers of all carriers that hold it into the
-// row, in place of what it had: those of the source are listed, in increasing order, and the others are asked. Says whether it
-// did. What `found` has is of no use before or after.
-fn row_from(
+// Adds the numbers of all carriers that hold the vertex of the source with this number as a row: those of the source are
+// listed, in increasing order, and the others are asked.
+fn push_vertex_row(
     carriers: &SortedCarriers,
-    source: &Option<Source>,
+    source: &Source,
     number: usize,
-    point: &Point,
     found: &mut Vec<usize>,
     row: &mut Vec<usize>,
-) -> Result<bool, OutOfMemory>
-    requires shows { IfSome source.now (λ t. (s : Set) × ShowsSet s t.complex.now) }
-    requires taken { IfSome source.now (λ t. AreTaken t.complex.now.carriers carriers.now t.numbers.items t.others t.other_numbers.items) }
-    ensures row { IfOk result (λ b. IsTrue b → AreHolders carriers.now (place_of point.now) (place_of point.now) row.new.items) }
+    rows: &mut Table,
+) -> Result<(), OutOfMemory>
+    requires source { IsSourceAmong carriers.now source.now }
+    requires within { number < length source.now.complex.now.vertices }
+    ensures added { OnOk result ((v : VertexValue) → IsAt source.now.complex.now.vertices number v → IsRowAdded carriers.now (place_of v.point) rows.old rows.new) }
 {
-    match source {
-        Some(taken) => {
-            let complex = taken.complex;
-            if !is_vertex_at(complex.vertices.as_slice(), number, point) {
-                return Ok(false);
+    let complex = source.complex;
+    let vertices = complex.vertices.as_slice();
+    let vertex = &vertices[number];
+    let numbers = source.numbers.as_slice();
+    let listed = vertex_holders(complex, number);
+    source.others.holders(&vertex.point, found)?;
+    if found.is_empty() {
+        return rows.push_read(numbers, listed);
+    }
+    row.clear();
+    add_numbers(numbers, listed, row)?;
+    add_numbers(source.other_numbers.as_slice(), found.as_slice(), row)?;
+    row.sort_unstable();
+    row.dedup();
+    rows.push(row.as_slice())
+}
+
+impl<'a> Way<'a> {
+    // Adds the row of the point where a vertex of the source stands there, and says whether it did.
+    fn push_row(
+        &mut self,
+        carriers: &SortedCarriers,
+        point: &Point,
+        rows: &mut Table,
+    ) -> Result<bool, OutOfMemory>
+        requires source { IfSome self.old.source (IsSourceAmong carriers.now) }
+        ensures same { OnOk result (self.new.source ≡ self.old.source) }
+        ensures added { IfOk result (λ b. IsTrue b → IsRowAdded carriers.now (place_of point.now) rows.old rows.new) }
+        ensures kept { IfOk result (λ b. (b ≡ false) → rows.new ≡ rows.old) }
+    {
+        match &self.source {
+            Some(source) => {
+                let vertices = source.complex.vertices.as_slice();
+                match number_at(vertices, &mut self.next, point) {
+                    Some(number) => {
+                        push_vertex_row(
+                            carriers,
+                            source,
+                            number,
+                            &mut self.found,
+                            &mut self.row,
+                            rows,
+                        )?;
+                        Ok(true)
+                    }
+                    None => Ok(false),
+                }
             }
-            taken.others.holders(point, found)?;
-            row.clear();
-            add_numbers(
-                taken.numbers.as_slice(),
-                vertex_holders(complex, number),
-                row,
-            )?;
-            if found.is_empty() {
-                return Ok(true);
-            }
-            add_numbers(taken.other_numbers.as_slice(), found.as_slice(), row)?;
-            row.sort_unstable();
-            row.dedup();
-            Ok(true)
+            None => Ok(false),
         }
-        None => Ok(false),
     }
 }
 
-// Puts the numbers of all carriers that hold the point into the row, in place of what it had: by the row of a source whose
-// vertex stands there, or else by asking all.
-fn row_at(
+// Adds the numbers of all carriers that hold the point as a row: by a vertex of one of the sources that stands there, or
+// else by asking all.
+fn push_row_at(
     carriers: &SortedCarriers,
-    first: &Option<Source>,
-    at_first: usize,
-    second: &Option<Source>,
-    at_second: usize,
+    first: &mut Way,
+    second: &mut Way,
     point: &Point,
-    found: &mut Vec<usize>,
     row: &mut Vec<usize>,
+    rows: &mut Table,
 ) -> Result<(), OutOfMemory>
-    requires first { IfSome first.now (λ t. (s : Set) × ShowsSet s t.complex.now) }
-    requires second { IfSome second.now (λ t. (s : Set) × ShowsSet s t.complex.now) }
-    requires taken_first { IfSome first.now (λ t. AreTaken t.complex.now.carriers carriers.now t.numbers.items t.others t.other_numbers.items) }
-    requires taken_second { IfSome second.now (λ t. AreTaken t.complex.now.carriers carriers.now t.numbers.items t.others t.other_numbers.items) }
-    ensures row { OnOk result (AreHolders carriers.now (place_of point.now) (place_of point.now) row.new.items) }
+    requires first { IfSome first.old.source (IsSourceAmong carriers.now) }
+    requires second { IfSome second.old.source (IsSourceAmong carriers.now) }
+    ensures first { OnOk result (first.new.source ≡ first.old.source) }
+    ensures second { OnOk result (second.new.source ≡ second.old.source) }
+    ensures added { OnOk result (IsRowAdded carriers.now (place_of point.now) rows.old rows.new) }
 {
-    if row_from(carriers, first, at_first, point, found, row)? {
+    if first.push_row(carriers, point, rows)? {
         return Ok(());
     }
-    if row_from(carriers, second, at_second, point, found, row)? {
+    if second.push_row(carriers, point, rows)? {
         return Ok(());
     }
-    carriers.holders(point, row)
+    carriers.holders(point, row)?;
+    rows.push(row.as_slice())
 }
 
 /// As `vertex_rows`, for a set that is made of those of two complexes: most of its vertices are vertices of these, and most
@@ -187,21 +236,19 @@ pub fn vertex_rows_from(
     requires second { (s : Set) × ShowsSet s second.now }
     ensures rows { IfOk result (λ rows. AreVertexHolders carriers.now vertices.now rows) }
 {
-    let one = &source_of(alloc, first, carriers.planes())?;
-    let other = &source_of(alloc, second, carriers.planes())?;
+    let mut one = way_of(alloc, first, carriers.planes())?;
+    let mut other = way_of(alloc, second, carriers.planes())?;
     let mut rows = Table::with_rows(alloc, vertices.len(), CARRIERS_AT_VERTEX)?;
-    let mut found = Vec::new(alloc);
     let mut row = Vec::new(alloc);
-    let mut at_first = 0;
-    let mut at_second = 0;
     for vertex in vertices {
-        let point = &vertex.point;
-        at_first = next_vertex(first.vertices.as_slice(), at_first, point);
-        at_second = next_vertex(second.vertices.as_slice(), at_second, point);
-        row_at(
-            carriers, one, at_first, other, at_second, point, &mut found, &mut row,
+        push_row_at(
+            carriers,
+            &mut one,
+            &mut other,
+            &vertex.point,
+            &mut row,
+            &mut rows,
         )?;
-        rows.push(row.as_slice())?;
     }
     Ok(rows)
 }

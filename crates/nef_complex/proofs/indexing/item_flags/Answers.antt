@@ -1,7 +1,5 @@
 use Rattle.std.proofs.Common.{◌≡◌, ◌∙◌, ◌+◌, [], length, arith, refl, sym, subst}
 use Rattle.std.proofs.lemmas.Option.{slice_get_read}
-use Rattle.nef_geo.specs.Shapes.{form_of}
-use Rattle.nef_complex.specs.Index.{AreNumbersWith, LiesOn}
 use Rattle.nef_complex.proofs.IndexSteps.{AreFlagsTo, flags-none, flags-more}
 use Rattle.nef_complex.proofs.indexing.item_flags.Goals as goal
 
@@ -17,7 +15,7 @@ has_item-requires c =
     let n = c.loop-number.number in
     let h = c.index-carriers-number.result in
     let here = slice_get_read hs (length hs) n h refl c.loop-number-test.true c.index-carriers-number.is in
-    record { on = subst (AreNumbersWith (LiesOn c.args.vertices.now (form_of h))) (sym c.as_slice.ensures.all) (c.requires.on.each n h c.at.result.now here c.at.ensures.element) }
+    record { on = c.requires.on.each n h c.row.result.now here c.row.ensures.row }
 
 pub loop-number-preserved : goal.loop-number-preserved
 loop-number-preserved c =

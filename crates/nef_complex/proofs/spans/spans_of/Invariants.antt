@@ -4,5 +4,5 @@ use Rattle.nef_complex.specs.declared.spans.Span.{Span}
 use Rattle.nef_complex.specs.Indexing.{AreNarrowerListed}
 use Rattle.nef_complex.proofs.spans.spans_of.Given as goal
 
-abbrev pub invariant-loop-row : goal.invariant-loop-row
-invariant-loop-row l = record { as_many : length l.spans ≡ l.row-index; spanned : (k : ℕ) (row : List ℕ) (span : Span) → IsAt l.rows k row → IsAt l.spans k span → AreNarrowerListed l.alone row (length row) span }
+abbrev pub invariant-loop-number : goal.invariant-loop-number
+invariant-loop-number l = record { as_many : length l.spans ≡ l.number; spanned : (k : ℕ) (row : List ℕ) (span : Span) → IsAt l.rows k row → IsAt l.spans k span → AreNarrowerListed l.alone row (length row) span }

@@ -1,11 +1,11 @@
 use Rattle.std.proofs.Common.{◌≡◌, ℕ, ◌+◌, List, length, get_or, arith, sym, subst}
 use Rattle.nef_classes.proofs.ClassLists.{is-at_get}
 use Rattle.nef_complex.specs.Taken.{AreAdded}
-use Rattle.nef_complex.proofs.Walking.{AreReadTo, added-none, added-more, read-none, read-more, read-rise}
+use Rattle.nef_complex.proofs.Walking.{added-none, added-more}
 use Rattle.nef_complex.proofs.taken_rows.add_numbers.Goals as goal
 
 pub loop-place-init : goal.loop-place-init
-loop-place-init c = (added-none c.args.table.now c.args.listed.now c.args.row.now.items, λ e. read-none c.args.table.now c.args.listed.now c.args.row.now.items e)
+loop-place-init c = added-none c.args.table.now c.args.listed.now c.args.row.now.items
 
 pub loop-place-preserved : goal.loop-place-preserved
 loop-place-preserved c =
@@ -17,16 +17,9 @@ loop-place-preserved c =
     let here = is-at_get listed n 0 c.loop-place-test.true in
     let m : ℕ = get_or table j 0 in
     let there = is-at_get table j 0 (c.requires.within n j here) in
-    let I = c.loop-place.invariant in (
-      subst (λ (xs : List ℕ). AreAdded table listed (n + 1) old xs) (sym c.in_ok-push.ensures.items) (added-more table listed n j m old c.loop-place.row.items here there I.0),
-      λ e. subst (AreReadTo table listed (n + 1)) (sym c.in_ok-push.ensures.items) (read-more table listed n j m c.loop-place.row.items here there (I.1 e)),
-    )
+    subst (λ (xs : List ℕ). AreAdded table listed (n + 1) old xs) (sym c.in_ok-push.ensures.items) (added-more table listed n j m old c.loop-place.row.items here there c.loop-place.invariant)
 
 pub returns : goal.returns
 returns c =
     let all : c.loop-place.place-index ≡ length c.args.listed.now = let f = c.loop-place-test.false in let e = c.loop-place.auto in omega arith in
-    let I = c.loop-place.invariant in
-    record {
-      added = subst (λ (n : ℕ). AreAdded c.args.table.now c.args.listed.now n c.args.row.now.items c.loop-place.row.items) all I.0;
-      rise = λ e. read-rise c.args.table.now c.args.listed.now c.loop-place.row.items c.loop-place.place-index (I.1 e);
-    }
+    record { added = subst (λ (n : ℕ). AreAdded c.args.table.now c.args.listed.now n c.args.row.now.items c.loop-place.row.items) all c.loop-place.invariant }

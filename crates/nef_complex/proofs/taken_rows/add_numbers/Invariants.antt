@@ -1,7 +1,5 @@
-use Rattle.std.specs.Prelude.{◌≡◌, []}
 use Rattle.nef_complex.specs.Taken.{AreAdded}
-use Rattle.nef_complex.proofs.Walking.{AreReadTo}
 use Rattle.nef_complex.proofs.taken_rows.add_numbers.Given as goal
 
 abbrev pub invariant-loop-place : goal.invariant-loop-place
-invariant-loop-place l = AreAdded l.table l.listed l.place-index l.initial.row.items l.row.items × (l.initial.row.items ≡ [] → AreReadTo l.table l.listed l.place-index l.row.items)
+invariant-loop-place l = AreAdded l.table l.listed l.place-index l.initial.row.items l.row.items

@@ -43,8 +43,10 @@ returns c =
     let count : c.len-found.result ≡ length ns = omega (arith, c.len-found.ensures, c.loop-number.numbers.ok.0) in
     let enough : length gs ≤ length ns = let f = c.if-found-carriers.false in omega (arith, f, count) in
     record {
-      shows = c.requires.shows;
-      taken = subst (λ (planes : List Plane). AreTaken planes hs ns c.in_ok-others.others ks) c.as_slice-carriers.ensures.all
-          (subst (λ (planes : List Plane). AreTaken gs hs ns planes ks) (sym c.in_ok-others.ensures.kept)
-          (taken-all gs hs c.loop-number.number ns others ks c.loop-number.invariant (let f = c.loop-number-test.false in let e = c.loop-number.auto in omega arith) enough));
+      source = (
+        c.requires.shows,
+        subst (λ (planes : List Plane). AreTaken planes hs ns c.in_ok-others.others ks) c.as_slice-carriers.ensures.all
+            (subst (λ (planes : List Plane). AreTaken gs hs ns planes ks) (sym c.in_ok-others.ensures.kept)
+            (taken-all gs hs c.loop-number.number ns others ks c.loop-number.invariant (let f = c.loop-number-test.false in let e = c.loop-number.auto in omega arith) enough)),
+      );
     }

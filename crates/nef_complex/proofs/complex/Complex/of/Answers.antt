@@ -62,20 +62,20 @@ spans_of-requires c =
     let hs = c.args.carriers in let vs = c.args.vertices in let rows = c.args.at_vertex in let table = c.in_ok-on_carrier.on_carrier in
     let O = on-carriers hs vs rows c.len.result table c.len.ensures.len c.requires.rows c.in_ok-on_carrier.ensures.as_many c.in_ok-on_carrier.ensures.transposed in
     let A = of-two AreAlone c.as_slice-2.result.now vs c.in_ok-vertex_spans.field-0.items c.as_slice-3.result.now c.as_slice-2.ensures.all (sym (c.as_slice-3.ensures.all ∙ c.from_vec-points.ensures.all)) c.in_ok-vertex_spans.ensures.alone in
-    record { within = λ k row a. within-alone vs c.as_slice-3.result.now row A (rows-within hs vs table O k row (subst (λ (xs : List (List ℕ)). IsAt xs k row) c.as_slice-4.ensures.all a)) }
+    record { within = λ k row a. within-alone vs c.as_slice-3.result.now row A (rows-within hs vs table O k row a) }
 
 pub peaks_of-requires : goal.peaks_of-requires
 peaks_of-requires c =
     let hs = c.args.carriers in let vs = c.args.vertices in let es = c.args.edges in let rows = c.in_ok-at_edge.at_edge in let table = c.in_ok-in_carrier.in_carrier in
     let E = edges-held hs vs c.args.at_vertex c.requires.rows es rows (at-ends _ rows _ es c.as_slice.ensures.all c.in_ok-at_edge.ensures.common) in
     let W = carrier-edges hs vs es c.requires.ends rows E table (c.in_ok-in_carrier.ensures.as_many ∙ c.len-2.ensures.len) c.in_ok-in_carrier.ensures.transposed in
-    record { within = subst (λ (xs : List Edge). (i : ℕ) (ns : List ℕ) → IsAt table i ns → AreWithin xs ns) (sym c.as_slice-5.ensures.all) (rows-edges hs vs es table W) }
+    record { within = subst (λ (xs : List Edge). (i : ℕ) (ns : List ℕ) → IsAt table i ns → AreWithin xs ns) (sym c.as_slice-4.ensures.all) (rows-edges hs vs es table W) }
 
 pub item_flags-requires : goal.item_flags-requires
 item_flags-requires c =
     let hs = c.args.carriers in let vs = c.args.vertices in let rows = c.args.at_vertex in let table = c.in_ok-on_carrier.on_carrier in
     let O = on-carriers hs vs rows c.len.result table c.len.ensures.len c.requires.rows c.in_ok-on_carrier.ensures.as_many c.in_ok-on_carrier.ensures.transposed in
-    record { on = of-two (λ g u. AreCarrierVertices g u table) hs c.as_slice-6.result.now vs c.as_slice-7.result.now (sym c.as_slice-6.ensures.all) (sym c.as_slice-7.ensures.all) O }
+    record { on = of-two (λ g u. AreCarrierVertices g u table) hs c.as_slice-5.result.now vs c.as_slice-6.result.now (sym c.as_slice-5.ensures.all) (sym c.as_slice-6.ensures.all) O }
 
 pub returns-clause-index : goal.returns-clause-index
 returns-clause-index c =
@@ -83,7 +83,7 @@ returns-clause-index c =
     record {
       ordered = c.requires.ordered;
       planes = item-carrier hs vs c.requires.held;
-      flags = of-two (λ g u. AreItemFlags g u c.in_ok-has_item.has_item) c.as_slice-6.result.now hs c.as_slice-7.result.now vs c.as_slice-6.ensures.all c.as_slice-7.ensures.all c.in_ok-has_item.ensures.flags;
+      flags = of-two (λ g u. AreItemFlags g u c.in_ok-has_item.has_item) c.as_slice-5.result.now hs c.as_slice-6.result.now vs c.as_slice-5.ensures.all c.as_slice-6.ensures.all c.in_ok-has_item.ensures.flags;
     }
 
 pub returns-clause-holders : goal.returns-clause-holders
@@ -97,9 +97,9 @@ returns-clause-holders c =
     let W = carrier-edges hs vs es c.requires.ends erows E etable (c.in_ok-in_carrier.ensures.as_many ∙ c.len-2.ensures.len) c.in_ok-in_carrier.ensures.transposed in
     let ss = c.in_ok-spans.spans in
     let points = c.from_vec-points.result in
-    let many = subst (λ (xs : List (List ℕ)). length ss ≡ length xs) c.as_slice-4.ensures.all c.in_ok-spans.ensures.as_many in
+    let many = c.in_ok-spans.ensures.as_many in
     let A = of-two AreAlone c.as_slice-2.result.now vs c.in_ok-vertex_spans.field-0.items points c.as_slice-2.ensures.all (sym c.from_vec-points.ensures.all) c.in_ok-vertex_spans.ensures.alone in
-    let all = of-two (λ (xs : List (List ℕ)) (ps : List Span). AreSpansOf ps xs ss) c.as_slice-4.result.now table c.as_slice-3.result.now points c.as_slice-4.ensures.all c.as_slice-3.ensures.all c.in_ok-spans.ensures.spanned in
+    let all = subst (λ (ps : List Span). AreSpansOf ps table ss) c.as_slice-3.ensures.all c.in_ok-spans.ensures.spanned in
     let S = carrier-spans hs vs table O points ss A many all in
     record {
       at_vertex = V;
@@ -108,6 +108,6 @@ returns-clause-holders c =
       in_carrier = W;
       points = A;
       spans = S;
-      clusters = in-clusters hs vs c.as_slice-8.result.now ss c.in_ok-clusters.clusters c.as_slice-8.ensures.all S c.in_ok-clusters.ensures.wide c.in_ok-clusters.ensures.groups c.in_ok-clusters.ensures.all;
-      peaks = subst (λ (xs : List Edge). HavePeaks xs etable c.in_ok-peaks.peaks) c.as_slice-5.ensures.all c.in_ok-peaks.ensures.peaks;
+      clusters = in-clusters hs vs c.as_slice-7.result.now ss c.in_ok-clusters.clusters c.as_slice-7.ensures.all S c.in_ok-clusters.ensures.wide c.in_ok-clusters.ensures.groups c.in_ok-clusters.ensures.all;
+      peaks = subst (λ (xs : List Edge). HavePeaks xs etable c.in_ok-peaks.peaks) c.as_slice-4.ensures.all c.in_ok-peaks.ensures.peaks;
     }
