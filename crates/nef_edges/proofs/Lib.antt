@@ -12,5 +12,4 @@ pub mod Joined
 pub mod Matched
 pub mod Checked
 pub mod Walked
-pub mod Sources
 pub mod Ways

@@ -74,7 +74,7 @@ pub end_total : IsTotalOrder end_order
 end_total = then_total line_total (on_total (λ (h : EdgeEnd). h.vertex) nat_cmp_total)
 
 -- ---- one line
-then-equal : (o p : Ordering) → ordering_then o p ≡ Equal → (o ≡ Equal) × (p ≡ Equal)
+pub then-equal : (o p : Ordering) → ordering_then o p ≡ Equal → (o ≡ Equal) × (p ≡ Equal)
 then-equal Less p e = let i : Less ≡ Equal = e in absurd (cc)
 then-equal Equal p e = (refl, e)
 then-equal Greater p e = let i : Greater ≡ Equal = e in absurd (cc)

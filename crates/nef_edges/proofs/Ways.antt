@@ -5,11 +5,13 @@ use mir.Syntax.{w128}
 use Rattle.nef_space.specs.Limits.{direction_limit, point_limit, weight_limit}
 use Rattle.nef_space.specs.Place.{toward}
 use Rattle.nef_space.specs.Vectors.{cross, IsZero}
+use Rattle.nef_space.proofs.Combination.{follows, given, none}
 use Rattle.nef_space.proofs.Machine.{Code, load, wrap, run, ◌⊟◌, ◌⊠◌, Limited, fits_of, exact_of, size_of}
+use Rattle.nef_space.proofs.Ring.{at, num, ◌⊖◌, ◌⊗◌}
 use Rattle.nef_geo.specs.Shapes.{place_of, vector_of}
 use Rattle.nef_geo.specs.declared.dir.Dir.{Dir}
 use Rattle.nef_geo.specs.declared.point.Point.{Point}
-use Rattle.nef_edges.specs.Widths.{way_limit}
+use Rattle.nef_edges.specs.Widths.{step_limit, way_limit}
 use Rattle.nef_edges.proofs.Lines.{to-level}
 
 abbrev wide : ℕ → Code
@@ -46,6 +48,31 @@ module _ (n m : ℤ) (hn : nat_abs n ≤ way_limit) (hm : nat_abs m ≤ directio
   pub times-exact : run (n ∷ m ∷ []) (wrap w128 times) ≡ n *ℤ m
   times-exact = exact_of (way_limit ∷ direction_limit ∷ []) (n ∷ m ∷ []) (wrap w128 times) (hn, (hm, tt)) tt
 
+-- ---- `b - a`
+module _ (a b : ℤ) (ha : nat_abs a ≤ point_limit) (hb : nat_abs b ≤ point_limit) where
+  abbrev step : Code
+  step = wrap w64 (load 1) ⊟ wrap w64 (load 0)
+
+  pub step-fits : FitsSigned w64 (run (a ∷ b ∷ []) step)
+  step-fits = fits_of (point_limit ∷ point_limit ∷ []) (a ∷ b ∷ []) w64 step (ha, (hb, tt)) tt
+
+  pub step-exact : run (a ∷ b ∷ []) (wrap w64 step) ≡ b -ℤ a
+  step-exact = exact_of (point_limit ∷ point_limit ∷ []) (a ∷ b ∷ []) (wrap w64 step) (ha, (hb, tt)) tt
+
+  pub step-small : nat_abs (run (a ∷ b ∷ []) (wrap w64 step)) ≤ step_limit
+  step-small = size_of (point_limit ∷ point_limit ∷ []) (a ∷ b ∷ []) step_limit (wrap w64 step) (ha, (hb, tt)) tt tt
+
+-- ---- `n as i128 * m as i128`
+module _ (n m : ℤ) (hn : nat_abs n ≤ step_limit) (hm : nat_abs m ≤ direction_limit) where
+  abbrev spread : Code
+  spread = wide 0 ⊠ wide 1
+
+  pub spread-fits : FitsSigned w128 (run (n ∷ m ∷ []) spread)
+  spread-fits = fits_of (step_limit ∷ direction_limit ∷ []) (n ∷ m ∷ []) w128 spread (hn, (hm, tt)) tt
+
+  pub spread-exact : run (n ∷ m ∷ []) (wrap w128 spread) ≡ n *ℤ m
+  spread-exact = exact_of (step_limit ∷ direction_limit ∷ []) (n ∷ m ∷ []) (wrap w128 spread) (hn, (hm, tt)) tt
+
 -- ---- numbers that pass through their type
 pub kept : (n : ℤ) → nat_abs n ≤ way_limit → to_z w128 (of_z w128 n) ≡ n
 kept n h = exact_of (way_limit ∷ []) (n ∷ []) (wrap w128 (load 0)) (h, tt) tt
@@ -80,3 +107,30 @@ along-read p q d x y z dy dz dz' dx dx' dy' ex ey ez hx hy hz fy fz fz' fx fx' f
         let k : to_z w64 (of_z w64 f) ≡ h = ap (λ l. to_z w64 (of_z w64 l)) j ∙ number-kept h hh in
         let k' : to_z w64 (of_z w64 e) ≡ g = ap (λ l. to_z w64 (of_z w64 l)) i ∙ number-kept g hg in
         ap (λ l. l *ℤ h) (sym (kept m hm)) ∙ ap (λ l. to_z w128 (of_z w128 m) *ℤ l) (sym k) ∙ r ∙ ap (λ l. to_z w128 (of_z w128 n) *ℤ l) k' ∙ ap (λ l. l *ℤ g) (kept n hn)
+
+-- ---- the same where both points have one denominator
+zero-step : (a b a' b' e f w : ℤ) → (a' -ℤ a) *ℤ f ≡ (b' -ℤ b) *ℤ e → (a' *ℤ w -ℤ a *ℤ w) *ℤ f -ℤ (b' *ℤ w -ℤ b *ℤ w) *ℤ e ≡ pos 0
+zero-step a b a' b' e f w h = follows (a ∷ b ∷ a' ∷ b' ∷ e ∷ f ∷ w ∷ []) ((at 2 ⊗ at 6 ⊖ at 0 ⊗ at 6) ⊗ at 5 ⊖ (at 3 ⊗ at 6 ⊖ at 1 ⊗ at 6) ⊗ at 4) (num (pos 0))
+    (given (at 6) ((at 2 ⊖ at 0) ⊗ at 5) ((at 3 ⊖ at 1) ⊗ at 4) h none) tt
+
+step-kept : (n : ℤ) → nat_abs n ≤ step_limit → to_z w64 (of_z w64 n) ≡ n
+step-kept n h = exact_of (step_limit ∷ []) (n ∷ []) (wrap w64 (load 0)) (h, tt) tt
+
+pub along-stepped : (p q : Point) (d : Dir) (x y z dy dz dz' dx dx' dy' : ℤ) → p.w ≡ q.w → x ≡ q.x -ℤ p.x → y ≡ q.y -ℤ p.y → z ≡ q.z -ℤ p.z → nat_abs x ≤ step_limit → nat_abs y ≤ step_limit → nat_abs z ≤ step_limit
+    → dy ≡ d.y → dz ≡ d.z → dz' ≡ d.z → dx ≡ d.x → dx' ≡ d.x → dy' ≡ d.y
+    → to_z w64 (of_z w64 y) *ℤ to_z w64 (of_z w64 dz) ≡ to_z w64 (of_z w64 z) *ℤ to_z w64 (of_z w64 dy)
+    → to_z w64 (of_z w64 z) *ℤ to_z w64 (of_z w64 dx) ≡ to_z w64 (of_z w64 x) *ℤ to_z w64 (of_z w64 dz')
+    → to_z w64 (of_z w64 x) *ℤ to_z w64 (of_z w64 dy') ≡ to_z w64 (of_z w64 y) *ℤ to_z w64 (of_z w64 dx')
+    → IsZero (cross (toward (place_of p) (place_of q)) (vector_of d))
+along-stepped p q d x y z dy dz dz' dx dx' dy' same ex ey ez hx hy hz fy fz fz' fx fx' fy' a b c = to-level p q (vector_of d)
+    (zero p.y p.z q.y q.z y z dy dz d.y d.z ey ez hy hz fy fz d.y_small d.z_small a, zero p.z p.x q.z q.x z x dz' dx d.z d.x ez ex hz hx fz' fx d.z_small d.x_small b, zero p.x p.y q.x q.y x y dx' dy' d.x d.y ex ey hx hy fx' fy' d.x_small d.y_small c)
+  where
+    zero : (i j i' j' m n e f g h : ℤ) → m ≡ i' -ℤ i → n ≡ j' -ℤ j → nat_abs m ≤ step_limit → nat_abs n ≤ step_limit → e ≡ g → f ≡ h → nat_abs g ≤ direction_limit → nat_abs h ≤ direction_limit
+        → to_z w64 (of_z w64 m) *ℤ to_z w64 (of_z w64 f) ≡ to_z w64 (of_z w64 n) *ℤ to_z w64 (of_z w64 e) → (i' *ℤ p.w -ℤ i *ℤ q.w) *ℤ h -ℤ (j' *ℤ p.w -ℤ j *ℤ q.w) *ℤ g ≡ pos 0
+    zero i j i' j' m n e f g h em en hm hn eg fh hg hh r =
+        let k : to_z w64 (of_z w64 f) ≡ h = ap (λ l. to_z w64 (of_z w64 l)) fh ∙ number-kept h hh in
+        let k' : to_z w64 (of_z w64 e) ≡ g = ap (λ l. to_z w64 (of_z w64 l)) eg ∙ number-kept g hg in
+        let u : to_z w64 (of_z w64 m) ≡ i' -ℤ i = step-kept m hm ∙ em in
+        let v : to_z w64 (of_z w64 n) ≡ j' -ℤ j = step-kept n hn ∙ en in
+        let s : (i' -ℤ i) *ℤ h ≡ (j' -ℤ j) *ℤ g = ap (λ l. l *ℤ h) (sym u) ∙ ap (λ l. to_z w64 (of_z w64 m) *ℤ l) (sym k) ∙ r ∙ ap (λ l. to_z w64 (of_z w64 n) *ℤ l) k' ∙ ap (λ l. l *ℤ g) v in
+        subst (λ w. (i' *ℤ p.w -ℤ i *ℤ w) *ℤ h -ℤ (j' *ℤ p.w -ℤ j *ℤ w) *ℤ g ≡ pos 0) same (zero-step i j i' j' g h p.w s)

@@ -9,7 +9,21 @@ use Rattle.nef_smap.specs.declared.map.SVertex.{SVertex}
 use Rattle.nef_complex.specs.declared.complex.Vertex.{Vertex}
 use Rattle.nef_complex.specs.declared.complex.Edge.{Edge}
 use Rattle.nef_complex.specs.Complexes.{vertex_of, edge_of}
+use Rattle.nef_edges.specs.declared.ends.End.{End}
 use Rattle.nef_edges.specs.Matched.{IsMatched}
+
+-- the end is a svertex of one of the vertices, with their numbers
+pub record IsEnd (vs : List Vertex) (x : End) : Type 0 where
+  pub vertex : At vs x.vertex_number x.vertex.now
+  pub svertex : At x.vertex.now.map.svertices x.svertex_number x.svertex.now
+
+-- the edge from the end to svertex b of vertex j
+abbrev pub edge_between : End → ℕ → ℕ → Edge
+edge_between x j b = record { low = x.vertex_number; low_svertex = x.svertex_number; high = j; high_svertex = b; mark = x.svertex.now.mark }
+
+-- it is matched, where the first is an end
+abbrev pub LeadsTo : List Vertex → End → ℕ → ℕ → Type 0
+LeadsTo vs x j b = IsEnd vs x → IsMatched (map vertex_of vs) (edge_of (edge_between x j b))
 
 -- one edge from each of the svertices that count and lead to later points, in order; each is matched, or its number is listed as loose, at the given place or behind it
 pub record AreLaid (vs : List Vertex) (Counts : ℕ → ℕ → Type 0) (es : List Edge) (loose : List ℕ) (from : ℕ) : Type 0 where

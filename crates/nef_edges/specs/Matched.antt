@@ -1,5 +1,5 @@
 -- Edges that are told by guesses, each of which is checked alone.
-use Rattle.std.specs.Prelude.{◌≡◌, ℕ, ◌<◌, ◌+◌, ◌-◌, ◌^◌, min, List, map, get_or, Bool, true}
+use Rattle.std.specs.Prelude.{◌≡◌, ℕ, ◌<◌, ◌+◌, ◌-◌, ◌^◌, min, List, get_or, Bool, true}
 use Rattle.nef_space.specs.Place.{toward}
 use Rattle.nef_space.specs.Vectors.{cross, IsZero, IsNormal, IsOpposite}
 use Rattle.law_sphere.specs.Maps.{At, MapVertex}
@@ -9,7 +9,6 @@ use Rattle.nef_geo.specs.Shapes.{place_of, vector_of}
 use Rattle.nef_smap.specs.declared.map.SVertex.{SVertex}
 use Rattle.nef_complex.specs.declared.complex.Vertex.{Vertex as ProgramVertex}
 use Rattle.nef_complex.specs.declared.complex.Edge.{Edge as ProgramEdge}
-use Rattle.nef_complex.specs.Complexes.{vertex_of, edge_of}
 use Rattle.nef_edges.specs.Pairs.{AreJoined}
 
 -- the edge joins a svertex that leads to later points with one of a later vertex that leads back along the same line: other vertices may lie between
@@ -50,10 +49,6 @@ abbrev pub EdgesAreMatched : Type 0
 EdgesAreMatched = (vs : List Vertex) (es : List Edge) → AreJoined vs → Edges vs es → AreMatched vs es
 
 -- ---- edges that are checked one by one
--- each of the edges is matched
-abbrev pub AreAllMatched : List ProgramVertex → List ProgramEdge → Type 0
-AreAllMatched vs es = (k : ℕ) (e : ProgramEdge) → At es k e → IsMatched (map vertex_of vs) (edge_of e)
-
 -- of the first n edges no two arrive at one svertex
 abbrev pub AreApart : List ProgramEdge → ℕ → Type 0
 AreApart es n = (k l : ℕ) (e f : ProgramEdge) → At es k e → At es l f → k < n → l < n → e.high ≡ f.high → e.high_svertex ≡ f.high_svertex → k ≡ l

@@ -8,3 +8,7 @@ moment_limit = 3 * 2 ^ 83
 -- the size of the numbers of q - p, times the denominators of both points
 abbrev pub way_limit : ℕ
 way_limit = 9 * 2 ^ 80
+
+-- the size of the numbers of q - p, times one denominator that both points have
+abbrev pub step_limit : ℕ
+step_limit = 3 * 2 ^ 46

@@ -2,12 +2,14 @@
 
 ghost use Rattle.std.specs.Prelude.{◌<◌, ◌≤◌, ◌+◌, ◌≡◌, ◌*ℤ◌};
 ghost use Rattle.nef_complex.specs.Prelude.{ℕ, length, IsTrue, IfOk, OnOk, nat_abs, IsSortedBy, At, int_cmp, nat_cmp, ordering_then};
+ghost use Rattle.std.specs.declared.cmp.Ordering.TheVariants.{Equal};
 ghost use Rattle.nef_edges.specs.declared.edge_end.EdgeEnd.{EdgeEnd};
-ghost use Rattle.nef_edges.specs.Order.{end_lt, moment_order, dir_order, end_order};
+ghost use Rattle.nef_edges.specs.Order.{end_lt, moment_order, dir_order, line_order, end_order};
 ghost use Rattle.nef_edges.specs.EdgeEnds.{IsBefore, AreArriving, IsAfter, NoneAfter, IsNext};
 ghost use Rattle.nef_edges.specs.Widths.{moment_limit};
 
 use crate::OutOfMemory;
+use crate::along::is_along;
 use crate::edge_end::{EdgeEnd, product};
 use nef_complex::Vertex;
 use std::alloc::Global;
@@ -63,9 +65,9 @@ fn is_after(ends: &[EdgeEnd], number: usize, from: &EdgeEnd) -> bool
 fn guess_up_to(ends: &[EdgeEnd], from: &EdgeEnd) -> usize
     ensures within { result ≤ length ends.now }
 {
-    ends.partition_point(|end| key_cmp(end, from)
-        .then(end.vertex.cmp(&from.vertex))
-        .is_le())
+    ends.partition_point(|end| {
+        end.key < from.key || (end.key == from.key && end.vertex <= from.vertex)
+    })
 }
 
 // Whether none of the sorted ends before this number stands after `from`: the last of them doesn't.
@@ -102,7 +104,7 @@ fn ratio_cmp(n: i128, a: &EdgeEnd, m: i128, b: &EdgeEnd) -> Ordering
     (n * v as i128).cmp(&(m * w as i128))
 }
 
-// Compares the moments of two lines. All three numbers are worked out at once: mostly both lines are one.
+// Compares the moments of two lines.
 fn moment_cmp(a: &EdgeEnd, b: &EdgeEnd) -> Ordering
     ensures order { result ≡ moment_order a.now b.now }
 {
@@ -113,10 +115,23 @@ fn moment_cmp(a: &EdgeEnd, b: &EdgeEnd) -> Ordering
         .then(ratio_cmp(n.2, a, m.2, b))
 }
 
-// Compares two lines with one key.
+// Whether the two ends lie on one line.
+fn is_one_line(a: &EdgeEnd, b: &EdgeEnd) -> bool
+    ensures tied { IsTrue result → line_order a.now b.now ≡ Equal }
+{
+    if !a.dir.is_same(&b.dir) {
+        return false;
+    }
+    is_along(&a.point, &a.dir, &b.point)
+}
+
+// Compares two lines with one key. Mostly both are one.
 fn line_cmp(a: &EdgeEnd, b: &EdgeEnd) -> Ordering
     ensures order { result ≡ ordering_then (dir_order a.now.dir b.now.dir) (moment_order a.now b.now) }
 {
+    if is_one_line(a, b) {
+        return Ordering::Equal;
+    }
     a.dir.cmp(&b.dir).then_with(|| moment_cmp(a, b))
 }
 

@@ -1,134 +1,137 @@
 //! Edges laid out from all svertices that lead on, by the edges of the sets that a set is made of. Ends for which there is none are
 //! loose.
 
-ghost use Rattle.std.specs.Prelude.{◌≡◌, ◌<◌, ◌+◌, ◌⊎◌, Some};
-ghost use Rattle.nef_complex.specs.Prelude.{ℕ, length, IfSome, IfOk, OnOk, At};
+ghost use Rattle.std.specs.Prelude.{◌≡◌, ◌<◌, ◌+◌, List, Some};
+ghost use Rattle.nef_complex.specs.Prelude.{length, IfSome, IfOk, OnOk};
+ghost use Rattle.nef_complex.specs.declared.complex.Vertex.{Vertex as VertexValue};
 ghost use Rattle.nef_edges.specs.EdgeEnds.{IsBefore};
-ghost use Rattle.nef_edges.specs.Matched.{AreAllMatched};
-ghost use Rattle.nef_edges.specs.Laid.{AreLaid};
+ghost use Rattle.nef_edges.specs.Laid.{AreLaid, IsEnd, LeadsTo};
 
 use crate::OutOfMemory;
 use crate::edge_end::EdgeEnd;
+use crate::ends::End;
 use crate::guessed::{slot, take};
+use crate::kept::{Source, kept_end};
 use crate::loose::Loose;
 use nef_complex::{Edge, Vertex};
-use nef_smap::SVertex;
 use std::alloc::Global;
 
-/// Edges of two complexes that still join two vertices, in order.
+/// The edges of the two complexes that a set is made of.
 #[derive(Debug, Drop)]
-pub(crate) struct Kept {
-    pub(crate) first: Vec<Edge>,
-    pub(crate) second: Vec<Edge>,
+pub(crate) struct Sources<'a> {
+    pub(crate) first: Source<'a>,
+    pub(crate) second: Source<'a>,
 }
 
-// How many edges of each complex the way along the svertices has passed.
-#[derive(Debug, Clone, Copy)]
-struct Passed {
-    first: usize,
-    second: usize,
+// Marks of the svertices at which an edge arrives. Those of a vertex begin in the list where `starts` tells.
+#[derive(Debug, Drop)]
+struct Arrived<'a> {
+    starts: &'a [usize],
+    marks: Vec<bool>,
 }
 
-// The next of the edges, where it leads on from svertex k of vertex i: then it is passed.
-fn next_from(edges: &[Edge], passed: &mut usize, i: usize, k: usize) -> Option<Edge>
-    ensures listed { IfSome result (λ e. (n : ℕ) × At edges.now n e) }
-    ensures low { IfSome result (λ e. e.low ≡ i) }
-    ensures low_svertex { IfSome result (λ e. e.low_svertex ≡ k) }
+// The svertex with these numbers, where no edge arrives there yet: now one does.
+fn free_end(arrived: &mut Arrived, end: Option<(usize, usize)>) -> Option<(usize, usize)>
+    ensures same { IfSome result (λ t. end ≡ Some t) }
 {
-    let edge = *edges.get(*passed)?;
-    if edge.low == i && edge.low_svertex == k {
-        *passed = passed.saturating_add(1);
-        return Some(edge);
+    let end = end?;
+    if take(&mut arrived.marks, slot(arrived.starts, end.0, end.1)) {
+        return Some(end);
     }
     None
 }
 
-// The edge, where none arrives yet at its higher end: now it does.
-fn free_edge(arrived: &mut Vec<bool>, starts: &[usize], edge: Option<Edge>) -> Option<Edge>
-    ensures same { IfSome result (λ e. edge ≡ Some e) }
-{
-    let edge = edge?;
-    if take(arrived, slot(starts, edge.high, edge.high_svertex)) {
-        return Some(edge);
-    }
-    None
-}
-
-// An edge of one of the complexes that leads on from svertex k of vertex i, where none arrives yet at its higher end.
-fn kept_from(
-    arrived: &mut Vec<bool>,
-    starts: &[usize],
-    kept: &Kept,
-    passed: &mut Passed,
-    i: usize,
-    k: usize,
-) -> Option<Edge>
-    ensures listed { IfSome result (λ e. ((n : ℕ) × At kept.now.first.items n e) ⊎ ((n : ℕ) × At kept.now.second.items n e)) }
-    ensures low { IfSome result (λ e. e.low ≡ i) }
-    ensures low_svertex { IfSome result (λ e. e.low_svertex ≡ k) }
-{
-    let one = next_from(kept.first.as_slice(), &mut passed.first, i, k);
-    let other = next_from(kept.second.as_slice(), &mut passed.second, i, k);
-    let edge = free_edge(arrived, starts, one);
-    if edge.is_some() {
-        return edge;
-    }
-    free_edge(arrived, starts, other)
-}
-
-// Lays out the edge from svertex k of vertex i, which leads on.
-fn lay_edge(
-    edges: &mut Vec<Edge>,
-    loose: &mut Loose,
-    arrived: &mut Vec<bool>,
-    starts: &[usize],
-    kept: &Kept,
-    passed: &mut Passed,
+// The numbers of the vertex and the svertex to which an edge of one of the complexes leads from the end, where none arrives there
+// yet.
+fn end_from(
+    arrived: &mut Arrived,
+    sources: &mut Sources,
     vertices: &[Vertex],
-    svertex: &SVertex,
-    i: usize,
-    k: usize,
-) -> Result<(), OutOfMemory>
-    requires within { i < length vertices.now }
-    requires first { AreAllMatched vertices.now kept.now.first.items }
-    requires second { AreAllMatched vertices.now kept.now.second.items }
-    requires before { AreLaid vertices.now (IsBefore i k) edges.old.items loose.old.numbers.items 0 }
-    ensures added { OnOk result (AreLaid vertices.now (IsBefore i (k + 1)) edges.new.items loose.new.numbers.items 0) }
+    low: &End,
+) -> Option<(usize, usize)>
+    ensures leads { IfSome result (λ t. LeadsTo vertices.now low.now t.0 t.1) }
 {
-    if let Some(edge) = kept_from(arrived, starts, kept, passed, i, k) {
-        edges.push(edge)?;
-        return Ok(());
+    let one = kept_end(&mut sources.first, vertices, low);
+    let end = free_end(arrived, one);
+    if end.is_some() {
+        return end;
     }
+    let other = kept_end(&mut sources.second, vertices, low);
+    free_end(arrived, other)
+}
+
+// Lays out the edge from the end, which leads on: it is loose.
+fn lay_loose(edges: &mut Vec<Edge>, loose: &mut Loose, low: &End) -> Result<(), OutOfMemory>
+    ensures added { OnOk result ((vs : List VertexValue) → AreLaid vs (IsBefore low.now.vertex_number low.now.svertex_number) edges.old.items loose.old.numbers.items 0 → AreLaid vs (IsBefore low.now.vertex_number (low.now.svertex_number + 1)) edges.new.items loose.new.numbers.items 0) }
+{
     loose.numbers.push(edges.len())?;
-    loose
-        .leading
-        .push(EdgeEnd::of(vertices[i].point, svertex.dir, i, k))?;
+    loose.leading.push(EdgeEnd::of(
+        low.vertex.point,
+        low.svertex.dir,
+        low.vertex_number,
+        low.svertex_number,
+    ))?;
     edges.push(Edge {
-        low: i,
-        low_svertex: k,
+        low: low.vertex_number,
+        low_svertex: low.svertex_number,
         high: 0,
         high_svertex: 0,
-        mark: svertex.mark,
+        mark: low.svertex.mark,
     })?;
     Ok(())
 }
 
-// Adds svertex k of vertex i, at which an edge arrives, where none does yet.
+// Lays out the edge from the end, which leads on.
+fn lay_edge(
+    edges: &mut Vec<Edge>,
+    loose: &mut Loose,
+    arrived: &mut Arrived,
+    sources: &mut Sources,
+    vertices: &[Vertex],
+    low: &End,
+) -> Result<(), OutOfMemory>
+    requires end { IsEnd vertices.now low.now }
+    requires before { AreLaid vertices.now (IsBefore low.now.vertex_number low.now.svertex_number) edges.old.items loose.old.numbers.items 0 }
+    ensures added { OnOk result (AreLaid vertices.now (IsBefore low.now.vertex_number (low.now.svertex_number + 1)) edges.new.items loose.new.numbers.items 0) }
+{
+    if let Some(end) = end_from(arrived, sources, vertices, low) {
+        edges.push(Edge {
+            low: low.vertex_number,
+            low_svertex: low.svertex_number,
+            high: end.0,
+            high_svertex: end.1,
+            mark: low.svertex.mark,
+        })?;
+        return Ok(());
+    }
+    lay_loose(edges, loose, low)?;
+    Ok(())
+}
+
+// Adds the end, at which an edge arrives.
+fn add_end(arriving: &mut Vec<EdgeEnd>, high: &End) -> Result<(), OutOfMemory> {
+    arriving.push(EdgeEnd::of(
+        high.vertex.point,
+        high.svertex.dir.back(),
+        high.vertex_number,
+        high.svertex_number,
+    ))?;
+    Ok(())
+}
+
+// Adds the end, at which an edge arrives, where none does yet.
 fn add_arrival(
     arriving: &mut Vec<EdgeEnd>,
-    arrived: &[bool],
-    starts: &[usize],
-    vertex: &Vertex,
-    svertex: &SVertex,
-    i: usize,
-    k: usize,
+    arrived: &Arrived,
+    high: &End,
 ) -> Result<(), OutOfMemory> {
-    let is_met = match arrived.get(slot(starts, i, k)) {
+    let slot = slot(arrived.starts, high.vertex_number, high.svertex_number);
+    let is_met = match arrived.marks.get(slot) {
         Some(mark) => *mark,
         None => false,
     };
     if !is_met {
-        arriving.push(EdgeEnd::of(vertex.point, svertex.dir.back(), i, k))?;
+        add_end(arriving, high)?;
     }
     Ok(())
 }
@@ -137,35 +140,27 @@ fn add_arrival(
 fn lay_edges_from(
     edges: &mut Vec<Edge>,
     loose: &mut Loose,
-    arrived: &mut Vec<bool>,
-    starts: &[usize],
-    kept: &Kept,
-    passed: &mut Passed,
+    arrived: &mut Arrived,
+    sources: &mut Sources,
     vertices: &[Vertex],
     i: usize,
 ) -> Result<(), OutOfMemory>
     requires within { i < length vertices.now }
-    requires first { AreAllMatched vertices.now kept.now.first.items }
-    requires second { AreAllMatched vertices.now kept.now.second.items }
     requires before { AreLaid vertices.now (IsBefore i 0) edges.old.items loose.old.numbers.items 0 }
     ensures added { OnOk result (AreLaid vertices.now (IsBefore (i + 1) 0) edges.new.items loose.new.numbers.items 0) }
 {
     let vertex = &vertices[i];
     for (k, svertex) in vertex.map.svertices.as_slice().iter().enumerate() {
+        let end = End {
+            vertex,
+            svertex,
+            vertex_number: i,
+            svertex_number: k,
+        };
         if svertex.dir.is_normal() {
-            lay_edge(
-                edges, loose, arrived, starts, kept, passed, vertices, svertex, i, k,
-            )?;
+            lay_edge(edges, loose, arrived, sources, vertices, &end)?;
         } else {
-            add_arrival(
-                &mut loose.arriving,
-                arrived.as_slice(),
-                starts,
-                vertex,
-                svertex,
-                i,
-                k,
-            )?;
+            add_arrival(&mut loose.arriving, arrived, &end)?;
         }
     }
     Ok(())
@@ -177,30 +172,18 @@ pub(crate) fn lay_edges(
     vertices: &[Vertex],
     starts: &[usize],
     count: usize,
-    kept: &Kept,
+    sources: &mut Sources,
     loose: &mut Loose,
 ) -> Result<Vec<Edge>, OutOfMemory>
-    requires first { AreAllMatched vertices.now kept.now.first.items }
-    requires second { AreAllMatched vertices.now kept.now.second.items }
     ensures laid { IfOk result (λ es. AreLaid vertices.now (IsBefore (length vertices.now) 0) es.items loose.new.numbers.items 0) }
 {
-    let mut arrived = vec![in alloc; false; count]?;
     let mut edges = Vec::with_capacity(alloc, count / 2)?;
-    let mut passed = Passed {
-        first: 0,
-        second: 0,
+    let mut arrived = Arrived {
+        starts,
+        marks: vec![in alloc; false; count]?,
     };
     for i in 0..vertices.len() {
-        lay_edges_from(
-            &mut edges,
-            loose,
-            &mut arrived,
-            starts,
-            kept,
-            &mut passed,
-            vertices,
-            i,
-        )?;
+        lay_edges_from(&mut edges, loose, &mut arrived, sources, vertices, i)?;
     }
     Ok(edges)
 }

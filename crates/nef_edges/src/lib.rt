@@ -9,8 +9,10 @@
 //! edge is checked alone: if its ends lead to each other, and no two edges to one end, nothing lies between.
 #![tactic(auto)]
 
+mod along;
 mod arriving;
 mod edge_end;
+mod ends;
 mod guessed;
 mod guesses;
 mod kept;

@@ -94,21 +94,16 @@ fn may_be_cut(lines: &[LooseLine], key: i64, low: usize, high: usize) -> bool {
     }
 }
 
-// Adds the ends of edge number k, where it may be cut. All loose ends lie between the two vertices of `span`.
+// Adds the ends of edge number k, where it may be cut.
 fn part(
     loose: &mut Loose,
     lines: &[LooseLine],
-    span: (usize, usize),
     vertices: &[Vertex],
     k: usize,
     edge: &Edge,
 ) -> Result<(), OutOfMemory>
     ensures kept { OnOk result (IsPart loose.old.numbers.items loose.new.numbers.items) }
 {
-    let (first, last) = span;
-    if edge.low >= last || first >= edge.high {
-        return Ok(());
-    }
     if let (Some(low), Some(high)) = (vertices.get(edge.low), vertices.get(edge.high)) {
         if let Some(svertex) = low.map.svertices.as_slice().get(edge.low_svertex) {
             let key = line_key(&low.point, &svertex.dir);
@@ -132,6 +127,24 @@ fn part(
     Ok(())
 }
 
+// As `part`, where all loose ends lie between the two vertices of `span`: most edges lie before or behind these.
+fn part_within(
+    loose: &mut Loose,
+    lines: &[LooseLine],
+    span: (usize, usize),
+    vertices: &[Vertex],
+    k: usize,
+    edge: &Edge,
+) -> Result<(), OutOfMemory>
+    ensures kept { OnOk result (IsPart loose.old.numbers.items loose.new.numbers.items) }
+{
+    if edge.low >= span.1 || span.0 >= edge.high {
+        return Ok(());
+    }
+    part(loose, lines, vertices, k, edge)?;
+    Ok(())
+}
+
 /// Adds the ends of edges that may be cut, since they pass between loose ends of their line. Wrong guesses on a line, as that
 /// of an edge that was cut, leave ends without a guess: along the line the first and the last of these have all wrong ones between
 /// or across them. An edge that ends at vertex 0 is no guess. Then puts the ends at which edges arrive in order.
@@ -146,7 +159,7 @@ pub(crate) fn part_edges(
     let lines = lines_of(alloc, loose)?;
     let span = span_of(lines.as_slice());
     for k in 0..edges.len() {
-        part(loose, lines.as_slice(), span, vertices, k, &edges[k])?;
+        part_within(loose, lines.as_slice(), span, vertices, k, &edges[k])?;
     }
     loose.arriving.sort_unstable_by(end_cmp);
     Ok(())

@@ -1,8 +1,14 @@
-use Rattle.std.proofs.Common.{◌≡◌, rules, ap, ◌∙◌, Ordering}
-use Rattle.std.specs.Ordering.{ordering_then}
+use Rattle.std.proofs.Common.{◌≡◌, rules, ap, sym, ◌∙◌, Ordering}
+use Rattle.std.specs.Ordering.{int_cmp, ordering_then}
 use Rattle.nef_geo.proofs.Orders.{then-is}
 use Rattle.nef_edges.specs.Order.{dir_order, moment_order}
+use Rattle.nef_edges.proofs.Lines.{then-equal}
 use Rattle.nef_edges.proofs.arriving.line_cmp.Goals as goal
+
+pub returns-then-is_one_line : goal.returns-then-is_one_line
+returns-then-is_one_line c =
+    let a = c.args.a.now in let b = c.args.b.now in
+    record { order = sym (then-equal (int_cmp a.key b.key) (ordering_then (dir_order a.dir b.dir) (moment_order a b)) (c.is_one_line.ensures.tied c.if-is_one_line.true)).1 }
 
 pub returns : goal.returns
 returns c =

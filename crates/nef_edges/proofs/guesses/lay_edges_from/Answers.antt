@@ -12,6 +12,15 @@ use Rattle.nef_edges.proofs.Walked.{laid-pass, laid-row}
 use Rattle.nef_edges.proofs.guesses.lay_edges_from.Goals.{then-is_normal+in_ok-lay_edge, else-is_normal+in_ok-add_arrival}
 use Rattle.nef_edges.proofs.guesses.lay_edges_from.Goals as goal
 
+pub lay_edge-requires-clause-end : goal.lay_edge-requires-clause-end
+lay_edge-requires-clause-end c =
+    let vs = c.args.vertices.now in let k = c.loop-k.k in let v = c.index-vertices-i.result in let s = c.svertex-item.result in
+    let all = c.as_slice-svertex-items.ensures.all in
+    record {
+      vertex = read-at vs c.args.i v c.requires.within c.index-vertices-i.is;
+      svertex = read-at v.map.svertices k s (subst (λ (ss : List SVertex). k < length ss) all c.loop-k-test.true) (subst (λ (ss : List SVertex). s ≡ get_or ss k s) all c.svertex-item.is);
+    }
+
 pub loop-k-preserved : goal.loop-k-preserved
 loop-k-preserved c =
     let vs = c.args.vertices.now in let i = c.args.i in let k = c.loop-k.k in

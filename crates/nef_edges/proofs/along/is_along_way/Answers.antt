@@ -1,6 +1,6 @@
 use Rattle.std.proofs.Common.{rules}
 use Rattle.nef_edges.proofs.Ways.{along-read}
-use Rattle.nef_edges.proofs.guessed.is_along.Goals as goal
+use Rattle.nef_edges.proofs.along.is_along_way.Goals as goal
 
 pub returns : goal.returns
 returns c =

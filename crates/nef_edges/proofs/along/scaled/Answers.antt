@@ -1,5 +1,5 @@
 use Rattle.nef_edges.proofs.Ways.{times-fits, times-exact}
-use Rattle.nef_edges.proofs.guessed.scaled.Goals as goal
+use Rattle.nef_edges.proofs.along.scaled.Goals as goal
 
 pub overflow_mul-result : goal.overflow_mul-result
 overflow_mul-result c = times-fits c.args.n c.args.m c.requires.n_small c.requires.m_small

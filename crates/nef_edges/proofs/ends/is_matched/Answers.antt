@@ -1,6 +1,6 @@
 use Rattle.std.proofs.Common.{rules}
 use Rattle.nef_edges.proofs.Checked.{matched-ends}
-use Rattle.nef_edges.proofs.guessed.is_matched.Goals as goal
+use Rattle.nef_edges.proofs.ends.is_matched.Goals as goal
 
 pub returns : goal.returns
 returns c = record {

@@ -1,5 +1,5 @@
 use Rattle.nef_edges.proofs.Ways.{way-fits, way-exact, way-small}
-use Rattle.nef_edges.proofs.guessed.difference.Goals as goal
+use Rattle.nef_edges.proofs.along.difference.Goals as goal
 
 pub overflow_sub-result : goal.overflow_sub-result
 overflow_sub-result c = way-fits c.args.a c.args.w c.args.b c.args.v c.requires.a_small c.requires.w_small c.requires.b_small c.requires.v_small

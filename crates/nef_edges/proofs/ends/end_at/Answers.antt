@@ -1,0 +1,15 @@
+use Rattle.std.proofs.Common.{List, subst}
+use Rattle.law_sphere.specs.Maps.{At}
+use Rattle.nef_smap.specs.declared.map.SVertex.{SVertex}
+use Rattle.nef_edges.proofs.Places.{read-at}
+use Rattle.nef_edges.proofs.ends.end_at.Goals as goal
+
+pub returns-clause-end : goal.returns-clause-end
+returns-clause-end c =
+    let vs = c.args.vertices.now in
+    let v = c.in_ok-vertex.vertex.now in let s = c.in_ok-svertex.svertex.now in
+    let a = c.in_ok-vertex.ensures.lookup.3 in let b = c.in_ok-svertex.ensures.lookup.3 in
+    record {
+      vertex = read-at vs c.args.vertex_number v a.0 (a.1 v);
+      svertex = subst (λ (ss : List SVertex). At ss c.args.svertex_number s) c.as_slice.ensures.all (read-at c.as_slice.result.now c.args.svertex_number s b.0 (b.1 s));
+    }
