@@ -53,7 +53,7 @@ module _ {Out : Type 0} where
         low = omega arith;
       })
 
-  pub opens : (right : ℕ → Out → Type 0) (jobs seats : ℕ) (words : List ℕ) (slots : List (Option (BoardState Out))) (b : BoardState Out) → words ≡ 0 ∷ [] → slots ≡ Some b ∷ [] → b.machine ≡ start jobs → b.results.items ≡ replicate jobs None → IsSound b → 0 < seats
+  pub opens : (right : ℕ → Out → Type 0) (jobs seats : ℕ) (words : List ℕ) (slots : List (BoardState Out)) (b : BoardState Out) → words ≡ 0 ∷ [] → slots ≡ b ∷ [] → b.machine ≡ start jobs → b.results.items ≡ replicate jobs None → IsSound b → 0 < seats
       → Kept jobs seats right (opening words slots (first_view jobs seats))
   opens right jobs seats words slots b ws ss machine results sound some_seat =
       rw (ws, ss) (

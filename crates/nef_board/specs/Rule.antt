@@ -19,8 +19,8 @@ IsThere (Some k) count = k < count
 
 module _ {Out : Type 0} where
   -- where the state is: at home, or out with the pass that has the turn
-  abbrev pub IsPlaced : Option ℕ → BoardState Out → State (Option (BoardState Out)) (LockView Out) → Type 0
-  IsPlaced None b s = (slice_index s.words 0 ≡ 0) × (get_elem? s.homes 0 ≡ some (some (Some b)))
+  abbrev pub IsPlaced : Option ℕ → BoardState Out → State (BoardState Out) (LockView Out) → Type 0
+  IsPlaced None b s = (slice_index s.words 0 ≡ 0) × (get_elem? s.homes 0 ≡ some (some b))
   IsPlaced (Some k) b s = (slice_index s.words 0 ≡ 1) × (get_elem? s.homes 0 ≡ some none)
 
   -- who has the turn knows the state that it found
@@ -28,7 +28,7 @@ module _ {Out : Type 0} where
   SawIs None b place v = v.saw ≡ None
   SawIs (Some k) b place v = (place ≡ k → v.saw ≡ Some b) × (place ≢ k → v.saw ≡ None)
 
-  pub record Shows (right : ℕ → Out → Type 0) (jobs seats : ℕ) (turn : Option ℕ) (b : BoardState Out) (s : State (Option (BoardState Out)) (LockView Out)) : Type 0 where
+  pub record Shows (right : ℕ → Out → Type 0) (jobs seats : ℕ) (turn : Option ℕ) (b : BoardState Out) (s : State (BoardState Out) (LockView Out)) : Type 0 where
     pub words : length s.words ≡ 1
     pub homes : length s.homes ≡ 1
     pub placed : IsPlaced turn b s
@@ -40,7 +40,7 @@ module _ {Out : Type 0} where
     pub there : IsThere turn (length s.views)
     pub few : length s.views ≤ seats
 
-  abbrev pub Kept : ℕ → ℕ → (ℕ → Out → Type 0) → State (Option (BoardState Out)) (LockView Out) → Type 0
+  abbrev pub Kept : ℕ → ℕ → (ℕ → Out → Type 0) → State (BoardState Out) (LockView Out) → Type 0
   Kept jobs seats right s = (turn : Option ℕ) × (b : BoardState Out) × Shows right jobs seats turn b s
 
   -- what is told to a pass that took the turn
@@ -50,17 +50,21 @@ module _ {Out : Type 0} where
     pub hand : IfSome v.hand (λ job. slice_get b.machine.slots job ≡ Some (InHand v.number))
     pub deposits : AllDone b.machine.slots v.deposits
 
-  abbrev pub Took : Step (Option (BoardState Out)) → Me (Option (BoardState Out)) (LockView Out) → ℕ → Me (Option (BoardState Out)) (LockView Out) → Type 0
-  Took st v found w = MatchBool (found == 0) ((b : BoardState Out) × (w.0 ≡ seeing v.0 b) × (w.1 ≡ (0, Some b) ∷ []) × Found v.0.known b) ((w.0 ≡ v.0) × (w.1 ≡ v.1))
+  -- a pass of this view took the turn, and carries the slot with the state
+  abbrev pub HasTurn : LockView Out → Me (BoardState Out) (LockView Out) → Type 0
+  HasTurn v w = (b : BoardState Out) × (w.0 ≡ seeing v b) × (w.1 ≡ (0, b) ∷ []) × Found v.known b
 
-  abbrev pub Claimed : Step (Option (BoardState Out)) → Me (Option (BoardState Out)) (LockView Out) → ℕ → Me (Option (BoardState Out)) (LockView Out) → Type 0
+  abbrev pub Took : Step (BoardState Out) → Me (BoardState Out) (LockView Out) → ℕ → Me (BoardState Out) (LockView Out) → Type 0
+  Took st v found w = MatchBool (found == 0) (HasTurn v.0 w) ((w.0 ≡ v.0) × (w.1 ≡ v.1))
+
+  abbrev pub Claimed : Step (BoardState Out) → Me (BoardState Out) (LockView Out) → ℕ → Me (BoardState Out) (LockView Out) → Type 0
   Claimed st v found w = (w.0 ≡ claimed_view v.0) × (w.1 ≡ [])
 
-  abbrev pub Ended : Step (Option (BoardState Out)) → Me (Option (BoardState Out)) (LockView Out) → ℕ → Me (Option (BoardState Out)) (LockView Out) → Type 0
+  abbrev pub Ended : Step (BoardState Out) → Me (BoardState Out) (LockView Out) → ℕ → Me (BoardState Out) (LockView Out) → Type 0
   Ended st v found w = (w.0 ≡ ended_view v.0) × (w.1 ≡ [])
 
-  abbrev pub Deposited : Step (Option (BoardState Out)) → Me (Option (BoardState Out)) (LockView Out) → ℕ → Me (Option (BoardState Out)) (LockView Out) → Type 0
+  abbrev pub Deposited : Step (BoardState Out) → Me (BoardState Out) (LockView Out) → ℕ → Me (BoardState Out) (LockView Out) → Type 0
   Deposited st v found w = (w.0 ≡ deposited_view v.0) × (w.1 ≡ [])
 
-  abbrev pub GaveBack : Step (Option (BoardState Out)) → Me (Option (BoardState Out)) (LockView Out) → ℕ → Me (Option (BoardState Out)) (LockView Out) → Type 0
+  abbrev pub GaveBack : Step (BoardState Out) → Me (BoardState Out) (LockView Out) → ℕ → Me (BoardState Out) (LockView Out) → Type 0
   GaveBack st v found w = (w.0 ≡ back_view v.0) × (w.1 ≡ [])

@@ -1,6 +1,6 @@
 //! The board, its passes, what holds between any two steps, and what holds on every schedule.
 ghost use Rattle.std.specs.Prelude.{◌≡◌, true, false, ◌+◌, ◌<◌, ◌≤◌, IfOk, Some, None, [], ◌∷◌, ◌==◌};
-ghost use Rattle.nef_board.specs.Rule.{Found, Took, Kept, Claimed, Ended, Deposited, GaveBack};
+ghost use Rattle.nef_board.specs.Rule.{HasTurn, Took, Kept, Claimed, Ended, Deposited, GaveBack};
 ghost use Rattle.atomic_table.specs.Table.{Allows, step};
 ghost use mathlib.Core.Option.{none};
 ghost use prog.Atomic.{either};
@@ -12,7 +12,7 @@ use atomic_table::{Join, Play, Seat, Shared, Split, Table, TableRule};
 use nef_core::{Board, Claim, Job, Order, OutOfMemory, Receipt, View};
 use std::alloc::Global;
 use std::sync::Wait;
-use std::{hint, thread};
+use std::{hint, mem, thread};
 
 /// A board whose passes take turns.
 ///
@@ -21,7 +21,7 @@ use std::{hint, thread};
 #[derive(Drop)]
 pub struct LockBoard<'a, R, J: Job> {
     rt: &'a R,
-    table: Table<Option<BoardState<J::Out>>, LockView<J::Out>, Order<'a, J>, LockRule, Global>,
+    table: Table<BoardState<J::Out>, LockView<J::Out>, Order<'a, J>, LockRule, Global>,
     ghost word_count: { table.shared.table_id.words ≡ 1 },
     ghost slot_count: { table.shared.table_id.slots ≡ 1 },
 }
@@ -36,7 +36,7 @@ pub struct LockView<T> {
 /// A pass of a [`LockBoard`].
 #[derive(Drop)]
 pub struct LockPass<J: Job> {
-    seat: Seat<Option<BoardState<J::Out>>, LockView<J::Out>>,
+    seat: Seat<BoardState<J::Out>, LockView<J::Out>>,
     number: u64,
     made: u64,
     ended: bool,
@@ -69,7 +69,7 @@ impl<'a, R: Wait + Sync, J: Job> LockBoard<'a, R, J> {
         let jobs = job.jobs();
         let state = BoardState::new(alloc, jobs)?;
         let mut slots = Vec::with_capacity(alloc, 1)?;
-        slots.push_reserved(Some(state));
+        slots.push_reserved(state);
         let words = [0u64];
         let order = Order { job, jobs, seats };
         match Table::new(alloc, words.as_slice(), slots, &order) {
@@ -107,28 +107,28 @@ fn wait(asked: u32) -> u32 {
     }
 }
 
-// Takes the turn, and the state out of its slot.
-fn take_turn<R: Wait, T, K, P: TableRule<Option<BoardState<T>>, LockView<T>, K>>(
+// Takes the turn, which mostly is free, and then is asked for once.
+fn take_turn<R: Wait, T, K, P: TableRule<BoardState<T>, LockView<T>, K>>(
     rt: &R,
-    shared: &Shared<Option<BoardState<T>>, LockView<T>, K, P>,
-    seat: &mut Seat<Option<BoardState<T>>, LockView<T>>,
-) -> BoardState<T>
+    shared: &Shared<BoardState<T>, LockView<T>, K, P>,
+    seat: &mut Seat<BoardState<T>, LockView<T>>,
+)
     requires of { seat.old.table_id ≡ shared.now.table_id }
     requires word { 0 < shared.now.table_id.words }
     requires free { seat.old.me.1 ≡ [] }
     requires rule { Allows (P.holds shared.now.key) shared.now.table_id.slots seat.old.id seat.old.me 0 (λ n. either (n == 0) 1 n) (Took (step shared.now.table_id.slots 0 0 1 none) seat.old.me) }
     ensures of { (seat.new.table_id ≡ seat.old.table_id) × (seat.new.id ≡ seat.old.id) }
-    ensures found { Found seat.old.me.0.known result × (seat.new.me ≡ (seeing seat.old.me.0 result, (0, None) ∷ [])) }
+    ensures found { HasTurn seat.old.me.0 seat.new.me }
 {
+    if shared.compare_exchange::<Takes>(seat, 0, 0, 1) == 0 {
+        return;
+    }
     let mut asked = 0;
     for _ in rt.forever() {
-        if shared.compare_exchange::<Takes>(seat, 0, 0, 1) == 0 {
-            let Some(state) = shared.exchange(seat, 0, None) else {
-                unreachable!()
-            };
-            return state;
-        }
         asked = wait(asked);
+        if shared.compare_exchange::<Takes>(seat, 0, 0, 1) == 0 {
+            return;
+        }
     }
     unreachable!()
 }
@@ -174,9 +174,9 @@ impl<'a, R: Wait + Sync, J: Job> Board<J> for LockBoard<'a, R, J> {
         if pass.ended {
             return Claim::NoneLeft;
         }
-        let mut state = take_turn(self.rt, &self.table.shared, &mut pass.seat);
+        take_turn(self.rt, &self.table.shared, &mut pass.seat);
+        let state = pass.seat.slot_mut(&self.table.shared, 0);
         let claim = state.claim(pass.number);
-        self.table.shared.exchange(&mut pass.seat, 0, Some(state));
         match claim {
             Claim::Got(job) => {
                 self.table.shared.store::<Claims>(&mut pass.seat, 0, 0);
@@ -191,39 +191,40 @@ impl<'a, R: Wait + Sync, J: Job> Board<J> for LockBoard<'a, R, J> {
     }
 
     fn deposit(&self, pass: &mut LockPass<J>, job: u64, out: J::Out) -> Receipt {
-        let mut state = take_turn(self.rt, &self.table.shared, &mut pass.seat);
+        take_turn(self.rt, &self.table.shared, &mut pass.seat);
+        let state = pass.seat.slot_mut(&self.table.shared, 0);
         let receipt = state.deposit(pass.number, job, out);
-        self.table.shared.exchange(&mut pass.seat, 0, Some(state));
         self.table.shared.store::<Deposits>(&mut pass.seat, 0, 0);
         receipt
     }
 
     fn give_back(&self, pass: &mut LockPass<J>, job: u64) {
-        let mut state = take_turn(self.rt, &self.table.shared, &mut pass.seat);
+        take_turn(self.rt, &self.table.shared, &mut pass.seat);
+        let state = pass.seat.slot_mut(&self.table.shared, 0);
         state.give_back(pass.number, job);
-        self.table.shared.exchange(&mut pass.seat, 0, Some(state));
         self.table.shared.store::<GivesBack>(&mut pass.seat, 0, 0);
     }
 
     fn close(
         self,
-        _alloc: Global,
+        alloc: Global,
         mut pass: LockPass<J>,
     ) -> Result<Vec<Option<J::Out>>, OutOfMemory> {
-        let state = take_turn(self.rt, &self.table.shared, &mut pass.seat);
+        take_turn(self.rt, &self.table.shared, &mut pass.seat);
+        let state = pass.seat.slot_mut(&self.table.shared, 0);
+        let results = mem::replace(&mut state.results, Vec::new(alloc));
         let LockPass { seat, .. } = pass;
         let mut closed = self.table.close_with(seat);
         drop(closed.take(0));
         closed.free();
-        Ok(state.results)
+        Ok(results)
     }
 }
 
 /// The state at home, or seen by the pass that has the turn, is sound and fits all views.
 pub struct LockRule;
 
-impl<'a, J: Job> TableRule<Option<BoardState<J::Out>>, LockView<J::Out>, Order<'a, J>>
-    for LockRule {
+impl<'a, J: Job> TableRule<BoardState<J::Out>, LockView<J::Out>, Order<'a, J>> for LockRule {
     ghost holds = { λ order s. Kept order.jobs order.seats (J.right order.job.now) s };
 
     ghost first = { λ order. first_view order.jobs order.seats };
@@ -232,35 +233,35 @@ impl<'a, J: Job> TableRule<Option<BoardState<J::Out>>, LockView<J::Out>, Order<'
 /// Tries to take the turn.
 pub struct Takes;
 
-impl<T> Play<Option<BoardState<T>>, LockView<T>> for Takes {
+impl<T> Play<BoardState<T>, LockView<T>> for Takes {
     ghost then = { Took };
 }
 
 /// Frees the turn after a claim that got a job.
 pub struct Claims;
 
-impl<T> Play<Option<BoardState<T>>, LockView<T>> for Claims {
+impl<T> Play<BoardState<T>, LockView<T>> for Claims {
     ghost then = { Claimed };
 }
 
 /// Frees the turn after a claim that got none.
 pub struct Ends;
 
-impl<T> Play<Option<BoardState<T>>, LockView<T>> for Ends {
+impl<T> Play<BoardState<T>, LockView<T>> for Ends {
     ghost then = { Ended };
 }
 
 /// Frees the turn after a deposit.
 pub struct Deposits;
 
-impl<T> Play<Option<BoardState<T>>, LockView<T>> for Deposits {
+impl<T> Play<BoardState<T>, LockView<T>> for Deposits {
     ghost then = { Deposited };
 }
 
 /// Frees the turn after a giving back.
 pub struct GivesBack;
 
-impl<T> Play<Option<BoardState<T>>, LockView<T>> for GivesBack {
+impl<T> Play<BoardState<T>, LockView<T>> for GivesBack {
     ghost then = { GaveBack };
 }
 
@@ -284,8 +285,8 @@ impl<T> Join<LockView<T>> for Cut {
 /// Each kind of atomic step leaves the machine as it is, but for the store that frees the turn,
 /// which is the one event of its call.
 ///
-/// The steps are splitting and joining a seat, the compare-exchange of the turn, the exchanges
-/// that take the state out and lay it in, and that store.
+/// The steps are splitting and joining a seat, the compare-exchange of the turn, the change of the
+/// state in its slot by the pass that has the turn, and that store.
 pub fn steps_are_events<J: Job>()
     ensures split { (work : J) → SplitIsNothing (J.right work) }
     ensures join { (work : J) → JoinIsNothing (J.right work) }

@@ -1,5 +1,5 @@
 //! The workers, and the caller that finishes what they leave.
-ghost use Rattle.std.specs.Prelude.{◌≡◌, ℕ, ◌<◌, ◌≤◌, IfOk, Some, None, slice_get, All, vec_len};
+ghost use Rattle.std.specs.Prelude.{◌≡◌, ℕ, ◌<◌, ◌≤◌, IfOk, Some, None, slice_get, All, vec_len, vec_capacity, ◌++◌, ◌∷◌, []};
 
 use nef_core::{Board, Claim, Job, OutOfMemory};
 use nef_io::Gate;
@@ -95,22 +95,28 @@ fn work_by_threads<R: Threads + Sync, J: Job, B: Board<J>, G: Gate + Sync>(
     pass
 }
 
-// The result that is there, or else that of the job, worked now.
-fn result_of<J: Job>(
+// Adds the result that is there, or else that of the job, worked now.
+fn add_result<J: Job>(
     alloc: Global,
     job: &J,
-    number: u64,
     slot: Option<J::Out>,
-) -> Result<J::Out, OutOfMemory>
-    requires number { number < J.count job.now }
+    outs: &mut Vec<J::Out>,
+) -> Result<(), OutOfMemory>
     requires workable { J.workable job.now }
-    requires right { (out : _) → slot ≡ Some out → J.right job.now number out }
-    ensures right { IfOk result (λ out. J.right job.now number out) }
+    requires number { vec_len outs.old < J.count job.now }
+    requires room { vec_len outs.old < vec_capacity outs.old }
+    requires right { (out : _) → slot ≡ Some out → J.right job.now (vec_len outs.old) out }
+    ensures added { IfOk result (λ _. (out : _) × J.right job.now (vec_len outs.old) out × (outs.new.items ≡ outs.old.items ++ out ∷ [])) }
+    ensures room { IfOk result (λ _. vec_capacity outs.new ≡ vec_capacity outs.old) }
 {
     match slot {
-        Some(out) => Ok(out),
-        None => job.work(alloc, number),
+        Some(out) => outs.push_reserved(out),
+        None => {
+            let out = job.work(alloc, outs.len() as u64)?;
+            outs.push_reserved(out);
+        }
     }
+    Ok(())
 }
 
 // The results, each as it is there, with each job that isn't done worked now.
@@ -127,8 +133,7 @@ fn filled<J: Job>(
 {
     let mut outs = Vec::with_capacity(alloc, slots.len())?;
     for slot in slots {
-        let out = result_of(alloc, job, outs.len() as u64, slot)?;
-        outs.push(out)?;
+        add_result(alloc, job, slot, &mut outs)?;
     }
     Ok(outs)
 }

@@ -1,5 +1,5 @@
-use Rattle.std.proofs.Common.{◌≡◌, ℕ, Some, slice_get, length, vec_len}
+use Rattle.std.proofs.Common.{◌≡◌, ℕ, Some, slice_get, ◌≤◌, length, vec_len, vec_capacity}
 use Rattle.nef_pool.proofs.pool.filled.Given as goal
 
 abbrev pub invariant-loop-slot : goal.invariant-loop-slot
-invariant-loop-slot g l = (vec_len l.outs ≡ length l.yielded) × ((i : ℕ) (out : _) → slice_get l.outs.items i ≡ Some out → g.J.Job.right l.job i out)
+invariant-loop-slot g l = (vec_len l.outs ≡ length l.yielded) × (g.J.Job.count l.job ≤ vec_capacity l.outs) × ((i : ℕ) (out : _) → slice_get l.outs.items i ≡ Some out → g.J.Job.right l.job i out)
