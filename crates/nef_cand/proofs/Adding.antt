@@ -1,7 +1,8 @@
 -- Candidates added to a list.
-use Rattle.std.proofs.Common.{◌≡◌, ℕ, ◌+◌, ◌<◌, ◌≤◌, List, [], ◌∷◌, ◌++◌, length, get_or, arith, subst, inl, inr, ◌⊎◌}
+use Rattle.std.proofs.Common.{◌≡◌, ℕ, ◌+◌, ◌<◌, ◌≤◌, List, [], ◌∷◌, ◌++◌, length, get_or, arith, subst, inl, inr, ◌⊎◌, ⊎_elim}
 use Rattle.std.specs.List.{Contains}
 use Rattle.std.proofs.Math.Nat.{eq-or-lt_of_le}
+use Rattle.std.proofs.lemmas.Bool.{cases_lt}
 use Rattle.std.proofs.lemmas.List.Elements.{Contains-append_left, Contains-push, Contains-push_cases}
 use Rattle.nef_space.specs.Place.{Place, SamePlace}
 use Rattle.nef_geo.specs.Shapes.{place_of}
@@ -95,6 +96,10 @@ module _ {X : Type 0} (P Q : X → Place → Type 0) (N : Named → Type 0) (xs 
   pub any-more : (i : ℕ) (x : X) (ps qs rs : List Named) → i < length xs → x ≡ get_or xs i x → AddsAll (AnyFirst P xs i) (AnyFirst Q xs i) N ps qs → AddsAll (P x) (Q x) N qs rs → AddsAll (AnyFirst P xs (i + 1)) (AnyFirst Q xs (i + 1)) N ps rs
   any-more i x ps qs rs l e = any-next i x ps qs rs (read-at xs i x l e)
 
+  -- of the later ones none has Q
+  pub any-until : (i : ℕ) (ps qs : List Named) → ((k : ℕ) (x : X) (y : Place) → i ≤ k → At xs k x → Q x y → ⊥) → AddsAll (AnyFirst P xs i) (AnyFirst Q xs i) N ps qs → AddsAll (AnyAt P xs) (AnyAt Q xs) N ps qs
+  any-until i ps qs off f = adds-as (AnyFirst P xs i) (AnyFirst Q xs i) (AnyAt P xs) (AnyAt Q xs) N ps qs
+      (λ y a. (a.0, a.1, a.3, a.4)) (λ y a. ⊎_elim (λ l. (a.0, a.1, l, a.2, a.3)) (λ l. absurd (off a.0 a.1 y l a.2 a.3)) (cases_lt a.0 i)) f
+
   pub any-all : (i : ℕ) (ps qs : List Named) → length xs ≤ i → AddsAll (AnyFirst P xs i) (AnyFirst Q xs i) N ps qs → AddsAll (AnyAt P xs) (AnyAt Q xs) N ps qs
-  any-all i ps qs l f = adds-as (AnyFirst P xs i) (AnyFirst Q xs i) (AnyAt P xs) (AnyAt Q xs) N ps qs
-      (λ y a. (a.0, a.1, a.3, a.4)) (λ y a. let h = at-within xs a.0 a.1 a.2 in (a.0, a.1, omega (arith, h), a.2, a.3)) f
+  any-all i ps qs l f = any-until i ps qs (λ k x y m a h. absurd (let w = at-within xs k x a in omega (arith, l, m, w))) f

@@ -13,3 +13,5 @@ pub mod Apart
 pub mod Both
 pub mod NearCuts
 pub mod Merging
+mod Vertices
+mod Beside

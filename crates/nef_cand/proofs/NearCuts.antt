@@ -41,8 +41,8 @@ use Rattle.nef_cand.specs.declared.listing.Spanned.{Spanned}
 use Rattle.nef_cand.specs.Candidates.{IsVertexOf, IsCutBy}
 use Rattle.nef_cand.specs.Names.{named_point, IsNamedBetween}
 use Rattle.nef_cand.specs.Points.{AddsAll, CutsEdge, MissesFrame}
-use Rattle.nef_cand.specs.Near.{IsSpannedIn, AreSpannedIn, IsSpanned, AreSpannedCarriers, AreWithinSpan, AreThoseNear, IsHeldIn, CutsBy, CutsHeld, CutsEdgeHeld, CutsEdgeByOne, CutsEdgeHeldOne, IsHeldCutOf, HasTogether, IsCandidate, ListsNear}
-use Rattle.nef_cand.proofs.Adding.{AnyAt, adds-as}
+use Rattle.nef_cand.specs.Near.{IsSpannedIn, AreSpannedIn, IsSpanned, AreSpannedCarriers, AreWithinSpan, AreThoseNear, AreClose, IsApart, IsHeldIn, CutsBy, CutsHeld, CutsEdgeHeld, CutsEdgeByOne, CutsEdgeHeldOne, IsHeldCutOf, HasTogether, IsCandidate, ListsNear}
+use Rattle.nef_cand.proofs.Adding.{AnyAt, adds-none, adds-as}
 use Rattle.nef_cand.proofs.Complete.{Has, vertex-of, cuts-any, together-ordered, together-each, together-all, together-named}
 use Rattle.nef_cand.proofs.Framed.{each-framed}
 use Rattle.nef_cand.proofs.Held.{edge-crosses, edge-named, some-cut, cut-some}
@@ -136,10 +136,16 @@ edge-around c ss A r wide h e y (u, v, a, b, o) =
     ends-spanned c ss A h e s.0 t.0 r s.1 t.1 (wide e.low s.0 s.1) (wide e.high t.0 t.1) y (u, v, a, b, o)
 
 -- an edge that has no point of the span around all carriers is cut nowhere where the other set has something
-pub edge-passed : (c d : Complex) (e : Edge) (xs : List Spanned) → AreSpannedIn d xs → (around : Span) → AreWithinSpan xs around → ((y : Place) (h : Plane) → CutsEdge c h e y → IsInSpan around y → ⊥) → (y : Place) → CutsEdgeHeldOne c d xs e y → ⊥
+pub edge-passed : (c d : Complex) (e : Edge) (xs : List Spanned) → AreSpannedIn d xs → (around : Span) → AreWithinSpan xs around → IsApart c e around → (y : Place) → CutsEdgeHeldOne c d xs e y → ⊥
 edge-passed c d e xs A around W far y (i, x, a, h) =
     let has = at-contains xs i x a in
     far y x.plane h.0 (span-wider x.span around y (W x has) (held-spanned c d e x (A x has) y h))
+
+-- so nothing is added for it
+pub edge-apart : (c d : Complex) (k : ℕ) (g e : Edge) → At c.edges k g → At c.edges k e → (xs : List Spanned) → AreSpannedIn d xs → (around : Span) → AreWithinSpan xs around
+    → IsApart c g around → (N : Named → Type 0) (ps : List Named) → AddsAll (CutsEdgeByOne c xs e) (CutsEdgeHeldOne c d xs e) N ps ps
+edge-apart c d k g e a b xs A around W far N ps = subst (λ (f : Edge). AddsAll (CutsEdgeByOne c xs f) (CutsEdgeHeldOne c d xs f) N ps ps) (at-one c.edges k g e a b)
+    (adds-none (CutsEdgeByOne c xs g) (CutsEdgeHeldOne c d xs g) N ps (edge-passed c d g xs A around W far))
 
 -- ---- a span around carriers, one after the other
 pub around-none : (s : Span) → AreWithinSpan [] s
@@ -175,9 +181,15 @@ module _ (xs : List Spanned) (s : Span) (ys : List Spanned) (A : AreThoseNear xs
       all z y i j (inl h) = A.all z h y i j
       all z y i j (inr e) = absurd (far y (subst (λ (w : Spanned). IsInSpan w.span y) (sym e) i) j)
 
--- the cuts by those near a span in which all edges lie are those by all
-module _ (c d : Complex) (ss : List Span) (E : AreAlone c.vertices ss) (r : Span) (wide : (k : ℕ) (s : Span) → IsAt ss k s → IsNarrower s r)
-    (xs ys : List Spanned) (A : AreSpannedIn d xs) (T : AreThoseNear xs r ys) where
+-- ---- the carriers close to the vertices
+pub close-near : (ss : List Span) (r : Span) → ((k : ℕ) (s : Span) → IsAt ss k s → IsNarrower s r) → (xs ys : List Spanned) → AreThoseNear xs r ys → AreClose ss xs ys
+close-near ss r wide xs ys T = record { only = T.only; all = λ x h y i f. T.all x h y i (f r wide) }
+
+pub close-same : (ss : List Span) (xs ys : List Spanned) → ys ≡ xs → AreClose ss xs ys
+close-same ss xs ys e = subst (AreClose ss xs) (sym e) (record { only = λ x h. h; all = λ x h y i f. h })
+
+-- the cuts by those close to the vertices are those by all
+module _ (c d : Complex) (ss : List Span) (E : AreAlone c.vertices ss) (xs ys : List Spanned) (A : AreSpannedIn d xs) (T : AreClose ss xs ys) where
   pub close-spanned : AreSpannedIn d ys
   close-spanned x h = A x (T.only x h)
 
@@ -191,7 +203,7 @@ module _ (c d : Complex) (ss : List Span) (E : AreAlone c.vertices ss) (r : Span
       back y (i, x, a, (h, s)) =
           let has = at-contains xs i x a in
           let z = cut-some c x.plane y h in
-          let k = contains-at ys x (T.all x has y (held-spanned c d z.1 x (A x has) y (z.3, s)) (edge-around c ss E r wide x.plane z.1 y z.3)) in
+          let k = contains-at ys x (T.all x has y (held-spanned c d z.1 x (A x has) y (z.3, s)) (λ r wide. edge-around c ss E r wide x.plane z.1 y z.3)) in
           (k.0, x, k.1, (h, s))
 
 -- ---- all edges

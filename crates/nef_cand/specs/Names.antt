@@ -1,5 +1,5 @@
 -- Candidates that are named by a vertex or an edge of one of two complexes.
-use Rattle.std.specs.Prelude.{◌≡◌, ◌⊎◌, List}
+use Rattle.std.specs.Prelude.{◌≡◌, List}
 use Rattle.std.specs.List.{Contains}
 use Rattle.nef_space.specs.Place.{Place, SamePlace, IsPlaceBelow}
 use Rattle.nef_geo.specs.Shapes.{place_of}
@@ -60,10 +60,6 @@ AreNamedInOrder ns = InOrder (λ (m n : Named). IsPlaceBelow (place_of m.point) 
 -- all points are below y
 abbrev pub AreNamedBelow : List Named → Place → Type 0
 AreNamedBelow ns y = (n : Named) → Contains ns n → IsPlaceBelow (place_of n.point) y
-
--- or at y
-abbrev pub AreNamedUpTo : List Named → Place → Type 0
-AreNamedUpTo ns y = (n : Named) → Contains ns n → IsPlaceBelow (place_of n.point) y ⊎ SamePlace (place_of n.point) y
 
 -- ms are some of ns, in increasing order of their points: for each point one
 pub record IsOnceEach (ns ms : List Named) : Type 0 where

@@ -1,5 +1,5 @@
 -- Candidates near what the sets have in the planes that cut.
-use Rattle.std.specs.Prelude.{◌≡◌, ℕ, ◌<◌, ◌≤◌, ◌⊎◌, List, [], ◌∷◌, ◌++◌, take, map, Option}
+use Rattle.std.specs.Prelude.{◌≡◌, ℕ, ◌<◌, ◌≤◌, ◌⊎◌, List, [], ◌++◌, take, map, Option}
 use Rattle.std.specs.List.{Contains}
 use Rattle.std.specs.Option.{MatchOption}
 use Rattle.nef_space.specs.Lists.{IsAt}
@@ -14,6 +14,7 @@ use Rattle.law_complex.specs.Complexes.{Complex as PlainComplex}
 use Rattle.law_complex.specs.Laws.{IsCut, IsSkeletonIn, IsVertexOfBoth}
 use Rattle.nef_complex.specs.declared.complex.Complex.{Complex}
 use Rattle.nef_complex.specs.declared.complex.Edge.{Edge}
+use Rattle.nef_complex.specs.declared.complex.Vertex.{Vertex}
 use Rattle.nef_complex.specs.Complexes.{complex_of, ShowsSet}
 use Rattle.nef_complex.specs.Index.{IsSpanOn}
 use Rattle.nef_complex.specs.Spans.{IsInSpan, IsNarrower}
@@ -23,7 +24,7 @@ use Rattle.nef_cand.specs.declared.named.Operand.{Operand}
 use Rattle.nef_cand.specs.declared.named.Operand.TheVariants.{First, Second}
 use Rattle.nef_cand.specs.declared.listing.Spanned.{Spanned}
 use Rattle.nef_cand.specs.Candidates.{IsListed, IsVertexOf, IsCutBy, AreFramed}
-use Rattle.nef_cand.specs.Names.{named_point, AreNamed, IsNamedIn, IsNamedBetween, IsOnceEach, AreNamedBelow, AreNamedUpTo}
+use Rattle.nef_cand.specs.Names.{named_point, AreNamed, IsNamedIn, IsNamedBetween, IsOnceEach, AreNamedBelow}
 use Rattle.nef_cand.specs.Points.{Adds, AddsAll, CutsEdge, MissesFrame}
 
 -- ---- carriers with their spans
@@ -51,6 +52,11 @@ AreWithinSpan xs s = (x : Spanned) → Contains xs x → IsNarrower x.span s
 pub record AreThoseNear (xs : List Spanned) (s : Span) (ys : List Spanned) : Type 0 where
   pub only : (x : Spanned) → Contains ys x → Contains xs x
   pub all : (x : Spanned) → Contains xs x → (y : Place) → IsInSpan x.span y → IsInSpan s y → Contains ys x
+
+-- these are some of the carriers, among them all whose spans have a point of each span that is as wide as all of ss
+pub record AreClose (ss : List Span) (xs ys : List Spanned) : Type 0 where
+  pub only : (x : Spanned) → Contains ys x → Contains xs x
+  pub all : (x : Spanned) → Contains xs x → (y : Place) → IsInSpan x.span y → ((r : Span) → ((k : ℕ) (s : Span) → IsAt ss k s → IsNarrower s r) → IsInSpan r y) → Contains ys x
 
 -- ---- cuts where the other set has something
 -- the set that the complex shows has something in the plane at y
@@ -84,6 +90,10 @@ CutsEdgeBy c e x y = CutsEdge c x.plane e y
 abbrev pub CutsEdgeHeld : Complex → Complex → Edge → Spanned → Place → Type 0
 CutsEdgeHeld c d e x y = CutsEdge c x.plane e y × IsHeldIn d x.plane y
 
+-- no plane crosses the edge within the span
+abbrev pub IsApart : Complex → Edge → Span → Type 0
+IsApart c e s = (y : Place) (h : Plane) → CutsEdge c h e y → IsInSpan s y → ⊥
+
 -- one of the carriers does
 abbrev pub CutsEdgeByOne : Complex → List Spanned → Edge → Place → Type 0
 CutsEdgeByOne c xs e y = (i : ℕ) × (x : Spanned) × At xs i x × CutsEdgeBy c e x y
@@ -102,9 +112,20 @@ pub record AreMerged (us xs : List Named) (m : ℕ) (ns : List Named) : Type 0 w
   pub once : IsOnceEach (us ++ take m xs) ns
   pub ahead : (k : ℕ) (x : Named) → m ≤ k → At xs k x → AreNamedBelow ns (place_of x.point)
 
--- the same with one more of us, and none is above that
-abbrev pub AreMergedUpTo : List Named → Named → List Named → ℕ → List Named → Type 0
-AreMergedUpTo us v xs m ns = AreMerged (us ++ v ∷ []) xs m ns × AreNamedUpTo ns (place_of v.point)
+-- y is one of the first n vertices
+abbrev pub IsOneOfFirst : Complex → ℕ → Place → Type 0
+IsOneOfFirst c n y = (k : ℕ) × (v : Vertex) × (k < n) × At c.vertices k v × SamePlace (place_of v.point) y
+
+-- ns are the first n vertices of c, which is this operand, and the first m of xs, in order, once each, and below the others of both
+pub record AreMergedTo (o : Operand) (c : Complex) (n : ℕ) (xs : List Named) (m : ℕ) (ns : List Named) : Type 0 where
+  pub us : List Named
+  pub vertices : Adds (IsOneOfFirst c n) (IsNamedIn o (complex_of c)) [] us
+  pub merged : AreMerged us xs m ns
+  pub below : (k : ℕ) (v : Vertex) → n ≤ k → At c.vertices k v → AreNamedBelow ns (place_of v.point)
+
+-- the first n vertices are below those of xs from number m on
+abbrev pub ArePassed : Complex → ℕ → List Named → ℕ → Type 0
+ArePassed c n xs m = (k : ℕ) (v : Vertex) (j : ℕ) (x : Named) → k < n → At c.vertices k v → m ≤ j → At xs j x → IsPlaceBelow (place_of v.point) (place_of x.point)
 
 -- the vertices of the complex, which is this operand, and what is given, in order, once each
 pub record HasVertices (o : Operand) (c : Complex) (xs ns : List Named) : Type 0 where

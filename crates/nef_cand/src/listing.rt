@@ -4,7 +4,7 @@
 //! set there. So cuts where the other set has nothing in the carrier that cuts may be left out; and it has something only
 //! within a span of the vertices on the carrier.
 
-ghost use Rattle.std.specs.Prelude.{◌≡◌, ◌<◌, ◌↔◌, ℕ};
+ghost use Rattle.std.specs.Prelude.{◌≡◌, ◌<◌, ◌≤◌, ◌<ℤ◌, ◌≤ℤ◌, ◌↔◌, ℕ};
 ghost use Rattle.nef_complex.specs.Prelude.{IfOk, Bool, pos, length, IsTrue, OnOk, [], MatchOption, Place, Form, InFrame, SamePlace, form_at, Set, IsVertex, IsAt, form_of, place_of, SamePlane, IsVertexOfBoth, complex_of, ShowsSet, AreAlone};
 ghost use Rattle.nef_complex.specs.declared.complex.Edge.{Edge};
 ghost use Rattle.nef_complex.specs.declared.complex.Vertex.{Vertex};
@@ -13,7 +13,7 @@ ghost use Rattle.nef_complex.specs.Spans.{IsNarrower};
 ghost use Rattle.nef_cand.specs.Candidates.{IsListed, IsCutBy, AreCandidates, AreCutCandidates, AreFramed};
 ghost use Rattle.nef_cand.specs.Names.{IsNamedIn, IsNamedBetween};
 ghost use Rattle.nef_cand.specs.Points.{Adds, AddsAll, CutsOne, CutsEdge, MissesFrame};
-ghost use Rattle.nef_cand.specs.Near.{AreSpannedIn, AreSpannedCarriers, AreWithinSpan, AreThoseNear, CutsBy, CutsHeld, CutsEdgeByOne, CutsEdgeHeldOne, IsHeldCutOf, ListsCuts, ListsNear};
+ghost use Rattle.nef_cand.specs.Near.{AreSpannedIn, AreSpannedCarriers, AreWithinSpan, AreThoseNear, AreClose, IsApart, CutsBy, CutsHeld, CutsEdgeByOne, CutsEdgeHeldOne, IsHeldCutOf, ListsCuts, ListsNear};
 
 use crate::OutOfMemory;
 use crate::named::{Name, Named, Operand, merged, named_points, sort_once, together, vertices_of};
@@ -176,9 +176,16 @@ fn carriers_near(alloc: Global, near: &[Spanned], span: &Span) -> Result<Vec<Spa
     Ok(close)
 }
 
+// Whether an edge may reach the third span along x, by the spans of its ends, of which the low one comes first.
+fn may_reach(low: &Span, high: &Span, around: &Span) -> bool
+    ensures reaches { IsTrue result ↔ ((low.now.x.low ≤ℤ around.now.x.high) × (around.now.x.low ≤ℤ high.now.x.high)) }
+{
+    low.x.low <= around.x.high && around.x.low <= high.x.high
+}
+
 // Adds the points strictly inside the edge with this number where one of the carriers of the other complex crosses it and
 // that has something in the carrier. Most carriers have it far from the edge, which the spans of its ends tell, and most
-// edges of a large set lie far from all that a small one has, which the span around all carriers tells.
+// edges of a large set lie far from all that a small one has, which x or else the span around all carriers tells.
 fn add_edge_cuts(
     listed: &mut Vec<Named>,
     c: &Complex,
@@ -198,7 +205,12 @@ fn add_edge_cuts(
     ensures added { OnOk result ((e : Edge) → IsAt c.now.edges number e → AddsAll (CutsEdgeByOne c.now near.now e) (CutsEdgeHeldOne c.now other.now near.now e) (IsNamedBetween operand (complex_of c.now) (complex_of other.now)) listed.old.items listed.new.items) }
 {
     let edge = c.edges.at(number);
-    let span = ends[edge.low].with_span(&ends[edge.high]);
+    let low = &ends[edge.low];
+    let high = &ends[edge.high];
+    if !may_reach(low, high, around) {
+        return Ok(());
+    }
+    let span = low.with_span(high);
     if !may_meet(&span, around) {
         return Ok(());
     }
@@ -210,6 +222,25 @@ fn add_edge_cuts(
         }
     }
     Ok(())
+}
+
+// Whether what has this span comes after the other along x.
+fn comes_after(span: &Span, other: &Span) -> bool
+    ensures after { IsTrue result ↔ (other.now.x.high <ℤ span.now.x.low) }
+{
+    other.x.high < span.x.low
+}
+
+// Whether the edge with this number lies past the span along x, and so each later one, as edges stand in order of their low
+// ends.
+fn is_past(c: &Complex, number: usize, ends: &[Span], around: &Span) -> bool
+    requires shows { (s : Set) × ShowsSet s c.now }
+    requires within { number < length c.now.edges }
+    requires ends { AreAlone c.now.vertices ends.now }
+    ensures past { IsTrue result → (k : ℕ) (e : Edge) → number ≤ k → IsAt c.now.edges k e → IsApart c.now e around.now }
+{
+    let edge = c.edges.at(number);
+    comes_after(&ends[edge.low], around)
 }
 
 // Adds the points strictly inside an edge of the complex that lie on one of the carriers of the other, which doesn't hold
@@ -230,33 +261,29 @@ fn add_near_cuts(
 {
     let around = around_carriers(near);
     for number in 0..c.edges.len() {
+        if is_past(c, number, ends, &around) {
+            return Ok(());
+        }
         add_edge_cuts(listed, c, operand, number, ends, other, near, &around)?;
     }
     Ok(())
 }
 
-// As `add_near_cuts`. Where the other complex has more carriers than this one has vertices, those far from all of the
-// vertices are left out once, before any edge asks.
-fn add_close_cuts(
+// The carriers but for such as lie far from all vertices, of which the spans are given. Where they are no more than the
+// vertices all stay, since the edges soon tell.
+fn close_carriers(
     alloc: Global,
-    listed: &mut Vec<Named>,
-    c: &Complex,
-    operand: Operand,
-    ends: &[Span],
-    other: &Complex,
     near: &[Spanned],
-) -> Result<(), OutOfMemory>
-    requires shows { (s : Set) × ShowsSet s c.now }
-    requires ends { AreAlone c.now.vertices ends.now }
-    requires other { (t : Set) × ShowsSet t other.now }
-    requires near { AreSpannedIn other.now near.now }
-    ensures added { OnOk result (AddsAll (CutsBy (complex_of c.now) near.now) (CutsHeld (complex_of c.now) other.now near.now) (IsNamedBetween operand (complex_of c.now) (complex_of other.now)) listed.old.items listed.new.items) }
+    ends: &[Span],
+) -> Result<Vec<Spanned>, OutOfMemory>
+    ensures close { IfOk result (λ v. AreClose ends.now near.now v.items) }
 {
-    if near.len() <= ends.len() {
-        return add_near_cuts(listed, c, operand, ends, other, near);
+    if near.len() > ends.len() {
+        return carriers_near(alloc, near, &around_all(ends));
     }
-    let close = carriers_near(alloc, near, &around_all(ends))?;
-    add_near_cuts(listed, c, operand, ends, other, close.as_slice())
+    let mut all = Vec::new(alloc);
+    all.extend_from_slice(near)?;
+    Ok(all)
 }
 
 // Few carriers cross more edges where they hold something, and few edges are crossed by more such carriers.
@@ -279,7 +306,8 @@ pub(crate) fn near_cuts(
     let room = near.len().min(c.edges.len()).saturating_mul(CUTS_OF_ONE);
     let mut listed = Vec::with_capacity(alloc, room)?;
     let ends = point_spans(c);
-    add_close_cuts(alloc, &mut listed, c, operand, ends, other, near)?;
+    let close = close_carriers(alloc, near, ends)?;
+    add_near_cuts(&mut listed, c, operand, ends, other, close.as_slice())?;
     // Only speed needs the order: what is sorted is merged with the other candidates, which is cheap.
     listed.sort_unstable_by(|m, n| lex_cmp(&m.point, &n.point));
     Ok(listed)

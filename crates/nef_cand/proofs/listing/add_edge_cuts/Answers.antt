@@ -6,16 +6,15 @@ use Rattle.nef_complex.specs.declared.complex.Edge.{Edge}
 use Rattle.nef_complex.specs.declared.spans.Bounds.{Bounds}
 use Rattle.nef_complex.specs.declared.spans.Span.{Span}
 use Rattle.nef_complex.specs.Complexes.{complex_of}
-use Rattle.nef_complex.specs.Spans.{IsInSpan}
 use Rattle.nef_geo.specs.declared.plane.Plane.{Plane}
-use Rattle.nef_space.specs.Place.{Place}
 use Rattle.nef_complex.proofs.Ends.{low-within, high-within}
 use Rattle.nef_complex.proofs.Reading.{got-at, read-at}
 use Rattle.nef_cand.specs.Names.{IsNamedBetween}
-use Rattle.nef_cand.specs.Points.{AddsAll, CutsEdge}
-use Rattle.nef_cand.specs.Near.{IsSpannedIn, CutsEdgeBy, CutsEdgeHeld, CutsEdgeByOne, CutsEdgeHeldOne}
+use Rattle.nef_cand.specs.Points.{AddsAll}
+use Rattle.nef_cand.specs.Near.{IsSpannedIn, CutsEdgeBy, CutsEdgeHeld}
 use Rattle.nef_cand.proofs.Adding.{adds-none, adds-one, any-more, any-all}
-use Rattle.nef_cand.proofs.NearCuts.{ends-spanned, held-spanned, edge-passed}
+use Rattle.nef_cand.proofs.Beside.{edge-reaches}
+use Rattle.nef_cand.proofs.NearCuts.{ends-spanned, held-spanned, edge-apart}
 use Rattle.nef_cand.proofs.listing.add_edge_cuts.Goals.{then-may_meet+in-Some+in_ok-push, then-may_meet+in_default, else-may_meet}
 use Rattle.nef_cand.proofs.listing.add_edge_cuts.Goals as goal
 
@@ -84,21 +83,34 @@ loop-carrier-preserved c =
           ]);
     }
 
-pub returns-then-not-may_meet : goal.returns-then-not-may_meet
-returns-then-not-may_meet c =
+pub returns-then-not-may_reach : goal.returns-then-not-may_reach
+returns-then-not-may_reach c =
     let C = c.args.c.now in let D = c.args.other.now in let k = c.args.number in let N = IsNamedBetween c.args.operand (complex_of C) (complex_of D) in
-    let xs = c.args.near.now in let ss = c.args.ends.now in let g = c.at-edge.result.now in let old = c.args.listed.now.items in
+    let xs = c.args.near.now in let ss = c.args.ends.now in let g = c.at-edge.result.now in
     let S = c.requires.shows in let m = c.requires.ends.as_many in
     let at = got-at C.edges k g c.at-edge.ensures.element in
     let low = low-within S.0 C S.1.shows k g at in let high = high-within S.0 C S.1.shows k g at in
     let s : Span = get_or ss g.low none in let t : Span = get_or ss g.high none in
     let i = is-at_get ss g.low none (omega (arith, low, m)) in let j = is-at_get ss g.high none (omega (arith, high, m)) in
-    let far = λ (y : Place) (h : Plane) (d : CutsEdge C h g y) (o : IsInSpan c.args.around.now y).
-    absurd (search (rules, c.may_meet.ensures.meets y (ends-spanned C ss c.requires.ends h g s t c.with_span-span.result i j c.with_span-span.ensures.wider c.with_span-span.ensures.other y d) o, c.if-not-may_meet.true)) in
+    let reaches = edge-reaches S.0 C S.1 k g at ss c.requires.ends s t c.args.around.now i j in
     record {
-      added = λ e l.
-          subst (λ (f : Edge). AddsAll (CutsEdgeByOne C xs f) (CutsEdgeHeldOne C D xs f) N old old) (at-one C.edges k g e at (got-at C.edges k e l))
-          (adds-none (CutsEdgeByOne C xs g) (CutsEdgeHeldOne C D xs g) N old (edge-passed C D g xs c.requires.near c.args.around.now c.requires.around far));
+      added = λ e l. edge-apart C D k g e at (got-at C.edges k e l) xs c.requires.near c.args.around.now c.requires.around
+          (λ y h d o. absurd (search (rules, c.may_reach.ensures.reaches.1 (reaches y h d o), c.if-not-may_reach.true))) N c.args.listed.now.items;
+    }
+
+pub returns-then-not-may_meet : goal.returns-then-not-may_meet
+returns-then-not-may_meet c =
+    let C = c.args.c.now in let D = c.args.other.now in let k = c.args.number in let N = IsNamedBetween c.args.operand (complex_of C) (complex_of D) in
+    let xs = c.args.near.now in let ss = c.args.ends.now in let g = c.at-edge.result.now in
+    let S = c.requires.shows in let m = c.requires.ends.as_many in
+    let at = got-at C.edges k g c.at-edge.ensures.element in
+    let low = low-within S.0 C S.1.shows k g at in let high = high-within S.0 C S.1.shows k g at in
+    let s : Span = get_or ss g.low none in let t : Span = get_or ss g.high none in
+    let i = is-at_get ss g.low none (omega (arith, low, m)) in let j = is-at_get ss g.high none (omega (arith, high, m)) in
+    let spanned = λ (h : Plane). ends-spanned C ss c.requires.ends h g s t c.with_span-span.result i j c.with_span-span.ensures.wider c.with_span-span.ensures.other in
+    record {
+      added = λ e l. edge-apart C D k g e at (got-at C.edges k e l) xs c.requires.near c.args.around.now c.requires.around
+          (λ y h d o. absurd (search (rules, c.may_meet.ensures.meets y (spanned h y d) o, c.if-not-may_meet.true))) N c.args.listed.now.items;
     }
 
 pub returns : goal.returns

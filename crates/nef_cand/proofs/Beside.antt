@@ -1,0 +1,96 @@
+-- An edge reaches along x from its low end to its high end.
+use Rattle.std.proofs.Common.{ℕ, ℤ, pos, ◌*ℤ◌, ◌<ℤ◌, ◌≤ℤ◌, ◌≤◌, List, arith, ap, sym, subst, inl, inr, ⊎_elim}
+use Rattle.std.proofs.Math.Nat.{eq-or-lt_of_le}
+use Rattle.std.proofs.lemmas.Int.{ints}
+use Rattle.nef_space.proofs.Fractions.{fraction-le-trans}
+use Rattle.nef_space.specs.Lists.{IsAt}
+use Rattle.nef_space.specs.Place.{Place, IsPlaceBelow, IsBetween}
+use Rattle.nef_space.specs.Sets.{Set}
+use Rattle.nef_geo.specs.Shapes.{place_of}
+use Rattle.nef_geo.specs.declared.plane.Plane.{Plane}
+use Rattle.law_sphere.specs.Maps.{At}
+use Rattle.law_sphere.proofs.Lists.{at-one}
+use Rattle.nef_smap.proofs.Lists.{at-map, at-within, map-at}
+use Rattle.law_complex.specs.Complexes.{IsEdgeBelow}
+use Rattle.nef_classes.proofs.ClassLists.{is-at_some}
+use Rattle.law_complex.specs.Spans.{coordinate_x, IsWithin}
+use Rattle.law_complex.proofs.Spans.{within-between}
+use Rattle.nef_complex.specs.declared.complex.Complex.{Complex}
+use Rattle.nef_complex.specs.declared.complex.Edge.{Edge}
+use Rattle.nef_complex.specs.declared.complex.Vertex.{Vertex}
+use Rattle.nef_complex.specs.declared.spans.Bounds.{Bounds}
+use Rattle.nef_complex.specs.declared.spans.Span.{Span}
+use Rattle.nef_complex.specs.Complexes.{vertex_of, edge_of, ShowsSet}
+use Rattle.nef_complex.specs.Indexing.{AreAlone}
+use Rattle.nef_complex.specs.Spans.{IsInSpan}
+use Rattle.nef_complex.proofs.Spanned.{within-both}
+use Rattle.nef_complex.proofs.Spanning.{weight}
+use Rattle.nef_smap.proofs.SideLists.{get-from_at}
+use Rattle.nef_cand.specs.Points.{CutsEdge}
+use Rattle.nef_cand.specs.Near.{IsApart}
+
+-- ---- a point that is below another
+module _ (p q : Place) (b : IsPlaceBelow p q) where
+  along : (p.x *ℤ pos q.w) ≤ℤ (q.x *ℤ pos p.w)
+  along = from b
+    where
+      from : IsPlaceBelow p q → (p.x *ℤ pos q.w) ≤ℤ (q.x *ℤ pos p.w)
+      from (inl l) = omega (arith, ints)
+      from (inr (e, r)) = omega (arith, ints)
+
+  low-on : (l : ℤ) → (l *ℤ pos p.w) ≤ℤ p.x → (l *ℤ pos q.w) ≤ℤ q.x
+  low-on l h = let k = fraction-le-trans l (pos 1) p.x (pos p.w) q.x (pos q.w) (omega (arith, ints)) (weight p) (weight q) (omega (arith, ints, h)) along in omega (arith, ints, k)
+
+  high-back : (h : ℤ) → q.x ≤ℤ (h *ℤ pos q.w) → p.x ≤ℤ (h *ℤ pos p.w)
+  high-back h i = let k = fraction-le-trans p.x (pos p.w) q.x (pos q.w) h (pos 1) (weight p) (weight q) (omega (arith, ints)) along (omega (arith, ints, i)) in omega (arith, ints, k)
+
+  within-ends : (y : Place) → IsBetween p y q → (l h : ℤ) → (l *ℤ pos p.w) ≤ℤ p.x → q.x ≤ℤ (h *ℤ pos q.w) → IsWithin coordinate_x l h y
+  within-ends y m l h i j = within-between coordinate_x l h p y q m (i, high-back h j) (low-on l i, j)
+
+-- ---- an edge
+module _ (s : Set) (c : Complex) (S : ShowsSet s c) (k : ℕ) (e : Edge) (a : At c.edges k e) (ss : List Span) (A : AreAlone c.vertices ss) (low high around : Span) (i : IsAt ss e.low low) (j : IsAt ss e.high high) where
+  -- where it has a point of the span it reaches that along x
+  pub edge-reaches : (y : Place) (h : Plane) → CutsEdge c h e y → IsInSpan around y → (low.x.low ≤ℤ around.x.high) × (around.x.low ≤ℤ high.x.high)
+  edge-reaches y h (u, v, f, g, o) w =
+      let n = A.each e.low u low (get-from_at c.vertices e.low u f) i in
+      let m = A.each e.high v high (get-from_at c.vertices e.high v g) j in
+      let E = S.shows.edges.edges k (edge_of e) (map-at edge_of c.edges k e a) in
+      let b = S.shows.ordered e.low e.high (vertex_of u) (vertex_of v) E.upward (map-at vertex_of c.vertices e.low u f) (map-at vertex_of c.vertices e.high v g) in
+      let r : Bounds = record { low = low.x.low; high = high.x.high } in
+      within-both coordinate_x r around.x y (within-ends (place_of u.point) (place_of v.point) b y o.between low.x.low high.x.high n.0.0 m.0.1) w.0
+
+module _ (s : Set) (c : Complex) (S : ShowsSet s c) where
+  -- edges stand in order of their low ends
+  lows-rise : (i k : ℕ) (g e : Edge) → i ≤ k → At c.edges i g → At c.edges k e → g.low ≤ e.low
+  lows-rise i k g e l a b = ⊎_elim
+      (λ q. let z = ap (λ (f : Edge). f.low) (at-one c.edges i g e a (subst (λ (j : ℕ). At c.edges j e) (sym q) b)) in omega (arith, z))
+      (λ m. by (S.shows.edges.ordered i k (edge_of g) (edge_of e) m (map-at edge_of c.edges i g a) (map-at edge_of c.edges k e b)))
+      (eq-or-lt_of_le {n = i} {m = k} l)
+    where
+      by : IsEdgeBelow (edge_of g) (edge_of e) → g.low ≤ e.low
+      by (inl m) = omega (arith, ints)
+      by (inr (q, r)) = omega (arith, ints)
+
+  -- a bound below a vertex along x is one below the later ones
+  low-later : (i k : ℕ) (u v : Vertex) → i ≤ k → At c.vertices i u → At c.vertices k v → (l : ℤ) → (l *ℤ pos (place_of u.point).w) ≤ℤ (place_of u.point).x → (l *ℤ pos (place_of v.point).w) ≤ℤ (place_of v.point).x
+  low-later i k u v m a b l h = ⊎_elim
+      (λ q. subst (λ (w : Vertex). (l *ℤ pos (place_of w.point).w) ≤ℤ (place_of w.point).x) (at-one c.vertices i u v a (subst (λ (j : ℕ). At c.vertices j v) (sym q) b)) h)
+      (λ n. low-on (place_of u.point) (place_of v.point) (S.shows.ordered i k (vertex_of u) (vertex_of v) n (map-at vertex_of c.vertices i u a) (map-at vertex_of c.vertices k v b)) l h)
+      (eq-or-lt_of_le {n = i} {m = k} m)
+
+  -- where the low end of an edge comes after a span along x, the edge and the later ones are apart from it
+  pub edge-past : (ss : List Span) → AreAlone c.vertices ss → (around low : Span) (i : ℕ) (g : Edge) → At c.edges i g → IsAt ss g.low low → around.x.high <ℤ low.x.low → (k : ℕ) (e : Edge) → i ≤ k → At c.edges k e → IsApart c e around
+  edge-past ss A around low i g here j l k e m a y h (u, v, f, q, o) w =
+      let G = S.shows.edges.edges i (edge_of g) (map-at edge_of c.edges i g here) in
+      let E = S.shows.edges.edges k (edge_of e) (map-at edge_of c.edges k e a) in
+      let z = at-map vertex_of c.vertices g.low G.low_vertex G.is_low in
+      let n = A.each g.low z.0 low (get-from_at c.vertices g.low z.0 z.1) j in
+      let p = low-later g.low e.low z.0 u (lows-rise i k g e m here a) z.1 f low.x.low n.0.0 in
+      let many = A.as_many in
+      let d = at-within c.vertices e.high v q in
+      let t = is-at_some ss e.high (omega (arith, many, d)) in
+      let x = A.each e.high v t.0 (get-from_at c.vertices e.high v q) t.1 in
+      let b = S.shows.ordered e.low e.high (vertex_of u) (vertex_of v) E.upward (map-at vertex_of c.vertices e.low u f) (map-at vertex_of c.vertices e.high v q) in
+      let r : Bounds = record { low = low.x.low; high = t.0.x.high } in
+      let both = within-both coordinate_x r around.x y (within-ends (place_of u.point) (place_of v.point) b y o.between low.x.low t.0.x.high p x.0.1) w.0 in
+      let below = both.0 in omega (arith, ints, l, below)
