@@ -3,10 +3,9 @@ use Rattle.std.proofs.Common.{◌≡◌, ℕ, ◌*◌, ◌<◌, ℤ, pos, neg_�
 use Rattle.std.proofs.lemmas.Int.{ints}
 use Rattle.nef_space.proofs.Combination.{given, none, follows}
 use Rattle.nef_space.proofs.Order.{mul_pos, cancel_lt}
-use Rattle.nef_space.proofs.Ring.{ring, at, num, ◌⊕◌, ◌⊖◌, ◌⊗◌}
+use Rattle.nef_space.proofs.Ring.{at, num, ◌⊕◌, ◌⊖◌, ◌⊗◌}
 use Rattle.nef_space.specs.Limits.{half_side}
 use Rattle.nef_space.specs.Place.{Place, InFrame, InClosedFrame, IsBetween}
-use Rattle.law_near.specs.Homogeneous.{IsMixed, of_place}
 use Rattle.law_near.proofs.Between.{mixed-of}
 
 -- k c = i a + j b and k w = i u + j v, and a and b lie below e times u and v

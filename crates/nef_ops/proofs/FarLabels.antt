@@ -1,6 +1,7 @@
 -- The points past one side of a span of the skeleton, within the open frame, are convex; so between two of them there is nothing of the skeleton, and the set looks the same at both.
 use Rattle.std.proofs.Common.{◌≡◌, ℕ, zero, suc, ◌+◌, ◌<◌, List, [], ◌∷◌, ℤ, pos, ◌+ℤ◌, ◌*ℤ◌, ◌<ℤ◌, ◌≤ℤ◌, length, arith, sym, subst, ⊎_elim}
 use Rattle.std.proofs.lemmas.Int.{ints}
+use Rattle.nef_space.proofs.Order.{mul_le_right, by_order}
 use Rattle.nef_space.specs.Lists.{IsAt}
 use Rattle.nef_space.specs.Local.{HasLabel, FlatDim}
 use Rattle.nef_space.specs.Place.{Place, IsBetween}
@@ -31,7 +32,7 @@ use Rattle.nef_ops.specs.declared.regions.Axis.TheVariants.{X, Y, Z}
 use Rattle.nef_ops.specs.declared.regions.Way.{Way}
 use Rattle.nef_ops.specs.declared.regions.Way.TheVariants.{Below, Above}
 use Rattle.nef_ops.specs.declared.regions.Side.{Side}
-use Rattle.nef_ops.specs.Far.{MeetsFrame, HoldsSkeleton, axis_coordinate, IsPastEnd, IsPast, IsFar, IsClear, IsUniform}
+use Rattle.nef_ops.specs.Far.{MeetsFrame, HoldsSkeleton, axis_coordinate, IsPastEnd, IsWithinEnd, IsBeyond, IsFar, IsClear, IsUniform}
 use Rattle.nef_ops.proofs.Convex.{below-mixed, above-mixed, frame-between}
 
 -- ---- the skeleton
@@ -75,6 +76,19 @@ module _ (c : Complex) (core : Span) (H : HoldsSkeleton c core) where
 
   pub clear-high : (axis : Axis) (e : ℤ) → ((p : Place) → IsInSpan core p → coordinate_of (axis_coordinate axis) p ≤ℤ (e *ℤ pos p.w)) → IsClear c (record { axis = axis; way = Above; end = e })
   clear-high axis e part s y S f o = over (coordinate_of (axis_coordinate axis) y) e (pos y.w) f.1 (part y (H s y S f.0 o))
+
+below-none : (end other n w : ℤ) → pos 0 ≤ℤ w → end ≤ℤ other → (other *ℤ w) ≤ℤ n → n <ℤ (end *ℤ w) → ⊥
+below-none end other n w s l i f = let m = mul_le_right end other w s l in omega (arith, ints, m, i, f)
+
+above-none : (end other n w : ℤ) → pos 0 ≤ℤ w → other ≤ℤ end → n ≤ℤ (other *ℤ w) → (end *ℤ w) <ℤ n → ⊥
+above-none end other n w s l i f = let m = mul_le_right other end w s l in omega (arith, ints, m, i, f)
+
+-- where the other end isn't past the end, nothing that lies within the other lies past this one
+pub none-past : (way : Way) (end other n : ℤ) (w : ℕ) → (IsBeyond way end other → ⊥) → IsWithinEnd way other n (pos w) → IsPastEnd way end n (pos w) → ⊥
+none-past Below end other n w off i f =
+    by_order other end (λ l. off l) (λ e. below-none end other n (pos w) (omega (arith, ints)) (omega (arith, ints, e)) i f) (λ l. below-none end other n (pos w) (omega (arith, ints)) (omega (arith, ints, l)) i f)
+none-past Above end other n w off i f =
+    by_order end other (λ l. off l) (λ e. above-none end other n (pos w) (omega (arith, ints)) (omega (arith, ints, e)) i f) (λ l. above-none end other n (pos w) (omega (arith, ints)) (omega (arith, ints, l)) i f)
 
 -- ---- between two points
 end-between : (way : Way) (e : ℤ) (k i j : ℕ) (c a b w u v : ℤ) → 0 < k → 0 < i → 0 < j → pos k *ℤ c ≡ pos i *ℤ a +ℤ pos j *ℤ b → pos k *ℤ w ≡ pos i *ℤ u +ℤ pos j *ℤ v

@@ -1,8 +1,7 @@
 -- What an operation gathers: its candidates, the right map at each, and its carriers.
-use Rattle.std.proofs.Common.{◌≡◌, Bool, ℕ, zero, suc, ◌<◌, List, [], ◌∷◌, map, length, get_or, slice_get, Option, Some, None, option_map, refl, ap, sym, subst, ◌∙◌, inl, inr}
+use Rattle.std.proofs.Common.{◌≡◌, Bool, ℕ, zero, suc, ◌<◌, List, [], ◌∷◌, map, length, get_or, slice_get, Some, ap, sym, subst, ◌∙◌, inl, inr}
 use Rattle.std.specs.List.{Contains}
 use Rattle.std.proofs.lemmas.List.{length-map}
-use Rattle.std.proofs.lemmas.Option.{slice_get-map}
 use Rattle.nef_space.specs.Local.{IsVertex}
 use Rattle.nef_space.specs.Place.{Place, Form, SamePlace, IsPlaceBelow, InClosedFrame}
 use Rattle.nef_space.specs.Sets.{Set}
@@ -16,7 +15,7 @@ use Rattle.nef_star.specs.declared.star.Op.{Op}
 use Rattle.nef_star.specs.declared.star.Op.TheVariants.{And, Or, Diff, Xor}
 use Rattle.nef_stopo.specs.Sets.{op_set}
 use Rattle.nef_smap.specs.declared.map.SphereMap.{SphereMap}
-use Rattle.nef_smap.specs.Maps.{map_of, IsLeastMap}
+use Rattle.nef_smap.specs.Maps.{map_of}
 use Rattle.nef_smap.proofs.Lists.{map-at, at-map, at-within, at-get, get-at}
 use Rattle.law_complex.specs.Complexes.{Vertex as PlainVertex, Complex as PlainComplex}
 use Rattle.law_complex.specs.Shows.{Carriers, SamePlane}

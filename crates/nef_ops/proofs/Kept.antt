@@ -1,5 +1,5 @@
 -- A vertex of an operand that is one of the result, with its map or with that of the complement.
-use Rattle.std.proofs.Common.{◌≡◌, refl, sym, subst, ◌∙◌, List, ℕ}
+use Rattle.std.proofs.Common.{◌≡◌, refl, sym, subst, List, ℕ}
 use Rattle.nef_space.specs.Local.{IsVertex, Germ}
 use Rattle.nef_space.specs.Place.{Place, SamePlace}
 use Rattle.nef_space.specs.Sets.{Set}
@@ -12,7 +12,7 @@ use Rattle.law_near.proofs.Alike.{FlatDim-by_germs}
 use Rattle.law_near.proofs.Combine.{germ-not}
 use Rattle.law_near.proofs.Decided.{germ_of}
 use Rattle.law_near.proofs.Germs.{Germ-unique}
-use Rattle.law_sphere.specs.Maps.{Map, At}
+use Rattle.law_sphere.specs.Maps.{At}
 use Rattle.law_sphere.specs.Least.{Cone}
 use Rattle.law_border.specs.Topology.{complement}
 use Rattle.law_border.specs.Marks.{exchanged_map}
@@ -21,7 +21,6 @@ use Rattle.law_border.proofs.ExchangedLabels.{exchanged-laws}
 use Rattle.law_complex.specs.Complexes.{Vertex as PlainVertex}
 use Rattle.law_complex.specs.Skeleton.{IsVertexPoint}
 use Rattle.nef_smap.specs.Maps.{map_of, IsLeastMap}
-use Rattle.nef_smap.specs.declared.map.SphereMap.{SphereMap}
 use Rattle.nef_smap.proofs.Lists.{at-map, map-at}
 use Rattle.nef_complex.specs.declared.complex.Vertex.{Vertex}
 use Rattle.nef_complex.specs.declared.complex.Complex.{Complex}

@@ -8,3 +8,4 @@ pub mod PlaceShares
 pub mod Lacking
 pub mod Convex
 pub mod FarLabels
+pub mod HeldPoints

@@ -1,9 +1,11 @@
 -- Past the sides of a span of its skeleton a set has one label in each region of the open frame.
-use Rattle.std.specs.Prelude.{◌≡◌, ℕ, ℤ, pos, ◌*ℤ◌, ◌<ℤ◌, IfSome, List}
+use Rattle.std.specs.Prelude.{◌≡◌, ℕ, ℤ, pos, ◌*ℤ◌, ◌<ℤ◌, ◌≤ℤ◌, ◌⊎◌, IfSome, List}
 use Rattle.nef_space.specs.Local.{HasLabel, FlatDim}
 use Rattle.nef_space.specs.Place.{Place, Form, form_at, InFrame}
 use Rattle.nef_space.specs.Sets.{Set}
 use Rattle.nef_space.specs.declared.label.Label.{Label}
+use Rattle.nef_geo.specs.Shapes.{place_of}
+use Rattle.nef_geo.specs.declared.point.Point.{Point}
 use Rattle.law_sphere.specs.Maps.{At}
 use Rattle.law_complex.specs.Skeleton.{IsSkeletonPoint}
 use Rattle.law_complex.specs.Spans.{Coordinate, coordinate_of, coordinate_x, coordinate_y, coordinate_z}
@@ -38,6 +40,16 @@ abbrev pub IsPastEnd : Way → ℤ → ℤ → ℤ → Type 0
 IsPastEnd Below end n w = n <ℤ (end *ℤ w)
 IsPastEnd Above end n w = (end *ℤ w) <ℤ n
 
+-- n/w lies at the end, or before it
+abbrev pub IsWithinEnd : Way → ℤ → ℤ → ℤ → Type 0
+IsWithinEnd Below end n w = (end *ℤ w) ≤ℤ n
+IsWithinEnd Above end n w = n ≤ℤ (end *ℤ w)
+
+-- the other end lies past the end
+abbrev pub IsBeyond : Way → ℤ → ℤ → Type 0
+IsBeyond Below end other = other <ℤ end
+IsBeyond Above end other = end <ℤ other
+
 abbrev pub IsPast : Side → Place → Type 0
 IsPast side p = IsPastEnd side.way side.end (coordinate_of (axis_coordinate side.axis) p) (pos p.w)
 
@@ -48,6 +60,14 @@ IsFar side p = InFrame p × IsPast side p
 -- there is nothing of the skeleton
 abbrev pub IsClear : Complex → Side → Type 0
 IsClear c side = (s : Set) (y : Place) → ShowsSet s c → IsFar side y → IsSkeletonPoint (complex_of c) y → ⊥
+
+-- each of the points within the open frame is one of the skeleton, or lies in the span
+abbrev pub AreHeld : Complex → Span → List Point → Type 0
+AreHeld c span ps = (k : ℕ) (p : Point) → At ps k p → InFrame (place_of p) → IsSkeletonPoint (complex_of c) (place_of p) ⊎ IsInSpan span (place_of p)
+
+-- the points past the side lie at the other end, or before it
+abbrev pub AreWithin : Side → ℤ → List Point → Type 0
+AreWithin side other ps = (k : ℕ) (p : Point) → At ps k p → IsFar side (place_of p) → IsWithinEnd side.way other (coordinate_of (axis_coordinate side.axis) (place_of p)) (pos (place_of p).w)
 
 -- ---- labels
 -- the point has the label, and so have all points close by

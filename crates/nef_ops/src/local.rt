@@ -23,7 +23,7 @@ use crate::share::{Share, face_share, share_at, share_of, share_off_edges};
 use nef_cand::{Name, Named, Operand};
 use nef_complex::Complex;
 use nef_core::Job;
-use nef_geo::Label;
+use nef_geo::{Label, Point};
 use nef_locate::{Place, locate, place_map};
 use nef_result::Outcome;
 use nef_smap::{SphereMap, face_map};
@@ -120,7 +120,7 @@ fn same_outcome(
         }
     }
     let map = found_map(alloc, c, found)?;
-    Ok(Outcome::of(map))
+    Outcome::of(alloc, map)
 }
 
 // What another set has where it is as the complement of this one, of which this is found there.
@@ -141,7 +141,7 @@ fn turned_outcome(
         }
     }
     let map = found_map(alloc, c, found)?;
-    Ok(Outcome::of(exchanged(map)))
+    Outcome::of(alloc, exchanged(map))
 }
 
 // The vertex or the edge that the name tells, of which set, and the place in the other set if the name tells one.
@@ -177,6 +177,16 @@ fn finding_in(c: &Complex, own: Operand, far: &Regions, candidate: &Named) -> Fi
     match label_among(far, &candidate.point) {
         Some(label) => Finding::Far(label),
         None => Finding::At(locate(c, &candidate.point)),
+    }
+}
+
+// What the set holds of the frame close to the point, where a region tells its label there.
+fn far_share(far: &Regions, point: &Point) -> Share
+    ensures share { (c : ShownComplex) (s : Set) → AreTold c far.now → ShowsSet s c → HasShare result s (place_of point.now) }
+{
+    match label_among(far, point) {
+        Some(label) => face_share(label),
+        None => Share::Part,
     }
 }
 
@@ -292,9 +302,75 @@ impl<'a> BinaryJob<'a> {
         choice_of(self.op, first_share, second_share)
     }
 
-    // What the combination has at a candidate. Where what is found of it says that one set holds all of the frame close to it,
-    // or nothing, no more than one map is made.
+    // What is told of the combination at this vertex of the first set, where that may be moved and a region tells the label of
+    // the second set.
+    fn told_first(&self, number: usize, point: &Point) -> Option<Outcome>
+        requires told { AreTold self.now.second.now self.now.far_second.now }
+        requires vertex { IsVertexPoint (complex_of self.now.first.now) number (place_of point.now) }
+        ensures outcome { IfSome result (λ o. (s t : Set) → ShowsSet s self.now.first.now → ShowsSet t self.now.second.now → IsOutcomeAt (moved_if self.now.own_first self.now.first.now) (moved_if self.now.own_second self.now.second.now) (op_set self.now.op s t) (place_of point.now) o) }
+    {
+        if !self.own_first {
+            return None;
+        }
+        let share = far_share(self.far_second, point);
+        match choice_of(self.op, Share::Part, share) {
+            Choice::First => Some(Outcome::Stays(Operand::First, number)),
+            Choice::NotFirst => Some(Outcome::Turned(Operand::First, number)),
+            Choice::Second | Choice::NotSecond | Choice::Both => None,
+        }
+    }
+
+    // The same at a vertex of the second set.
+    fn told_second(&self, number: usize, point: &Point) -> Option<Outcome>
+        requires told { AreTold self.now.first.now self.now.far_first.now }
+        requires vertex { IsVertexPoint (complex_of self.now.second.now) number (place_of point.now) }
+        ensures outcome { IfSome result (λ o. (s t : Set) → ShowsSet s self.now.first.now → ShowsSet t self.now.second.now → IsOutcomeAt (moved_if self.now.own_first self.now.first.now) (moved_if self.now.own_second self.now.second.now) (op_set self.now.op s t) (place_of point.now) o) }
+    {
+        if !self.own_second {
+            return None;
+        }
+        let share = far_share(self.far_first, point);
+        match choice_of(self.op, share, Share::Part) {
+            Choice::Second => Some(Outcome::Stays(Operand::Second, number)),
+            Choice::NotSecond => Some(Outcome::Turned(Operand::Second, number)),
+            Choice::First | Choice::NotFirst | Choice::Both => None,
+        }
+    }
+
+    // What the combination has at a vertex of one set, where one look at the other's regions tells it.
+    fn told_outcome(&self, operand: Operand, number: usize, point: &Point) -> Option<Outcome>
+        requires first_told { AreTold self.now.first.now self.now.far_first.now }
+        requires second_told { AreTold self.now.second.now self.now.far_second.now }
+        requires vertex { IsVertexPoint (operand_of operand (complex_of self.now.first.now) (complex_of self.now.second.now)) number (place_of point.now) }
+        ensures outcome { IfSome result (λ o. (s t : Set) → ShowsSet s self.now.first.now → ShowsSet t self.now.second.now → IsOutcomeAt (moved_if self.now.own_first self.now.first.now) (moved_if self.now.own_second self.now.second.now) (op_set self.now.op s t) (place_of point.now) o) }
+    {
+        match operand {
+            Operand::First => self.told_first(number, point),
+            Operand::Second => self.told_second(number, point),
+        }
+    }
+
+    // What the combination has at a candidate. At most of them one look tells it, and nothing else is begun.
     fn outcome_at(&self, alloc: Global, candidate: &Named) -> Result<Outcome, OutOfMemory>
+        requires first { (s : Set) × ShowsSet s self.now.first.now }
+        requires second { (t : Set) × ShowsSet t self.now.second.now }
+        requires first_told { AreTold self.now.first.now self.now.far_first.now }
+        requires second_told { AreTold self.now.second.now self.now.far_second.now }
+        requires framed { InClosedFrame (place_of candidate.now.point) }
+        requires named { IsNamed (complex_of self.now.first.now) (complex_of self.now.second.now) candidate.now }
+        ensures outcome { IfOk result (λ o. (s t : Set) → ShowsSet s self.now.first.now → ShowsSet t self.now.second.now → IsOutcomeAt (moved_if self.now.own_first self.now.first.now) (moved_if self.now.own_second self.now.second.now) (op_set self.now.op s t) (place_of candidate.now.point) o) }
+    {
+        if let Name::Vertex(operand, number) = candidate.name {
+            if let Some(outcome) = self.told_outcome(operand, number, &candidate.point) {
+                return Ok(outcome);
+            }
+        }
+        self.found_outcome(alloc, candidate)
+    }
+
+    // The same by what is found of the candidate in both sets. Where that says that one set holds all of the frame close to it,
+    // or nothing, no more than one map is made.
+    fn found_outcome(&self, alloc: Global, candidate: &Named) -> Result<Outcome, OutOfMemory>
         requires first { (s : Set) × ShowsSet s self.now.first.now }
         requires second { (t : Set) × ShowsSet t self.now.second.now }
         requires first_told { AreTold self.now.first.now self.now.far_first.now }
@@ -334,7 +410,7 @@ impl<'a> BinaryJob<'a> {
                 let map = found_map(alloc, self.first, &first)?;
                 let other = found_map(alloc, self.second, &second)?;
                 let both = merged(alloc, map, other, self.op)?;
-                Ok(Outcome::of(both))
+                Outcome::of(alloc, both)
             }
         }
     }

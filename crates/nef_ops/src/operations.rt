@@ -16,7 +16,7 @@ ghost use Rattle.nef_result.specs.Outcomes.{AreOutcomesOf};
 use crate::OutOfMemory;
 use crate::finished::{all_worked, complex_by_jobs};
 use crate::local::BinaryJob;
-use crate::regions::regions_of;
+use crate::regions::{core_span, regions_of};
 use nef_cand::{cut_candidates, named_points, near_candidates_by_threads, vertex_points};
 use nef_complex::Complex;
 use nef_core::{BoardKind, How, Job, Work};
@@ -60,7 +60,7 @@ impl<'a> Job for HalfJob<'a> {
         let point = &self.points[job as usize];
         let whole = local_map(alloc, self.whole, point)?;
         let map = half_map(alloc, whole, self.oriented, self.closed, point)?;
-        Ok(Outcome::of(map))
+        Outcome::of(alloc, map)
     }
 }
 
@@ -182,7 +182,7 @@ impl<'a> Job for UnaryJob<'a> {
     fn work(&self, alloc: Global, job: u64) -> Result<Outcome, OutOfMemory> {
         let vertex = self.complex.vertices.at(job as usize);
         let map = changed(alloc, &vertex.map, self.op)?;
-        Ok(Outcome::of(map))
+        Outcome::of(alloc, map)
     }
 }
 
@@ -256,8 +256,10 @@ fn gather<R: Threads + Wait + Sync, G: Gate + Sync>(
     let listed = near_candidates_by_threads(rt, alloc, a, b, how.workers)?;
     let candidates = listed.as_slice();
     let points = named_points(alloc, candidates)?;
-    let far_first = regions_of(a, points.as_slice());
-    let far_second = regions_of(b, points.as_slice());
+    let core_a = core_span(a);
+    let core_b = core_span(b);
+    let far_first = regions_of(a, &core_a, &core_b, points.as_slice());
+    let far_second = regions_of(b, &core_b, &core_a, points.as_slice());
     let job = BinaryJob {
         op,
         first: a,

@@ -1,10 +1,10 @@
 //! Regions of the frame far from a set's skeleton, in each of which the set has one label.
 
-ghost use Rattle.std.specs.Prelude.{◌≡◌, ◌≤◌, ◌↔◌};
+ghost use Rattle.std.specs.Prelude.{◌≡◌, ◌≤◌, ◌<◌, ◌↔◌, ◌⊎◌, []};
 ghost use Rattle.nef_complex.specs.Prelude.{ℕ, length, IfSome, IsNone, IsTrue, InFrame, Set, place_of, Point as PlainPoint, At, coordinate_of, ShowsSet};
 ghost use Rattle.nef_complex.specs.declared.complex.Complex.{Complex as ShownComplex};
 ghost use Rattle.nef_ops.specs.declared.regions.Region.{Region as PlainRegion};
-ghost use Rattle.nef_ops.specs.Far.{axis_coordinate, HoldsSkeleton, IsPast, IsPastEnd, IsFar, IsClear, IsUniformIn, AreTold, IsTold, many_points};
+ghost use Rattle.nef_ops.specs.Far.{axis_coordinate, HoldsSkeleton, IsPast, IsPastEnd, IsBeyond, AreHeld, AreWithin, IsFar, IsClear, IsUniformIn, AreTold, IsTold, many_points};
 
 use nef_cand::misses_frame;
 use nef_complex::{Complex, Span, carrier_spans};
@@ -67,9 +67,9 @@ impl Side {
     }
 }
 
-// A span of the skeleton within the open frame: of the vertices on all carriers but those that hold no point of the open
-// frame. Those of the frame's own sides hold none, and their vertices reach from one end of the frame to the other.
-fn core_span(c: &Complex) -> Span
+/// A span of the skeleton within the open frame: of the vertices on all carriers but those that hold no point of the open
+/// frame. Those of the frame's own sides hold none, and their vertices reach from one end of the frame to the other.
+pub(crate) fn core_span(c: &Complex) -> Span
     requires shows { (s : Set) × ShowsSet s c.now }
     ensures core { HoldsSkeleton c.now result }
 {
@@ -93,14 +93,29 @@ pub(crate) struct Region {
 /// The regions past the six sides of a span of the set's skeleton.
 pub(crate) type Regions = [Region; 6];
 
-// The region past an end along an axis, with its label if one of the points lies there within the open frame.
-fn region_past(c: &Complex, axis: Axis, way: Way, end: i64, points: &[Point]) -> Region
+// Whether the other end lies past the end.
+fn is_beyond(way: Way, end: i64, other: i64) -> bool
+    ensures beyond { IsTrue result ↔ IsBeyond way end other }
+{
+    match way {
+        Way::Below => other < end,
+        Way::Above => end < other,
+    }
+}
+
+// The region past an end along an axis, with its label if one of the points lies there within the open frame. The points past
+// the end lie no further than the other end, so that mostly none needs to be looked at.
+fn region_past(c: &Complex, axis: Axis, way: Way, end: i64, other: i64, points: &[Point]) -> Region
     requires shows { (s : Set) × ShowsSet s c.now }
     requires clear { IsClear c.now (record { axis = axis; way = way; end = end }) }
+    requires within { AreWithin (record { axis = axis; way = way; end = end }) other points.now }
     ensures told { IsTold c.now result }
     ensures none { IsNone result.label → (k : ℕ) (p : PlainPoint) → At points.now k p → IsFar result.side (place_of p) → ⊥ }
 {
     let side = Side { axis, way, end };
+    if !is_beyond(way, end, other) {
+        return Region { side, label: None };
+    }
     for point in points {
         if side.has(point) && point.in_frame() {
             let label = place_label(c, &locate(c, point));
@@ -128,26 +143,34 @@ impl Region {
     }
 }
 
-/// The regions past the sides of a span of the complex's skeleton. Where there are many points, each region has a label in
-/// which one of them lies.
-pub(crate) fn regions_of(c: &Complex, points: &[Point]) -> Regions
-    requires shows { (s : Set) × ShowsSet s c.now }
-    ensures told { AreTold c.now result }
-    ensures many { many_points ≤ length points.now → (i k : ℕ) (r : PlainRegion) (p : PlainPoint) → At result i r → At points.now k p → IsFar r.side (place_of p) → IsNone r.label → ⊥ }
+// The points that are looked at: all, where there are many.
+fn asked_of(points: &[Point]) -> &[Point]
+    ensures asked { (result.now ≡ points.now) ⊎ ((result.now ≡ []) × (length points.now < many_points)) }
 {
-    let core = core_span(c);
-    let asked = if points.len() < MANY_POINTS {
+    if points.len() < MANY_POINTS {
         &points[..0]
     } else {
         points
-    };
+    }
+}
+
+/// The regions past the sides of a span of the complex's skeleton within the open frame. Where there are many points, each region
+/// has a label in which one of them lies. Those that aren't of the skeleton lie in the other span.
+pub(crate) fn regions_of(c: &Complex, core: &Span, other: &Span, points: &[Point]) -> Regions
+    requires shows { (s : Set) × ShowsSet s c.now }
+    requires core { HoldsSkeleton c.now core.now }
+    requires held { AreHeld c.now other.now points.now }
+    ensures told { AreTold c.now result }
+    ensures many { many_points ≤ length points.now → (i k : ℕ) (r : PlainRegion) (p : PlainPoint) → At result i r → At points.now k p → IsFar r.side (place_of p) → IsNone r.label → ⊥ }
+{
+    let asked = asked_of(points);
     [
-        region_past(c, Axis::X, Way::Below, core.x.low, asked),
-        region_past(c, Axis::X, Way::Above, core.x.high, asked),
-        region_past(c, Axis::Y, Way::Below, core.y.low, asked),
-        region_past(c, Axis::Y, Way::Above, core.y.high, asked),
-        region_past(c, Axis::Z, Way::Below, core.z.low, asked),
-        region_past(c, Axis::Z, Way::Above, core.z.high, asked),
+        region_past(c, Axis::X, Way::Below, core.x.low, other.x.low, asked),
+        region_past(c, Axis::X, Way::Above, core.x.high, other.x.high, asked),
+        region_past(c, Axis::Y, Way::Below, core.y.low, other.y.low, asked),
+        region_past(c, Axis::Y, Way::Above, core.y.high, other.y.high, asked),
+        region_past(c, Axis::Z, Way::Below, core.z.low, other.z.low, asked),
+        region_past(c, Axis::Z, Way::Above, core.z.high, other.z.high, asked),
     ]
 }
 

@@ -1,8 +1,8 @@
 -- Maps that are moved out of operands, one after another. Each vertex of an operand stands at one place alone, so its map is
 -- there until the vertex of the result at that place takes it.
-use Rattle.std.proofs.Common.{◌≡◌, ◌≢◌, ℕ, zero, suc, ◌+◌, ◌<◌, List, [], ◌∷◌, length, arith, refl, ap, sym, subst, ◌∙◌, ◌⊎◌, inl, inr, ⊎_elim, set}
+use Rattle.std.proofs.Common.{◌≡◌, ℕ, zero, suc, ◌+◌, ◌<◌, List, [], ◌∷◌, length, arith, refl, ap, sym, subst, ◌∙◌, ◌⊎◌, inl, inr, ⊎_elim, set}
 use Rattle.std.proofs.lemmas.Bool.{cases_order}
-use Rattle.nef_space.specs.Place.{Place, IsPlaceBelow, SamePlace}
+use Rattle.nef_space.specs.Place.{Place}
 use Rattle.nef_geo.specs.Shapes.{place_of}
 use Rattle.law_near.proofs.PlaceOrder.{place_below-apart}
 use Rattle.law_near.proofs.Rays.{same-place_sym}
@@ -16,7 +16,7 @@ use Rattle.nef_complex.specs.declared.complex.Vertex.{Vertex}
 use Rattle.nef_result.specs.declared.parting.Source.{Source}
 use Rattle.nef_result.specs.declared.parting.Source.TheVariants.{Here, Kept, Turned}
 use Rattle.nef_result.specs.Outcomes.{of_operand, StandsAt, IsOtherOf}
-use Rattle.nef_result.specs.Begun.{IsThere, AreThere, IsFilled, Names, HasNamed, IsFilledAt, AreFilledTo, AreLeft}
+use Rattle.nef_result.specs.Begun.{vertex_at, IsThere, AreThere, IsFilled, Names, HasNamed, IsFilledAt, AreFilledTo, AreLeft}
 
 -- ---- a list with one element set
 pub set-here : {A : Type 0} (xs : List A) (k : ℕ) (x y : A) → At xs k x → At (set xs k y) k y
@@ -30,6 +30,12 @@ set-other (z ∷ zs) zero y zero x n a = absurd (n refl)
 set-other (z ∷ zs) zero y (suc k) x n a = a
 set-other (z ∷ zs) (suc j) y zero x n a = a
 set-other (z ∷ zs) (suc j) y (suc k) x n a = set-other zs j y k x (λ e. n (ap suc e)) a
+
+-- ---- two maps exchanged
+pub swapped-here : (us : List Vertex) (n : ℕ) (v w x y : Vertex) (m : SphereMap) → At us n v → x ≡ v → y ≡ w → m ≡ y.map → At (set us n (vertex_at x.point m)) n (vertex_at v.point w.map)
+swapped-here us n v w x y m a e f g =
+    subst (λ (l : SphereMap). At (set us n (vertex_at x.point l)) n (vertex_at v.point w.map)) (sym (g ∙ ap (λ (z : Vertex). z.map) f))
+    (subst (λ (z : Vertex). At (set us n (vertex_at z.point w.map)) n (vertex_at v.point w.map)) (sym e) (set-here us n v (vertex_at v.point w.map) a))
 
 -- ---- at the start
 pub filled-none : (us vs ys : List Vertex) (fs : List Source) → AreFilledTo us vs ys fs 0 ys

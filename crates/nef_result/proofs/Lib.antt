@@ -1,4 +1,4 @@
-pub mod PlaneOrder
+pub mod PlaneMerge
 pub mod Merging
 pub mod Vertices
 pub mod Filled

@@ -1,8 +1,7 @@
 -- The vertices of a set among its candidates, with their maps, are all its vertices.
-use Rattle.std.proofs.Common.{◌≡◌, ℕ, ◌<◌, ◌+◌, suc, List, [], ◌∷◌, ◌++◌, length, map, arith, refl, ap, sym, subst, ◌∙◌, ◌⊎◌, inl, inr}
-use Rattle.nef_space.specs.Lists.{IsAt}
+use Rattle.std.proofs.Common.{◌≡◌, ℕ, ◌<◌, ◌+◌, List, [], ◌∷◌, ◌++◌, length, map, arith, refl, ap, sym, subst, ◌∙◌, ◌⊎◌, inl, inr}
 use Rattle.nef_space.specs.Local.{FlatDim, IsVertex}
-use Rattle.nef_space.specs.Place.{Place, Form, IsPlaceBelow, SamePlace}
+use Rattle.nef_space.specs.Place.{Place, IsPlaceBelow, SamePlace}
 use Rattle.nef_space.specs.Sets.{Set}
 use Rattle.nef_geo.specs.Shapes.{place_of, form_of}
 use Rattle.nef_geo.specs.declared.plane.Plane.{Plane}
@@ -30,7 +29,6 @@ use Rattle.nef_complex.specs.declared.complex.Vertex.{Vertex}
 use Rattle.nef_result.specs.declared.outcome.Outcome.{Outcome}
 use Rattle.nef_result.specs.declared.outcome.Outcome.TheVariants as outcome
 use Rattle.nef_result.specs.declared.parting.Source.{Source}
-use Rattle.nef_result.specs.declared.parting.Source.TheVariants.{Here, Kept, Turned}
 use Rattle.nef_result.specs.Results.{ArePointsInOrder}
 use Rattle.nef_result.specs.Outcomes.{IsOtherOf, IsOutcomeAt, AreOutcomesOf}
 use Rattle.nef_result.specs.Begun.{Begins, vertex_at, IsAdded, AreBegun, IsThere, AreThere, IsFilled, AreFilledTo}
@@ -129,7 +127,7 @@ carriers-in-order s hs C i j g h l a b = C.ordered i j (form_of g) (form_of h) l
 -- ---- what the outcome says of a vertex
 module _ (us vs : List Vertex) where
   there-by : (s : Set) (p : Place) (o : Outcome) (m : SphereMap) (f : Source) → IsOutcomeAt us vs s p o → Begins o m f → IsThere us vs p f
-  there-by s p (outcome.Made n) m f i b = subst (IsThere us vs p) (sym b.1) tt
+  there-by s p (outcome.Made l) m f i b = subst (IsThere us vs p) (sym b.1) tt
   there-by s p (outcome.Stays o k) m f i b = let v = i.1 in subst (IsThere us vs p) (sym b) (v.0, v.1)
   there-by s p (outcome.Turned o k) m f i b = let v = i.1 in subst (IsThere us vs p) (sym b) (v.0, v.1, v.2)
   there-by s p outcome.Gone m f i b = absurd b
@@ -137,7 +135,7 @@ module _ (us vs : List Vertex) where
   good-by : (s : Set) (p : Place) (o : Outcome) (m n : SphereMap) (f : Source) → IsOutcomeAt us vs s p o → Begins o m f → IsFilled us vs f m n → IsVertex s p × IsLeastMap n × Cone (map_of n) s p
   good-by s p (outcome.Made l) m n f i b h =
       let g : n ≡ m = subst (λ (r : Source). IsFilled us vs r m n) b.1 h in
-      let e : l ≡ n = sym (g ∙ b.0) in
+      let e : l.value ≡ n = sym (g ∙ b.0) in
       (i.0, subst IsLeastMap e i.1, subst (λ (r : SphereMap). Cone (map_of r) s p) e i.2)
   good-by s p (outcome.Stays o k) m n f i b h =
       let g = subst (λ (r : Source). IsFilled us vs r m n) b h in

@@ -28,6 +28,13 @@ at-zip (p ∷ ps) [] n q l e = absurd (omega (arith, l))
 at-zip (p ∷ ps) (c ∷ cs) zero q l e = ap (λ (r : Point × Outcome). r.0) (sym e)
 at-zip (p ∷ ps) (c ∷ cs) (suc n) q l e = at-zip ps cs n q (omega (arith, l)) e
 
+-- a pair that is yielded is one of no more than there are points
+pub zip-within : (ps : List Point) (cs : List Outcome) (n : ℕ) → n < length (zip ps cs) → n < length ps
+zip-within [] cs n l = absurd (omega (arith, l))
+zip-within (p ∷ ps) [] n l = absurd (omega (arith, l))
+zip-within (p ∷ ps) (c ∷ cs) zero l = omega arith
+zip-within (p ∷ ps) (c ∷ cs) (suc n) l = let k = zip-within ps cs n (omega (arith, l)) in omega (arith, k)
+
 seconds : (xs : List Pair) → map (λ (q : Point × Outcome). q.1) (map shown xs) ≡ outcomes_of xs
 seconds [] = refl
 seconds (x ∷ xs) = ap (λ (os : List Outcome). x.1 ∷ os) (seconds xs)

@@ -17,7 +17,7 @@ use Rattle.nef_result.specs.Outcomes.{of_operand, StandsAt, IsOtherOf}
 
 -- the outcome says that there is a vertex whose map is, or comes from, there; m is the one that stands with it
 abbrev pub Begins : Outcome → SphereMap → Source → Type 0
-Begins (outcome.Made n) m f = (m ≡ n) × (f ≡ Here)
+Begins (outcome.Made b) m f = (m ≡ b.value) × (f ≡ Here)
 Begins (outcome.Stays o k) m f = f ≡ Kept o k
 Begins (outcome.Turned o k) m f = f ≡ Turned o k
 Begins outcome.Gone m f = ⊥

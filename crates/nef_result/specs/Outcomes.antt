@@ -41,7 +41,7 @@ IsTurnedAt vs k s p = (v : Vertex) × StandsAt vs k v p × IsLeastMap v.map × (
 
 -- the outcome is what the set has at p; the vertices are those of its operands whose maps may be moved
 abbrev pub IsOutcomeAt : List Vertex → List Vertex → Set → Place → Outcome → Type 0
-IsOutcomeAt us vs s p (Made m) = IsVertex s p × IsLeastMap m × Cone (map_of m) s p
+IsOutcomeAt us vs s p (Made b) = IsVertex s p × IsLeastMap b.value × Cone (map_of b.value) s p
 IsOutcomeAt us vs s p (Stays o k) = IsVertex s p × IsKeptAt (of_operand o us vs) k s p
 IsOutcomeAt us vs s p (Turned o k) = IsVertex s p × IsTurnedAt (of_operand o us vs) k s p
 IsOutcomeAt us vs s p Gone = IsVertex s p → ⊥

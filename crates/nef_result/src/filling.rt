@@ -4,58 +4,70 @@ ghost use Rattle.std.specs.Prelude.{◌≡◌, ◌<◌};
 ghost use Rattle.nef_complex.specs.Prelude.{ℕ, length, At};
 ghost use Rattle.nef_complex.specs.declared.complex.Vertex.{Vertex as VertexValue};
 ghost use Rattle.nef_cand.specs.declared.named.Operand.TheVariants.{First, Second};
-ghost use Rattle.nef_result.specs.Outcomes.{of_operand};
+ghost use Rattle.nef_smap.specs.Maps.{IsLeastMap};
+ghost use Rattle.nef_smap.specs.declared.map.SphereMap.{SphereMap as MapValue};
+ghost use Rattle.nef_result.specs.Outcomes.{of_operand, IsOtherOf};
 ghost use Rattle.nef_result.specs.Begun.{vertex_at, HasNamed, Names, IsFilledAt, AreThere, AreFilledTo};
 
 use crate::parting::Source;
 use nef_cand::Operand;
 use nef_complex::Vertex;
 use nef_geo::Label;
-use nef_smap::{SphereMap, face_map};
+use nef_smap::face_map;
 use nef_stopo::exchanged;
 use std::alloc::Global;
 use std::mem;
 
-// Takes the map out of a vertex, and leaves one there that takes no memory.
-fn taken_map(alloc: Global, vertices: &mut Vec<Vertex>, number: usize) -> SphereMap
+// Exchanges the maps of two vertices.
+fn swap_maps(vertices: &mut Vec<Vertex>, number: usize, others: &mut Vec<Vertex>, from: usize)
     requires within { number < length vertices.old.items }
-    ensures map { (v : VertexValue) → At vertices.old.items number v → result ≡ v.map }
-    ensures others { (k : ℕ) (v : VertexValue) → (k ≡ number → ⊥) → At vertices.old.items k v → At vertices.new.items k v }
+    requires from_within { from < length others.old.items }
+    ensures len { length vertices.new.items ≡ length vertices.old.items }
+    ensures swapped { (v w : VertexValue) → At vertices.old.items number v → At others.old.items from w → At vertices.new.items number (vertex_at v.point w.map) }
+    ensures rest { (k : ℕ) (v : VertexValue) → (k ≡ number → ⊥) → At vertices.old.items k v → At vertices.new.items k v }
+    ensures others { (k : ℕ) (v : VertexValue) → (k ≡ from → ⊥) → At others.old.items k v → At others.new.items k v }
 {
-    let empty = face_map(alloc, Label::Out, Label::Out);
-    mem::replace(&mut vertices[number].map, empty)
+    mem::swap(&mut vertices[number].map, &mut others[from].map);
 }
 
-// The same of a vertex of the operand that is told.
-fn operand_map(
-    alloc: Global,
-    operand: Operand,
+// The same with a vertex of the operand that is told.
+fn swap_with(
+    vertices: &mut Vec<Vertex>,
     number: usize,
+    operand: Operand,
+    from: usize,
     first: &mut Vec<Vertex>,
     second: &mut Vec<Vertex>,
-) -> SphereMap
-    requires within { number < length (of_operand operand first.old.items second.old.items) }
-    ensures map { (v : VertexValue) → At (of_operand operand first.old.items second.old.items) number v → result ≡ v.map }
-    ensures first { (k : ℕ) (v : VertexValue) → (operand ≡ First → k ≡ number → ⊥) → At first.old.items k v → At first.new.items k v }
-    ensures second { (k : ℕ) (v : VertexValue) → (operand ≡ Second → k ≡ number → ⊥) → At second.old.items k v → At second.new.items k v }
+)
+    requires within { number < length vertices.old.items }
+    requires from_within { from < length (of_operand operand first.old.items second.old.items) }
+    ensures len { length vertices.new.items ≡ length vertices.old.items }
+    ensures swapped { (v w : VertexValue) → At vertices.old.items number v → At (of_operand operand first.old.items second.old.items) from w → At vertices.new.items number (vertex_at v.point w.map) }
+    ensures rest { (k : ℕ) (v : VertexValue) → (k ≡ number → ⊥) → At vertices.old.items k v → At vertices.new.items k v }
+    ensures first { (k : ℕ) (v : VertexValue) → (operand ≡ First → k ≡ from → ⊥) → At first.old.items k v → At first.new.items k v }
+    ensures second { (k : ℕ) (v : VertexValue) → (operand ≡ Second → k ≡ from → ⊥) → At second.old.items k v → At second.new.items k v }
 {
     match operand {
-        Operand::First => taken_map(alloc, first, number),
-        Operand::Second => taken_map(alloc, second, number),
+        Operand::First => swap_maps(vertices, number, first, from),
+        Operand::Second => swap_maps(vertices, number, second, from),
     }
 }
 
-// Puts a map into a vertex, in place of the one that it has.
-fn put_map(vertices: &mut Vec<Vertex>, number: usize, map: SphereMap)
+// Exchanges In and `Not` in the map of a vertex.
+fn turn_map(alloc: Global, vertices: &mut Vec<Vertex>, number: usize)
     requires within { number < length vertices.old.items }
+    requires least { (v : VertexValue) → At vertices.old.items number v → IsLeastMap v.map }
     ensures len { length vertices.new.items ≡ length vertices.old.items }
-    ensures put { (v : VertexValue) → At vertices.old.items number v → At vertices.new.items number (vertex_at v.point map) }
-    ensures others { (k : ℕ) (v : VertexValue) → (k ≡ number → ⊥) → At vertices.old.items k v → At vertices.new.items k v }
+    ensures turned { (v : VertexValue) → At vertices.old.items number v → (m : MapValue) × At vertices.new.items number (vertex_at v.point m) × IsOtherOf v.map m }
+    ensures rest { (k : ℕ) (v : VertexValue) → (k ≡ number → ⊥) → At vertices.old.items k v → At vertices.new.items k v }
 {
-    vertices[number].map = map;
+    let empty = face_map(alloc, Label::Out, Label::Out);
+    let vertex = &mut vertices[number];
+    let map = mem::replace(&mut vertex.map, empty);
+    vertex.map = exchanged(map);
 }
 
-// Moves the map that the source names into the vertex.
+// Moves the map that the source names into the vertex. The vertex of the operand is left with the one that stood here.
 fn fill(
     alloc: Global,
     vertices: &mut Vec<Vertex>,
@@ -75,12 +87,11 @@ fn fill(
     match source {
         Source::Here => {}
         Source::Kept(operand, from) => {
-            let map = operand_map(alloc, operand, from, first, second);
-            put_map(vertices, number, map);
+            swap_with(vertices, number, operand, from, first, second);
         }
         Source::Turned(operand, from) => {
-            let map = operand_map(alloc, operand, from, first, second);
-            put_map(vertices, number, exchanged(map));
+            swap_with(vertices, number, operand, from, first, second);
+            turn_map(alloc, vertices, number);
         }
     }
 }

@@ -1,22 +1,24 @@
 //! What a set has at a candidate.
 
 ghost use Rattle.std.specs.Prelude.{◌↔◌};
-ghost use Rattle.nef_complex.specs.Prelude.{List as Sequence, IsTrue, Set, Place, Cone};
+ghost use Rattle.nef_complex.specs.Prelude.{List as Sequence, IfOk, IsTrue, Set, Place, Cone};
 ghost use Rattle.nef_complex.specs.declared.complex.Vertex.{Vertex};
 ghost use Rattle.nef_smap.specs.Maps.{map_of, IsLeastMap};
 ghost use Rattle.nef_spair.specs.Kinds.{IsVertex};
 ghost use Rattle.nef_result.specs.Outcomes.{IsOutcomeAt};
 
+use crate::OutOfMemory;
 use nef_cand::Operand;
 use nef_smap::SphereMap;
 use nef_spair::{Kind, kind};
+use std::alloc::Global;
 
 /// What a set that is made of two others has at a candidate. Where a vertex of one of the two has the map already, and its map
 /// may be moved, it isn't made again: that vertex is told by its number.
 #[derive(Debug, Drop)]
 pub enum Outcome {
-    /// A vertex with this least map.
-    Made(SphereMap),
+    /// A vertex with this least map. Few outcomes have one, and all are moved often, so it stands in a box.
+    Made(Box<SphereMap>),
     /// A vertex with the map of this one.
     Stays(Operand, usize),
     /// A vertex with the map of this one in which In and `Not` are exchanged.
@@ -34,15 +36,16 @@ fn is_vertex(map: &SphereMap) -> bool
 }
 
 impl Outcome {
-    /// What a set has where this is its least map. The map of a point that is no vertex is let go.
-    pub fn of(map: SphereMap) -> Outcome
+    /// What a set has where this is its least map. The map of a point that is no vertex is let go. `OutOfMemory` says that
+    /// memory was wanted and not found.
+    pub fn of(alloc: Global, map: SphereMap) -> Result<Outcome, OutOfMemory>
         requires least { IsLeastMap map }
-        ensures outcome { (us vs : Sequence Vertex) (s : Set) (p : Place) → Cone (map_of map) s p → IsOutcomeAt us vs s p result }
+        ensures outcome { IfOk result (λ o. (us vs : Sequence Vertex) (s : Set) (p : Place) → Cone (map_of map) s p → IsOutcomeAt us vs s p o) }
     {
-        if is_vertex(&map) {
-            Outcome::Made(map)
-        } else {
-            Outcome::Gone
+        if !is_vertex(&map) {
+            return Ok(Outcome::Gone);
         }
+        let map = Box::new(alloc, map)?;
+        Ok(Outcome::Made(map))
     }
 }

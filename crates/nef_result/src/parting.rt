@@ -1,7 +1,7 @@
 //! The vertices of a set among its candidates, and where their maps are.
 
-ghost use Rattle.std.specs.Prelude.{◌≡◌, ◌∷◌, ◌++◌};
-ghost use Rattle.nef_complex.specs.Prelude.{List as Sequence, [], length, IfOk, OnOk};
+ghost use Rattle.std.specs.Prelude.{◌≡◌, ◌∷◌, ◌++◌, ◌<◌, ◌≤◌, ◌+◌, vec_len, vec_capacity};
+ghost use Rattle.nef_complex.specs.Prelude.{[], length, IfOk};
 ghost use Rattle.nef_result.specs.Results.{ArePointsInOrder};
 ghost use Rattle.nef_result.specs.Begun.{IsAdded, AreBegun};
 
@@ -24,46 +24,56 @@ pub(crate) enum Source {
     Turned(Operand, usize),
 }
 
-// Adds a vertex.
+// Adds a vertex, for which there is room, and its source.
 fn push_vertex(
     vertices: &mut Vec<Vertex>,
     sources: &mut Vec<Source>,
-    point: Point,
+    point: &Point,
     map: SphereMap,
     source: Source,
-) -> Result<(), OutOfMemory>
-    ensures vertices { OnOk result (vertices.new.items ≡ vertices.old.items ++ record { point = point; map = map } ∷ []) }
-    ensures sources { OnOk result (sources.new.items ≡ sources.old.items ++ source ∷ []) }
+)
+    requires room { vec_len vertices.old < vec_capacity vertices.old }
+    requires source_room { vec_len sources.old < vec_capacity sources.old }
+    ensures vertices { vertices.new.items ≡ vertices.old.items ++ record { point = point.now; map = map } ∷ [] }
+    ensures sources { sources.new.items ≡ sources.old.items ++ source ∷ [] }
+    ensures one { (vec_len vertices.new ≤ vec_len vertices.old + 1) × (vec_capacity vertices.new ≡ vec_capacity vertices.old) }
+    ensures one_source { (vec_len sources.new ≤ vec_len sources.old + 1) × (vec_capacity sources.new ≡ vec_capacity sources.old) }
 {
-    vertices.push(Vertex { point, map })?;
-    sources.push(source)?;
-    Ok(())
+    vertices.push_reserved(Vertex { point: *point, map });
+    sources.push_reserved(source);
 }
 
-// Adds the vertex at the point, if there is one. Where its map is with another vertex, a map that takes no memory is put in
-// its place.
+// Adds the vertex at the point, if there is one, for which there is room. Where its map is with another vertex, a map that takes
+// no memory is put in its place.
 fn add_vertex(
     vertices: &mut Vec<Vertex>,
     sources: &mut Vec<Source>,
     alloc: Global,
     point: &Point,
     outcome: Outcome,
-) -> Result<(), OutOfMemory>
-    ensures added { OnOk result (IsAdded point.now outcome vertices.old.items sources.old.items vertices.new.items sources.new.items) }
+)
+    requires room { vec_len vertices.old < vec_capacity vertices.old }
+    requires source_room { vec_len sources.old < vec_capacity sources.old }
+    ensures added { IsAdded point.now outcome vertices.old.items sources.old.items vertices.new.items sources.new.items }
+    ensures one { (vec_len vertices.new ≤ vec_len vertices.old + 1) × (vec_capacity vertices.new ≡ vec_capacity vertices.old) }
+    ensures one_source { (vec_len sources.new ≤ vec_len sources.old + 1) × (vec_capacity sources.new ≡ vec_capacity sources.old) }
 {
     match outcome {
-        Outcome::Made(map) => push_vertex(vertices, sources, *point, map, Source::Here),
+        Outcome::Made(map) => {
+            let map = Box::into_inner(map);
+            push_vertex(vertices, sources, point, map, Source::Here);
+        }
         Outcome::Stays(operand, number) => {
             let empty = face_map(alloc, Label::Out, Label::Out);
             let source = Source::Kept(operand, number);
-            push_vertex(vertices, sources, *point, empty, source)
+            push_vertex(vertices, sources, point, empty, source);
         }
         Outcome::Turned(operand, number) => {
             let empty = face_map(alloc, Label::Out, Label::Out);
             let source = Source::Turned(operand, number);
-            push_vertex(vertices, sources, *point, empty, source)
+            push_vertex(vertices, sources, point, empty, source);
         }
-        Outcome::Gone => Ok(()),
+        Outcome::Gone => {}
     }
 }
 
@@ -81,7 +91,7 @@ pub(crate) fn parted(
     let mut vertices = Vec::with_capacity(alloc, points.len())?;
     let mut sources = Vec::with_capacity(alloc, points.len())?;
     for (point, outcome) in points.iter().zip(outcomes) {
-        add_vertex(&mut vertices, &mut sources, alloc, point, outcome)?;
+        add_vertex(&mut vertices, &mut sources, alloc, point, outcome);
     }
     Ok((vertices, sources))
 }

@@ -1,4 +1,4 @@
-use Rattle.std.proofs.Common.{◌≡◌, rules, refl, sym, subst, IfSome}
+use Rattle.std.proofs.Common.{◌≡◌, rules, refl, subst, IfSome}
 use Rattle.nef_geo.specs.Shapes.{place_of}
 use Rattle.law_complex.specs.Complexes.{Complex as PlainComplex}
 use Rattle.nef_cand.specs.declared.named.Operand.{Operand}

@@ -1,5 +1,5 @@
-use Rattle.std.proofs.Common.{◌≡◌, sym, subst, ◌∙◌, true, ap, Bool, Option, IfSome, ℕ}
-use Rattle.nef_space.specs.Place.{Place}
+use Rattle.std.proofs.Common.{◌≡◌, subst, ◌∙◌, ap, Bool, Option, IfSome, ℕ}
+use Rattle.std.proofs.lemmas.Result.{IfOk-weaker}
 use Rattle.nef_smap.specs.Maps.{map_of}
 use Rattle.law_complex.specs.Skeleton.{IsVertexPoint}
 use Rattle.nef_complex.specs.Complexes.{complex_of}
@@ -17,4 +17,6 @@ returns-in-Some c = record {
 }
 
 pub returns : goal.returns
-returns c = record { outcome = λ us vs r s y e S a h. c.of.ensures.outcome us vs r y (h (map_of c.in_ok-map.map) (c.in_ok-map.ensures.cone s y S a)) }
+returns c = record {
+  outcome = IfOk-weaker c.of.result _ _ (λ o told us vs r s y e S a h. told us vs r y (h (map_of c.in_ok-map.map) (c.in_ok-map.ensures.cone s y S a))) c.of.ensures.outcome;
+}

@@ -1,11 +1,30 @@
-use Rattle.std.proofs.Common.{◌≡◌, List, map, length, arith, sym, subst}
+use Rattle.std.proofs.Common.{◌≡◌, ◌∙◌, List, map, length, arith, ap, sym, subst}
+use Rattle.nef_geo.specs.declared.point.Point.{Point}
 use Rattle.nef_complex.specs.Complexes.{complex_of}
 use Rattle.nef_cand.specs.declared.named.Named.{Named}
 use Rattle.nef_cand.specs.Candidates.{AreFramed}
 use Rattle.nef_cand.specs.Names.{named_point, AreNamed}
 use Rattle.nef_result.specs.Givens.{moved_if}
+use Rattle.nef_ops.specs.Far.{AreHeld}
 use Rattle.nef_ops.proofs.Gathered.{both-outcomes}
+use Rattle.nef_ops.proofs.HeldPoints.{first-held, second-held}
 use Rattle.nef_ops.proofs.operations.gather.Goals as goal
+
+-- the points are those of the candidates
+points-are : (cs ns : List Named) (ps qs : List Point) → cs ≡ ns → ps ≡ map named_point cs → qs ≡ ps → map named_point ns ≡ qs
+points-are cs ns ps qs e f g = sym (g ∙ f ∙ ap (map named_point) e)
+
+pub regions_of-far_first-requires-clause-held : goal.regions_of-far_first-requires-clause-held
+regions_of-far_first-requires-clause-held g c =
+    let a = c.args.a.now in let b = c.args.b.now in let t = c.requires.second in let ns = c.in_ok-listed.listed.items in
+    subst (AreHeld a c.core_span-core_b.result) (points-are c.as_slice-candidates.result.now ns c.in_ok-points.points.items c.as_slice.result.now c.as_slice-candidates.ensures.value c.in_ok-points.ensures.points c.as_slice.ensures.value)
+    (first-held a b ns c.in_ok-listed.ensures.lists.named t.0 c.core_span-core_b.result t.1 c.core_span-core_b.ensures.core)
+
+pub regions_of-far_second-requires-clause-held : goal.regions_of-far_second-requires-clause-held
+regions_of-far_second-requires-clause-held g c =
+    let a = c.args.a.now in let b = c.args.b.now in let s = c.requires.first in let ns = c.in_ok-listed.listed.items in
+    subst (AreHeld b c.core_span-core_a.result) (points-are c.as_slice-candidates.result.now ns c.in_ok-points.points.items c.as_slice-2.result.now c.as_slice-candidates.ensures.value c.in_ok-points.ensures.points c.as_slice-2.ensures.value)
+    (second-held a b ns c.in_ok-listed.ensures.lists.named s.0 c.core_span-core_a.result s.1 c.core_span-core_a.ensures.core)
 
 pub all_worked-requires-clause-workable : goal.all_worked-requires-clause-workable
 all_worked-requires-clause-workable g c = λ κs within.

@@ -1,11 +1,12 @@
-use Rattle.std.proofs.Common.{ℤ, w64, to_z, of_z, arith, rules, sym, subst}
+use Rattle.std.proofs.Common.{ℤ, pos, w64, to_z, of_z, arith, rules, sym, subst}
 use Rattle.std.proofs.lemmas.Int.{to_z-of_z}
 use Rattle.nef_geo.specs.Shapes.{place_of}
 use Rattle.nef_geo.specs.declared.point.Point.{Point}
 use Rattle.nef_smap.proofs.Lists.{at-within}
 use Rattle.nef_ops.specs.declared.regions.Side.{Side}
-use Rattle.nef_ops.specs.Far.{IsFar, IsClear}
-use Rattle.nef_ops.proofs.FarLabels.{far-uniform}
+use Rattle.law_complex.specs.Spans.{coordinate_of}
+use Rattle.nef_ops.specs.Far.{axis_coordinate, IsFar, IsClear, IsWithinEnd}
+use Rattle.nef_ops.proofs.FarLabels.{far-uniform, none-past}
 use Rattle.nef_ops.proofs.Lacking.{all-more}
 use Rattle.nef_ops.proofs.regions.region_past.Goals.{else-has-via-then-has+else-in_frame, else-has-via-else-has}
 use Rattle.nef_ops.proofs.regions.region_past.Goals as goal
@@ -32,3 +33,11 @@ loop-point-preserved c =
 
 pub returns-clause-none : goal.returns-clause-none
 returns-clause-none c none k p a f = c.loop-point.invariant k p (let l = at-within c.args.points.now k p a in let t = c.loop-point-test.false in omega (arith, l, t)) a f
+
+-- where the other end isn't past the end, no point is
+pub returns-then-not-is_beyond-clause-none : goal.returns-then-not-is_beyond-clause-none
+returns-then-not-is_beyond-clause-none c e k p a f =
+    let q = place_of p in let n = coordinate_of (axis_coordinate c.args.axis) q in
+    let near : IsFar (record { axis = c.args.axis; way = c.args.way; end = c.args.end }) q = subst (λ (z : ℤ). IsFar (record { axis = c.args.axis; way = c.args.way; end = z }) q) (to_z-of_z w64 c.args.end c.ranges.end) f in
+    let held = subst (λ (z : ℤ). IsWithinEnd c.args.way z n (pos q.w)) (sym (to_z-of_z w64 c.args.other c.ranges.other)) (c.requires.within k p a near) in
+    none-past c.args.way (to_z w64 (of_z w64 c.args.end)) (to_z w64 (of_z w64 c.args.other)) n q.w (λ b. absurd (search (rules, c.is_beyond.ensures.beyond.1 b, c.if-not-is_beyond.true))) held f.1

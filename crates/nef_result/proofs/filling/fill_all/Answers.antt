@@ -1,4 +1,4 @@
-use Rattle.std.proofs.Common.{◌≡◌, ◌<◌, ◌+◌, ℕ, length, arith, sym, subst}
+use Rattle.std.proofs.Common.{◌≡◌, ◌<◌, ℕ, length, arith, sym, subst}
 use Rattle.nef_cand.specs.declared.named.Operand.TheVariants.{First, Second}
 use Rattle.nef_edges.proofs.Places.{at-read}
 use Rattle.nef_smap.proofs.SideLists.{at-some as element-at}

@@ -1,4 +1,5 @@
 use Rattle.std.proofs.Common.{[], get_or}
+use Rattle.std.proofs.lemmas.Result.{IfOk-weaker}
 use Rattle.nef_space.specs.Sets.{Set}
 use Rattle.nef_geo.specs.Shapes.{given_form, place_of}
 use Rattle.nef_ops.proofs.Gathered.{right-at}
@@ -10,4 +11,4 @@ half_map-requires-clause-frame c = c.in_ok-whole.ensures.cone Set.full c.require
 pub returns : goal.returns
 returns c =
     let j = c.args.self.now in let f = Set.half (given_form j.oriented.now) j.closed in let q = c.index-self-job.result in
-    right-at f [] [] j.points.now c.args.job q c.of.result c.requires.job (c.of.ensures.outcome [] [] f (place_of (get_or j.points.now c.args.job q)) c.in_ok-map.ensures.cone)
+    IfOk-weaker c.of.result _ _ (λ o told. right-at f [] [] j.points.now c.args.job q o c.requires.job (told [] [] f (place_of (get_or j.points.now c.args.job q)) c.in_ok-map.ensures.cone)) c.of.ensures.outcome

@@ -1,4 +1,5 @@
 use Rattle.std.proofs.Common.{[]}
+use Rattle.std.proofs.lemmas.Result.{IfOk-weaker}
 use Rattle.nef_geo.specs.Shapes.{place_of}
 use Rattle.nef_ops.specs.Nodes.{unary_set}
 use Rattle.nef_complex.proofs.Reading.{got-at}
@@ -11,7 +12,8 @@ changed-requires c =
     record { map = m.sphere_map }
 
 pub returns : goal.returns
-returns c = λ s S.
+returns c =
     let j = c.args.self.now in let v = c.at-vertex.result.now in
-    vertex-right s j.complex.now S j.op c.args.job v c.in_ok-map.map c.of.result (got-at j.complex.now.vertices c.args.job v c.at-vertex.ensures.element)
-    (λ p. c.of.ensures.outcome [] [] (unary_set j.op s) p) (c.in_ok-map.ensures.cone s (place_of v.point))
+    IfOk-weaker c.of.result _ _ (λ o told s S.
+    vertex-right s j.complex.now S j.op c.args.job v c.in_ok-map.map o (got-at j.complex.now.vertices c.args.job v c.at-vertex.ensures.element)
+    (λ p. told [] [] (unary_set j.op s) p) (c.in_ok-map.ensures.cone s (place_of v.point))) c.of.ensures.outcome

@@ -1,15 +1,19 @@
-use Rattle.std.proofs.Common.{◌∙◌, sym}
+use Rattle.std.proofs.Common.{◌∙◌, sym, subst}
+use Rattle.nef_space.specs.Local.{IsVertex}
+use Rattle.law_sphere.specs.Least.{Cone}
 use Rattle.nef_star.proofs.Needed.{true_or_false}
-use Rattle.nef_smap.specs.Maps.{map_of}
+use Rattle.nef_smap.specs.Maps.{map_of, IsLeastMap}
+use Rattle.nef_smap.specs.declared.map.SphereMap.{SphereMap}
 use Rattle.nef_result.proofs.Vertices.{vertex-flat, flat-vertex}
 use Rattle.nef_result.proofs.outcome.Outcome.of.Goals as goal
 
-pub returns-then-is_vertex : goal.returns-then-is_vertex
-returns-then-is_vertex c = record {
-  outcome = λ us vs s p K. (vertex-flat (map_of c.args.map) s p c.requires.least.least K (c.is_vertex.ensures.vertex.0 c.if-is_vertex.true), c.requires.least, K);
+pub returns-then-not-is_vertex : goal.returns-then-not-is_vertex
+returns-then-not-is_vertex c = record {
+  outcome = λ us vs s p K v. true_or_false (sym (c.is_vertex.ensures.vertex.1 (flat-vertex (map_of c.args.map) s p c.requires.least.least K v)) ∙ c.if-not-is_vertex.true);
 }
 
-pub returns-else-is_vertex : goal.returns-else-is_vertex
-returns-else-is_vertex c = record {
-  outcome = λ us vs s p K v. true_or_false (sym (c.is_vertex.ensures.vertex.1 (flat-vertex (map_of c.args.map) s p c.requires.least.least K v)) ∙ c.if-is_vertex.false);
+pub returns : goal.returns
+returns c = record {
+  outcome = λ us vs s p K. subst (λ (m : SphereMap). IsVertex s p × IsLeastMap m × Cone (map_of m) s p) (sym c.in_ok-map.ensures.ok)
+      (vertex-flat (map_of c.args.map) s p c.requires.least.least K (c.is_vertex.ensures.vertex.0 c.if-not-is_vertex.false), c.requires.least, K);
 }
