@@ -1,5 +1,5 @@
 -- The complexes of nodes: each is made of those of its operands, and is kept as long as a step looks at it.
-use Rattle.std.proofs.Common.{◌≡◌, ◌↔◌, ◌⊎◌, ℕ, Bool, true, false, ◌<◌, ap, refl, sym, ◌∙◌, subst, List, length, Option, Some, None, Result, Ok, Err, IfOk, inl, inr}
+use Rattle.std.proofs.Common.{◌≡◌, ◌↔◌, ◌⊎◌, ℕ, true, false, ◌<◌, ap, refl, sym, ◌∙◌, subst, List, length, Option, Some, None, Result, Ok, Err, IfOk, inl, inr}
 use Rattle.std.specs.Prelude.{slice_get, slice_set, slice_index, is_some}
 use Rattle.std.proofs.lemmas.Bool.{cases_eq}
 use Rattle.std.proofs.lemmas.List.{length-set}
@@ -17,7 +17,7 @@ use Rattle.nef_ops.specs.declared.operations.UnaryOp.{UnaryOp}
 use Rattle.nef_expr.specs.Nodes.{operand, node_set}
 use Rattle.nef_plan.specs.declared.planner.Step.{Step}
 use Rattle.nef_plan.specs.declared.planner.Step.TheVariants.{Make, Turn, Ask}
-use Rattle.nef_plan.specs.Steps.{Makes}
+use Rattle.nef_plan.specs.Steps.{LooksAt, Makes}
 use Rattle.nef_shell.specs.Bindings.{Asks}
 use Rattle.nef_shell.specs.Operations.{set_by, first_operand, second_operand, HasOperand, IsLent, AreLent, AreShown, IsKept, IsGone, AreLess, AreBound}
 use Rattle.nef_shell.specs.declared.operation.Operation.{Operation}
@@ -79,14 +79,29 @@ makes-asks (Make m made) n k makes asks = asks
 makes-asks (Turn m j t) n k makes asks = asks
 makes-asks (Ask q) n k makes asks = makes
 
+-- a step looks at what it asks about
+pub asks-looks : (s : Step) (k : ℕ) → Asks s k → LooksAt s k
+asks-looks (Make n m) k asks = absurd asks
+asks-looks (Turn n j t) k asks = absurd asks
+asks-looks (Ask c) k asks = asks
+
 -- a step that makes the set of a node has it bound
-pub binds-that : (nodes : List Node) (ahead : Bool) (uses : List ℕ) (now : ℕ) (s : Step) (n : ℕ) (old new : List (Option Complex)) → ((k : ℕ) → Makes s k ↔ (k ≡ n)) → ahead ≡ false → AreBound nodes (λ k. k ≡ n) (λ k. now < slice_index uses k) old new
-    → AreBound nodes (λ k. (ahead ≡ false) × Makes s k) (λ k. (now < slice_index uses k) ⊎ Asks s k) old new
-binds-that nodes ahead uses now s n old new binds off b = record {
+pub binds-that : (nodes : List Node) (uses : List ℕ) (now : ℕ) (s : Step) (n : ℕ) (old new : List (Option Complex)) → ((k : ℕ) → Makes s k ↔ (k ≡ n)) → AreBound nodes (λ k. k ≡ n) (λ k. now < slice_index uses k) old new
+    → AreBound nodes (Makes s) (λ k. (now < slice_index uses k) ⊎ Asks s k) old new
+binds-that nodes uses now s n old new binds b = record {
   count = b.count;
   stays = λ k c wanted at. elim wanted [ inl later ↦ b.stays k c later at | inr asks ↦ absurd (makes-asks s n k ((binds n).1 refl) asks) ];
-  only = λ k c at. elim (b.only k c at) [ inl was ↦ inl was | inr is ↦ inr (off, (binds k).1 is) ];
-  bound = λ k h. b.bound k ((binds k).0 h.1);
+  only = λ k c at. elim (b.only k c at) [ inl was ↦ inl was | inr is ↦ inr ((binds k).1 is) ];
+  bound = λ k makes. b.bound k ((binds k).0 makes);
+}
+
+-- where no node is in question nothing changes
+pub unbound : (nodes : List Node) (InQuestion Wanted : ℕ → Type 0) (list : List (Option Complex)) → ((k : ℕ) → InQuestion k → ⊥) → AreBound nodes InQuestion Wanted list list
+unbound nodes InQuestion Wanted list none = record {
+  count = refl;
+  stays = λ k c wanted at. at;
+  only = λ k c at. inl at;
+  bound = λ k h. absurd (none k h);
 }
 
 -- a complex that stays is kept

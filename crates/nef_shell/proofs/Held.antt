@@ -12,7 +12,7 @@ use Rattle.nef_expr.specs.declared.nodes.Node.{Node}
 use Rattle.nef_expr.specs.Nodes.{node_set}
 use Rattle.nef_complex.specs.declared.parts.Parts.{Parts}
 use Rattle.nef_complex.specs.Text.{text}
-use Rattle.nef_shell.specs.Operations.{AreMadeOf, AreHeld}
+use Rattle.nef_shell.specs.Operations.{AreMadeOf, AreShown, AreHeld}
 use Rattle.nef_shell.specs.Output.{printed}
 use Rattle.nef_statement.specs.Output.{framed}
 use Rattle.nef_statement.specs.Texts.{IsWrittenOf}
@@ -53,14 +53,15 @@ made-put Is list things n c x within here is made k y at = elim (cases_eq k n) [
   | inr other ↦ made k y (sym (get_set_other things n k (Some x) other) ∙ at)
 ]
 
--- a complex comes in the place of none, and what was worked is held
+-- complexes come, and what was worked is held
+pub held-more : {Z : Type 0} (version : TextVersion) (nodes : List Node) (list new : List (Option Complex)) (parts : List (Option Parts)) (texts : List (Option (Vec ℕ Z))) → ((k : ℕ) (c : Complex) → slice_get list k ≡ Some (Some c) → slice_get new k ≡ Some (Some c)) → AreShown nodes new
+    → AreHeld version nodes list parts texts → AreHeld version nodes new parts texts
+held-more version nodes list new parts texts stays shown held = record { shown = shown; parts_of = made-stays _ list new parts stays held.parts_of; texts_of = made-stays _ list new texts stays held.texts_of }
+
+-- one comes in the place of none
 pub held-put : {Z : Type 0} (version : TextVersion) (nodes : List Node) (list : List (Option Complex)) (parts : List (Option Parts)) (texts : List (Option (Vec ℕ Z))) (n : ℕ) (c : Complex) → n < length list → ((d : Complex) → slice_get list n ≡ Some (Some d) → ⊥) → ShowsSet (node_set nodes n) c
     → AreHeld version nodes list parts texts → AreHeld version nodes (slice_set list n (Some c)) parts texts
-held-put version nodes list parts texts n c within none shows held = record {
-  shown = shown-put nodes list n c within held.shown shows;
-  parts_of = made-stays _ list (slice_set list n (Some c)) parts stays held.parts_of;
-  texts_of = made-stays _ list (slice_set list n (Some c)) texts stays held.texts_of;
-}
+held-put version nodes list parts texts n c within none shows held = held-more version nodes list (slice_set list n (Some c)) parts texts stays (shown-put nodes list n c within held.shown shows) held
   where
     stays : (k : ℕ) (d : Complex) → slice_get list k ≡ Some (Some d) → slice_get (slice_set list n (Some c)) k ≡ Some (Some d)
     stays k d at = elim (cases_eq k n) [

@@ -8,6 +8,6 @@ pub mod Statuses
 pub mod Causes
 pub mod GivenWords
 pub mod Bound
-pub mod Asked
+pub mod Placed
 pub mod Held
 pub mod Spent

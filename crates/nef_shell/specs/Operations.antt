@@ -115,6 +115,11 @@ pub record AreLess (uses : List ℕ) (now : ℕ) (old new : List (Option Complex
   pub stays : (k : ℕ) (c : Complex) → now < slice_index uses k → slice_get old k ≡ Some (Some c) → slice_get new k ≡ Some (Some c)
   pub only : (k : ℕ) (c : Complex) → slice_get new k ≡ Some (Some c) → slice_get old k ≡ Some (Some c)
 
+-- no complex goes, and each that comes is that of a node at which a step after this one looks
+pub record AreMore (uses : List ℕ) (now : ℕ) (old new : List (Option Complex)) : Type 0 where
+  pub stays : (k : ℕ) (c : Complex) → slice_get old k ≡ Some (Some c) → slice_get new k ≡ Some (Some c)
+  pub only : (k : ℕ) (c : Complex) → slice_get new k ≡ Some (Some c) → (slice_get old k ≡ Some (Some c)) ⊎ (now < slice_index uses k)
+
 -- the complex of the node was taken from its place, where the other operand is another node and no step after this one looks at the node; or nothing was taken
 abbrev pub IsSpent : List ℕ → ℕ → ℕ → ℕ → List (Option Complex) → List (Option Complex) → Option Complex → Type 0
 IsSpent uses now node other old new None = new ≡ old

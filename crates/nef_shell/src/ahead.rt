@@ -1,144 +1,113 @@
-//! Works all bindings of a script's steps ahead of its questions, in rounds.
+//! Works sets of a block of steps ahead of them, side by side.
 
-ghost use Rattle.std.specs.Prelude.{◌≡◌, ◌<◌, ◌↔◌, ◌⊎◌};
-ghost use Rattle.nef_complex.specs.Prelude.{ℕ, Some, true, IfOk, IfSome, length, slice_get, vec_len, ShowsSet};
-ghost use Rattle.nef_complex.specs.declared.complex.Complex.{Complex};
-ghost use Rattle.nef_expr.specs.Nodes.{node_set};
-ghost use Rattle.nef_plan.specs.declared.planner.Step.{Step};
-ghost use Rattle.nef_plan.specs.Steps.{IsRight, AreSteps};
-ghost use Rattle.nef_sched.specs.Results.{IsMarked, AreSound, IsKept as HasResult};
-ghost use Rattle.nef_shell.specs.Bindings.{AreBindings, Fits, IsAskedAbout, ArePlaced, AreFirst};
-ghost use Rattle.nef_shell.specs.Operations.{AreMeans, AreShown, IsKept};
+ghost use Rattle.std.specs.Prelude.{◌≡◌, ◌<◌};
+ghost use Rattle.nef_complex.specs.Prelude.{ℕ, IfOk, OnOk, Some, length, slice_get, slice_index, vec_len};
+ghost use Rattle.nef_plan.specs.Steps.{AreSteps};
+ghost use Rattle.nef_shell.specs.declared.bindings.Binding.{Binding};
+ghost use Rattle.nef_shell.specs.Bindings.{AreBindings, ArePut};
+ghost use Rattle.nef_shell.specs.Operations.{AreMeans, AreHeld, AreMore};
 
 use crate::bindings::{Binding, bindings_of, work_bindings};
 use crate::operation::Means;
-use nef_complex::Complex;
-use nef_expr::Nodes;
+use crate::sets::{Sets, put_at};
 use nef_io::Gate;
-use nef_plan::{Step, asked_nodes};
-use nef_sched::empty_places;
+use nef_plan::Step;
+use nef_words::Options;
 use std::alloc::{AllocError, Global};
-use std::mem;
 use std::sync::Wait;
 use std::thread::Threads;
 
-// Marks the node, if there is one.
-fn mark(marks: &mut [bool], node: Option<usize>)
-    requires within { IfSome node (λ k. k < length marks.old) }
-    ensures length { length marks.new ≡ length marks.old }
-    ensures marked { (k : ℕ) → IsMarked marks.new k ↔ ((node ≡ Some k) ⊎ IsMarked marks.old k) }
-{
-    if let Some(k) = node {
-        marks[k] = true;
-    }
+// How many steps a block has. In a longer one more sets can be worked side by side, but all that are worked ahead of it are
+// there at once.
+const BLOCK: usize = 512;
+
+// Whether a block begins with this step, and there are workers to work its sets side by side.
+fn begins_block(options: &Options, now: usize) -> bool {
+    options.ahead && 1 < options.how.workers && now % BLOCK == 0
 }
 
-// Marks on the nodes that questions ask about.
-fn asked_about(alloc: Global, nodes: &Nodes, steps: &[Step]) -> Result<Vec<bool>, AllocError>
-    requires right { (i : ℕ) (s : Step) → slice_get steps.now i ≡ Some s → IsRight nodes.now s }
-    ensures count { IfOk result (λ v. vec_len v ≡ length nodes.now) }
-    ensures asked { IfOk result (λ v. (k : ℕ) → IsMarked v.items k ↔ IsAskedAbout steps.now k) }
-{
-    let mut marks = vec![in alloc; false; nodes.len()]?;
-    let asked = marks.as_mut_slice();
-    for step in steps {
-        if let Step::Ask(command) = step {
-            let (first, second) = asked_nodes(command);
-            mark(asked, first);
-            mark(asked, second);
+// Whether two of the bindings or more have this level.
+fn is_broad(bindings: &[Binding], level: usize) -> bool {
+    let mut found = false;
+    for binding in bindings {
+        if binding.level == level {
+            if found {
+                return true;
+            }
+            found = true;
         }
     }
-    Ok(marks)
+    false
 }
 
-// Marks on the bindings whose nodes are marked.
-fn wanted(alloc: Global, bindings: &[Binding], asked: &[bool]) -> Result<Vec<bool>, AllocError>
-    requires within { (n : ℕ) (b : Binding) → slice_get bindings.now n ≡ Some b → b.node < length asked.now }
-    ensures count { IfOk result (λ v. vec_len v ≡ length bindings.now) }
-    ensures marks { IfOk result (λ v. (n : ℕ) (b : Binding) → slice_get bindings.now n ≡ Some b → slice_get v.items n ≡ slice_get asked.now b.node) }
-{
-    let mut marks = Vec::with_capacity(alloc, bindings.len())?;
-    for binding in bindings {
-        marks.push(asked[binding.node])?;
+// How many levels there are before the first that has fewer than two bindings. A set that is alone gains nothing, and where
+// its step makes it, its operands can be given away.
+fn broad_levels(bindings: &[Binding]) -> usize {
+    for level in 0..bindings.len() {
+        if !is_broad(bindings, level) {
+            return level;
+        }
     }
-    Ok(marks)
+    bindings.len()
 }
 
-// Puts the result, if there is one, to the place of the node that the binding binds. It is exchanged where it stands:
-// what a function that holds a complex lets go costs half a minute of proving.
-fn put(nodes: &Nodes, list: &mut [Option<Complex>], binding: &Binding, worked: &mut Option<Complex>)
-    requires node { binding.now.node < length list.old }
-    requires shows { IfSome worked.old (λ c. ShowsSet (node_set nodes.now binding.now.node) c) }
-    requires shown { AreShown nodes.now list.old }
-    ensures length { length list.new ≡ length list.old }
-    ensures shown { AreShown nodes.now list.new }
-    ensures still { (k : ℕ) → IsKept nodes.now list.old k → IsKept nodes.now list.new k }
-    ensures there { (c : Complex) → worked.old ≡ Some c → IsKept nodes.now list.new binding.now.node }
-    ensures only { (k : ℕ) (c : Complex) → slice_get list.new k ≡ Some (Some c) → (slice_get list.old k ≡ Some (Some c)) ⊎ ((binding.now.node ≡ k) × (d : Complex) × (worked.old ≡ Some d)) }
-{
-    let _nodes = nodes;
-    if worked.is_some() {
-        mem::swap(&mut list[binding.node], worked);
-    }
-}
-
-// The complexes at the places of the nodes that their bindings bind.
-fn placed(
+// The bindings that are worked ahead of the block which begins with this step.
+fn block_bindings(
     alloc: Global,
-    nodes: &Nodes,
-    bindings: &[Binding],
-    results: &mut [Option<Complex>],
-) -> Result<Vec<Option<Complex>>, AllocError>
-    requires are { AreBindings nodes.now bindings.now }
-    requires fits { AreSound (length bindings.now) (Fits nodes.now bindings.now) results.old }
-    ensures count { IfOk result (λ v. vec_len v ≡ length nodes.now) }
-    ensures placed { IfOk result (λ v. ArePlaced nodes.now bindings.now (HasResult results.old) v.items) }
-{
-    let mut complexes = empty_places(alloc, nodes.len())?;
-    let list = complexes.as_mut_slice();
-    for (n, binding) in bindings.iter().enumerate() {
-        put(nodes, list, binding, &mut results[n]);
-    }
-    Ok(complexes)
-}
-
-// Works the bindings, and puts the complexes of those that are marked to the places of their nodes.
-fn worked<R: Threads + Wait + Sync, G: Gate + Sync>(
-    rt: &R,
-    alloc: Global,
-    nodes: &Nodes,
-    bindings: &[Binding],
-    wanted: &[bool],
-    means: &Means,
-    gate: &G,
-) -> Result<Vec<Option<Complex>>, AllocError>
-    requires means { AreMeans means.now }
-    requires are { AreBindings nodes.now bindings.now }
-    requires wanted { length wanted.now ≡ length bindings.now }
-    ensures count { IfOk result (λ v. vec_len v ≡ length nodes.now) }
-    ensures placed { IfOk result (λ v. ArePlaced nodes.now bindings.now (IsMarked wanted.now) v.items) }
-{
-    let mut results = work_bindings(rt, alloc, nodes, bindings, wanted, means, gate)?;
-    placed(alloc, nodes, bindings, results.as_mut_slice())
-}
-
-/// The complexes of all nodes that questions ask about, each at its node's place, and no others: all bindings are
-/// worked, those whose operands are done at the same time. `AllocError` says that memory was wanted and not found.
-pub(crate) fn worked_ahead<R: Threads + Wait + Sync, G: Gate + Sync>(
-    rt: &R,
-    alloc: Global,
-    nodes: &Nodes,
+    sets: &Sets,
     steps: &[Step],
+    now: usize,
+    uses: &[usize],
+) -> Result<Vec<Binding>, AllocError>
+    requires steps { AreSteps sets.now.nodes.now steps.now }
+    requires uses { length uses.now ≡ length sets.now.nodes.now }
+    ensures are { IfOk result (λ v. AreBindings sets.now.nodes.now sets.now.list.items v.items) }
+    ensures awaited { IfOk result (λ v. (n : ℕ) (b : Binding) → slice_get v.items n ≡ Some b → now < slice_index uses.now b.node) }
+{
+    let end = steps.len().min(now.saturating_add(BLOCK));
+    let all = bindings_of(alloc, sets, steps, now, end, uses, usize::MAX)?;
+    let levels = broad_levels(&all);
+    bindings_of(alloc, sets, steps, now, end, uses, levels)
+}
+
+// Puts each thing to the place of the node that its binding binds.
+fn put_each<X: Drop>(places: &mut Vec<Option<X>>, bindings: &[Binding], mut things: Vec<X>)
+    requires within { (n : ℕ) (b : Binding) → slice_get bindings.now n ≡ Some b → b.node < length places.old.items }
+    requires count { vec_len things ≡ length bindings.now }
+    ensures put { ArePut bindings.now things.items places.old.items places.new.items }
+    ensures len { vec_len places.new ≡ vec_len places.old }
+{
+    while let Some(thing) = things.pop() {
+        put_at(places, bindings[things.len()].node, Some(thing));
+    }
+}
+
+/// Where a block begins with this step, works sets of its steps side by side, if the options say so: those at which a later
+/// step looks, and whose operands are there or are worked with them. `now` is the number of the step, counted from 0, and
+/// `uses` has the last uses. `AllocError` says that memory was wanted and not found.
+pub(crate) fn work_ahead<R: Threads + Wait + Sync, G: Gate + Sync>(
+    rt: &R,
+    alloc: Global,
+    sets: &mut Sets,
+    steps: &[Step],
+    now: usize,
+    uses: &[usize],
     means: &Means,
     gate: &G,
-) -> Result<Vec<Option<Complex>>, AllocError>
+) -> Result<(), AllocError>
     requires means { AreMeans means.now }
-    requires steps { AreSteps nodes.now steps.now }
-    ensures count { IfOk result (λ v. vec_len v ≡ length nodes.now) }
-    ensures first { IfOk result (λ v. AreFirst nodes.now steps.now true v.items) }
+    requires steps { AreSteps sets.old.nodes.now steps.now }
+    requires uses { length uses.now ≡ length sets.old.nodes.now }
+    requires held { AreHeld means.now.options.text sets.old.nodes.now sets.old.list.items sets.old.parts.items sets.old.texts.items }
+    ensures held { OnOk result (AreHeld means.now.options.text sets.old.nodes.now sets.new.list.items sets.new.parts.items sets.new.texts.items) }
+    ensures more { OnOk result (AreMore uses.now now sets.old.list.items sets.new.list.items) }
+    ensures nodes { sets.new.nodes ≡ sets.old.nodes }
 {
-    let bindings = bindings_of(alloc, nodes, steps)?;
-    let asked = asked_about(alloc, nodes, steps)?;
-    let wanted = wanted(alloc, &bindings, &asked)?;
-    worked(rt, alloc, nodes, &bindings, &wanted, means, gate)
+    if !begins_block(&means.options, now) {
+        return Ok(());
+    }
+    let bindings = block_bindings(alloc, sets, steps, now, uses)?;
+    let complexes = work_bindings(rt, alloc, sets.nodes, &sets.list, &bindings, means, gate)?;
+    put_each(&mut sets.list, &bindings, complexes);
+    Ok(())
 }

@@ -1,123 +1,159 @@
-//! The bindings of a script's steps, in order, what they need, and how they are worked in rounds.
+//! The bindings of a block of steps, in order, what they need, and how they are worked in rounds.
 
-ghost use Rattle.std.specs.Prelude.{◌≡◌, ◌<◌};
-ghost use Rattle.nef_complex.specs.Prelude.{ℕ, IfOk, IfSome, OnOk, length, [], None, option_copied};
+ghost use Rattle.std.specs.Prelude.{◌≡◌, ◌<◌, ◌≤◌, ◌⊎◌};
+ghost use Rattle.nef_complex.specs.Prelude.{ℕ, true, IfOk, IfSome, OnOk, Some, None, length, slice_get, slice_index, vec_len, [], option_copied};
+ghost use Rattle.nef_complex.specs.declared.complex.Complex.{Complex};
 ghost use Rattle.nef_expr.specs.Nodes.{node_set, sets_after};
 ghost use Rattle.nef_plan.specs.Alike.{AreAlike};
 ghost use Rattle.nef_plan.specs.Steps.{AreSteps};
-ghost use Rattle.nef_shell.specs.Bindings.{IsBound, IsNeeded, AreBindings, AreAllBound, AreNumbered, first_need, second_need, needed_complex, Fits};
-ghost use Rattle.nef_shell.specs.Operations.{set_by, HasOperand, HasTurn, AreMeans};
-ghost use Rattle.nef_sched.specs.Results.{IsMarked, IsUnmarked, kept, IsKept as HasResult, IsReady, AreSound};
+ghost use Rattle.nef_shell.specs.Bindings.{IsBoundAt, AreBindings, first_need, second_need, complex_there, needed_complex, Fits};
+ghost use Rattle.nef_shell.specs.Operations.{set_by, HasTurn, AreMeans, AreShown, IsThere};
+ghost use Rattle.nef_sched.specs.Results.{IsReady};
 
 use crate::operation::{Means, Operation, bound, made};
+use crate::sets::{Sets, is_there};
 use nef_complex::Complex;
 use nef_expr::Nodes;
 use nef_io::Gate;
 use nef_plan::Step;
-use nef_sched::{Needs, Results, Stage, empty_places, run_lean};
+use nef_sched::{Needs, Results, Stage, run_ahead};
 use std::alloc::{AllocError, Global};
 use std::sync::Wait;
 use std::thread::Threads;
 
-/// The first step that makes a node's set.
+/// The first step of a block that makes a node's set.
 #[derive(Drop)]
 pub(crate) struct Binding {
     /// The node's number.
     pub(crate) node: usize,
     /// The operation that makes the node's set.
     pub(crate) operation: Operation,
-    /// The numbers of the bindings of the operation's operands.
+    /// The numbers of the bindings of those operands that aren't there before the block.
     pub(crate) needs: Needs,
+    /// 0 where all operands are there, and else one more than the highest level of those bindings.
+    pub(crate) level: usize,
 }
 
-// The number of a binding of the operand, if there is one, which is bound then.
-fn need_of(bindings: &[Binding], numbers: &[Option<usize>], operand: Option<usize>) -> Option<usize>
-    requires numbered { AreNumbered bindings.now numbers.now }
-    requires bound { IfSome operand (IsBound bindings.now) }
-    ensures needed { IsNeeded bindings.now (length bindings.now) operand result }
+// The number of a binding of the node, if there is a node that is bound.
+fn number_of(bindings: &[Binding], node: Option<usize>) -> Option<usize>
+    ensures bound { IfSome result (λ n. (k : ℕ) × (node ≡ Some k) × IsBoundAt bindings.now n k) }
 {
-    let _bindings = bindings;
-    match operand {
-        Some(node) => numbers[node],
-        None => None,
+    let node = node?;
+    for (n, binding) in bindings.iter().enumerate() {
+        if binding.node == node {
+            return Some(n);
+        }
+    }
+    None
+}
+
+// The level of a binding that needs this one, if it needs one.
+fn level_after(bindings: &[Binding], need: Option<usize>) -> usize
+    requires within { IfSome need (λ n. n < length bindings.now) }
+{
+    match need {
+        Some(n) => bindings[n].level.saturating_add(1),
+        None => 0,
     }
 }
 
-// Adds the binding of the node by the operation that makes its set, and its number at the node's place, unless it is
-// bound.
+// The complex that is there of the operand, if there is one.
+fn there(list: &[Option<Complex>], operand: Option<usize>) -> Option<&Complex>
+    ensures there { option_copied result ≡ complex_there list.now operand }
+{
+    list.get(operand?)?.as_ref()
+}
+
+// Whether the operand is bound by a binding, or is there; or there is none.
+fn is_at_hand(list: &[Option<Complex>], operand: Option<usize>, need: Option<usize>) -> bool
+    ensures there { result ≡ true → need ≡ None → IfSome operand (IsThere list.now) }
+{
+    need.is_some() || operand.is_none() || there(list, operand).is_some()
+}
+
+// Adds the binding of the node by the operation that makes its set, unless the node's complex is there, or it is bound, or an
+// operand is neither, or its level is past the first ones of which there are so many.
 fn add_binding(
     bindings: &mut Vec<Binding>,
-    numbers: &mut [Option<usize>],
-    nodes: &Nodes,
+    sets: &Sets,
     node: usize,
     operation: Operation,
+    levels: usize,
 ) -> Result<(), AllocError>
-    requires node { node < length nodes.now }
+    requires node { node < length sets.now.nodes.now }
     requires turn { HasTurn operation }
-    requires set { AreAlike (set_by (sets_after [] nodes.now) operation) (node_set nodes.now node) }
-    requires operands { (k : ℕ) → HasOperand operation k → IsBound bindings.old.items k }
-    requires are { AreBindings nodes.now bindings.old.items }
-    requires count { length numbers.old ≡ length nodes.now }
-    requires numbered { AreNumbered bindings.old.items numbers.old }
-    ensures are { OnOk result (AreBindings nodes.now bindings.new.items) }
-    ensures count { length numbers.new ≡ length numbers.old }
-    ensures numbered { OnOk result (AreNumbered bindings.new.items numbers.new) }
-    ensures still { OnOk result ((k : ℕ) → IsBound bindings.old.items k → IsBound bindings.new.items k) }
-    ensures bound { OnOk result (IsBound bindings.new.items node) }
+    requires set { AreAlike (set_by (sets_after [] sets.now.nodes.now) operation) (node_set sets.now.nodes.now node) }
+    requires are { AreBindings sets.now.nodes.now sets.now.list.items bindings.old.items }
+    ensures are { OnOk result (AreBindings sets.now.nodes.now sets.now.list.items bindings.new.items) }
+    ensures only { OnOk result ((n : ℕ) (b : Binding) → slice_get bindings.new.items n ≡ Some b → (slice_get bindings.old.items n ≡ Some b) ⊎ (b.node ≡ node)) }
 {
-    let _nodes = nodes;
-    if numbers[node].is_none() {
-        let number = bindings.len();
-        let (first, second) = operation.operands();
-        let first = need_of(bindings, numbers, first);
-        let second = need_of(bindings, numbers, second);
-        let needs = Needs { first, second };
+    if is_there(&sets.list, node) || number_of(bindings, Some(node)).is_some() {
+        return Ok(());
+    }
+    let (first, second) = operation.operands();
+    let needs = Needs {
+        first: number_of(bindings, first),
+        second: number_of(bindings, second),
+    };
+    let level = level_after(bindings, needs.first).max(level_after(bindings, needs.second));
+    if level < levels
+        && is_at_hand(&sets.list, first, needs.first)
+        && is_at_hand(&sets.list, second, needs.second)
+    {
         bindings.push(Binding {
             node,
             operation,
             needs,
+            level,
         })?;
-        numbers[node] = Some(number);
     }
     Ok(())
 }
 
-/// The bindings of the steps, in order: of each node whose set a step makes, the first that does.
-/// `AllocError` says that memory was wanted and not found.
+/// The bindings of the steps from `now` on and before `end`, in order, with so many levels at most: of each node whose set
+/// a step makes, and at which a step after `now` looks, where its complex isn't there and its operands are there or bound.
+/// `uses` has the last uses. `AllocError` says that memory was wanted and not found.
 pub(crate) fn bindings_of(
     alloc: Global,
-    nodes: &Nodes,
+    sets: &Sets,
     steps: &[Step],
+    now: usize,
+    end: usize,
+    uses: &[usize],
+    levels: usize,
 ) -> Result<Vec<Binding>, AllocError>
-    requires steps { AreSteps nodes.now steps.now }
-    ensures are { IfOk result (λ v. AreBindings nodes.now v.items) }
-    ensures all { IfOk result (λ v. AreAllBound steps.now v.items) }
+    requires steps { AreSteps sets.now.nodes.now steps.now }
+    requires end { end ≤ length steps.now }
+    requires uses { length uses.now ≡ length sets.now.nodes.now }
+    ensures are { IfOk result (λ v. AreBindings sets.now.nodes.now sets.now.list.items v.items) }
+    ensures awaited { IfOk result (λ v. (n : ℕ) (b : Binding) → slice_get v.items n ≡ Some b → now < slice_index uses.now b.node) }
 {
-    let mut places = empty_places(alloc, nodes.len())?;
-    let numbers = places.as_mut_slice();
     let mut bindings = Vec::new(alloc);
-    for step in steps {
-        if let Some((node, operation)) = bound(nodes, step) {
-            add_binding(&mut bindings, numbers, nodes, node, operation)?;
+    for place in now..end {
+        if let Some((node, operation)) = bound(sets.nodes, &steps[place])
+            && now < uses[node]
+        {
+            add_binding(&mut bindings, sets, node, operation, levels)?;
         }
     }
     Ok(bindings)
 }
 
-/// The bindings of a script's steps, each of which is worked by a call.
+/// The bindings of a block of steps, each of which is worked by a call.
 ///
 /// The call is no method, since a method of a stage can't hand the stage's own runtime to a thread.
 /// Where the gate holds jobs back, each binding counts as heavy.
 #[derive(Drop)]
-struct Bindings<'n, 'b, F> {
+struct Bindings<'n, 'c, 'b, F> {
     nodes: &'n Nodes,
+    complexes: &'c [Option<Complex>],
     list: &'b [Binding],
     holds: bool,
     work: F,
 }
 
 impl<F: Fn(usize, bool, &Results<Complex>) -> Result<Complex, AllocError> + Sync + Drop> Stage
-    for Bindings<'_, '_, F> {
+    for Bindings<'_, '_, '_, F> {
     type Out = Complex;
 
     ghost use Rattle.std.specs.Prelude.{◌<◌, ℕ, IfOk, length};
@@ -132,7 +168,7 @@ impl<F: Fn(usize, bool, &Results<Complex>) -> Result<Complex, AllocError> + Sync
 
     ghost fits = { λ s n c. Fits s.nodes.now s.list.now n c };
 
-    ghost workable = { λ s. AreBindings s.nodes.now s.list.now × ((n : ℕ) (alone : _) (done : _) → n < length s.list.now → IsReady (Fits s.nodes.now s.list.now) (first_need s.list.now n) (second_need s.list.now n) done.now.list.items → F.pre s.work n alone done × ((r : _) → F.post s.work n alone done r → IfOk r (Fits s.nodes.now s.list.now n))) };
+    ghost workable = { λ s. AreBindings s.nodes.now s.complexes.now s.list.now × ((n : ℕ) (alone : _) (done : _) → n < length s.list.now → IsReady (Fits s.nodes.now s.list.now) (first_need s.list.now n) (second_need s.list.now n) done.now.list.items → F.pre s.work n alone done × ((r : _) → F.post s.work n alone done r → IfOk r (Fits s.nodes.now s.list.now n))) };
 
     fn count(&self) -> usize {
         self.list.len()
@@ -147,8 +183,9 @@ impl<F: Fn(usize, bool, &Results<Complex>) -> Result<Complex, AllocError> + Sync
             return u64::MAX;
         }
         let binding = &self.list[n];
-        let first = vertices(needed(done, binding.needs.first));
-        let second = vertices(needed(done, binding.needs.second));
+        let (first, second) = binding.operation.operands();
+        let first = vertices(needed(self.complexes, done, first, binding.needs.first));
+        let second = vertices(needed(self.complexes, done, second, binding.needs.second));
         load_of(&binding.operation, first.saturating_add(second))
     }
 
@@ -163,13 +200,18 @@ impl<F: Fn(usize, bool, &Results<Complex>) -> Result<Complex, AllocError> + Sync
     }
 }
 
-// The result of a binding that is needed, if one is.
-fn needed(done: &Results<Complex>, need: Option<usize>) -> Option<&Complex>
-    ensures needed { option_copied result ≡ needed_complex done.now.list.items need }
+// The complex of the operand, if there is one: the result of the binding that is needed, or the one that is there.
+fn needed<'a>(
+    list: &'a [Option<Complex>],
+    done: &'a Results<Complex>,
+    operand: Option<usize>,
+    need: Option<usize>,
+) -> Option<&'a Complex>
+    ensures needed { option_copied result ≡ needed_complex list.now done.now.list.items operand need }
 {
     match need {
         Some(n) => done.get(n),
-        None => None,
+        None => there(list, operand),
     }
 }
 
@@ -199,6 +241,7 @@ fn work_binding<R: Threads + Wait + Sync, G: Gate + Sync>(
     rt: &R,
     alloc: Global,
     nodes: &Nodes,
+    complexes: &[Option<Complex>],
     bindings: &[Binding],
     n: usize,
     alone: bool,
@@ -207,15 +250,17 @@ fn work_binding<R: Threads + Wait + Sync, G: Gate + Sync>(
     gate: &G,
 ) -> Result<Complex, AllocError>
     requires means { AreMeans means.now }
-    requires are { AreBindings nodes.now bindings.now }
+    requires shown { AreShown nodes.now complexes.now }
+    requires are { AreBindings nodes.now complexes.now bindings.now }
     requires number { n < length bindings.now }
     requires there { IsReady (Fits nodes.now bindings.now) (first_need bindings.now n) (second_need bindings.now n) done.now.list.items }
     ensures fits { IfOk result (Fits nodes.now bindings.now n) }
 {
     let _nodes = nodes;
     let binding = &bindings[n];
-    let first = needed(done, binding.needs.first);
-    let second = needed(done, binding.needs.second);
+    let (first, second) = binding.operation.operands();
+    let first = needed(complexes, done, first, binding.needs.first);
+    let second = needed(complexes, done, second, binding.needs.second);
     let mut options = means.options;
     if !alone {
         options.how.workers = 1;
@@ -227,7 +272,7 @@ fn work_binding<R: Threads + Wait + Sync, G: Gate + Sync>(
     made(rt, alloc, binding.operation, first, second, &means, gate)
 }
 
-/// Works the bindings in rounds, and gives the complexes of those that are wanted, at their places.
+/// Works the bindings in rounds, and gives their complexes, in order. `complexes` has those that are there of the nodes.
 ///
 /// A binding that is alone in its round is worked by as many workers as `means` says, and each other
 /// one by one worker. `AllocError` says that memory was wanted and not found.
@@ -235,27 +280,31 @@ pub(crate) fn work_bindings<R: Threads + Wait + Sync, G: Gate + Sync>(
     rt: &R,
     alloc: Global,
     nodes: &Nodes,
+    complexes: &[Option<Complex>],
     bindings: &[Binding],
-    wanted: &[bool],
     means: &Means,
     gate: &G,
-) -> Result<Vec<Option<Complex>>, AllocError>
+) -> Result<Vec<Complex>, AllocError>
     requires means { AreMeans means.now }
-    requires are { AreBindings nodes.now bindings.now }
-    requires wanted { length wanted.now ≡ length bindings.now }
-    ensures fits { IfOk result (λ v. AreSound (length bindings.now) (Fits nodes.now bindings.now) v.items) }
-    ensures wanted { IfOk result (λ v. (n : ℕ) → IsMarked wanted.now n → HasResult v.items n) }
-    ensures lean { IfOk result (λ v. (n : ℕ) → IsUnmarked wanted.now n → kept v.items n ≡ None) }
+    requires shown { AreShown nodes.now complexes.now }
+    requires are { AreBindings nodes.now complexes.now bindings.now }
+    ensures len { IfOk result (λ v. vec_len v ≡ length bindings.now) }
+    ensures fits { IfOk result (λ v. (n : ℕ) (c : Complex) → slice_get v.items n ≡ Some c → Fits nodes.now bindings.now n c) }
 {
     let work = |n: usize, alone: bool, done: &Results<Complex>| -> Result<Complex, AllocError>
-        requires { AreMeans means.now × AreBindings nodes.now bindings.now × (n < length bindings.now) × IsReady (Fits nodes.now bindings.now) (first_need bindings.now n) (second_need bindings.now n) done.now.list.items }
+        requires { AreMeans means.now × AreShown nodes.now complexes.now × AreBindings nodes.now complexes.now bindings.now × (n < length bindings.now) × IsReady (Fits nodes.now bindings.now) (first_need bindings.now n) (second_need bindings.now n) done.now.list.items }
         ensures { IfOk result (Fits nodes.entry.now bindings.entry.now n) }
-    { work_binding(rt, alloc, nodes, bindings, n, alone, done, means, gate) };
+    {
+        work_binding(
+            rt, alloc, nodes, complexes, bindings, n, alone, done, means, gate,
+        )
+    };
     let stage = Bindings {
         nodes,
+        complexes,
         list: bindings,
         holds: gate.holds(),
         work,
     };
-    run_lean(rt, alloc, &stage, means.options.how.workers, wanted)
+    run_ahead(rt, alloc, &stage, means.options.how.workers)
 }

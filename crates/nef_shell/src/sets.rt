@@ -27,8 +27,8 @@ use std::alloc::{AllocError, Global};
 use std::sync::Wait;
 use std::thread::Threads;
 
-// Whether something is there.
-fn is_there<X>(places: &Vec<Option<X>>, k: usize) -> bool
+/// Whether something is there.
+pub(crate) fn is_there<X>(places: &Vec<Option<X>>, k: usize) -> bool
     requires within { k < length places.now.items }
     ensures there { result ≡ true → IsThere places.now.items k }
     ensures gone { result ≡ false → IsGone places.now.items k }
@@ -44,8 +44,8 @@ fn thing_at<X>(places: &[Option<X>], k: usize) -> &X
     given(places[k].as_ref())
 }
 
-// Puts this in the place of what is there.
-fn put_at<X: Drop>(places: &mut Vec<Option<X>>, k: usize, thing: Option<X>)
+/// Puts this in the place of what is there.
+pub(crate) fn put_at<X: Drop>(places: &mut Vec<Option<X>>, k: usize, thing: Option<X>)
     requires within { k < length places.old.items }
     ensures put { places.new.items ≡ slice_set places.old.items k thing }
     ensures len { vec_len places.new ≡ vec_len places.old }
@@ -63,8 +63,8 @@ fn taken_from<X>(places: &mut Vec<Option<X>>, k: usize) -> Option<X>
     places[k].take()
 }
 
-/// The complexes of a script's nodes: of each node whose set a step makes, from that step to the last
-/// one that looks at it. Parts and text of a complex are worked when they are first asked for, and go with it.
+/// The complexes of a script's nodes: of each node whose set a step makes, from that step, or before it where it is worked
+/// ahead, to the last one that looks at it. Parts and text of a complex are worked when they are first asked for, and go with it.
 #[derive(Drop)]
 pub struct Sets<'a> {
     pub nodes: &'a Nodes,

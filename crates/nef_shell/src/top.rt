@@ -126,8 +126,8 @@ fn run_script<R: Threads + Wait + Sync, S: Source, K: Sink, G: Gate + Sync>(
 
 /// Runs the program: reads the words and then the script, checks the whole script, and works the steps
 /// of its plan (`nef_plan`) in order. What a command answers is handed to the sink when it is worked.
-/// With `--ahead` all bindings are worked first, those whose operands are done at the same time, and
-/// then the questions.
+/// With `--ahead`, sets of a block of steps are worked ahead of it, several at the same time, where there
+/// are workers for it.
 ///
 /// `words` are those after the program's name. Where they give `--stairs N`, the script is the generated
 /// one of N boxes (`stairs` of `nef_script`), which is never refused, and the source isn't looked at;

@@ -1,19 +1,18 @@
 //! Works a script: the steps of its plan, in order.
 
 ghost use Rattle.std.specs.Prelude.{◌≡◌, ◌+◌, ◌<◌, ◌⊎◌, ◌∷◌};
-ghost use Rattle.nef_complex.specs.Prelude.{ℕ, [], false, Some, IfOk, OnOk, length, slice_get, slice_index, vec_len};
+ghost use Rattle.nef_complex.specs.Prelude.{ℕ, [], Some, OnOk, length, slice_get, slice_index};
 ghost use Rattle.nef_plan.specs.declared.planner.Step.{Step};
 ghost use Rattle.nef_plan.specs.Steps.{AreWorkable, AreSteps, IsRight, Makes, asked};
-ghost use Rattle.nef_shell.specs.Bindings.{Asks, AreFirst};
+ghost use Rattle.nef_shell.specs.Bindings.{Asks};
 ghost use Rattle.nef_shell.specs.Operations.{AreMeans, IsKept, AreBound, AreHeld};
 ghost use Rattle.nef_shell.specs.Uses.{AreLastUses, AreUses, IsLean};
 ghost use Rattle.nef_shell.specs.Working.{IsDue, AreReady, WorkEnds};
 
-use crate::ahead::worked_ahead;
+use crate::ahead::work_ahead;
 use crate::operation::{Means, bound, last_uses};
 use crate::piece::piece_of;
 use crate::sets::Sets;
-use nef_complex::Complex;
 use nef_expr::Nodes;
 use nef_io::{Gate, Sink, put_all};
 use nef_ops::constant;
@@ -26,8 +25,8 @@ use std::alloc::{AllocError, Global};
 use std::sync::Wait;
 use std::thread::Threads;
 
-// Works the node whose set the step makes, if it makes one, unless all bindings have been worked ahead. What it is made of
-// may go where no step after this one looks at it.
+// Works the node whose set the step makes, if it makes one, unless its complex is there. What it is made of may go where no
+// step after this one looks at it.
 fn bind_step<R: Threads + Wait + Sync, G: Gate + Sync>(
     rt: &R,
     alloc: Global,
@@ -40,15 +39,12 @@ fn bind_step<R: Threads + Wait + Sync, G: Gate + Sync>(
 ) -> Result<(), AllocError>
     requires means { AreMeans means.now }
     requires uses { length uses.now ≡ length sets.old.nodes.now }
-    requires due { IsDue means.now.options.ahead sets.old.nodes.now sets.old.list.items step.now }
+    requires due { IsDue sets.old.nodes.now sets.old.list.items step.now }
     requires held { AreHeld means.now.options.text sets.old.nodes.now sets.old.list.items sets.old.parts.items sets.old.texts.items }
     ensures held { OnOk result (AreHeld means.now.options.text sets.old.nodes.now sets.new.list.items sets.new.parts.items sets.new.texts.items) }
-    ensures bound { OnOk result (AreBound sets.old.nodes.now (λ k. (means.now.options.ahead ≡ false) × Makes step.now k) (λ k. (now < slice_index uses.now k) ⊎ Asks step.now k) sets.old.list.items sets.new.list.items) }
+    ensures bound { OnOk result (AreBound sets.old.nodes.now (Makes step.now) (λ k. (now < slice_index uses.now k) ⊎ Asks step.now k) sets.old.list.items sets.new.list.items) }
     ensures nodes { sets.new.nodes ≡ sets.old.nodes }
 {
-    if means.options.ahead {
-        return Ok(());
-    }
     match bound(sets.nodes, step) {
         Some((node, operation)) => sets.bind(rt, alloc, node, operation, now, uses, means, gate),
         None => Ok(()),
@@ -101,11 +97,11 @@ pub fn work_step<R: Threads + Wait + Sync, K: Sink, G: Gate + Sync>(
     requires uses { length uses.now ≡ length sets.old.nodes.now }
     requires last { AreLastUses steps.now uses.now }
     requires used { AreUses sets.old.nodes.now steps.now uses.now }
-    requires ready { AreReady means.now.options.ahead sets.old.nodes.now steps.now now sets.old.list.items }
+    requires ready { AreReady sets.old.nodes.now steps.now now sets.old.list.items }
     requires held { AreHeld means.now.options.text sets.old.nodes.now sets.old.list.items sets.old.parts.items sets.old.texts.items }
     requires lean { IsLean steps.now now sets.old.list.items }
     ensures ends { (step : Step) → slice_get steps.now now ≡ Some step → WorkEnds means.now.options.text sets.old.nodes.now (asked (step ∷ [])) (K.written sink.old) (K.written sink.new) (K.faults sink.old) (K.faults sink.new) result }
-    ensures ready { OnOk result (AreReady means.now.options.ahead sets.old.nodes.now steps.now (now + 1) sets.new.list.items) }
+    ensures ready { OnOk result (AreReady sets.old.nodes.now steps.now (now + 1) sets.new.list.items) }
     ensures held { OnOk result (AreHeld means.now.options.text sets.old.nodes.now sets.new.list.items sets.new.parts.items sets.new.texts.items) }
     ensures lean { OnOk result (IsLean steps.now (now + 1) sets.new.list.items) }
     ensures nodes { sets.new.nodes ≡ sets.old.nodes }
@@ -117,30 +113,9 @@ pub fn work_step<R: Threads + Wait + Sync, K: Sink, G: Gate + Sync>(
     Ok(())
 }
 
-// The complexes that the work begins with, each at its node's place: where all bindings are worked ahead, those that
-// questions ask about, and else none.
-fn first_complexes<R: Threads + Wait + Sync, G: Gate + Sync>(
-    rt: &R,
-    alloc: Global,
-    nodes: &Nodes,
-    steps: &[Step],
-    means: &Means,
-    gate: &G,
-) -> Result<Vec<Option<Complex>>, AllocError>
-    requires means { AreMeans means.now }
-    requires steps { AreSteps nodes.now steps.now }
-    ensures count { IfOk result (λ v. vec_len v ≡ length nodes.now) }
-    ensures first { IfOk result (λ v. AreFirst nodes.now steps.now means.now.options.ahead v.items) }
-{
-    if means.options.ahead {
-        worked_ahead(rt, alloc, nodes, steps, means, gate)
-    } else {
-        empty_places(alloc, nodes.len())
-    }
-}
-
-/// Works the steps in order, and writes each answer when its question's turn comes. Before and after each step, each set
-/// that is there is one at which a later step looks; so none is left at the end.
+/// Works the steps in order, and writes each answer when its question's turn comes. Where the options say so, sets of a block
+/// of steps are worked ahead of it, several at the same time. Before and after each step, each set that is there is one at
+/// which a later step looks; so none is left at the end.
 pub fn work_steps<R: Threads + Wait + Sync, K: Sink, G: Gate + Sync>(
     rt: &R,
     alloc: Global,
@@ -156,18 +131,19 @@ pub fn work_steps<R: Threads + Wait + Sync, K: Sink, G: Gate + Sync>(
     requires uses { length uses.now ≡ length sets.old.nodes.now }
     requires last { AreLastUses steps.now uses.now }
     requires used { AreUses sets.old.nodes.now steps.now uses.now }
-    requires first { AreFirst sets.old.nodes.now steps.now means.now.options.ahead sets.old.list.items }
+    requires lean { IsLean steps.now 0 sets.old.list.items }
     requires held { AreHeld means.now.options.text sets.old.nodes.now sets.old.list.items sets.old.parts.items sets.old.texts.items }
     ensures ends { WorkEnds means.now.options.text sets.old.nodes.now (asked steps.now) (K.written sink.old) (K.written sink.new) (K.faults sink.old) (K.faults sink.new) result }
     ensures lean { OnOk result (IsLean steps.now (length steps.now) sets.new.list.items) }
 {
     for now in 0..steps.len() {
+        work_ahead(rt, alloc, sets, steps, now, uses, means, gate)?;
         work_step(rt, alloc, sets, steps, now, uses, means, sink, gate)?;
     }
     Ok(())
 }
 
-// Works the steps, with the complexes that the work begins with.
+// Works the steps, of which none has made a set yet.
 fn work_all<R: Threads + Wait + Sync, K: Sink, G: Gate + Sync>(
     rt: &R,
     alloc: Global,
@@ -182,14 +158,13 @@ fn work_all<R: Threads + Wait + Sync, K: Sink, G: Gate + Sync>(
     ensures ends { WorkEnds means.now.options.text nodes.now (asked steps.now) (K.written sink.old) (K.written sink.new) (K.faults sink.old) (K.faults sink.new) result }
 {
     let uses = last_uses(alloc, nodes, steps)?;
-    let list = first_complexes(rt, alloc, nodes, steps, means, gate)?;
+    let list = empty_places(alloc, nodes.len())?;
     let mut sets = Sets::of(alloc, nodes, list)?;
     work_steps(rt, alloc, &mut sets, steps, &uses, means, sink, gate)
 }
 
-/// Works the script, and writes what its commands ask for, in their order. Where the options say so, all bindings of its
-/// plan are worked first, of which those whose operands are done may run at the same time; and else each step when it
-/// comes.
+/// Works the script, and writes what its commands ask for, in their order. Where the options say so, sets of later steps are
+/// worked ahead, several at the same time.
 pub(crate) fn work<R: Threads + Wait + Sync, K: Sink, G: Gate + Sync>(
     rt: &R,
     alloc: Global,

@@ -15,7 +15,9 @@ const WORDS: &str = "--workers 1
 // Scripts with `/` between their lines, and what each writes. A box with itself, in each way, and asked about afterwards; and
 // with its complement. A long box without the slab from x = 1 to 2, which is two boxes; with what the slab has of the box
 // put back, and with the lower half of that, a prism over a polygon of eight corners. A box within another, whose carriers
-// hold nothing where both are joined; the greater without the smaller, which has a cavity; and both joined again.
+// hold nothing where both are joined; the greater without the smaller, which has a cavity; and both joined again. Half-spaces
+// that may be worked side by side: the complement of one, which is worked alone, the intersection of it with another, and one at
+// which nothing looks.
 const ROWS: &str = "half Aa -1 0 0 0 closed / half Ab 1 0 0 -1 closed / half Ac 0 -1 0 0 closed / \
     half Ad 0 1 0 -1 closed / half Ae 0 0 -1 0 closed / half Af 0 0 1 -1 closed / and Ag Aa Ab / \
     and Ah Ag Ac / and Ai Ah Ad / and Aj Ai Ae / and A Aj Af / and B A A / or C A A / diff D A A / \
@@ -38,7 +40,9 @@ half Aa -1 0 0 0 closed / half Ab 1 0 0 -1 closed / half Ac 0 -1 0 0 closed / \
     half Le 0 0 -1 -1 closed / half Lf 0 0 1 -2 closed / and Lg La Lb / and Lh Lg Lc / \
     and Li Lh Ld / and Lj Li Le / and L Lj Lf / or U A L / diff R U A / or V R A / count U / \
     same U L / count R / has R 1 1 1 2 / count V / same V L => \
-    16 24 12 3 / same / 24 36 18 4 / not / 16 24 12 3 / same";
+    16 24 12 3 / same / 24 36 18 4 / not / 16 24 12 3 / same
+half A 1 0 0 0 closed / not N A / has N 1 0 0 1 / half B 0 1 0 0 closed / half D 0 0 1 0 closed / \
+    and C A D / has C -1 5 -1 1 / has C -1 5 1 1 => in / in / not";
 
 // What is asked of twelve boxes in a row: without a slab that cuts through all, and put together again.
 const QUESTIONS: &str =

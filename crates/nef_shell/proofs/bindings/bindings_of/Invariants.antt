@@ -1,13 +1,11 @@
-use Rattle.std.proofs.Common.{◌≡◌, ℕ, ◌<◌, Some, length, slice_get}
-use Rattle.nef_plan.specs.declared.planner.Step.{Step}
-use Rattle.nef_plan.specs.Steps.{Makes}
-use Rattle.nef_shell.specs.Bindings.{AreBindings, AreNumbered, IsBound}
+use Rattle.std.proofs.Common.{◌≡◌, ℕ, ◌<◌, Some, slice_get}
+use Rattle.std.specs.Prelude.{slice_index}
+use Rattle.nef_shell.specs.declared.bindings.Binding.{Binding}
+use Rattle.nef_shell.specs.Bindings.{AreBindings}
 use Rattle.nef_shell.proofs.bindings.bindings_of.Given as goal
 
-abbrev pub invariant-loop-step : goal.invariant-loop-step
-invariant-loop-step l = record {
-  count : length l.numbers ≡ length l.nodes;
-  numbered : AreNumbered l.bindings.items l.numbers;
-  are : AreBindings l.nodes l.bindings.items;
-  all : (i k : ℕ) (s : Step) → i < l.step-index → slice_get l.steps i ≡ Some s → Makes s k → IsBound l.bindings.items k;
+abbrev pub invariant-loop-place : goal.invariant-loop-place
+invariant-loop-place l = record {
+  are : AreBindings l.sets.nodes.now l.sets.list.items l.bindings.items;
+  awaited : (n : ℕ) (b : Binding) → slice_get l.bindings.items n ≡ Some b → l.now < slice_index l.uses b.node;
 }

@@ -1,6 +1,6 @@
-use Rattle.std.proofs.Common.{◌∙◌, ap, sym, subst, Err}
+use Rattle.std.proofs.Common.{◌≡◌, ◌∙◌, ap, sym, subst, slice_get, Err, Some}
 use Rattle.std.proofs.lemmas.Result.{err_from_is_err_and}
-use Rattle.nef_shell.specs.Operations.{AreHeld, AreShown}
+use Rattle.nef_shell.specs.Operations.{AreHeld}
 use Rattle.nef_shell.proofs.Outputs.{ends-before}
 use Rattle.nef_shell.proofs.work.work_all.Goals as goal
 
@@ -24,7 +24,10 @@ work_steps-requires-clause-held g c κs within =
     let made = c.in_ok-sets.ensures in
     let sets = c.in_ok-sets.sets in
     subst (λ z. AreHeld c.args.means.now.options.text z sets.list.items sets.parts.items sets.texts.items) (sym made.nodes) (record {
-      shown = subst (λ z. AreShown c.args.nodes.now z.items) (sym made.list) c.in_ok-list.ensures.first.shown;
+      shown = λ k x at. absurd (c.in_ok-list.ensures.empty k x (subst (λ z. slice_get z.items k ≡ Some (Some x)) made.list at));
       parts_of = made.parts;
       texts_of = made.texts c.args.means.now.options.text;
     })
+
+pub work_steps-requires-clause-lean : goal.work_steps-requires-clause-lean
+work_steps-requires-clause-lean g c κs within k x at = absurd (c.in_ok-list.ensures.empty k x (subst (λ z. slice_get z.items k ≡ Some (Some x)) c.in_ok-sets.ensures.list at))

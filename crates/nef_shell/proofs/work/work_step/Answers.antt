@@ -5,8 +5,7 @@ use Rattle.std.proofs.lemmas.Option.{slice_get_read, slice_get_within}
 use Rattle.std.proofs.lemmas.Result.{err_from_is_err_and}
 use Rattle.nef_plan.specs.Steps.{LooksAt, Makes}
 use Rattle.nef_shell.specs.Operations.{AreHeld, IsKept}
-use Rattle.nef_shell.proofs.Asked.{asks-needs, needs-looks}
-use Rattle.nef_shell.proofs.Complexes.{stays-kept}
+use Rattle.nef_shell.proofs.Complexes.{asks-looks, stays-kept}
 use Rattle.nef_shell.proofs.Outputs.{ends-before, ends-alike}
 use Rattle.nef_shell.proofs.Spent.{kept-less}
 use Rattle.nef_shell.proofs.work.work_step.Goals as goal
@@ -18,7 +17,7 @@ bind_step-requires-clause-due g c κs within =
     let at : slice_get steps c.args.now ≡ Some item = slice_get_read steps _ c.args.now item refl c.requires.now c.index-steps-now.is in
     record {
       right = c.requires.steps.right c.args.now item at;
-      kept = λ k needs. elim (c.requires.ready c.args.now item (omega arith) at k needs) [ inl kept ↦ kept | inr (e, j, d, low, below, seen, makes) ↦ absurd (omega arith) ];
+      kept = λ k looks. elim (c.requires.ready c.args.now item (omega arith) at k looks) [ inl kept ↦ kept | inr (j, d, low, below, seen, makes) ↦ absurd (omega arith) ];
     }
 
 pub returns-in_err-bind_step-clause-ends : goal.returns-in_err-bind_step-clause-ends
@@ -39,9 +38,9 @@ write_piece-requires-clause-kept g c κs within k asks =
     let old = c.args.sets.now in
     let mid = c.bind_step.new.sets in
     let did = c.in_ok-bind_step.ensures in
-    let kept : IsKept old.nodes.now old.list.items k = elim (c.requires.ready c.args.now item (omega arith) at k (asks-needs c.args.means.now.options.ahead item k asks)) [
+    let kept : IsKept old.nodes.now old.list.items k = elim (c.requires.ready c.args.now item (omega arith) at k (asks-looks item k asks)) [
       | inl kept ↦ kept
-      | inr (e, j, d, low, below, seen, makes) ↦ absurd (omega arith)
+      | inr (j, d, low, below, seen, makes) ↦ absurd (omega arith)
     ] in
     subst (λ z. IsKept z mid.list.items k) (sym (ap (λ z. z.now) did.nodes)) (stays-kept old.nodes.now _ _ old.list.items mid.list.items k did.bound (inr asks) kept)
 
@@ -82,7 +81,7 @@ returns-clause-held g c =
     subst (λ z. AreHeld c.args.means.now.options.text z.now new.list.items new.parts.items new.texts.items) (c.release.ensures.nodes ∙ wrote.nodes ∙ did.nodes) (c.release.ensures.held c.args.means.now.options.text before)
 
 pub returns-clause-ready : goal.returns-clause-ready
-returns-clause-ready g c i s later found k needs =
+returns-clause-ready g c i s later found k looks =
     let steps = c.args.steps.now in
     let now = c.args.now in
     let item = c.index-steps-now.result in
@@ -94,19 +93,19 @@ returns-clause-ready g c i s later found k needs =
     let mid = c.bind_step.new.sets in
     let end = c.write_piece.new.sets in
     let new = c.release.new.self in
-    let last = c.requires.last i k s found (needs-looks c.args.means.now.options.ahead s k needs) in
+    let last = c.requires.last i k s found looks in
     let far : now < slice_index c.args.uses.now k = omega (arith, last, later) in
     let onward : IsKept nodes mid.list.items k → IsKept nodes new.list.items k =
     λ kept. kept-less nodes c.args.uses.now now end.list.items new.list.items k c.release.ensures.less far (subst (λ z. IsKept nodes z.items k) (sym wrote.list) kept) in
-    elim (c.requires.ready i s (omega (arith, later)) found k needs) [
+    elim (c.requires.ready i s (omega (arith, later)) found k looks) [
       | inl kept ↦ inl (onward (stays-kept nodes _ _ old.list.items mid.list.items k did.bound (inl far) kept))
-      | inr (e, j, d, low, below, seen, makes) ↦ elim (cases_lt now j) [
-        | inl after ↦ inr (e, j, d, omega arith, below, seen, makes)
+      | inr (j, d, low, below, seen, makes) ↦ elim (cases_lt now j) [
+        | inl after ↦ inr (j, d, omega arith, below, seen, makes)
         | inr past ↦
             let here : j ≡ now = omega arith in
             let one : Some d ≡ Some item = sym seen ∙ (ap (slice_get steps) here ∙ at) in
             let is : d ≡ item = cc in
-            inl (onward (did.bound.bound k (e, subst (λ z. Makes z k) is makes)))
+            inl (onward (did.bound.bound k (subst (λ z. Makes z k) is makes)))
       ]
     ]
 
@@ -143,6 +142,6 @@ returns-clause-lean g c k x there =
                   let the : s ≡ item = cc in
                   absurd (released.gone k x (inl (subst (λ z. LooksAt z k) the looks)) past there)
             ]
-        | inr makes ↦ absurd (released.gone k x (inr makes.1) past there)
+        | inr makes ↦ absurd (released.gone k x (inr makes) past there)
       ]
     ]

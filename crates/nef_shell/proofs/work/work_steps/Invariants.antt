@@ -12,7 +12,7 @@ invariant-loop-now g l = record {
   quiet : g.K.Sink.faults l.sink ≡ g.K.Sink.faults l.fn.sink;
   written : (output : List ℕ) × IsOutput l.means.options.text l.fn.sets.nodes.now (asked (take l.now l.steps)) output × Grows (g.K.Sink.written l.fn.sink) (g.K.Sink.written l.sink) output;
   nodes : l.sets.nodes.now ≡ l.fn.sets.nodes.now;
-  ready : AreReady l.means.options.ahead l.fn.sets.nodes.now l.steps l.now l.sets.list.items;
+  ready : AreReady l.fn.sets.nodes.now l.steps l.now l.sets.list.items;
   held : AreHeld l.means.options.text l.fn.sets.nodes.now l.sets.list.items l.sets.parts.items l.sets.texts.items;
   lean : IsLean l.steps l.now l.sets.list.items;
 }

@@ -1,0 +1,14 @@
+use Rattle.std.proofs.Common.{◌≡◌, ◌≤◌, ℕ, length, Some, slice_get}
+use Rattle.nef_shell.specs.Bindings.{ArePut}
+use Rattle.nef_shell.proofs.ahead.put_each.Given as goal
+
+abbrev pub invariant-loop-thing : goal.invariant-loop-thing
+invariant-loop-thing g l = record {
+  put : ArePut l.bindings l.fn.things.items l.fn.places.items l.places.items;
+  len : length l.places.items ≡ length l.fn.places.items;
+  count : length l.things.items ≤ length l.bindings;
+  front : (n : ℕ) (x : _) → slice_get l.things.items n ≡ Some x → slice_get l.fn.things.items n ≡ Some x;
+}
+
+abbrev pub decreases-loop-thing : goal.decreases-loop-thing
+decreases-loop-thing g l = goal.left-loop-thing g l
