@@ -1,30 +1,11 @@
 -- What has the labels that a map of a set gets is a map of the node over the set.
-use Rattle.std.proofs.Common.{◌≡◌, ℕ, ◌+◌, ◌≤◌, arith, ◌⊎◌, inl, inr, ⊎_elim, subst}
-use Rattle.nef_space.specs.Place.{Place, InFrame}
-use Rattle.nef_space.specs.Vectors.{Vector, IsDirection, blend}
-use Rattle.nef_space.specs.Sets.{Set}
-use Rattle.nef_space.specs.Local.{HasLabel, Germ}
-use Rattle.nef_space.specs.declared.label.Label.{Label}
-use Rattle.nef_space.specs.declared.label.Label.TheVariants.{Out, Not, In}
-use Rattle.law_near.specs.Cones.{NearGerm}
-use Rattle.law_near.proofs.Germs.{label-one, Germ-unique}
-use Rattle.law_near.proofs.Decided.{label_of, germ_of, InFrame-decided}
+use Rattle.law_border.proofs.Prelude.{◌≡◌, ℕ, ◌+◌, ◌≤◌, arith, ◌⊎◌, inl, inr, ⊎_elim, subst, Place, InFrame, Vector, IsDirection, blend, Set, HasLabel, Germ, Label, Out, Not, In, NearGerm, label-one, Germ-unique, germ_of, Map, MapLabel, NearLabel, forms, Cone, Full, amount, axes-forms, label-direction, label-unique, far_directed-by, Topology, interior, closure, boundary, complement, set_by, IsInside, IsInBy, ByTopology, TopologyLabel, MarkLabel, TopologyCone, RegularCone, zero-decided}
+use Rattle.law_near.proofs.Decided.{label_of, InFrame-decided}
 use Rattle.law_near.proofs.Rays.{Germ-zero}
 use Rattle.law_near.proofs.Frames.{no-germ_out}
 use Rattle.law_near.proofs.Combine.{not-label}
 use Rattle.law_near.proofs.Decisions.{ahead, near-ahead, all-germs}
 use Rattle.law_near.proofs.Topology.{inside-at, closed-at, border-at, regular-label, label-ahead}
-use Rattle.law_near.proofs.Directions.{zero-decided}
-use Rattle.law_sphere.specs.Maps.{Map, MapLabel, NearLabel}
-use Rattle.law_sphere.specs.Forms.{forms}
-use Rattle.law_sphere.specs.Least.{Cone}
-use Rattle.law_sphere.specs.Kinds.{Full}
-use Rattle.law_sphere.proofs.Generic.{amount}
-use Rattle.law_sphere.proofs.Forms.{axes-forms}
-use Rattle.law_sphere.proofs.Labels.{label-direction, label-unique}
-use Rattle.law_sphere.proofs.Flips.{far_directed-by}
-use Rattle.law_border.specs.Topology.{Topology, interior, closure, boundary, complement, set_by, IsInside, IsInBy, ByTopology, TopologyLabel, MarkLabel}
-use Rattle.law_border.specs.Laws.{TopologyCone, RegularCone}
 use Rattle.law_border.proofs.Made.{by-carried}
 
 -- ---- at a point

@@ -1,15 +1,6 @@
 -- A map with In and Not exchanged everywhere: its parts are those of the map.
-use Rattle.std.proofs.Common.{◌≡◌, ℕ, zero, suc, refl, ap, sym, ◌⊎◌, List, [], ◌∷◌, subst, map, Option, Some, None}
-use Rattle.std.specs.Prelude.{option_map}
-use Rattle.nef_space.specs.Vectors.{Vector, IsDirection, SameDirection, IsNormal}
-use Rattle.nef_space.specs.declared.label.Label.{Label}
-use Rattle.law_sphere.specs.Vectors.{IsPrimitive, VectorBelow}
-use Rattle.law_cyclic.specs.Arcs.{IsStrictlyOn}
-use Rattle.law_sphere.specs.Maps.{At, MapVertex, Arc, MapSloop, Map, Item, arc_item, sloop_item, items, items_then, item_normal, item_pos, item_mark, item_neg, dir_of, OnItem, IsFree, HasArc, ArcBetween, Shaped}
-use Rattle.law_sphere.specs.Least.{ArcBelow, Ordered}
-use Rattle.law_border.specs.Marks.{exchanged, exchanged_svertex, exchanged_arc, exchanged_sloop, exchanged_map}
+use Rattle.law_border.proofs.Prelude.{◌≡◌, ℕ, zero, suc, refl, ap, sym, ◌⊎◌, List, ◌∷◌, subst, map, Option, Some, None, [], option_map, Vector, IsDirection, SameDirection, IsNormal, Label, IsPrimitive, VectorBelow, IsStrictlyOn, At, MapVertex, Arc, MapSloop, Map, Item, arc_item, sloop_item, items, items_then, item_normal, item_pos, item_mark, item_neg, dir_of, OnItem, IsFree, HasArc, ArcBetween, Shaped, ArcBelow, Ordered, exchanged, exchanged_svertex, exchanged_arc, exchanged_sloop, exchanged_map, at-map, map-at, map-empty}
 use Rattle.law_border.proofs.Listed.{option-was, none-was}
-use Rattle.law_build.proofs.BuiltAxes.{at-map, map-at, map-empty}
 
 pub twice : (l : Label) → exchanged (exchanged l) ≡ l
 twice Label.Out = refl

@@ -1,22 +1,6 @@
 -- A map with In and Not exchanged everywhere is valid and has the labels of the complement; it is least where the map is.
-use Rattle.std.proofs.Common.{◌≡◌, ℕ, refl, ap, sym, ◌∙◌, subst, Some}
-use Rattle.nef_space.proofs.Order.{Sign, minus, nought, plus, sign}
-use Rattle.nef_space.specs.Vectors.{Vector, IsDirection, cross, dot, blend}
-use Rattle.nef_space.specs.declared.label.Label.{Label}
-use Rattle.law_sphere.specs.Maps.{At, MapVertex, Map, Item, item_normal, item_pos, item_mark, item_neg, OnItem, IsFree, HasArc, MapLabel, at_svertex, on_item, NearLabel, Shaped, Valid}
-use Rattle.law_sphere.specs.Forms.{forms}
-use Rattle.law_sphere.specs.Least.{by_side, NearPlain, NearStraight, Least}
-use Rattle.law_sphere.specs.Labelling.{Labelling, Near, Plain, Agrees}
-use Rattle.law_sphere.specs.Kinds.{Full}
-use Rattle.law_sphere.proofs.Labels.{label-exists, label-unique, label-direction}
-use Rattle.law_sphere.proofs.NearItems.{near-free, near-item}
-use Rattle.law_sphere.proofs.Lone.{near-lone}
-use Rattle.law_sphere.proofs.Compare.{dir-self}
+use Rattle.law_border.proofs.Prelude.{◌≡◌, ℕ, refl, ap, sym, ◌∙◌, subst, Some, Sign, minus, nought, plus, sign, Vector, IsDirection, cross, dot, blend, Label, At, MapVertex, Map, Item, item_normal, item_pos, item_mark, item_neg, OnItem, IsFree, HasArc, MapLabel, at_svertex, on_item, NearLabel, Shaped, Valid, forms, by_side, NearPlain, NearStraight, Least, Labelling, Near, Plain, Agrees, Full, label-exists, label-unique, label-direction, near-free, near-item, near-lone, not-both, only-ground, complement, TopologyLabel, IsTopologyMap, exchanged, exchanged_svertex, exchanged_map, ExchangedMap, dir-self, neg}
 use Rattle.law_sphere.proofs.Built.{agrees-valid, agrees-label, label-agrees}
-use Rattle.law_build.proofs.RawGround.{not-both, only-ground}
-use Rattle.law_border.specs.Topology.{complement, TopologyLabel, IsTopologyMap}
-use Rattle.law_border.specs.Marks.{exchanged, exchanged_svertex, exchanged_map}
-use Rattle.law_border.specs.Laws.{ExchangedMap}
 use Rattle.law_border.proofs.Made.{exchange-made}
 use Rattle.law_border.proofs.PlaceLabels.{topology-one, topology-exists, topology-labels}
 use Rattle.law_border.proofs.Exchanged.{twice, exchanged_item, item-same, svertex-was, item-was, ground-was, around-was, on-was, free-was, exchanged-shaped, exchanged-ordered}

@@ -1,21 +1,5 @@
 -- Elements of lists by their places, the sectors of stars, and what an option was made of.
-use Rattle.std.proofs.Common.{◌≡◌, ℕ, zero, suc, arith, refl, ap, inl, inr, List, [], ◌∷◌, length, Option, Some, None}
-use Rattle.std.specs.Prelude.{option_map}
-use Rattle.nef_space.specs.Signs.{Lies}
-use Rattle.nef_space.specs.declared.label.Label.{Label}
-use Rattle.law_sphere.specs.Maps.{At}
-use Rattle.law_sphere.specs.Stars.{Ray}
-use Rattle.law_sphere.specs.Raw.{sector_count}
-
-pub at-lies : {A : Type 0} (xs : List A) (k : ℕ) (x : A) → At xs k x → Lies xs x
-at-lies [] k x a = absurd a
-at-lies (y ∷ xs) zero x e = inl e
-at-lies (y ∷ xs) (suc k) x a = inr (at-lies xs k x a)
-
-pub lies-at : {A : Type 0} (xs : List A) (x : A) → Lies xs x → (k : ℕ) × At xs k x
-lies-at [] x l = absurd l
-lies-at (y ∷ xs) x (inl e) = (zero, e)
-lies-at (y ∷ xs) x (inr l) = let r = lies-at xs x l in (suc r.0, r.1)
+use Rattle.law_border.proofs.Prelude.{◌≡◌, zero, arith, refl, ap, List, ◌∷◌, length, Option, Some, None, [], option_map, Label, At, Ray, sector_count}
 
 pub count-same : (rs qs : List Ray) → length qs ≡ length rs → sector_count qs ≡ sector_count rs
 count-same [] [] e = refl

@@ -1,10 +1,5 @@
 -- The label that the tables give, from a list of the labels close by; there is one only, and it goes over to what has the same labels.
-use Rattle.std.proofs.Common.{◌≡◌, refl, sym, ◌∙◌, ◌⊎◌, inl, inr, ⊎_elim, List, [], ◌∷◌, ◌++◌, subst, Bool, true, false, cond, not, ◌&&◌, ◌||◌}
-use Rattle.nef_space.specs.Signs.{Lies}
-use Rattle.nef_space.specs.declared.label.Label.{Label}
-use Rattle.nef_space.specs.declared.label.Label.TheVariants.{Out, Not, In}
-use Rattle.law_border.specs.Topology.{Topology, interior, closure, boundary, complement, IsInside, IsClosed, IsInBy, ByTopology}
-use Rattle.law_border.specs.Marks.{is_in, all_in, some_in, in_by, label_by, label_from, face_label}
+use Rattle.law_border.proofs.Prelude.{◌≡◌, refl, sym, ◌∙◌, ◌⊎◌, inl, inr, ⊎_elim, List, ◌∷◌, ◌++◌, subst, Bool, true, false, cond, not, ◌&&◌, ◌||◌, [], Lies, Label, Out, Not, In, Topology, interior, closure, boundary, complement, IsInside, IsClosed, IsInBy, ByTopology, is_in, all_in, some_in, in_by, label_by, label_from, face_label}
 use Rattle.law_border.proofs.Said.{Says, says-and, says-or, says-not, says-same}
 
 -- ---- the tables

@@ -1,30 +1,6 @@
 -- The mark that a map gets, from the labels that the map lists.
-use Rattle.std.proofs.Common.{◌≡◌, ℕ, zero, suc, pos, ◌<ℤ◌, arith, refl, ap, sym, ◌∙◌, ◌⊎◌, inl, inr, ⊎_elim, List, [], ◌∷◌, ◌++◌, subst, Option, Some, None}
-use Rattle.std.proofs.lemmas.Int.{ints}
-use Rattle.nef_space.specs.Signs.{Lies}
-use Rattle.nef_space.proofs.Lists.{lies-left, lies-right, lies-append}
-use Rattle.nef_space.proofs.Order.{sign, sign-plus, sign-minus}
-use Rattle.nef_space.specs.Vectors.{Vector, IsDirection, dot, blend}
-use Rattle.nef_space.specs.declared.label.Label.{Label}
-use Rattle.law_near.proofs.Directions.{zero-decided, self-pos}
-use Rattle.law_sphere.specs.Maps.{At, MapVertex, MapSloop, Map, Item, arc_item, sloop_item, items, item_normal, item_pos, item_mark, item_neg, OnItem, Side, around_svertex, pos_item, neg_item, whole, HasSide, MapLabel, at_svertex, on_item, seen, Valid}
-use Rattle.law_sphere.specs.Forms.{gather, axis_x}
-use Rattle.law_sphere.specs.Least.{by_side}
-use Rattle.law_sphere.specs.Kinds.{Full}
-use Rattle.law_sphere.proofs.Vectors.{normal-is}
-use Rattle.law_sphere.proofs.Lists.{gather-has}
-use Rattle.law_sphere.proofs.Parallel.{apart, circle-point}
-use Rattle.law_sphere.proofs.Shot.{arc-at, item-point}
-use Rattle.law_sphere.proofs.Labels.{label-exists, label-unique, label-direction}
-use Rattle.law_sphere.proofs.NearItems.{near-item}
-use Rattle.law_sphere.proofs.Lone.{near-lone}
-use Rattle.law_sphere.proofs.Compare.{dir-self}
-use Rattle.law_sphere.proofs.Arcs.{at-sloop, sloop-at, at-arc}
-use Rattle.law_sphere.proofs.Kind.{away, away-dot}
-use Rattle.law_build.proofs.RawGround.{not-both, only-ground}
-use Rattle.law_border.specs.Topology.{Topology, MarkLabel}
-use Rattle.law_border.specs.Marks.{label_from, option_labels, svertex_labels, arc_labels, sloop_labels, map_labels}
-use Rattle.law_border.specs.Laws.{TopologyMark}
+use Rattle.law_border.proofs.Prelude.{◌≡◌, ℕ, zero, suc, pos, ◌<ℤ◌, arith, refl, ap, sym, ◌∙◌, ◌⊎◌, inl, inr, ⊎_elim, List, ◌∷◌, ◌++◌, subst, Option, Some, None, [], ints, Lies, lies-left, lies-right, lies-append, sign, sign-plus, sign-minus, Vector, IsDirection, dot, blend, opposite, Label, At, MapVertex, MapSloop, Map, Item, arc_item, sloop_item, items, item_normal, item_pos, item_mark, item_neg, OnItem, Side, around_svertex, pos_item, neg_item, whole, HasSide, MapLabel, at_svertex, on_item, seen, Valid, gather, axis_x, by_side, Full, normal-is, gather-has, circle-point, arc-at, label-exists, label-unique, label-direction, near-item, near-lone, at-sloop, sloop-at, at-arc, not-both, only-ground, Topology, MarkLabel, label_from, option_labels, svertex_labels, arc_labels, sloop_labels, map_labels, TopologyMark, zero-decided, self-pos, dir-self, apart, dot-opposite}
+use Rattle.law_sphere.proofs.Shot.{item-point}
 use Rattle.law_border.proofs.Made.{made}
 
 lies-gather : {A B : Type 0} (f : A → List B) (xs : List A) (y : B) → Lies (gather f xs) y → (k : ℕ) × (x : A) × At xs k x × Lies (f x) y
@@ -97,13 +73,13 @@ module _ (M : Map) (V : Valid M) where
       up : pos 0 <ℤ dot (item_normal x) (item_normal x)
       up = self-pos (item_normal x) (normal-is V.shaped i x a)
 
-      down : dot (item_normal x) (away (item_normal x)) <ℤ pos 0
-      down = let e = away-dot (item_normal x) (item_normal x) in let h = up in omega (arith, ints)
+      down : dot (item_normal x) (opposite (item_normal x)) <ℤ pos 0
+      down = let e = dot-opposite (item_normal x) (item_normal x) in let h = up in omega (arith, ints)
 
       by : (y : Vector) × OnItem M x y → Lies (item_labels x) l → (d : Vector) × MapLabel M d l
       by (y, o) (inl e) = beside y o (item_normal x) (ap (by_side (item_pos x) (item_mark x) (item_neg x)) (sign-plus (dot (item_normal x) (item_normal x)) up) ∙ e)
       by (y, o) (inr (inl e)) = (y, on_item i x a o e)
-      by (y, o) (inr (inr (inl e))) = beside y o (away (item_normal x)) (ap (by_side (item_pos x) (item_mark x) (item_neg x)) (sign-minus (dot (item_normal x) (away (item_normal x))) down) ∙ e)
+      by (y, o) (inr (inr (inl e))) = beside y o (opposite (item_normal x)) (ap (by_side (item_pos x) (item_mark x) (item_neg x)) (sign-minus (dot (item_normal x) (opposite (item_normal x))) down) ∙ e)
       by (y, o) (inr (inr (inr e))) = absurd e
 
   ground-found : (l : Label) → M.ground ≡ Some l → (d : Vector) × MapLabel M d l

@@ -1,28 +1,6 @@
 -- The label that each direction of a valid map gets: there is one, the signs on the map's forms determine it, and on items and in faces the tables give it.
-use Rattle.std.proofs.Common.{◌≡◌, ℕ, ◌+◌, ◌≤◌, pos, ◌<ℤ◌, arith, refl, ap, sym, ◌∙◌, ◌⊎◌, inl, inr, ⊎_elim, List, [], ◌∷◌, subst}
-use Rattle.std.proofs.lemmas.Int.{ints}
-use Rattle.nef_space.specs.Signs.{Lies}
-use Rattle.nef_space.proofs.Order.{Sign, minus, nought, plus, sign, sign-plus, sign-minus}
-use Rattle.nef_space.specs.Vectors.{Vector, IsDirection, dot, blend}
-use Rattle.nef_space.specs.declared.label.Label.{Label}
-use Rattle.law_near.proofs.Far.{nought-or}
-use Rattle.law_near.proofs.Directions.{self-pos}
+use Rattle.law_border.proofs.Prelude.{◌≡◌, ℕ, ◌+◌, ◌≤◌, pos, ◌<ℤ◌, arith, refl, ap, sym, ◌∙◌, ◌⊎◌, inl, inr, ⊎_elim, List, ◌∷◌, subst, [], ints, Lies, Sign, minus, nought, plus, sign, sign-plus, sign-minus, nought-or, Vector, IsDirection, dot, blend, opposite, Label, At, Map, Item, items, item_normal, item_pos, item_mark, item_neg, OnItem, IsFree, MapLabel, on_item, NearLabel, Valid, SameSigns, forms, by_side, Labelling, normal-is, amount, far-keeps, far-level, axes-forms, same-turned, label-exists, label-unique, label-by_signs, near-exists, near-unique, near-from_far, far-from_near, near-free, near-item, near-same_cell, near-near, directed-by, far_directed-by, map-labels, Topology, TopologyLabel, label_from, face_label, self-pos, dot-opposite}
 use Rattle.law_near.proofs.Representatives.{representative, representative_directions}
-use Rattle.law_sphere.specs.Maps.{At, Map, Item, items, item_normal, item_pos, item_mark, item_neg, OnItem, IsFree, MapLabel, on_item, NearLabel, Valid}
-use Rattle.law_sphere.specs.Forms.{SameSigns, forms}
-use Rattle.law_sphere.specs.Least.{by_side}
-use Rattle.law_sphere.specs.Labelling.{Labelling}
-use Rattle.law_sphere.proofs.Vectors.{normal-is}
-use Rattle.law_sphere.proofs.Generic.{amount, far-keeps, far-level}
-use Rattle.law_sphere.proofs.Forms.{axes-forms, same-turned}
-use Rattle.law_sphere.proofs.Labels.{label-exists, label-unique, label-by_signs, near-exists, near-unique, near-from_far, far-from_near}
-use Rattle.law_sphere.proofs.NearItems.{near-free, near-item}
-use Rattle.law_sphere.proofs.Kind.{away, away-dot}
-use Rattle.law_sphere.proofs.Along.{near-same_cell, near-near}
-use Rattle.law_sphere.proofs.Flips.{directed-by, far_directed-by}
-use Rattle.law_build.proofs.Chosen.{map-labels}
-use Rattle.law_border.specs.Topology.{Topology, TopologyLabel}
-use Rattle.law_border.specs.Marks.{label_from, face_label}
 use Rattle.law_border.proofs.Made.{by-one, made, by-carried, face-table}
 
 -- near d, directions with the same signs have the same signs
@@ -80,12 +58,12 @@ module _ (M : Map) (V : Valid M) where
       up : pos 0 <ℤ dot (item_normal x) (item_normal x)
       up = self-pos (item_normal x) (normal-is V.shaped i x a)
 
-      down : dot (item_normal x) (away (item_normal x)) <ℤ pos 0
-      down = let e = away-dot (item_normal x) (item_normal x) in let h = up in omega (arith, ints)
+      down : dot (item_normal x) (opposite (item_normal x)) <ℤ pos 0
+      down = let e = dot-opposite (item_normal x) (item_normal x) in let h = up in omega (arith, ints)
 
       found : (l : Label) → Lies (item_pos x ∷ item_neg x ∷ []) l → (e : Vector) × NearLabel M d e l
       found l (inl e) = (item_normal x, subst (NearLabel M d (item_normal x)) (ap (by_side (item_pos x) (item_mark x) (item_neg x)) (sign-plus (dot (item_normal x) (item_normal x)) up) ∙ e) (near-item M V d i x a o (item_normal x)))
-      found l (inr (inl e)) = (away (item_normal x), subst (NearLabel M d (away (item_normal x))) (ap (by_side (item_pos x) (item_mark x) (item_neg x)) (sign-minus (dot (item_normal x) (away (item_normal x))) down) ∙ e) (near-item M V d i x a o (away (item_normal x))))
+      found l (inr (inl e)) = (opposite (item_normal x), subst (NearLabel M d (opposite (item_normal x))) (ap (by_side (item_pos x) (item_mark x) (item_neg x)) (sign-minus (dot (item_normal x) (opposite (item_normal x))) down) ∙ e) (near-item M V d i x a o (opposite (item_normal x))))
       found l (inr (inr e)) = absurd e
 
   -- ---- each direction, by finitely many near it

@@ -1,38 +1,8 @@
 -- The remarked stars of a map, with its circle and its face, show the labels that directions get.
-use Rattle.std.proofs.Common.{◌≡◌, ℕ, ◌≤◌, pos, arith, refl, ap, sym, ◌∙◌, [], ◌∷◌, subst, Some, None}
-use Rattle.std.proofs.lemmas.Int.{ints}
-use Rattle.std.specs.Prelude.{option_map}
-use Rattle.nef_space.proofs.Order.{Sign, sign, sign-plus, sign-minus, by_order}
-use Rattle.nef_space.specs.Vectors.{Vector, IsDirection, dot, SameDirection, IsNormal, blend}
-use Rattle.nef_space.specs.declared.label.Label.{Label}
-use Rattle.law_cyclic.specs.Arcs.{IsOnCircle}
-use Rattle.law_sphere.specs.Vectors.{IsPrimitive, VectorBelow}
-use Rattle.law_sphere.specs.Maps.{At, MapVertex, MapSloop, Map, Item, sloop_item, items, item_normal, item_pos, item_mark, item_neg, OnItem, IsFree, MapLabel, Valid}
-use Rattle.law_sphere.specs.Forms.{forms, Keeps}
-use Rattle.law_sphere.specs.Least.{by_side, InOrder, Ordered}
-use Rattle.law_sphere.specs.Stars.{Star}
-use Rattle.law_sphere.specs.Labelling.{Labelling, PlainAt, StraightAt, IsSmooth, plain, straight}
-use Rattle.law_sphere.specs.Builds.{Proper}
-use Rattle.law_sphere.proofs.Vectors.{normal-direction, normal-is}
-use Rattle.law_sphere.proofs.Generic.{amount, far-keeps, far-level}
-use Rattle.law_sphere.proofs.Forms.{axes-forms, on-direction, on-level, PlaceOf, svertex_place, item_place, free_place, place_of}
-use Rattle.law_sphere.proofs.Labels.{label-exists}
+use Rattle.law_border.proofs.Prelude.{◌≡◌, ℕ, ◌≤◌, pos, arith, refl, ap, sym, ◌∙◌, ◌∷◌, subst, Some, None, [], ints, option_map, Sign, sign, sign-plus, sign-minus, by_order, Vector, IsDirection, dot, SameDirection, IsNormal, blend, Label, IsOnCircle, IsPrimitive, VectorBelow, At, MapVertex, MapSloop, Map, Item, sloop_item, items, item_normal, item_pos, item_mark, item_neg, OnItem, IsFree, MapLabel, Valid, forms, Keeps, by_side, InOrder, Ordered, Star, Labelling, PlainAt, StraightAt, IsSmooth, plain, straight, Proper, normal-direction, normal-is, amount, far-keeps, far-level, axes-forms, on-direction, on-level, PlaceOf, svertex_place, item_place, free_place, place_of, label-exists, label-beside, label-around, normals-same, at-sloop, level-same, not-even, directed-by, far_directed-by, planes-parallel, RawMap, Of, IsLabelling, ShowsLabels, IsBare, IsRawOf, OnSvertex, chosen, chosen-is, chosen-labelling, no-item, only-ground, Topology, TopologyLabel, label_from, face_label, sloop_by, IsRemarkedAt, IsTopologyRaw, TopologyLabelling, TopologyOneLabel, TopologyStars, at-other, none-left, SameDirection-turned, dir-self, none-at}
 use Rattle.law_sphere.proofs.Around.{free-around, item-stays, free-beside}
-use Rattle.law_sphere.proofs.NearItems.{label-beside, label-around}
-use Rattle.law_sphere.proofs.Compare.{dir-self, SameDirection-turned, normals-same}
-use Rattle.law_sphere.proofs.Arcs.{at-sloop, level-same}
-use Rattle.law_sphere.proofs.Along.{not-even}
-use Rattle.law_sphere.proofs.Flips.{directed-by, far_directed-by, planes-parallel}
-use Rattle.law_sphere.specs.Raw.{RawMap, Of, IsLabelling, ShowsLabels, IsBare, IsRawOf}
-use Rattle.law_build.specs.Overlays.{OnSvertex}
-use Rattle.law_build.proofs.Chosen.{chosen, chosen-is, chosen-labelling}
 use Rattle.law_build.proofs.LoneSloops.{item-sloop, sloop-normal}
-use Rattle.law_build.proofs.RawGround.{none-at, no-item, only-ground}
-use Rattle.law_border.specs.Topology.{Topology, TopologyLabel}
-use Rattle.law_border.specs.Marks.{label_from, face_label, sloop_by, IsRemarkedAt, IsTopologyRaw}
-use Rattle.law_border.specs.Laws.{TopologyLabelling, TopologyOneLabel, TopologyStars}
 use Rattle.law_border.proofs.Listed.{option-was, none-was}
-use Rattle.law_build.proofs.KeptStars.{at-other, none-left}
 use Rattle.law_border.proofs.PlaceLabels.{topology-one, free-made, item-made, topology-labels}
 use Rattle.law_border.proofs.RemarkedStars.{is-by, near-by, remarked-shows}
 

@@ -1,21 +1,6 @@
 -- A star with the marks that it gets shows the labels that directions get.
-use Rattle.std.proofs.Common.{◌≡◌, ℕ, zero, suc, ◌+◌, ◌≤◌, arith, refl, ap, sym, ◌∙◌, inl, inr, [], ◌∷◌, subst}
-use Rattle.nef_space.specs.Vectors.{Vector, IsDirection, cross, blend}
-use Rattle.nef_space.specs.declared.label.Label.{Label}
-use Rattle.law_sphere.specs.Vectors.{IsPrimitive}
-use Rattle.law_sphere.specs.Maps.{At, Map, Valid}
-use Rattle.law_sphere.specs.Forms.{forms}
-use Rattle.law_sphere.specs.Stars.{Ray, Star, OnRay, PastRay, NextRay, StarLabel, on_ray, in_sector, in_only_sector, IsRay, StarShows}
-use Rattle.law_sphere.specs.Labelling.{Near}
-use Rattle.law_sphere.proofs.Generic.{amount}
-use Rattle.law_sphere.proofs.Lists.{at-one}
-use Rattle.law_sphere.proofs.Forms.{axes-forms}
-use Rattle.law_sphere.proofs.Flips.{far_directed-by}
-use Rattle.law_sphere.specs.Raw.{Of, RayBelow, IsWellFormed, ShowsLabels}
-use Rattle.law_border.specs.Topology.{Topology, TopologyLabel}
-use Rattle.law_border.specs.Marks.{label_from, face_label, marked, IsRemarked}
+use Rattle.law_border.proofs.Prelude.{◌≡◌, ℕ, zero, suc, ◌+◌, ◌≤◌, arith, refl, ap, sym, ◌∙◌, inl, inr, ◌∷◌, subst, [], Vector, IsDirection, cross, blend, Label, IsPrimitive, At, Map, Valid, forms, Ray, Star, OnRay, PastRay, NextRay, StarLabel, on_ray, in_sector, in_only_sector, IsRay, StarShows, Near, amount, at-one, axes-forms, far_directed-by, Of, RayBelow, IsWellFormed, ShowsLabels, Topology, TopologyLabel, label_from, face_label, marked, IsRemarked, at-other, none-left}
 use Rattle.law_border.proofs.Listed.{count-same, sector-one}
-use Rattle.law_build.proofs.KeptStars.{at-other, none-left}
 use Rattle.law_border.proofs.PlaceLabels.{topology-one}
 use Rattle.law_border.proofs.StarMade.{Sides, sides-of, ray-made, sector-made, only-made, axis-made}
 

@@ -1,5 +1,5 @@
 -- Truth values that say whether something holds.
-use Rattle.std.proofs.Common.{Bool, true, false, not, ◌&&◌, ◌||◌, ◌⊎◌, inl, inr, ⊎_elim}
+use Rattle.law_border.proofs.Prelude.{Bool, true, false, not, ◌&&◌, ◌||◌, ◌⊎◌, inl, inr, ⊎_elim}
 
 abbrev pub Says : Bool → Type 0 → Type 0
 Says true P = P

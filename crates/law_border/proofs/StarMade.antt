@@ -1,41 +1,10 @@
 -- The labels that directions close to the axis of a star get: on the axis by all rays and sectors, on a ray by the two sectors beside it, in a sector by the sector alone.
-use Rattle.std.proofs.Common.{◌≡◌, ℕ, zero, suc, ◌+◌, ◌≤◌, ℤ, pos, ◌<ℤ◌, arith, refl, ap, sym, ◌∙◌, ◌⊎◌, inl, inr, ⊎_elim, List, [], ◌∷◌, subst, length, map}
-use Rattle.std.proofs.lemmas.Int.{ints}
-use Rattle.nef_space.specs.Signs.{Lies}
-use Rattle.nef_space.proofs.Lists.{lies-left, lies-right, lies-append}
-use Rattle.nef_space.proofs.Order.{Sign, minus, nought, plus, sign, sign-plus, sign-minus, sign-scaled}
-use Rattle.nef_space.specs.Vectors.{Vector, IsDirection, triple, cross, dot, IsZero, blend}
-use Rattle.nef_space.specs.declared.label.Label.{Label}
-use Rattle.law_near.proofs.Far.{nought-or}
-use Rattle.law_near.proofs.Directions.{self-pos, zero-decided}
-use Rattle.law_near.proofs.FlatDecided.{triple-dot}
-use Rattle.law_sphere.specs.Maps.{At, Map, NearLabel, Valid}
-use Rattle.law_sphere.specs.Forms.{SameSigns, axes, forms, arc_forms}
-use Rattle.law_sphere.specs.Least.{by_side}
-use Rattle.law_sphere.specs.Stars.{Ray, Star, ray_dir, across, OnRay, PastRay, NextRay, StarLabel, on_ray, in_sector, in_only_sector, StarShows, Follows}
-use Rattle.law_sphere.proofs.Forms.{axes-forms}
-use Rattle.law_sphere.proofs.StarKinds.{across-side}
-use Rattle.law_sphere.proofs.Simplified.{across-same, next-ray, previous, ray-level}
-use Rattle.law_sphere.proofs.Generic.{amount, far-keeps, far-level}
-use Rattle.law_sphere.proofs.Places.{IsStrictlyOn-stays}
-use Rattle.law_sphere.proofs.Parallel.{past_source, arc-point, circle-point}
-use Rattle.law_sphere.proofs.Labels.{dir-signs, label-by_signs, near-from_far, far-from_near}
-use Rattle.law_sphere.proofs.Compare.{dir-self}
-use Rattle.law_sphere.proofs.Turn.{IsStrictlyOn-same}
-use Rattle.law_sphere.proofs.Kind.{away, away-dot}
-use Rattle.law_sphere.proofs.KindFlats.{in-span}
-use Rattle.law_sphere.proofs.Flips.{far_directed-by}
-use Rattle.law_sphere.specs.Raw.{sector_count, IsWellFormed}
-use Rattle.law_build.proofs.KeptStars.{at-other}
-use Rattle.law_build.proofs.BuiltAxes.{at-map, map-at}
+use Rattle.law_border.proofs.Prelude.{◌≡◌, ℕ, zero, suc, ◌+◌, ◌≤◌, ℤ, pos, ◌<ℤ◌, arith, refl, ap, sym, ◌∙◌, ◌⊎◌, inl, inr, ⊎_elim, List, ◌∷◌, subst, length, map, [], ints, Lies, lies-left, lies-right, lies-append, Sign, minus, nought, plus, sign, sign-plus, sign-minus, sign-scaled, nought-or, Vector, IsDirection, triple, cross, dot, IsZero, blend, opposite, Label, At, Map, NearLabel, Valid, SameSigns, axes, forms, arc_forms, by_side, Ray, Star, ray_dir, across, OnRay, PastRay, NextRay, StarLabel, on_ray, in_sector, in_only_sector, StarShows, Follows, axes-forms, across-side, across-same, next-ray, previous, ray-level, amount, far-keeps, far-level, IsStrictlyOn-stays, past_source, arc-point, circle-point, label-by_signs, near-from_far, far-from_near, IsStrictlyOn-same, far_directed-by, sector_count, IsWellFormed, at-other, at-map, map-at, Topology, TopologyLabel, label_from, face_label, ray_mark, star_labels, zero-decided, self-pos, triple-dot, dir-self, dir-signs, in-span, dot-opposite, cross-blend, lies-at, at-lies}
 use Rattle.law_build.proofs.BuiltAround.{sector-there}
 use Rattle.law_build.proofs.RayStraight.{off-axis}
 use Rattle.law_build.proofs.RayClose.{across-level, ray-close}
-use Rattle.law_border.specs.Topology.{Topology, TopologyLabel}
-use Rattle.law_border.specs.Marks.{label_from, face_label, ray_mark, star_labels}
-use Rattle.law_border.proofs.Listed.{at-lies, lies-at}
 use Rattle.law_border.proofs.PlaceLabels.{near-onward, made-at, even-made, topology-labels}
-use Rattle.law_border.proofs.Across.{cross-blend, across-blend}
+use Rattle.law_border.proofs.Across.{across-blend}
 
 module _ (t : Star) (M : Map) (V : Valid M) (W : IsWellFormed t) (S : StarShows t M) where
   abbrev d : Vector
@@ -46,7 +15,7 @@ module _ (t : Star) (M : Map) (V : Valid M) (W : IsWellFormed t) (S : StarShows 
 
   -- ---- near what is near the axis
   far-off_axis : (e c : Vector) (i : ℕ) → amount axes (cross d c) ≤ i → IsDirection (cross d e) → IsDirection (cross d (blend i e 1 c))
-  far-off_axis e c i h f = subst IsDirection (sym (cross-blend d e c i)) (far_directed-by axes (λ g l. l) (cross d e) (cross d c) i h f)
+  far-off_axis e c i h f = subst IsDirection (sym (cross-blend d e c i 1)) (far_directed-by axes (λ g l. l) (cross d e) (cross d c) i h f)
 
   star-near : (e c : Vector) (l : Label) (low : ℕ) → IsDirection (cross d e) → ((i : ℕ) → low ≤ i → StarLabel t (blend i e 1 c) l) → (k : ℕ) → amount (forms M) e ≤ k → NearLabel M (blend k d 1 e) c l
   star-near e c l low f g k hk =
@@ -97,11 +66,11 @@ module _ (t : Star) (M : Map) (V : Valid M) (W : IsWellFormed t) (S : StarShows 
     up : pos 0 <ℤ triple d s (cross d s)
     up = subst (λ (x : ℤ). pos 0 <ℤ x) (sym (triple-dot d s (cross d s))) (self-pos (cross d s) s-off)
 
-    down : triple d s (away (cross d s)) <ℤ pos 0
-    down = let p = self-pos (cross d s) s-off in let e = triple-dot d s (away (cross d s)) ∙ away-dot (cross d s) (cross d s) in omega (arith, ints)
+    down : triple d s (opposite (cross d s)) <ℤ pos 0
+    down = let p = self-pos (cross d s) s-off in let e = triple-dot d s (opposite (cross d s)) ∙ dot-opposite (cross d s) (cross d s) in omega (arith, ints)
 
     side-found : (i : ℕ) → amount (forms M) s ≤ i → (l : Label) → Lies sides l → (c : Vector) × NearLabel M (blend i d 1 s) c l
-    side-found i h l (inl q) = (away (cross d s), subst (NearLabel M (blend i d 1 s) (away (cross d s))) (ap side (sign-minus (triple d s (away (cross d s))) down) ∙ q) (near-side i h (away (cross d s))))
+    side-found i h l (inl q) = (opposite (cross d s), subst (NearLabel M (blend i d 1 s) (opposite (cross d s))) (ap side (sign-minus (triple d s (opposite (cross d s))) down) ∙ q) (near-side i h (opposite (cross d s))))
     side-found i h l (inr (inl q)) = (cross d s, subst (NearLabel M (blend i d 1 s) (cross d s)) (ap side (sign-plus (triple d s (cross d s)) up) ∙ q) (near-side i h (cross d s)))
     side-found i h l (inr (inr q)) = absurd q
 

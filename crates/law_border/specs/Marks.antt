@@ -1,12 +1,11 @@
--- The same by tables: the new labels of a map, of its stars and its circle, from the labels that are listed there.
-use Rattle.std.specs.Prelude.{◌≡◌, ℕ, List, [], ◌∷◌, ◌++◌, map, length, Option, Some, None, option_map, Bool, true, false, cond, not, ◌&&◌, ◌||◌}
+-- Topology by tables: new labels for a map, its stars and its circle, made of the labels that the map lists.
+use Rattle.std.specs.Prelude.{◌≡◌, ◌∷◌, ◌++◌, ◌&&◌, ◌||◌, ℕ, List, [], map, length, Option, Some, None, option_map, Bool, true, false, cond, not}
 use Rattle.nef_space.specs.Vectors.{Vector}
 use Rattle.nef_space.specs.declared.label.Label.{Label}
 use Rattle.nef_space.specs.declared.label.Label.TheVariants.{Out, Not, In}
-use Rattle.law_sphere.specs.Maps.{At, MapVertex, Arc, MapSloop, Map}
+use Rattle.law_sphere.specs.Prelude.{At, MapVertex, Arc, MapSloop, Map, RawMap, IsWellFormed}
 use Rattle.law_sphere.specs.Forms.{gather}
 use Rattle.law_sphere.specs.Stars.{Ray, Star, StarShows, Follows}
-use Rattle.law_sphere.specs.Raw.{RawMap, IsWellFormed}
 use Rattle.law_border.specs.Topology.{Topology, interior, closure, boundary, complement}
 
 -- ---- tables
@@ -23,7 +22,7 @@ abbrev pub some_in : List Label → Bool
 some_in [] = false
 some_in (l ∷ ls) = is_in l || some_in ls
 
--- whether the result is In, from a label and whether all and whether some of the labels close to it are In
+-- whether the new label is In, by the own label l, whether all, and whether some, of the close labels are In
 abbrev pub in_by : Topology → Label → Bool → Bool → Bool
 in_by interior l all some = is_in l && all
 in_by closure l all some = is_in l || some
@@ -35,11 +34,11 @@ label_by k Out all some = Out
 label_by k Not all some = cond (in_by k Not all some) In Not
 label_by k In all some = cond (in_by k In all some) In Not
 
--- what the label l becomes, with the labels ls close to it
+-- the new label of a part with the label l and the close labels ls
 abbrev pub label_from : Topology → Label → List Label → Label
 label_from k l ls = label_by k l (all_in ls) (some_in ls)
 
--- what the label of a face becomes
+-- the new label of a sface, where all close labels are the own label
 abbrev pub face_label : Topology → Label → Label
 face_label interior l = l
 face_label closure l = l
@@ -75,11 +74,11 @@ ray_mark r = r.mark
 abbrev pub star_labels : Star → List Label
 star_labels t = map ray_mark t.rays ++ t.sectors
 
--- the ray with another mark
+-- the ray r with the mark l
 abbrev pub marked : Ray → Label → Ray
 marked r l = record { normal = r.normal; ahead = r.ahead; mark = l }
 
--- u is t with the marks that it gets: the axis by all rays and sectors, each ray by the sectors before and after it, each sector as a face
+-- u is the star t with new marks: the axis by all rays and sectors, a ray by its two sectors, a sector as a sface
 pub record IsRemarked (k : Topology) (t u : Star) : Type 0 where
   pub axis : u.axis ≡ t.axis
   pub mark : u.mark ≡ label_from k t.mark (star_labels t)
@@ -88,7 +87,7 @@ pub record IsRemarked (k : Topology) (t u : Star) : Type 0 where
   pub rays : (i j : ℕ) (r : Ray) (l m : Label) → At t.rays j r → Follows t.rays i j → At t.sectors i l → At t.sectors j m → At u.rays j (marked r (label_from k r.mark (l ∷ m ∷ [])))
   pub sectors : (j : ℕ) (l : Label) → At t.sectors j l → At u.sectors j (face_label k l)
 
--- u is the neighbourhood of d in the map, with the marks that it gets
+-- u is the remarked star of the map M at the direction d
 pub record IsRemarkedAt (k : Topology) (M : Map) (d : Vector) (u : Star) : Type 0 where
   pub star : Star
   pub axis : star.axis ≡ d
@@ -99,7 +98,7 @@ pub record IsRemarkedAt (k : Topology) (M : Map) (d : Vector) (u : Star) : Type 
 abbrev pub sloop_by : Topology → MapSloop → MapSloop
 sloop_by k l = record { normal = l.normal; pos = face_label k l.pos; mark = label_from k l.mark (l.pos ∷ l.neg ∷ []); neg = face_label k l.neg }
 
--- a star for each svertex of the map, in order; the map's mark, its sloop and its one face with what they become
+-- R has a remarked star for each svertex of M, in order, and the new mark, sloop and ground
 pub record IsTopologyRaw (k : Topology) (M : Map) (R : RawMap) : Type 0 where
   pub mark : R.mark ≡ label_from k M.mark (map_labels M)
   pub as_many : length R.stars ≡ length M.svertices
@@ -120,7 +119,7 @@ exchanged_arc a = record { normal = a.normal; source = a.source; target = a.targ
 abbrev pub exchanged_sloop : MapSloop → MapSloop
 exchanged_sloop l = record { normal = l.normal; pos = exchanged l.pos; mark = exchanged l.mark; neg = exchanged l.neg }
 
--- the map with In and Not exchanged everywhere
+-- the map M with In and Not exchanged in all labels
 abbrev pub exchanged_map : Map → Map
 exchanged_map M = record {
   mark = exchanged M.mark;

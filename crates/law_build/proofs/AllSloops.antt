@@ -1,24 +1,5 @@
 -- A circle of overlaid stars without an axis, on which op of two maps is straight, is the lone circle.
-use Rattle.std.proofs.Common.{◌≡◌, ℕ, pos, refl, ap, sym, ◌∙◌, ◌⊎◌, inl, inr, ⊎_elim, [], ◌∷◌, ◌++◌, subst, Option, Some, None}
-use Rattle.nef_space.proofs.Ring.{ring, at, num, ◌⊕◌, ◌⊖◌, ◌⊗◌}
-use Rattle.nef_space.specs.Vectors.{Vector, IsDirection, cross, dot, IsZero, SameDirection, IsNormal}
-use Rattle.nef_space.specs.declared.label.Label.{Label}
-use Rattle.law_near.proofs.Directions.{zero-decided}
-use Rattle.law_near.proofs.FlatDecided.{cross-turned}
-use Rattle.nef_space.proofs.Lists.{lies-left}
-use Rattle.law_cyclic.specs.Arcs.{IsOnCircle}
-use Rattle.law_sphere.specs.Maps.{At, MapSloop, Map, Item, sloop_item, items, item_normal, OnItem, IsFree, Valid}
-use Rattle.law_sphere.specs.Forms.{forms}
-use Rattle.law_sphere.specs.Labelling.{Labelling, StraightAt, ByOp}
-use Rattle.law_sphere.specs.Builds.{Proper}
-use Rattle.law_sphere.proofs.Vectors.{normal-direction}
-use Rattle.law_sphere.proofs.Forms.{PlaceOf, svertex_place, item_place, free_place, place_of, axes-forms, on-level}
-use Rattle.law_sphere.proofs.Compare.{dir-self, SameDirection-turned, SameDirection-trans, normals-same}
-use Rattle.law_sphere.proofs.Arcs.{at-sloop, level-same}
-use Rattle.law_sphere.proofs.Labellings.{op-labelling}
-use Rattle.law_sphere.proofs.Flips.{planes-parallel}
-use Rattle.law_sphere.specs.Raw.{RawMap, Of, IsBare}
-use Rattle.law_build.specs.Overlays.{IsAxis, IsLoneSloop, Raw}
+use Rattle.law_build.proofs.Prelude.{◌≡◌, ℕ, pos, refl, sym, ◌∙◌, ◌⊎◌, inl, inr, ⊎_elim, ◌∷◌, ◌++◌, subst, Option, Some, None, [], ring, at, num, ◌⊕◌, ◌⊖◌, ◌⊗◌, Vector, IsDirection, cross, dot, IsZero, SameDirection, IsNormal, Label, lies-left, IsOnCircle, At, MapSloop, Map, Item, sloop_item, items, item_normal, OnItem, IsFree, Valid, forms, Labelling, StraightAt, ByOp, Proper, normal-direction, PlaceOf, svertex_place, item_place, free_place, place_of, axes-forms, on-level, normals-same, at-sloop, level-same, op-labelling, planes-parallel, RawMap, Of, IsBare, IsAxis, IsLoneSloop, Raw, zero-decided, cross-turned, SameDirection-turned, SameDirection-trans, dir-self, some-some}
 use Rattle.law_build.proofs.SideLabels.{SidesAt, free-sides, item-sides, sides-at, joined-sides, free-joined}
 use Rattle.law_build.proofs.Merged.{is-of, straight-of, straight-two, off-second, one-plane, bare-off_axes}
 use Rattle.law_build.proofs.LoneSloops.{item-sloop, merged-sloop, no-sloop, lone-normal}
@@ -29,13 +10,6 @@ meet-level n m =
     let xs = n.x ∷ n.y ∷ n.z ∷ m.x ∷ m.y ∷ m.z ∷ [] in
     let cx = at 1 ⊗ at 5 ⊖ at 2 ⊗ at 4 in let cy = at 2 ⊗ at 3 ⊖ at 0 ⊗ at 5 in let cz = at 0 ⊗ at 4 ⊖ at 1 ⊗ at 3 in
     (ring xs (at 0 ⊗ cx ⊕ at 1 ⊗ cy ⊕ at 2 ⊗ cz) (num (pos 0)) tt, ring xs (at 3 ⊗ cx ⊕ at 4 ⊗ cy ⊕ at 5 ⊗ cz) (num (pos 0)) tt)
-
-some-one : (l c : MapSloop) → ◌≡◌ {A = Option MapSloop} (Some l) (Some c) → l ≡ c
-some-one l c e = ap get e
-  where
-    get : Option MapSloop → MapSloop
-    get None = l
-    get (Some x) = x
 
 module _ (A B : Map) (op : Label → Label → Label) (R : RawMap) (L : Vector → Label) (V : Valid A) (W : Valid B) (raw : Raw R A B op)
     (labels : (d : Vector) → IsDirection d → ByOp A B op d (L d)) where
@@ -59,8 +33,8 @@ module _ (A B : Map) (op : Label → Label → Label) (R : RawMap) (L : Vector �
       own e = subst (λ (r : MapSloop). IsZero (cross l.normal r.normal)) e (let w = dir-self l.normal (normal-direction l.normal (lone-normal A B op R L V W raw labels l p)) in w.parallel)
 
       by : (A.sloop ≡ Some l) ⊎ (B.sloop ≡ Some l) → (A.sloop ≡ Some c) ⊎ (B.sloop ≡ Some c) → IsZero (cross l.normal c.normal)
-      by (inl e) (inl f) = own (some-one l c (sym e ∙ f))
-      by (inr e) (inr f) = own (some-one l c (sym e ∙ f))
+      by (inl e) (inl f) = own (some-some l c (sym e ∙ f))
+      by (inr e) (inr f) = own (some-some l c (sym e ∙ f))
       by (inl e) (inr f) = lone-across l c p e f
       by (inr e) (inl f) = cross-turned c.normal l.normal (lone-across c l q f e)
 

@@ -1,25 +1,12 @@
 -- The arcs that a builder makes of the rays of kept stars.
-use Rattle.std.proofs.Common.{◌≡◌, ℕ, pos, arith, ap, sym, ◌∙◌, inl, inr, List, subst, cond}
-use Rattle.nef_space.specs.Vectors.{Vector, IsDirection, cross, dot, SameDirection, IsNormal}
-use Rattle.nef_space.specs.declared.label.Label.{Label}
-use Rattle.law_cyclic.specs.Arcs.{IsStrictlyOn}
-use Rattle.law_sphere.specs.Vectors.{IsPrimitive, VectorBelow}
-use Rattle.law_sphere.specs.Maps.{At, MapVertex, Arc, Map, dir_of, ArcBetween}
-use Rattle.law_sphere.specs.Least.{ArcBelow}
-use Rattle.law_sphere.specs.Builds.{StraightAfter, Proper}
-use Rattle.law_sphere.specs.Stars.{Star, ray_dir, IsRay}
-use Rattle.law_sphere.proofs.Vectors.{normal-direction, nought-if}
-use Rattle.law_sphere.proofs.Compare.{SameDirection-turned}
-use Rattle.law_sphere.proofs.Equal.{lowest-same}
-use Rattle.law_sphere.specs.Raw.{RawMap, Of, ShowsLabels}
-use Rattle.law_build.specs.From.{svertex_at, IsArcFrom}
+use Rattle.law_build.proofs.Prelude.{◌≡◌, ℕ, pos, arith, ap, sym, ◌∙◌, inl, inr, List, subst, cond, Vector, IsDirection, cross, dot, SameDirection, IsNormal, Label, IsStrictlyOn, IsPrimitive, VectorBelow, At, MapVertex, Arc, Map, dir_of, ArcBetween, ArcBelow, StraightAfter, Proper, Star, ray_dir, IsRay, normal-direction, below-itself, lowest-same, RawMap, Of, ShowsLabels, svertex_at, IsArcFrom, nought-if, SameDirection-turned}
 use Rattle.law_build.proofs.RayClose.{follows-at}
 use Rattle.law_build.proofs.RayStraight.{ray-after, ray-there}
 use Rattle.law_build.proofs.StarSmooth.{ray-ahead}
-use Rattle.law_build.proofs.BuiltAxes.{IsMade, vector-below_not, number-order, kept-shows, kept-simple, svertex-star, star-svertex, axis-at}
+use Rattle.law_build.proofs.BuiltAxes.{IsMade, number-order, kept-shows, kept-simple, svertex-star, star-svertex, axis-at}
 
 arc-below_not : (a b : Arc) → a.normal ≡ b.normal → a.source ≡ b.source → ArcBelow a b → ⊥
-arc-below_not a b e f (inl l) = vector-below_not b.normal (subst (λ (v : Vector). VectorBelow v b.normal) e l)
+arc-below_not a b e f (inl l) = below-itself b.normal (subst (λ (v : Vector). VectorBelow v b.normal) e l)
 arc-below_not a b e f (inr l) = let p = l.1 in omega arith
 
 module _ (gs : List Vector) (L : Vector → Label) (R : RawMap) (M : Map) (C : IsMade gs L R M) where

@@ -1,31 +1,11 @@
 -- A ray that goes back is the end of an arc; so a svertex without arcs has no ray, and one label round it.
-use Rattle.std.proofs.Common.{◌≡◌, ℕ, zero, ◌+◌, pos, arith, refl, ap, sym, ◌∙◌, inl, inr, ⊎_elim, List, [], ◌∷◌, map, length, subst, Some, None, Bool, true, false, cond}
-use Rattle.std.proofs.lemmas.Int.{ints}
-use Rattle.nef_space.specs.Vectors.{Vector, IsDirection, cross, dot, IsZero, SameDirection, IsNormal}
-use Rattle.nef_space.specs.declared.label.Label.{Label}
-use Rattle.law_cyclic.specs.Arcs.{IsStrictlyOn}
-use Rattle.law_sphere.specs.Maps.{At, MapVertex, Arc, Map, HasArc}
-use Rattle.law_sphere.specs.Labelling.{Near, StraightAt, IsSmooth}
-use Rattle.law_sphere.specs.Builds.{StraightAfter, Proper}
-use Rattle.law_sphere.specs.Stars.{Ray, Star, ray_dir, in_only_sector}
-use Rattle.law_sphere.proofs.Vectors.{normal-direction, nought-if}
-use Rattle.law_sphere.proofs.Generic.{amount}
-use Rattle.law_sphere.proofs.Lists.{at-one}
-use Rattle.law_sphere.proofs.Parallel.{past_source, arc-point}
-use Rattle.law_sphere.proofs.Compare.{SameDirection-turned, dir-self}
-use Rattle.law_sphere.proofs.Turn.{IsStrictlyOn-same, ends-together}
-use Rattle.law_sphere.proofs.Arcs.{level-same}
-use Rattle.law_sphere.proofs.Kind.{away}
+use Rattle.law_build.proofs.Prelude.{◌≡◌, ℕ, zero, ◌+◌, pos, arith, refl, ap, sym, ◌∙◌, inl, inr, ⊎_elim, List, ◌∷◌, map, length, subst, Some, None, Bool, true, false, cond, [], ints, Vector, IsDirection, cross, dot, IsZero, SameDirection, IsNormal, opposite, Label, IsStrictlyOn, At, MapVertex, Arc, Map, HasArc, Near, StraightAt, IsSmooth, StraightAfter, Proper, Ray, Star, ray_dir, in_only_sector, normal-direction, amount, at-one, past_source, arc-point, IsStrictlyOn-same, ends-together, level-same, reversed, flipped, unflipped, directed-by, far_directed-by, previous, RawMap, Of, sector_count, ShowsLabels, around_of, IsArcFrom, nought-if, SameDirection-turned, dir-self, direction-opposite, level-opposite, opposite-dot, opposite-twice}
 use Rattle.law_sphere.proofs.ArcLabels.{arc-along}
 use Rattle.law_sphere.proofs.Firsts.{First, first-after}
-use Rattle.law_sphere.proofs.Flips.{away-direction, reversed, flipped, unflipped, directed-by, far_directed-by, dot-away}
-use Rattle.law_sphere.proofs.Simplified.{away-twice, previous}
-use Rattle.law_sphere.specs.Raw.{RawMap, Of, sector_count, ShowsLabels}
-use Rattle.law_build.specs.From.{around_of, IsArcFrom}
 use Rattle.law_build.proofs.BuiltLabels.{with_axes, labelling, axial}
 use Rattle.law_build.proofs.KeptStars.{at-other}
 use Rattle.law_build.proofs.RayStraight.{ray-after, ray-there}
-use Rattle.law_build.proofs.StarSmooth.{cross-away, away-level}
+use Rattle.law_build.proofs.StarSmooth.{cross-away}
 use Rattle.law_build.proofs.BuiltAxes.{IsMade, at-map, map-at, kept-shows, kept-simple, kept-axis, kept-apart, svertex-star, smooth-off}
 use Rattle.law_build.proofs.BuiltArcs.{arc-from, arc-direction, arc-level, arc-proper, arc-after, kept-arc}
 
@@ -76,7 +56,7 @@ module _ (gs : List Vector) (L : Vector → Label) (R : RawMap) (M : Map) (C : I
           (IsStrictlyOn-same n n s s t t w u.axis (dir-self n hn) (dir-self s hs') (dir-self t ht) (SameDirection-turned u.axis w q) p))
 
   -- ---- back along the circle of n from the kept star t to the kept star v, with none between
-  module _ (k : ℕ) (t : Star) (h : At kept k t) (n : Vector) (a m b : Label) (normal : IsNormal n) (lt : dot n t.axis ≡ pos 0) (proper : Proper a m b) (after : StraightAfter F (away n) b m a t.axis) where
+  module _ (k : ℕ) (t : Star) (h : At kept k t) (n : Vector) (a m b : Label) (normal : IsNormal n) (lt : dot n t.axis ≡ pos 0) (proper : Proper a m b) (after : StraightAfter F (opposite n) b m a t.axis) where
     abbrev s : Vector
     s = t.axis
 
@@ -86,7 +66,7 @@ module _ (gs : List Vector) (L : Vector → Label) (R : RawMap) (M : Map) (C : I
     hs' : IsDirection s
     hs' = kept-axis gs L R M C k t h
 
-    module _ (j : ℕ) (v : Star) (g : At kept j v) (lv : dot n v.axis ≡ pos 0) (clear : (i : ℕ) (u : Star) → At kept i u → IsStrictlyOn (away n) s v.axis u.axis → ⊥) where
+    module _ (j : ℕ) (v : Star) (g : At kept j v) (lv : dot n v.axis ≡ pos 0) (clear : (i : ℕ) (u : Star) → At kept i u → IsStrictlyOn (opposite n) s v.axis u.axis → ⊥) where
       hv : IsDirection v.axis
       hv = kept-axis gs L R M C j v g
 
@@ -95,7 +75,7 @@ module _ (gs : List Vector) (L : Vector → Label) (R : RawMap) (M : Map) (C : I
         amount (cross s n ∷ []) (cross n v.axis),
         λ i l.
             let y = past_source n v.axis i in
-            unflipped F n a m b y (labels-on (away n) b m a (λ p q. proper q p) (away-direction n hn) s v.axis hs' hv (away-level n s lt) (away-level n v.axis lv) clear after y
+            unflipped F n a m b y (labels-on (opposite n) b m a (λ p q. proper q p) (direction-opposite n hn) s v.axis hs' hv (level-opposite n s lt) (level-opposite n v.axis lv) clear after y
             (reversed n v.axis s y hv (arc-point n v.axis s hn hv hs' lv lt i l))),
       )
 
@@ -127,17 +107,17 @@ module _ (gs : List Vector) (L : Vector → Label) (R : RawMap) (M : Map) (C : I
 
     -- an arc ends at t
     pub back-arc : (i : ℕ) × (c : Arc) × At M.arcs i c × (c.target ≡ k)
-    back-arc = by (first-after (away n) s (away-direction n hn) hs' (away-level n s lt) (map axis_of kept))
+    back-arc = by (first-after (opposite n) s (direction-opposite n hn) hs' (level-opposite n s lt) (map axis_of kept))
       where
-        back-level : (u : Vector) → dot (away n) u ≡ pos 0 → dot n u ≡ pos 0
-        back-level u z = let e = dot-away n u in omega (arith, ints)
+        back-level : (u : Vector) → dot (opposite n) u ≡ pos 0 → dot n u ≡ pos 0
+        back-level u z = let e = opposite-dot n u in omega (arith, ints)
 
-        by : First (away n) s (map axis_of kept) → (i : ℕ) × (c : Arc) × At M.arcs i c × (c.target ≡ k)
+        by : First (opposite n) s (map axis_of kept) → (i : ℕ) × (c : Arc) × At M.arcs i c × (c.target ≡ k)
         by f = ⊎_elim (λ e. at-star k t h (sym e)) (λ x. let y = at-map axis_of kept x.0 f.target x.1 in at-star x.0 y.0 y.1 (sym y.2)) f.listed
           where
             at-star : (j : ℕ) (v : Star) → At kept j v → f.target ≡ v.axis → (i : ℕ) × (c : Arc) × At M.arcs i c × (c.target ≡ k)
             at-star j v g e = back-to j v g (subst (λ (r : Vector). dot n r ≡ pos 0) e (back-level f.target f.level))
-                (λ i u q o. f.none_before i u.axis (map-at axis_of kept i u q) (subst (λ (r : Vector). IsStrictlyOn (away n) s r u.axis) (sym e) o))
+                (λ i u q o. f.none_before i u.axis (map-at axis_of kept i u q) (subst (λ (r : Vector). IsStrictlyOn (opposite n) s r u.axis) (sym e) o))
 
   -- ---- arcs and rays
   -- each ray of a kept star is on an arc from it or to it
@@ -151,14 +131,14 @@ module _ (gs : List Vector) (L : Vector → Label) (R : RawMap) (M : Map) (C : I
       by true e = let y = C.built.arcs_all k j t r h x e in (y.0, y.1, y.2, inl y.3)
       by false e =
           let ray = S.star.rays j r x in
-          let u = away r.normal in
-          let lu = away-level r.normal t.axis ray.level in
+          let u = opposite r.normal in
+          let lu = level-opposite r.normal t.axis ray.level in
           let y = previous t.rays j r x in
           let p = sector-there t S.star.as_many j r x in
           let q = sector-there t S.star.as_many y.0 y.1 y.2 in
           let proper = λ (c : p.0 ≡ r.mark) (d : q.0 ≡ r.mark). kept-simple gs L R M C k t h y.0 j y.1 r q.0 p.0 y.2 x y.3 q.1 p.1 (sym d) (sym c) in
           let way = ap (λ b. cond b (cross r.normal t.axis) (cross t.axis r.normal)) e ∙ cross-away r.normal t.axis in
-          let side = λ (z : IsZero (cross u t.axis)). S.star.axis (nought-if u t.axis (away-direction r.normal (normal-direction r.normal ray.normal)) z lu) in
+          let side = λ (z : IsZero (cross u t.axis)). S.star.axis (nought-if u t.axis (direction-opposite r.normal (normal-direction r.normal ray.normal)) z lu) in
           let after = ray-after gs L C.labelling t S u p.0 r.mark q.0 proper u lu y.0 j r x way side y.3 p.1 q.1 refl in
           let z = back-arc k t h r.normal q.0 r.mark p.0 ray.normal ray.level (λ c d. proper d c) after in
           (z.0, z.1, z.2, inr z.3)
@@ -200,18 +180,18 @@ module _ (gs : List Vector) (L : Vector → Label) (R : RawMap) (M : Map) (C : I
           labels : (w : Vector) → IsStrictlyOn c.normal A.star.axis A.target.first.axis w → StraightAt F c.normal c.pos c.mark c.neg w
           labels = labels-on c.normal c.pos c.mark c.neg proper hn A.star.axis A.target.first.axis hs' hu (arc-level gs L R M C i c ic) A.target.level A.target.none_before (arc-after gs L R M C i c ic)
 
-          close : StraightAfter F (away c.normal) c.neg c.mark c.pos A.target.first.axis
+          close : StraightAfter F (opposite c.normal) c.neg c.mark c.pos A.target.first.axis
           close = (
-            amount (cross s (away n) ∷ []) (cross (away n) u),
+            amount (cross s (opposite n) ∷ []) (cross (opposite n) u),
             λ l g.
-                let y = past_source (away n) u l in
-                let o = reversed (away n) u s y hu (arc-point (away n) u s (away-direction n hn) hu hs' (away-level n u A.target.level) (away-level n s (arc-level gs L R M C i c ic)) l g) in
-                flipped F n c.pos c.mark c.neg y (labels y (subst (λ (r : Vector). IsStrictlyOn r s u y) (away-twice n) o)),
+                let y = past_source (opposite n) u l in
+                let o = reversed (opposite n) u s y hu (arc-point (opposite n) u s (direction-opposite n hn) hu hs' (level-opposite n u A.target.level) (level-opposite n s (arc-level gs L R M C i c ic)) l g) in
+                flipped F n c.pos c.mark c.neg y (labels y (subst (λ (r : Vector). IsStrictlyOn r s u y) (opposite-twice n) o)),
           )
 
-          end : (j : ℕ) × (r : Ray) × At A.target.first.rays j r × SameDirection (ray_dir A.target.first r) (cross (away c.normal) A.target.first.axis)
-          end = ray-there gs L C.labelling A.target.first (kept-shows gs L R M C c.target A.target.first A.target.listed) (away c.normal) c.neg c.mark c.pos (λ x y. proper y x)
-              (away-direction c.normal hn) (away-level c.normal A.target.first.axis A.target.level) close
+          end : (j : ℕ) × (r : Ray) × At A.target.first.rays j r × SameDirection (ray_dir A.target.first r) (cross (opposite c.normal) A.target.first.axis)
+          end = ray-there gs L C.labelling A.target.first (kept-shows gs L R M C c.target A.target.first A.target.listed) (opposite c.normal) c.neg c.mark c.pos (λ x y. proper y x)
+              (direction-opposite c.normal hn) (level-opposite c.normal A.target.first.axis A.target.level) close
 
   -- ---- the label round a svertex
   pub around-lone : (k : ℕ) (v : MapVertex) → At M.svertices k v → (HasArc M k → ⊥) → (m : Label) × (v.around ≡ Some m)

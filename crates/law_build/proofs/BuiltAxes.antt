@@ -1,20 +1,5 @@
 -- What a builder is given, and the svertices that it makes of the kept stars.
-use Rattle.std.proofs.Common.{◌≡◌, ℕ, zero, suc, ◌<◌, pos, arith, refl, ap, sym, ◌⊎◌, inl, inr, List, [], ◌∷◌, map, subst}
-use Rattle.std.proofs.lemmas.Int.{ints}
-use Rattle.nef_space.proofs.Order.{by_order}
-use Rattle.nef_space.specs.Vectors.{Vector, IsDirection, SameDirection}
-use Rattle.nef_space.specs.declared.label.Label.{Label}
-use Rattle.law_sphere.specs.Vectors.{VectorBelow}
-use Rattle.law_sphere.specs.Maps.{At, MapVertex, Map, dir_of}
-use Rattle.law_sphere.specs.Labelling.{IsSmooth, plain, straight}
-use Rattle.law_sphere.specs.Stars.{Star, IsPlain, IsStraight, IsSimplified}
-use Rattle.law_sphere.proofs.Vectors.{normal-direction}
-use Rattle.law_sphere.proofs.Lists.{Found, search_list}
-use Rattle.law_sphere.proofs.Places.{SameDirection-decided}
-use Rattle.law_sphere.proofs.Shot.{dir-at}
-use Rattle.law_sphere.proofs.Equal.{lowest-same}
-use Rattle.law_sphere.specs.Raw.{RawMap, Of, IsLabelling, ShowsLabels, IsRawOf}
-use Rattle.law_build.specs.From.{AreSimplified, svertex_at, IsBuiltFrom}
+use Rattle.law_build.proofs.Prelude.{◌≡◌, ℕ, zero, suc, ◌<◌, pos, arith, refl, ap, sym, ◌⊎◌, inl, inr, List, ◌∷◌, map, subst, [], ints, by_order, Vector, IsDirection, SameDirection, Label, VectorBelow, At, MapVertex, Map, dir_of, IsSmooth, plain, straight, Star, IsPlain, IsStraight, IsSimplified, normal-direction, below-itself, Found, search_list, SameDirection-decided, dir-at, lowest-same, RawMap, Of, IsLabelling, ShowsLabels, IsRawOf, AreSimplified, svertex_at, IsBuiltFrom}
 use Rattle.law_build.proofs.BuiltLabels.{smooth-same_way}
 use Rattle.law_build.proofs.StarSmooth.{star-plain, star-straight, star-normal}
 
@@ -38,11 +23,6 @@ map-at f (z ∷ xs) (suc k) x a = map-at f xs k x a
 pub map-empty : {A B : Type 0} (f : A → B) (xs : List A) → map f xs ≡ [] → xs ≡ []
 map-empty f [] e = refl
 map-empty f (x ∷ xs) e = cc
-
-pub vector-below_not : (u : Vector) → VectorBelow u u → ⊥
-vector-below_not u (inl l) = omega (arith, ints)
-vector-below_not u (inr (inl l)) = let p = l.1 in omega (arith, ints)
-vector-below_not u (inr (inr l)) = let p = l.2 in omega (arith, ints)
 
 pub number-order : {A : Type 0} (i k : ℕ) → (i < k → A) → (i ≡ k → A) → (k < i → A) → A
 number-order i k f g h = by_order (pos i) (pos k) (λ l. f (omega (arith, ints))) (λ e. g (omega (arith, ints))) (λ l. h (omega (arith, ints)))
@@ -71,7 +51,7 @@ module _ (gs : List Vector) (L : Vector → Label) (R : RawMap) (M : Map) (C : I
       same = lowest-same t.axis u.axis w (let S = kept-shows i t a in S.star.axis_lowest) (let S = kept-shows k u b in S.star.axis_lowest)
 
       never : {x y : Vector} → VectorBelow x y → x ≡ y → ⊥
-      never {x} {y} l e = vector-below_not y (subst (λ (r : Vector). VectorBelow r y) e l)
+      never {x} {y} l e = below-itself y (subst (λ (r : Vector). VectorBelow r y) e l)
 
   -- ---- svertices
   pub svertex-star : (k : ℕ) (v : MapVertex) → At M.svertices k v → (t : Star) × At kept k t × (svertex_at t ≡ v)

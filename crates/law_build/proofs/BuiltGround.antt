@@ -1,41 +1,14 @@
 -- Where a builder makes neither svertex nor sloop, all directions have one label.
-use Rattle.std.proofs.Common.{◌≡◌, ℕ, ◌<◌, pos, arith, refl, ap, sym, ◌∙◌, inl, inr, ⊎_elim, List, [], map, subst, Option, Some, None}
-use Rattle.std.proofs.lemmas.Int.{ints}
-use Rattle.nef_space.proofs.Order.{Sign, minus, nought, plus, sign, mul_pos}
-use Rattle.nef_space.specs.Vectors.{Vector, IsDirection, cross, dot, IsOpposite, blend}
-use Rattle.nef_space.specs.declared.label.Label.{Label}
-use Rattle.law_near.proofs.Directions.{dot-comm, dot-zero, self-pos, zero-decided}
-use Rattle.law_near.proofs.Decided.{Decided}
-use Rattle.law_sphere.specs.Maps.{At, MapVertex, MapSloop, Map}
-use Rattle.law_sphere.specs.Least.{by_side}
-use Rattle.law_sphere.specs.Labelling.{Near, Plain, StraightAt, IsSmooth, plain, straight}
-use Rattle.law_sphere.specs.Builds.{Proper}
-use Rattle.law_sphere.specs.Stars.{Star}
-use Rattle.law_sphere.proofs.Vectors.{normal-direction, dot-comb}
-use Rattle.law_sphere.proofs.Places.{IsOpposite-decided}
-use Rattle.law_sphere.proofs.Parallel.{circle-point}
-use Rattle.law_sphere.proofs.Around.{Beside, same_way, other_way, beside}
-use Rattle.law_sphere.proofs.KindFlats.{in-span}
+use Rattle.law_build.proofs.Prelude.{◌≡◌, ℕ, ◌<◌, pos, arith, refl, ap, sym, ◌∙◌, inl, inr, ⊎_elim, List, map, subst, Option, Some, None, [], ints, Sign, sign, mul_pos, Vector, IsDirection, cross, dot, IsOpposite, blend, opposite, Label, Decided, At, MapVertex, MapSloop, Map, by_side, Near, Plain, StraightAt, IsSmooth, plain, straight, Proper, Star, normal-direction, dot-comb, even-side, IsOpposite-decided, circle-point, Beside, same_way, other_way, beside, flipped, RawMap, Of, svertex_at, IsRawLabel, dot-comm, zero-decided, dot-zero, self-pos, in-span, some-some}
 use Rattle.law_sphere.proofs.Walk.{between-direction, carried}
-use Rattle.law_sphere.proofs.Kind.{away}
-use Rattle.law_sphere.proofs.Flips.{label-eq, flipped}
-use Rattle.law_sphere.proofs.Builder.{normal-or}
-use Rattle.law_sphere.specs.Raw.{RawMap, Of}
-use Rattle.law_build.specs.From.{svertex_at, IsRawLabel}
+use Rattle.law_sphere.proofs.Builder.{normal-either}
 use Rattle.law_build.proofs.BuiltLabels.{with_axes, labelling}
 use Rattle.law_build.proofs.BuiltAxes.{IsMade, map-empty, smooth-off}
 use Rattle.law_build.proofs.BuiltSloops.{sloop-all}
-
-some-some : {A : Type 0} (x y : A) → ◌≡◌ {A = Option A} (Some x) (Some y) → x ≡ y
-some-some x y e = cc
+use Rattle.law_near.proofs.Decisions.{same-label_or}
 
 none-some : {A : Type 0} (o : Option A) (x : A) → o ≡ None → o ≡ Some x → ⊥
 none-some o x e f = cc
-
-even : (c : Label) (s : Sign) → by_side c c c s ≡ c
-even c minus = refl
-even c nought = refl
-even c plus = refl
 
 module _ (gs : List Vector) (L : Vector → Label) (R : RawMap) (M : Map) (C : IsMade gs L R M) where
   abbrev F : Vector → Label → Type 0
@@ -58,7 +31,7 @@ module _ (gs : List Vector) (L : Vector → Label) (R : RawMap) (M : Map) (C : I
     never-proper : (n : Vector) (a m b : Label) (d : Vector) → IsDirection n → IsDirection d → StraightAt F n a m b d → Proper a m b → ⊥
     never-proper n a m b d hn hd p q = ⊎_elim
         (λ x. found (sloop-all gs L R M C n d a m b x hd (λ k v c z. no-svertex k v c) q p))
-        (λ x. found (sloop-all gs L R M C (away n) d b m a x hd (λ k v c z. no-svertex k v c) (λ u v. q v u) (flipped F n a m b d p))) (normal-or n hn)
+        (λ x. found (sloop-all gs L R M C (opposite n) d b m a x hd (λ k v c z. no-svertex k v c) (λ u v. q v u) (flipped F n a m b d p))) (normal-either n hn)
       where
         found : {P : MapSloop → Type 0} → (l : MapSloop) × (M.sloop ≡ Some l) × P l → ⊥
         found x = none-some M.sloop x.0 no_sloop x.1
@@ -68,10 +41,10 @@ module _ (gs : List Vector) (L : Vector → Label) (R : RawMap) (M : Map) (C : I
       where
         by : IsSmooth F d → Near F d e m
         by (plain l p) = subst (Near F d e) (sym p.at_d ∙ f) (p.near e)
-        by (straight n a c b hn p) = cases (label-eq a c) (label-eq b c)
+        by (straight n a c b hn p) = cases (same-label_or a c) (same-label_or b c)
           where
             flat : a ≡ c → b ≡ c → (s : Sign) → by_side a c b s ≡ c
-            flat x y s = ap (λ r. by_side r c b s) x ∙ ap (λ r. by_side c c r s) y ∙ even c s
+            flat x y s = ap (λ r. by_side r c b s) x ∙ ap (λ r. by_side c c r s) y ∙ even-side c s
 
             cases : Decided (a ≡ c) → Decided (b ≡ c) → Near F d e m
             cases (inl x) (inl y) = subst (Near F d e) (flat x y (sign (dot n e)) ∙ sym p.at_d ∙ f) (p.near e)

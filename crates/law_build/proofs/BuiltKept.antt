@@ -1,25 +1,7 @@
 -- A star that is kept stands at a direction that is neither plain nor straight.
-use Rattle.std.proofs.Common.{◌≡◌, ℕ, zero, ◌+◌, arith, refl, ap, sym, ◌∙◌, inl, inr, ⊎_elim, ◌↔◌, List, [], ◌∷◌, subst, length}
-use Rattle.nef_space.proofs.Order.{sign}
-use Rattle.nef_space.specs.Vectors.{Vector, IsDirection, cross, dot, blend}
-use Rattle.nef_space.specs.declared.label.Label.{Label}
-use Rattle.law_near.proofs.Supports.{square-cross}
-use Rattle.law_sphere.specs.Maps.{At, MapVertex, Map, MapLabel, NearLabel, Valid}
-use Rattle.law_sphere.specs.Least.{by_side, NearPlain, NearStraight, Least, Ordered}
-use Rattle.law_sphere.specs.Labelling.{Near, PlainAt, StraightAt, IsSmooth, plain, straight}
-use Rattle.law_sphere.specs.Builds.{Kept}
-use Rattle.law_sphere.specs.Stars.{Star, in_only_sector, IsPlain, IsSimplified, StarShows}
-use Rattle.law_sphere.proofs.Vectors.{nought-if}
-use Rattle.law_sphere.proofs.Generic.{amount}
-use Rattle.law_sphere.proofs.Parallel.{circle-point}
-use Rattle.law_sphere.proofs.Flips.{far_directed-by}
-use Rattle.law_sphere.proofs.BuiltLeast.{built-valid, built-labels}
-use Rattle.law_sphere.proofs.Simplified.{plain-no_ray}
-use Rattle.law_sphere.proofs.StraightStars.{straight-rays}
-use Rattle.law_sphere.specs.Raw.{RawMap, Of, IsLabelling, sector_count, ShowsLabels, IsRawOf}
-use Rattle.law_build.specs.From.{AreSimplified, IsBuiltFrom}
+use Rattle.law_build.proofs.Prelude.{◌≡◌, ℕ, zero, ◌+◌, arith, refl, ap, sym, ◌∙◌, inl, inr, ⊎_elim, ◌↔◌, List, ◌∷◌, subst, length, [], sign, Vector, IsDirection, cross, dot, blend, Label, At, MapVertex, Map, MapLabel, NearLabel, Valid, by_side, NearPlain, NearStraight, Least, Ordered, Near, PlainAt, StraightAt, IsSmooth, plain, straight, Kept, Star, in_only_sector, IsPlain, IsSimplified, StarShows, amount, circle-point, far_directed-by, built-valid, built-labels, plain-no_ray, straight-rays, RawMap, Of, IsLabelling, sector_count, ShowsLabels, IsRawOf, AreSimplified, IsBuiltFrom, square-cross, nought-if, level_cross_second, neg, none-empty}
 use Rattle.law_build.proofs.BuiltLabels.{with_axes, labelling, axial, labels-build}
-use Rattle.law_build.proofs.RayStraight.{off-axis, beside-level}
+use Rattle.law_build.proofs.RayStraight.{off-axis}
 use Rattle.law_build.proofs.StarRays.{two-straight, rays-apart}
 use Rattle.law_build.proofs.BuiltAxes.{IsMade, kept-shows, kept-simple, svertex-star}
 use Rattle.law_build.proofs.BuiltAround.{sector-there}
@@ -29,10 +11,6 @@ one-element : {A : Type 0} (xs : List A) → length xs ≡ 1 → (x : A) × (xs 
 one-element [] e = absurd (omega arith)
 one-element (x ∷ []) e = (x, refl)
 one-element (x ∷ y ∷ xs) e = absurd (omega arith)
-
-no-element : {A : Type 0} (xs : List A) → ((k : ℕ) (x : A) → At xs k x → ⊥) → xs ≡ []
-no-element [] f = refl
-no-element (x ∷ xs) f = absurd (f zero x refl)
 
 near-of : (L : Vector → Label) (d e : Vector) (k l : Label) → Near (Of L) d e k → Near (Of L) d e l → k ≡ l
 near-of L d e k l (i, f) (j, g) = sym (f (i + j) (omega arith)) ∙ g (i + j) (omega arith)
@@ -79,7 +57,7 @@ module _ (gs : List Vector) (L : Vector → Label) (R : RawMap) (M : Map) (C : I
         let axis = S.star.axis in
         let e = circle-point t.axis axis in
         let P : NearPlain M t.axis = record { label = m; at_d = (labels t.axis m axis).1 p.at_d; near = λ v f. near-map t.axis v m axis (p.near v) } in
-        let none = no-element t.rays (plain-no_ray t M valid (star-shows t S) (kept-simple gs L R M C k t h) P) in
+        let none = none-empty t.rays (plain-no_ray t M valid (star-shows t S) (kept-simple gs L R M C k t h) P) in
         C.built.kept_needed k t h (inl (no-ray-plain t L S none e.0 (off-axis t.axis e.0 axis e.1.direction e.1.level) (subst (Near F t.axis e.0) (sym p.at_d ∙ S.mark) (p.near e.0))))
 
     kept-not_straight : (n : Vector) (a m b : Label) → IsDirection n → StraightAt F n a m b t.axis → ⊥
@@ -104,7 +82,7 @@ module _ (gs : List Vector) (L : Vector → Label) (R : RawMap) (M : Map) (C : I
         without : t.rays ≡ [] → IsPlain t
         without none =
             let w = cross n t.axis in
-            no-ray-plain t L S none w (off-axis t.axis w S.star.axis (λ z. S.star.axis (nought-if n t.axis hn z p.level)) (beside-level n t.axis))
+            no-ray-plain t L S none w (off-axis t.axis w S.star.axis (λ z. S.star.axis (nought-if n t.axis hn z p.level)) (level_cross_second n t.axis))
             (subst (Near F t.axis w) (ap (by_side a m b) (ap sign (square-cross n t.axis)) ∙ sym p.at_d ∙ S.mark) (p.near w))
 
     kept-not_smooth : IsSmooth F t.axis → ⊥

@@ -1,27 +1,6 @@
 -- Labels that the signs of finitely many forms determine, as a labelling; where they are plain or straight.
-use Rattle.std.proofs.Common.{◌≡◌, ℕ, ◌+◌, ◌≤◌, pos, arith, refl, ap, sym, ◌∙◌, ⊎_elim, List, ◌++◌, subst}
-use Rattle.nef_space.proofs.Order.{sign}
-use Rattle.nef_space.proofs.Lists.{lies-left, lies-right}
-use Rattle.nef_space.specs.Vectors.{Vector, IsDirection, cross, dot, IsZero, SameDirection, blend}
-use Rattle.nef_space.specs.declared.label.Label.{Label}
-use Rattle.law_near.proofs.Far.{nought-or}
-use Rattle.law_near.proofs.Directions.{zero-decided}
-use Rattle.law_sphere.specs.Maps.{Map, MapLabel, Valid}
-use Rattle.law_sphere.specs.Forms.{SameSigns, axes}
-use Rattle.law_sphere.specs.Least.{by_side, Least}
-use Rattle.law_sphere.specs.Labelling.{Labelling, Near, PlainAt, StraightAt, IsSmooth, plain, straight}
-use Rattle.law_sphere.specs.Builds.{IsBuilt, Kept}
-use Rattle.law_sphere.proofs.Generic.{amount, far-keeps, far-level}
-use Rattle.law_sphere.proofs.Labels.{dir-signs}
-use Rattle.law_sphere.proofs.Compare.{dir-self}
-use Rattle.law_sphere.proofs.Turn.{dir-directed}
-use Rattle.law_sphere.proofs.Labels.{dir-direction}
-use Rattle.law_sphere.proofs.Arcs.{level-same}
+use Rattle.law_build.proofs.Prelude.{◌≡◌, ℕ, ◌+◌, ◌≤◌, pos, arith, refl, ap, sym, ◌∙◌, ⊎_elim, List, ◌++◌, subst, sign, nought-or, lies-left, lies-right, Vector, IsDirection, cross, dot, IsZero, SameDirection, blend, Label, Map, MapLabel, Valid, SameSigns, axes, by_side, Least, Labelling, Near, PlainAt, StraightAt, IsSmooth, plain, straight, IsBuilt, Kept, amount, far-keeps, far-level, level-same, Axial, far_directed-by, built-valid, built-least, built-labels, Of, IsLabelling, zero-decided, dir-self, dir-signs, direction-right, direction-left, in-span}
 use Rattle.law_sphere.proofs.Lone.{near-same_signs}
-use Rattle.law_sphere.proofs.KindFlats.{in-span}
-use Rattle.law_sphere.proofs.Flips.{Axial, far_directed-by}
-use Rattle.law_sphere.proofs.BuiltLeast.{built-valid, built-least, built-labels}
-use Rattle.law_sphere.specs.Raw.{Of, IsLabelling}
 
 -- the forms with the axes, which tell directions
 abbrev pub with_axes : List Vector → List Vector
@@ -59,11 +38,11 @@ module _ (gs : List Vector) (L : Vector → Label) (I : IsLabelling gs L) where
   near-same_way d c e m w (n, f) = (
     n + amount hs e,
     λ k l. let j : amount hs e ≤ k = omega arith in
-        (labelling gs L I).cells (blend k d 1 e) (blend k c 1 e) m (far d e k j (dir-directed d c w)) (far c e k j (dir-direction d c w)) (near-same_signs hs d c e k j w) (f k (omega arith)),
+        (labelling gs L I).cells (blend k d 1 e) (blend k c 1 e) m (far d e k j (direction-left d c w)) (far c e k j (direction-right d c w)) (near-same_signs hs d c e k j w) (f k (omega arith)),
   )
 
   at-same_way : (d c : Vector) (m : Label) → SameDirection d c → F d m → F c m
-  at-same_way d c m w a = (labelling gs L I).cells d c m (dir-directed d c w) (dir-direction d c w) (λ g l. dir-signs d c g (dir-directed d c w) w) a
+  at-same_way d c m w a = (labelling gs L I).cells d c m (direction-left d c w) (direction-right d c w) (λ g l. dir-signs d c g (direction-left d c w) w) a
 
   pub smooth-same_way : (d c : Vector) → SameDirection d c → IsSmooth F d → IsSmooth F c
   smooth-same_way d c w (plain m p) = plain m (record { at_d = at-same_way d c m w p.at_d; near = λ e. near-same_way d c e m w (p.near e) })

@@ -1,15 +1,5 @@
 -- What a builder makes of simplified stars is built of their labels, in order.
-use Rattle.std.proofs.Common.{◌≡◌, ℕ, pos, ap, sym, List, subst, Some}
-use Rattle.nef_space.specs.Vectors.{Vector, IsDirection, dot, SameDirection, IsNormal}
-use Rattle.nef_space.specs.declared.label.Label.{Label}
-use Rattle.law_sphere.specs.Vectors.{IsPrimitive, VectorBelow}
-use Rattle.law_sphere.specs.Maps.{At, MapVertex, MapSloop, Map, Item, arc_item, sloop_item, items, item_normal, OnItem}
-use Rattle.law_sphere.specs.Least.{Ordered}
-use Rattle.law_sphere.specs.Builds.{IsBuilt}
-use Rattle.law_sphere.proofs.Shot.{arc-at}
-use Rattle.law_sphere.proofs.Arcs.{sloop-at}
-use Rattle.law_sphere.specs.Raw.{RawMap, Of}
-use Rattle.law_build.specs.From.{svertex_at}
+use Rattle.law_build.proofs.Prelude.{◌≡◌, ℕ, pos, ap, sym, List, subst, Some, Vector, IsDirection, dot, SameDirection, IsNormal, Label, IsPrimitive, VectorBelow, At, MapVertex, MapSloop, Map, Item, arc_item, sloop_item, items, item_normal, OnItem, Ordered, IsBuilt, arc-at, sloop-at, RawMap, Of, svertex_at}
 use Rattle.law_build.proofs.BuiltAxes.{IsMade, kept-shows, kept-axis, kept-apart, svertex-star, star-svertex, smooth-off}
 use Rattle.law_build.proofs.BuiltArcs.{arc-normal, arc-lowest, arc-between, arc-proper, arc-labels, arc-passes_none, arcs-apart, arcs-all}
 use Rattle.law_build.proofs.BuiltAround.{around-lone, around-not, around-near}

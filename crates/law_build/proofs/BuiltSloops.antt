@@ -1,32 +1,6 @@
 -- The sloop that a builder makes: a circle with other labels beside it that no kept axis lies on.
-use Rattle.std.proofs.Common.{◌≡◌, ℕ, zero, pos, arith, refl, ap, sym, ◌∙◌, ◌⊎◌, inl, inr, ⊎_elim, List, subst, Some}
-use Rattle.std.proofs.lemmas.Int.{ints}
-use Rattle.nef_space.proofs.Order.{sign, sign-plus, sign-minus}
-use Rattle.nef_space.specs.Vectors.{Vector, IsDirection, cross, dot, IsZero, SameDirection, IsNormal}
-use Rattle.nef_space.specs.declared.label.Label.{Label}
-use Rattle.law_cyclic.specs.Arcs.{IsOnCircle}
-use Rattle.law_near.proofs.Far.{nought-or}
-use Rattle.law_near.proofs.Directions.{self-pos, zero-decided}
-use Rattle.law_near.proofs.Supports.{square-cross}
-use Rattle.law_sphere.specs.Vectors.{IsPrimitive}
-use Rattle.law_sphere.specs.Maps.{At, MapVertex, MapSloop, Map}
-use Rattle.law_sphere.specs.Least.{by_side}
-use Rattle.law_sphere.specs.Labelling.{Near, StraightAt, IsSmooth}
-use Rattle.law_sphere.specs.Builds.{Proper}
-use Rattle.law_sphere.specs.Stars.{Star, IsPlain, IsStraight}
-use Rattle.law_sphere.proofs.Vectors.{normal-direction}
-use Rattle.law_sphere.proofs.Lists.{Found, search_list}
-use Rattle.law_sphere.proofs.Parallel.{circle-point}
-use Rattle.law_sphere.proofs.Around.{Beside, same_way, other_way, beside}
-use Rattle.law_sphere.proofs.Compare.{SameDirection-turned, dir-self, normals-not_opposite}
-use Rattle.law_sphere.proofs.Arcs.{level-same}
-use Rattle.law_sphere.proofs.Kind.{away, away-dot}
-use Rattle.law_sphere.proofs.Along.{near-one, not-even}
-use Rattle.law_sphere.proofs.Flips.{directed-by, far_directed-by, straight-same_way, planes-parallel, sloop-along}
-use Rattle.law_sphere.specs.Raw.{RawMap, Of, ShowsLabels, IsBare}
-use Rattle.law_build.specs.From.{svertex_at, sloop_at, IsSloopFrom, raw_sloop, straight_sloop}
+use Rattle.law_build.proofs.Prelude.{◌≡◌, ℕ, zero, pos, arith, refl, ap, sym, ◌∙◌, ◌⊎◌, inl, inr, ⊎_elim, List, subst, Some, ints, sign, sign-plus, sign-minus, nought-or, Vector, IsDirection, cross, dot, IsZero, SameDirection, IsNormal, opposite, Label, IsOnCircle, IsPrimitive, At, MapVertex, MapSloop, Map, by_side, Near, StraightAt, IsSmooth, Proper, Star, IsPlain, IsStraight, normal-direction, Found, search_list, circle-point, normals-same, level-same, near-one, not-even, directed-by, far_directed-by, straight-same_way, planes-parallel, sloop-along, RawMap, Of, ShowsLabels, IsBare, svertex_at, sloop_at, IsSloopFrom, raw_sloop, straight_sloop, zero-decided, self-pos, square-cross, SameDirection-turned, dir-self, level_cross_second, dot-opposite}
 use Rattle.law_build.proofs.BuiltLabels.{with_axes, labelling, axial}
-use Rattle.law_build.proofs.RayStraight.{beside-level}
 use Rattle.law_build.proofs.StarSmooth.{star-plain, star-straight, star-normal, straight-first, straight-proper}
 use Rattle.law_build.proofs.BuiltAxes.{IsMade, star-svertex, smooth-off}
 
@@ -91,11 +65,7 @@ module _ (gs : List Vector) (L : Vector → Label) (R : RawMap) (M : Map) (C : I
     parallel-at u c l g d o q = planes-parallel hs F (labelling gs L C.labelling) (axial gs) n a m b proper hn u c l g d o.direction (round d o) q
 
     same-normal : (u : Vector) → IsNormal u → IsZero (cross n u) → SameDirection n u
-    same-normal u hu z = by (beside n u hn (normal-direction u hu) z)
-      where
-        by : Beside n u → SameDirection n u
-        by (same_way w) = w
-        by (other_way w) = absurd (normals-not_opposite n u normal hu w)
+    same-normal u hu z = normals-same n u normal hu z
 
     straight-one : (c l g : Label) → StraightAt F n c l g y → Proper c l g
     straight-one c l g q e f = proper (above ∙ e ∙ sym mark) (below ∙ f ∙ sym mark)
@@ -109,14 +79,14 @@ module _ (gs : List Vector) (L : Vector → Label) (R : RawMap) (M : Map) (C : I
         plus-side : (i j k : Label) → by_side i j k (sign (dot n n)) ≡ i
         plus-side i j k = ap (by_side i j k) (sign-plus (dot n n) (self-pos n hn))
 
-        minus-side : (i j k : Label) → by_side i j k (sign (dot n (away n))) ≡ k
-        minus-side i j k = ap (by_side i j k) (sign-minus (dot n (away n)) (let e = away-dot n n in let h = self-pos n hn in omega (arith, ints)))
+        minus-side : (i j k : Label) → by_side i j k (sign (dot n (opposite n))) ≡ k
+        minus-side i j k = ap (by_side i j k) (sign-minus (dot n (opposite n)) (let e = dot-opposite n n in let h = self-pos n hn in omega (arith, ints)))
 
         above : a ≡ c
         above = one n a c (subst (Near F y n) (plus-side a m b) (p.near n)) (subst (Near F y n) (plus-side c l g) (q.near n))
 
         below : b ≡ g
-        below = one (away n) b g (subst (Near F y (away n)) (minus-side a m b) (p.near (away n))) (subst (Near F y (away n)) (minus-side c l g) (q.near (away n)))
+        below = one (opposite n) b g (subst (Near F y (opposite n)) (minus-side a m b) (p.near (opposite n))) (subst (Near F y (opposite n)) (minus-side c l g) (q.near (opposite n)))
 
   -- two circles meet, and where both are needed they are the same
   one-circle : (n : Vector) (a m b : Label) → IsNormal n → IsBare kept n → Proper a m b → (y : Vector) → IsDirection y → StraightAt F n a m b y → (l : MapSloop) → IsNeeded F kept l → SameDirection n l.normal
@@ -124,7 +94,7 @@ module _ (gs : List Vector) (L : Vector → Label) (R : RawMap) (M : Map) (C : I
     where
       met : IsDirection (cross n l.normal) → IsZero (cross n l.normal)
       met f = parallel-at n a m b normal bare proper y hy p l.normal l.pos l.mark l.neg (cross n l.normal) (record { direction = f; level = square-cross n l.normal })
-          (round l.normal l.pos l.mark l.neg N.normal N.bare N.proper N.point N.direction N.labels (cross n l.normal) (record { direction = f; level = beside-level n l.normal }))
+          (round l.normal l.pos l.mark l.neg N.normal N.bare N.proper N.point N.direction N.labels (cross n l.normal) (record { direction = f; level = level_cross_second n l.normal }))
 
   pub sloop-all : (n y : Vector) (a m b : Label) → IsNormal n → IsDirection y → ((k : ℕ) (v : MapVertex) → At M.svertices k v → dot n v.dir ≡ pos 0 → ⊥) → Proper a m b → StraightAt F n a m b y
       → (l : MapSloop) × (M.sloop ≡ Some l) × SameDirection n l.normal

@@ -1,16 +1,5 @@
 -- A label for each direction, chosen from a labelling.
-use Rattle.std.proofs.Common.{inl, inr, List, ◌++◌}
-use Rattle.nef_space.specs.Vectors.{Vector, IsDirection, IsZero}
-use Rattle.nef_space.specs.declared.label.Label.{Label}
-use Rattle.law_near.proofs.Directions.{zero-decided}
-use Rattle.law_near.proofs.Decided.{Decided}
-use Rattle.law_sphere.specs.Maps.{Map, MapLabel, Valid}
-use Rattle.law_sphere.specs.Forms.{forms}
-use Rattle.law_sphere.specs.Labelling.{Labelling, ByOp}
-use Rattle.law_sphere.proofs.Labels.{label-exists, label-unique, label-by_signs}
-use Rattle.law_sphere.proofs.Labellings.{op-labelling}
-use Rattle.law_sphere.specs.Raw.{IsLabelling}
-use Rattle.law_build.specs.Laws.{MapLabelling, OpLabelling}
+use Rattle.law_build.proofs.Prelude.{inl, inr, List, ◌++◌, Vector, IsDirection, IsZero, Label, Decided, Map, MapLabel, Valid, forms, Labelling, ByOp, label-exists, label-unique, label-by_signs, op-labelling, IsLabelling, MapLabelling, OpLabelling, zero-decided}
 
 module _ (gs : List Vector) (F : Vector → Label → Type 0) (N : Labelling gs F) where
   -- for a vector that is no direction any label

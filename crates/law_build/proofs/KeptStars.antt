@@ -1,13 +1,5 @@
 -- Stars that have kept their labels show the same.
-use Rattle.std.proofs.Common.{◌≡◌, ℕ, zero, suc, arith, refl, ap, sym, ◌∙◌, List, [], ◌∷◌, subst, length}
-use Rattle.nef_space.specs.Vectors.{Vector, IsDirection, cross, dot, SameDirection}
-use Rattle.nef_space.specs.declared.label.Label.{Label}
-use Rattle.law_sphere.specs.Vectors.{VectorBelow}
-use Rattle.law_sphere.specs.Maps.{At}
-use Rattle.law_sphere.specs.Stars.{Star}
-use Rattle.law_sphere.specs.Labelling.{Near}
-use Rattle.law_sphere.specs.Raw.{RawMap, Of, ShowsLabels, IsBare, IsRawOf}
-use Rattle.law_build.specs.From.{IsKeptStar, IsKeptRaw}
+use Rattle.law_build.proofs.Prelude.{◌≡◌, ℕ, zero, suc, arith, refl, ap, sym, ◌∙◌, List, ◌∷◌, subst, length, [], Vector, IsDirection, cross, dot, SameDirection, Label, VectorBelow, At, Star, Near, RawMap, Of, ShowsLabels, IsBare, IsRawOf, IsKeptStar, IsKeptRaw}
 
 -- lists of one length have elements at the same places
 pub at-other : {A B : Type 0} (xs : List A) (ys : List B) (k : ℕ) (x : A) → length xs ≡ length ys → At xs k x → (y : B) × At ys k y

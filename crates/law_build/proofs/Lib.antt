@@ -1,3 +1,4 @@
+pub mod Prelude
 pub mod Chosen
 pub mod SideLabels
 pub mod Merged

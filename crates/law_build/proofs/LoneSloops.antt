@@ -1,18 +1,5 @@
 -- The lone circle of overlaid stars: the labels along it, and that there is no other.
-use Rattle.std.proofs.Common.{◌≡◌, ℕ, pos, refl, ap, sym, ◌∙◌, ⊎_elim, subst, Option, Some, None}
-use Rattle.std.specs.Prelude.{MatchOption}
-use Rattle.nef_space.specs.Vectors.{Vector, IsDirection, cross, dot, IsZero, SameDirection, opposite, IsNormal}
-use Rattle.nef_space.specs.declared.label.Label.{Label}
-use Rattle.law_near.proofs.FlatDecided.{cross-turned}
-use Rattle.law_cyclic.specs.Arcs.{IsOnCircle}
-use Rattle.law_sphere.specs.Maps.{At, MapSloop, Map, Item, arc_item, sloop_item, items, item_normal, OnItem, Shaped, Valid}
-use Rattle.law_sphere.specs.Labelling.{StraightAt, ByOp}
-use Rattle.law_sphere.proofs.Vectors.{normal-direction}
-use Rattle.law_sphere.proofs.Shot.{arc-at}
-use Rattle.law_sphere.proofs.Compare.{dir-self, SameDirection-turned}
-use Rattle.law_sphere.proofs.Arcs.{at-sloop, sloop-at, level-same, ends-of}
-use Rattle.law_sphere.specs.Raw.{RawMap, Of, IsBare}
-use Rattle.law_build.specs.Overlays.{OnSvertex, IsAxis, NearByOp, IsMergedSloop, IsLoneSloop, Raw}
+use Rattle.law_build.proofs.Prelude.{◌≡◌, ℕ, pos, refl, ap, sym, ◌∙◌, ⊎_elim, subst, Option, Some, None, MatchOption, Vector, IsDirection, cross, dot, IsZero, SameDirection, opposite, IsNormal, Label, IsOnCircle, At, MapSloop, Map, Item, arc_item, sloop_item, items, item_normal, OnItem, Shaped, Valid, StraightAt, ByOp, normal-direction, arc-at, at-sloop, sloop-at, level-same, ends-of, RawMap, Of, IsBare, OnSvertex, IsAxis, NearByOp, IsMergedSloop, IsLoneSloop, Raw, cross-turned, SameDirection-turned, dir-self}
 use Rattle.law_build.proofs.SideLabels.{SidesAt, sides-at, own-item, joined-sides}
 use Rattle.law_build.proofs.Merged.{is-of, near-merged, straight-of, straight-one, off-first, off-second, one-plane}
 

@@ -1,23 +1,6 @@
 -- Overlaid stars: what op of two maps' labels says of a label function with them; the axes, and the lone circle.
-use Rattle.std.proofs.Common.{◌≡◌, ℕ, ◌+◌, ℤ, pos, ◌+ℤ◌, ◌-ℤ◌, ◌*ℤ◌, ◌<ℤ◌, neg_ℤ, arith, ap, sym, ◌∙◌, inl, inr, ⊎_elim, [], ◌∷◌, subst}
-use Rattle.std.proofs.lemmas.Int.{ints}
-use Rattle.nef_space.proofs.Ring.{ring, at, num, ◌⊕◌, ◌⊖◌, ◌⊗◌}
-use Rattle.nef_space.proofs.Order.{sign-plus, sign-minus}
-use Rattle.nef_space.specs.Vectors.{Vector, IsDirection, cross, dot, IsZero, SameDirection, opposite, blend}
-use Rattle.nef_space.specs.declared.label.Label.{Label}
-use Rattle.law_near.proofs.Directions.{zero-decided, self-pos}
-use Rattle.law_cyclic.specs.Arcs.{IsOnCircle}
-use Rattle.law_sphere.specs.Maps.{At, MapVertex, Map, Item, items, item_normal, OnItem, Valid}
-use Rattle.law_sphere.specs.Least.{by_side}
-use Rattle.law_sphere.specs.Stars.{Star}
-use Rattle.law_sphere.specs.Labelling.{Near, StraightAt, IsSmooth, plain, straight, ByOp}
-use Rattle.law_sphere.proofs.Labels.{label-direction}
-use Rattle.law_sphere.proofs.Compare.{dir-self, SameDirection-turned}
-use Rattle.law_sphere.proofs.Arcs.{level-same}
-use Rattle.law_sphere.proofs.Labellings.{op-labelling}
+use Rattle.law_build.proofs.Prelude.{◌≡◌, ℕ, ◌+◌, ℤ, pos, ◌+ℤ◌, ◌-ℤ◌, ◌*ℤ◌, ◌<ℤ◌, neg_ℤ, arith, ap, sym, ◌∙◌, inl, inr, ⊎_elim, ◌∷◌, subst, [], ints, ring, at, num, ◌⊕◌, ◌⊖◌, ◌⊗◌, sign-plus, sign-minus, Vector, IsDirection, cross, dot, IsZero, SameDirection, opposite, blend, Label, IsOnCircle, At, MapVertex, Map, Item, items, item_normal, OnItem, Valid, by_side, Star, Near, StraightAt, IsSmooth, plain, straight, ByOp, label-direction, level-same, op-labelling, RawMap, Of, ShowsLabels, IsBare, IsAxis, NearByOp, Raw, zero-decided, self-pos, SameDirection-turned, dir-self, apart}
 use Rattle.law_sphere.proofs.Smooth.{op-smooth}
-use Rattle.law_sphere.specs.Raw.{RawMap, Of, ShowsLabels, IsBare}
-use Rattle.law_build.specs.Overlays.{IsAxis, NearByOp, Raw}
 
 -- the opposite of a direction lies behind it
 pub opposite-behind : (n : Vector) → IsDirection n → dot n (opposite n) <ℤ pos 0

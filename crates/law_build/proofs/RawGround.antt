@@ -1,33 +1,11 @@
 -- The one face of overlaid maps without items, and what overlaid stars show.
-use Rattle.std.proofs.Common.{◌≡◌, ℕ, zero, refl, ap, sym, ◌∙◌, ◌⊎◌, inl, inr, ⊎_elim, List, [], ◌∷◌, subst, Option, Some, None}
-use Rattle.std.specs.Prelude.{MatchOption, IsSome}
-use Rattle.nef_space.specs.Vectors.{Vector, IsDirection}
-use Rattle.nef_space.specs.declared.label.Label.{Label}
-use Rattle.law_sphere.specs.Maps.{At, MapVertex, MapSloop, Map, Item, arc_item, sloop_item, items, Side, around_svertex, pos_item, neg_item, whole, HasSide, MapLabel, at_svertex, on_item, seen, Shaped, Valid}
-use Rattle.law_sphere.specs.Stars.{Star}
-use Rattle.law_sphere.specs.Labelling.{ByOp}
-use Rattle.law_sphere.proofs.Shot.{arc-at}
-use Rattle.law_sphere.proofs.Compare.{dir-self}
-use Rattle.law_sphere.proofs.Arcs.{sloop-at, ends-of}
-use Rattle.law_sphere.specs.Raw.{RawMap}
-use Rattle.law_build.specs.Overlays.{OnSvertex, IsAxis, IsMergedGround, HasItem, Raw}
-use Rattle.law_build.specs.Laws.{RawShowsOp}
+use Rattle.law_build.proofs.Prelude.{◌≡◌, ℕ, zero, refl, ap, sym, ◌∙◌, ◌⊎◌, inl, inr, ⊎_elim, List, ◌∷◌, subst, Option, Some, None, [], MatchOption, IsSome, Vector, IsDirection, Label, At, MapVertex, MapSloop, Map, Item, arc_item, sloop_item, items, Side, around_svertex, pos_item, neg_item, whole, HasSide, MapLabel, at_svertex, on_item, seen, Shaped, Valid, Star, ByOp, arc-at, sloop-at, ends-of, RawMap, OnSvertex, IsAxis, IsMergedGround, HasItem, Raw, RawShowsOp, dir-self, some-some, none-at}
 use Rattle.law_build.proofs.Merged.{no-axis, raw-smooth, raw-shows}
 use Rattle.law_build.proofs.LoneSloops.{merged-sloop, no-sloop, raw-sloop_normal, raw-sloop_bare, raw-sloop_labels}
 use Rattle.law_build.proofs.AllSloops.{raw-sloop_all}
 
-pub none-at : {A : Type 0} (xs : List A) (k : ℕ) (x : A) → xs ≡ [] → At xs k x → ⊥
-none-at {A} xs k x e a = subst (λ (r : List A). At r k x) e a
-
 pub not-both : {A : Type 0} (o : Option A) (x : A) → o ≡ None → o ≡ Some x → ⊥
 not-both o x e f = cc
-
-some-label : (k m : Label) → ◌≡◌ {A = Option Label} (Some k) (Some m) → k ≡ m
-some-label k m e = ap get e
-  where
-    get : Option Label → Label
-    get None = k
-    get (Some x) = x
 
 -- ---- a map without items
 module _ (M : Map) (V : Shaped M) (no_svertex : M.svertices ≡ []) (no_sloop : M.sloop ≡ None) where
@@ -47,7 +25,7 @@ module _ (M : Map) (V : Shaped M) (no_svertex : M.svertices ≡ []) (no_sloop : 
       by (around_svertex i) (v, a, q) = absurd (none-at M.svertices i v no_svertex a)
       by (pos_item i) (x, a, q) = absurd (no-item i x a)
       by (neg_item i) (x, a, q) = absurd (no-item i x a)
-      by whole q = some-label m k (sym q ∙ e)
+      by whole q = some-some m k (sym q ∙ e)
 
 -- a map with a svertex has one
 first-svertex : (M : Map) → (M.svertices ≡ [] → ⊥) → (v : MapVertex) × At M.svertices zero v

@@ -1,27 +1,7 @@
 -- Close to a ray a star gives the ray's mark in the plane of the ray, and the labels of the sectors after and before it beside it.
-use Rattle.std.proofs.Common.{◌≡◌, ℕ, ◌≤◌, ℤ, pos, negsuc, ◌+ℤ◌, ◌-ℤ◌, ◌*ℤ◌, ◌<ℤ◌, arith, refl, ap, sym, ◌∙◌, inl, inr, List, [], ◌∷◌, subst}
-use Rattle.std.proofs.lemmas.Int.{ints}
-use Rattle.nef_space.proofs.Ring.{ring, at, num, ◌⊕◌, ◌⊖◌, ◌⊗◌}
-use Rattle.nef_space.proofs.Order.{sign, sign-plus, sign-minus, sign-scaled, by_order, nought-is}
-use Rattle.nef_space.specs.Vectors.{Vector, IsDirection, cross, triple, dot, SameDirection, blend}
-use Rattle.nef_space.specs.declared.label.Label.{Label}
-use Rattle.law_cyclic.specs.Arcs.{IsStrictlyOn}
-use Rattle.law_near.proofs.Directions.{self-pos, dot-comm}
-use Rattle.law_near.proofs.Flats.{vector-same}
-use Rattle.law_near.proofs.FlatDecided.{triple-dot}
-use Rattle.law_sphere.specs.Maps.{At}
-use Rattle.law_sphere.specs.Least.{by_side}
-use Rattle.law_sphere.specs.Stars.{Ray, Star, ray_dir, across, NextRay, StarLabel, on_ray, in_sector, Follows}
-use Rattle.law_sphere.proofs.Vectors.{triple-middle, same-plus}
-use Rattle.law_sphere.proofs.Generic.{amount, far-keeps, far-level}
-use Rattle.law_sphere.proofs.Parallel.{parallel-in_plane}
+use Rattle.law_build.proofs.Prelude.{◌≡◌, ℕ, ◌≤◌, ℤ, pos, ◌*ℤ◌, ◌<ℤ◌, arith, refl, ap, sym, ◌∙◌, inl, inr, List, ◌∷◌, subst, [], ints, ring, at, num, ◌⊕◌, ◌⊖◌, ◌⊗◌, neg, sign, sign-plus, sign-minus, sign-scaled, by_order, nought-is, Vector, IsDirection, cross, triple, dot, SameDirection, blend, opposite, Label, IsStrictlyOn, At, by_side, Ray, Star, ray_dir, across, NextRay, StarLabel, on_ray, in_sector, Follows, same-plus, amount, far-keeps, far-level, reversed, across-side, ray-level, last-of, before, next-ray, IsWellFormed, dot-comm, self-pos, vector-same, triple-dot, triple-middle, parallel-in_plane, cross_of, direction-opposite, level_cross_second, numbers, opposite-dot, opposite-twice, vec, Polys}
 use Rattle.law_sphere.proofs.Direct.{cross-self}
-use Rattle.law_sphere.proofs.Kind.{away}
-use Rattle.law_sphere.proofs.Flips.{dot-away, away-direction, reversed}
 use Rattle.law_sphere.proofs.ArcWays.{on-ahead}
-use Rattle.law_sphere.proofs.StarKinds.{across-side}
-use Rattle.law_sphere.proofs.Simplified.{ray-level, away-twice, last-of, before, next-ray}
-use Rattle.law_sphere.specs.Raw.{IsWellFormed}
 
 pub across-level : (d y : Vector) → dot d (across d y) ≡ pos 0
 across-level d y =
@@ -30,23 +10,12 @@ across-level d y =
     ring (d.x ∷ d.y ∷ d.z ∷ y.x ∷ y.y ∷ y.z ∷ []) (dx ⊗ (cy ⊗ dz ⊖ cz ⊗ dy) ⊕ dy ⊗ (cz ⊗ dx ⊖ cx ⊗ dz) ⊕ dz ⊗ (cx ⊗ dy ⊖ cy ⊗ dx)) (num (pos 0)) tt
 
 cross-last : (v d : Vector) → dot (cross v d) d ≡ pos 0
-cross-last v d = ring (v.x ∷ v.y ∷ v.z ∷ d.x ∷ d.y ∷ d.z ∷ [])
-    ((at 1 ⊗ at 5 ⊖ at 2 ⊗ at 4) ⊗ at 3 ⊕ (at 2 ⊗ at 3 ⊖ at 0 ⊗ at 5) ⊗ at 4 ⊕ (at 0 ⊗ at 4 ⊖ at 1 ⊗ at 3) ⊗ at 5) (num (pos 0)) tt
+cross-last v d = dot-comm (cross v d) d ∙ level_cross_second v d
 
--- the part across the opposite axis is the same
-abbrev turned : ℤ → ℤ
-turned r = negsuc 0 *ℤ r +ℤ pos 0 *ℤ r
-
-across-away : (d y : Vector) → across (away d) y ≡ across d y
-across-away d y = vector-same (across (away d) y) (across d y) (one d.x d.y d.z y.x y.y y.z) (one d.y d.z d.x y.y y.z y.x) (one d.z d.x d.y y.z y.x y.y)
-  where
-    one : (dx dy dz yx yy yz : ℤ) → (turned dz *ℤ yx -ℤ turned dx *ℤ yz) *ℤ turned dz -ℤ (turned dx *ℤ yy -ℤ turned dy *ℤ yx) *ℤ turned dy
-        ≡ (dz *ℤ yx -ℤ dx *ℤ yz) *ℤ dz -ℤ (dx *ℤ yy -ℤ dy *ℤ yx) *ℤ dy
-    one dx dy dz yx yy yz =
-        let mx = num (negsuc 0) ⊗ at 0 ⊕ num (pos 0) ⊗ at 0 in let my = num (negsuc 0) ⊗ at 1 ⊕ num (pos 0) ⊗ at 1 in let mz = num (negsuc 0) ⊗ at 2 ⊕ num (pos 0) ⊗ at 2 in
-        ring (dx ∷ dy ∷ dz ∷ yx ∷ yy ∷ yz ∷ [])
-        ((mz ⊗ at 3 ⊖ mx ⊗ at 5) ⊗ mz ⊖ (mx ⊗ at 4 ⊖ my ⊗ at 3) ⊗ my)
-        ((at 2 ⊗ at 3 ⊖ at 0 ⊗ at 5) ⊗ at 2 ⊖ (at 0 ⊗ at 4 ⊖ at 1 ⊗ at 3) ⊗ at 1) tt
+across-away : (d y : Vector) → across (opposite d) y ≡ across d y
+across-away d y =
+    let xs = numbers d y y y in let m : Polys = (neg (at 0), neg (at 1), neg (at 2)) in let p = cross_of (cross_of m (vec 3)) m in let q = cross_of (cross_of (vec 0) (vec 3)) (vec 0) in
+    vector-same _ _ (ring xs p.0 q.0 tt) (ring xs p.1 q.1 tt) (ring xs p.2 q.2 tt)
 
 -- ---- directions close to w, seen across the axis d
 module _ (d w v e : Vector) (hd : IsDirection d) (hw : IsDirection w) (hv : IsDirection v) (lw : dot d w ≡ pos 0) (lv : dot d v ≡ pos 0) (k : ℕ) where
@@ -93,16 +62,16 @@ module _ (d w v e : Vector) (hd : IsDirection d) (hw : IsDirection w) (hv : IsDi
 
 -- before w, coming from v
 close-before : (d w v e : Vector) → IsDirection d → IsDirection w → IsDirection v → dot d w ≡ pos 0 → dot d v ≡ pos 0
-    → triple d w e <ℤ pos 0 → (k : ℕ) → amount (cross v (away d) ∷ []) e ≤ k → IsStrictlyOn d v w (across d (blend k w 1 e))
+    → triple d w e <ℤ pos 0 → (k : ℕ) → amount (cross v (opposite d) ∷ []) e ≤ k → IsStrictlyOn d v w (across d (blend k w 1 e))
 close-before d w v e hd hw hv lw lv h k l =
-    let m = away d in
+    let m = opposite d in
     let y = blend k w 1 e in
-    let o = close-after m w v e (away-direction d hd) hw hv (level w lw) (level v lv) k (let e = dot-away d (cross w e) in omega (arith, ints)) l in
+    let o = close-after m w v e (direction-opposite d hd) hw hv (level w lw) (level v lv) k (let e = opposite-dot d (cross w e) in omega (arith, ints)) l in
     let p = reversed m w v (across m y) hw o in
-    subst (λ (r : Vector). IsStrictlyOn r v w (across d y)) (away-twice d) (subst (IsStrictlyOn (away m) v w) (across-away d y) p)
+    subst (λ (r : Vector). IsStrictlyOn r v w (across d y)) (opposite-twice d) (subst (IsStrictlyOn (opposite m) v w) (across-away d y) p)
   where
-    level : (x : Vector) → dot d x ≡ pos 0 → dot (away d) x ≡ pos 0
-    level x z = let e = dot-away d x in omega (arith, ints)
+    level : (x : Vector) → dot d x ≡ pos 0 → dot (opposite d) x ≡ pos 0
+    level x z = let e = opposite-dot d x in omega (arith, ints)
 
 -- ---- a ray of a star
 -- the ray before
@@ -133,7 +102,7 @@ module _ (t : Star) (W : IsWellFormed t) (j k : ℕ) (r : Ray) (h : At t.rays k 
       let p = follows-at t.rays j k r f h in
       let x = at-ray k r h in
       let y = at-ray j p.0 p.1 in
-      (amount (cross (ray_dir t p.0) (away d) ∷ []) e, λ i g. in_sector j p.0 r p.1 p.2 (close-before d w (ray_dir t p.0) e W.axis x.1 y.1 x.0 y.0 l i g) below)
+      (amount (cross (ray_dir t p.0) (opposite d) ∷ []) e, λ i g. in_sector j p.0 r p.1 p.2 (close-before d w (ray_dir t p.0) e W.axis x.1 y.1 x.0 y.0 l i g) below)
 
   close-nought : (e : Vector) → triple d w e ≡ pos 0 → Close t w e r.mark
   close-nought e z = let x = at-ray k r h in (amount (w ∷ []) e, λ i g. on_ray k r h (close-on d w w e W.axis x.1 x.1 x.0 x.0 i z g) refl)

@@ -1,43 +1,11 @@
 -- Close to a ray of a star that shows labels they are straight; where labels are straight close to an axis there is a ray.
-use Rattle.std.proofs.Common.{◌≡◌, ℕ, ◌+◌, ◌≤◌, pos, ◌+ℤ◌, ◌*ℤ◌, arith, ap, sym, ◌∙◌, ◌⊎◌, inl, inr, ⊎_elim, List, [], ◌∷◌, subst}
-use Rattle.std.proofs.lemmas.Int.{ints}
-use Rattle.nef_space.proofs.Ring.{ring, at, num, ◌⊕◌, ◌⊖◌, ◌⊗◌}
-use Rattle.nef_space.proofs.Lists.{each, lies-each}
-use Rattle.nef_space.proofs.Order.{sign, sign-scaled}
-use Rattle.nef_space.specs.Vectors.{Vector, IsDirection, cross, triple, dot, SameDirection, blend}
-use Rattle.nef_space.specs.declared.label.Label.{Label}
-use Rattle.law_near.proofs.Directions.{self-pos}
-use Rattle.law_near.proofs.Supports.{square-cross}
-use Rattle.law_sphere.specs.Maps.{At}
-use Rattle.law_sphere.specs.Forms.{Keeps, point_forms, arc_forms}
-use Rattle.law_sphere.specs.Least.{by_side}
-use Rattle.law_sphere.specs.Labelling.{Near}
-use Rattle.law_sphere.specs.Builds.{StraightAfter, Proper}
-use Rattle.law_sphere.specs.Stars.{Ray, Star, ray_dir, across, OnRay, StarLabel, on_ray, in_sector, in_only_sector, Follows}
-use Rattle.law_sphere.proofs.Vectors.{dot-comb, nought-if}
-use Rattle.law_sphere.proofs.Generic.{amount, far-keeps}
-use Rattle.law_sphere.proofs.Places.{parallel-back, IsStrictlyOn-stays}
-use Rattle.law_sphere.proofs.Parallel.{apart}
-use Rattle.law_sphere.proofs.Compare.{SameDirection-turned, SameDirection-trans}
-use Rattle.law_sphere.proofs.Along.{near-near, not-even}
-use Rattle.law_sphere.proofs.Flips.{directed-by, far_directed-by}
-use Rattle.law_sphere.proofs.StarKinds.{turn-ahead}
-use Rattle.law_sphere.proofs.Simplified.{across-same}
-use Rattle.law_sphere.specs.Raw.{Of, IsLabelling, ShowsLabels}
+use Rattle.law_build.proofs.Prelude.{◌≡◌, ℕ, ◌+◌, ◌≤◌, pos, arith, ap, sym, ◌∙◌, ◌⊎◌, inl, inr, ⊎_elim, List, ◌∷◌, subst, [], ints, ring, at, ◌⊕◌, ◌⊖◌, ◌⊗◌, each, lies-each, sign, sign-scaled, Vector, IsDirection, cross, triple, dot, SameDirection, blend, Label, At, Keeps, point_forms, arc_forms, by_side, Near, StraightAfter, Proper, Ray, Star, ray_dir, across, OnRay, StarLabel, on_ray, in_sector, in_only_sector, Follows, amount, far-keeps, parallel-back, IsStrictlyOn-stays, near-near, not-even, directed-by, far_directed-by, turn-ahead, across-same, Of, IsLabelling, ShowsLabels, self-pos, square-cross, nought-if, SameDirection-turned, SameDirection-trans, apart, level_cross_second, level-blend}
 use Rattle.law_build.proofs.BuiltLabels.{with_axes, labelling, axial}
 use Rattle.law_build.proofs.RayClose.{Close, across-level, ray-close}
-
-pub level-blend : (n z w : Vector) (i j : ℕ) → dot n z ≡ pos 0 → dot n w ≡ pos 0 → dot n (blend i z j w) ≡ pos 0
-level-blend n z w i j p q = dot-comb n (pos i) z (pos j) w ∙ ap (λ r. pos i *ℤ r +ℤ pos j *ℤ dot n w) p ∙ ap (λ r. pos i *ℤ pos 0 +ℤ pos j *ℤ r) q
-    ∙ ring (pos i ∷ pos j ∷ []) (at 0 ⊗ num (pos 0) ⊕ at 1 ⊗ num (pos 0)) (num (pos 0)) tt
 
 -- what is at right angles to a direction isn't parallel to it
 pub off-axis : (d e : Vector) → IsDirection d → IsDirection e → dot d e ≡ pos 0 → IsDirection (cross d e)
 off-axis d e hd he z = apart d d e (λ y. let p = self-pos d hd in omega (arith, ints)) z he
-
-pub beside-level : (u d : Vector) → dot d (cross u d) ≡ pos 0
-beside-level u d = ring (u.x ∷ u.y ∷ u.z ∷ d.x ∷ d.y ∷ d.z ∷ [])
-    (at 3 ⊗ (at 1 ⊗ at 5 ⊖ at 2 ⊗ at 4) ⊕ at 4 ⊗ (at 2 ⊗ at 3 ⊖ at 0 ⊗ at 5) ⊕ at 5 ⊗ (at 0 ⊗ at 4 ⊖ at 1 ⊗ at 3)) (num (pos 0)) tt
 
 -- ---- sectors go on close to a direction
 across-swap : (d g y : Vector) → dot g (across d y) ≡ dot (across d g) y
@@ -93,10 +61,10 @@ module _ (gs : List Vector) (L : Vector → Label) (I : IsLabelling gs L) (t : S
       w = cross u d
 
       off : IsDirection (cross d (cross u d))
-      off = off-axis d (cross u d) S.star.axis hw (beside-level u d)
+      off = off-axis d (cross u d) S.star.axis hw (level_cross_second u d)
 
       x : Near F d (cross u d) m
-      x = S.labels (cross u d) m off (on_ray k r h (subst (λ (v : Vector). SameDirection v (across d (cross u d))) (sym way) (across-same d (cross u d) S.star.axis hw (beside-level u d))) e)
+      x = S.labels (cross u d) m off (on_ray k r h (subst (λ (v : Vector). SameDirection v (across d (cross u d))) (sym way) (across-same d (cross u d) S.star.axis hw (level_cross_second u d))) e)
 
       side : (v : Vector) → by_side a r.mark b (sign (triple d (ray_dir t r) v)) ≡ by_side a m b (sign (dot u v))
       side v = ap (λ l. by_side a l b (sign (triple d (ray_dir t r) v))) e
@@ -120,7 +88,7 @@ module _ (gs : List Vector) (L : Vector → Label) (I : IsLabelling gs L) (t : S
       hw z = S.star.axis (nought-if n d hn z ln)
 
       lw : dot d (cross n d) ≡ pos 0
-      lw = beside-level n d
+      lw = level_cross_second n d
 
       off : IsDirection (cross d (cross n d))
       off = off-axis d (cross n d) S.star.axis hw lw

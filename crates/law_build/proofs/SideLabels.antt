@@ -1,24 +1,10 @@
 -- The labels of a map about a plane through a direction that lies on no svertex and on no item of another plane.
-use Rattle.std.proofs.Common.{◌≡◌, ℕ, ◌+◌, pos, arith, refl, ap, sym, ◌∙◌, subst}
-use Rattle.nef_space.proofs.Order.{Sign, minus, nought, plus, sign}
-use Rattle.nef_space.specs.Vectors.{Vector, IsDirection, cross, dot, IsZero, SameDirection, IsNormal}
-use Rattle.nef_space.specs.declared.label.Label.{Label}
-use Rattle.law_near.proofs.Directions.{dot-comm}
-use Rattle.law_cyclic.specs.Arcs.{IsOnCircle}
-use Rattle.law_sphere.specs.Maps.{At, MapVertex, MapSloop, Map, Item, sloop_item, items, item_normal, item_pos, item_mark, item_neg, OnItem, IsFree, MapLabel, on_item, NearLabel, Shaped, Valid}
-use Rattle.law_sphere.specs.Least.{by_side}
-use Rattle.law_sphere.specs.Labelling.{Near, StraightAt, ByOp}
+use Rattle.law_build.proofs.Prelude.{◌≡◌, ℕ, ◌+◌, pos, arith, refl, ap, sym, ◌∙◌, subst, sign, Vector, IsDirection, cross, dot, IsZero, SameDirection, IsNormal, Label, IsOnCircle, At, MapVertex, MapSloop, Map, Item, sloop_item, items, item_normal, item_pos, item_mark, item_neg, OnItem, IsFree, MapLabel, on_item, NearLabel, Shaped, Valid, by_side, Near, StraightAt, ByOp, at-one, PlaceOf, svertex_place, item_place, free_place, place_of, label-exists, normals-same, at-sloop, dot-comm, dir-signs, direction-left, even-side, op-side}
 use Rattle.std.specs.Prelude.{Some}
-use Rattle.law_sphere.proofs.Lists.{at-one}
-use Rattle.law_sphere.proofs.Forms.{PlaceOf, svertex_place, item_place, free_place, place_of}
-use Rattle.law_sphere.proofs.Labels.{label-exists, dir-signs}
 use Rattle.law_sphere.proofs.NearItems.{near-free, near-item}
-use Rattle.law_sphere.proofs.Compare.{normals-same}
-use Rattle.law_sphere.proofs.Turn.{dir-directed}
-use Rattle.law_sphere.proofs.Arcs.{at-sloop}
 
 pub side-same_way : (n m e : Vector) → SameDirection n m → sign (dot m e) ≡ sign (dot n e)
-side-same_way n m e w = ap sign (dot-comm m e) ∙ dir-signs n m e (dir-directed n m w) w ∙ ap sign (dot-comm e n)
+side-same_way n m e w = ap sign (dot-comm m e) ∙ dir-signs n m e (direction-left n m w) w ∙ ap sign (dot-comm e n)
 
 -- the labels of the map at d, and close to d above, in and below the plane of n
 pub record SidesAt (M : Map) (n d : Vector) : Type 0 where
@@ -27,16 +13,6 @@ pub record SidesAt (M : Map) (n d : Vector) : Type 0 where
   pub neg : Label
   pub at_d : MapLabel M d label
   pub near : (e : Vector) → NearLabel M d e (by_side pos label neg (sign (dot n e)))
-
-even-side : (m : Label) (s : Sign) → by_side m m m s ≡ m
-even-side m minus = refl
-even-side m nought = refl
-even-side m plus = refl
-
-op-side : (op : Label → Label → Label) (a m b c o g : Label) (s : Sign) → op (by_side a m b s) (by_side c o g s) ≡ by_side (op a c) (op m o) (op b g) s
-op-side op a m b c o g minus = refl
-op-side op a m b c o g nought = refl
-op-side op a m b c o g plus = refl
 
 module _ (M : Map) (V : Valid M) (n d : Vector) where
   pub free-sides : IsFree M d → SidesAt M n d

@@ -1,51 +1,18 @@
 -- At a straight direction the rays of a simplified star that is well formed go different ways, and two opposite ones make it a straight star.
-use Rattle.std.proofs.Common.{◌≡◌, ℕ, zero, suc, ◌<◌, pos, ◌-ℤ◌, ◌<ℤ◌, arith, refl, ap, sym, ◌∙◌, inl, ⊎_elim, List, [], ◌∷◌, subst, length, Bool, true, false, cond}
-use Rattle.std.proofs.lemmas.Int.{ints}
-use Rattle.nef_space.proofs.Ring.{ring, at, num, ◌⊕◌, ◌⊖◌, ◌⊗◌}
-use Rattle.nef_space.proofs.Order.{sign, sign-scaled, nought-is}
-use Rattle.nef_space.specs.Vectors.{Vector, IsDirection, cross, triple, dot, IsZero, SameDirection, IsOpposite}
-use Rattle.nef_space.specs.declared.label.Label.{Label}
-use Rattle.law_near.proofs.Directions.{self-pos, dot-comm, dot-zero, zero-dot}
-use Rattle.law_near.proofs.FlatDecided.{cross-turned}
-use Rattle.law_sphere.specs.Vectors.{VectorBelow}
-use Rattle.law_sphere.specs.Maps.{At, Map, NearLabel, Valid}
-use Rattle.law_sphere.specs.Least.{NearStraight}
-use Rattle.law_sphere.specs.Stars.{Ray, Star, ray_dir, across, in_sector, IsRay, StarShows, IsStraight, IsSimplified}
-use Rattle.law_sphere.proofs.Vectors.{normal-direction, same-plus, nought-if, direction-by}
-use Rattle.law_sphere.proofs.Parallel.{parallel-in_plane, parallel-trans}
-use Rattle.law_sphere.proofs.Labels.{dir-signs}
-use Rattle.law_sphere.proofs.Around.{Beside, same_way, other_way, beside, opposites}
-use Rattle.law_sphere.proofs.Compare.{SameDirection-turned, normals-not_opposite}
-use Rattle.law_sphere.proofs.Turn.{whole-passes}
-use Rattle.law_sphere.proofs.Equal.{lowest-same}
-use Rattle.law_sphere.proofs.StarKinds.{across-side}
-use Rattle.law_sphere.proofs.Simplified.{ray-level, straight-level, not-even}
-use Rattle.law_sphere.proofs.StraightStars.{RaysApart, TwoRays, along-meet}
-use Rattle.law_sphere.specs.Raw.{sector_count, IsWellFormed}
+use Rattle.law_build.proofs.Prelude.{◌≡◌, ℕ, zero, suc, ◌<◌, pos, ◌-ℤ◌, ◌<ℤ◌, arith, refl, ap, sym, ◌∙◌, inl, ⊎_elim, List, ◌∷◌, subst, length, Bool, true, false, cond, [], ints, ring, num, ◌⊖◌, neg, sign, sign-scaled, nought-is, Vector, IsDirection, cross, triple, dot, IsZero, SameDirection, IsOpposite, Label, VectorBelow, At, Map, NearLabel, Valid, NearStraight, Ray, Star, ray_dir, across, in_sector, IsRay, StarShows, IsStraight, IsSimplified, normal-direction, same-plus, direction-by, below-itself, Beside, same_way, other_way, beside, normals-not_opposite, whole-passes, lowest-same, across-side, ray-level, straight-level, RaysApart, TwoRays, sector_count, IsWellFormed, dot-comm, dot-zero, zero-dot, self-pos, cross-turned, nought-if, opposites, SameDirection-turned, dir-signs, parallel-trans, parallel-in_plane, crossed, cross_of, dot_of, triple_of, vec, numbers}
+use Rattle.law_sphere.proofs.Simplified.{not-even}
 use Rattle.law_build.proofs.RayClose.{across-level}
 use Rattle.law_build.proofs.RayStraight.{off-axis}
 use Rattle.law_build.proofs.StarSmooth.{beside-turn}
-use Rattle.law_build.proofs.BuiltAxes.{vector-below_not, number-order}
+use Rattle.law_build.proofs.BuiltAxes.{number-order}
 use Rattle.law_build.proofs.BuiltAround.{sector-there}
 
 -- ---- the normals of rays along one line
 turned-first : (d a w : Vector) → dot d (cross (cross d a) w) ≡ pos 0 -ℤ dot d (cross (cross a d) w)
-turned-first d a w =
-    let dx = at 0 in let dy = at 1 in let dz = at 2 in let ax = at 3 in let ay = at 4 in let az = at 5 in let wx = at 6 in let wy = at 7 in let wz = at 8 in
-    let ux = dy ⊗ az ⊖ dz ⊗ ay in let uy = dz ⊗ ax ⊖ dx ⊗ az in let uz = dx ⊗ ay ⊖ dy ⊗ ax in
-    let vx = ay ⊗ dz ⊖ az ⊗ dy in let vy = az ⊗ dx ⊖ ax ⊗ dz in let vz = ax ⊗ dy ⊖ ay ⊗ dx in
-    ring (d.x ∷ d.y ∷ d.z ∷ a.x ∷ a.y ∷ a.z ∷ w.x ∷ w.y ∷ w.z ∷ [])
-    (dx ⊗ (uy ⊗ wz ⊖ uz ⊗ wy) ⊕ dy ⊗ (uz ⊗ wx ⊖ ux ⊗ wz) ⊕ dz ⊗ (ux ⊗ wy ⊖ uy ⊗ wx))
-    (num (pos 0) ⊖ (dx ⊗ (vy ⊗ wz ⊖ vz ⊗ wy) ⊕ dy ⊗ (vz ⊗ wx ⊖ vx ⊗ wz) ⊕ dz ⊗ (vx ⊗ wy ⊖ vy ⊗ wx))) tt
+turned-first d a w = ring (numbers d a w w) (triple_of (vec 0) (cross_of (vec 0) (vec 3)) (vec 6)) (num (pos 0) ⊖ triple_of (vec 0) (cross_of (vec 3) (vec 0)) (vec 6)) tt
 
 turned-last : (d a w : Vector) → dot d (cross w (cross d a)) ≡ pos 0 -ℤ dot d (cross w (cross a d))
-turned-last d a w =
-    let dx = at 0 in let dy = at 1 in let dz = at 2 in let ax = at 3 in let ay = at 4 in let az = at 5 in let wx = at 6 in let wy = at 7 in let wz = at 8 in
-    let ux = dy ⊗ az ⊖ dz ⊗ ay in let uy = dz ⊗ ax ⊖ dx ⊗ az in let uz = dx ⊗ ay ⊖ dy ⊗ ax in
-    let vx = ay ⊗ dz ⊖ az ⊗ dy in let vy = az ⊗ dx ⊖ ax ⊗ dz in let vz = ax ⊗ dy ⊖ ay ⊗ dx in
-    ring (d.x ∷ d.y ∷ d.z ∷ a.x ∷ a.y ∷ a.z ∷ w.x ∷ w.y ∷ w.z ∷ [])
-    (dx ⊗ (wy ⊗ uz ⊖ wz ⊗ uy) ⊕ dy ⊗ (wz ⊗ ux ⊖ wx ⊗ uz) ⊕ dz ⊗ (wx ⊗ uy ⊖ wy ⊗ ux))
-    (num (pos 0) ⊖ (dx ⊗ (wy ⊗ vz ⊖ wz ⊗ vy) ⊕ dy ⊗ (wz ⊗ vx ⊖ wx ⊗ vz) ⊕ dz ⊗ (wx ⊗ vy ⊖ wy ⊗ vx))) tt
+turned-last d a w = ring (numbers d a w w) (triple_of (vec 0) (vec 6) (cross_of (vec 0) (vec 3))) (num (pos 0) ⊖ triple_of (vec 0) (vec 6) (cross_of (vec 3) (vec 0))) tt
 
 -- parallel rays have parallel normals
 normals-parallel : (t : Star) → IsDirection t.axis → (q r : Ray) → IsRay t q → IsRay t r → IsZero (cross (ray_dir t q) (ray_dir t r)) → IsZero (cross q.normal r.normal)
@@ -88,7 +55,7 @@ one-normal t W i k q r g h z = by (beside q.normal r.normal (normal-direction q.
 
 -- along one line the first ray goes ahead, and the other back
 first-ahead : (t : Star) → IsWellFormed t → (k : ℕ) (q r : Ray) → At t.rays zero q → At t.rays (suc k) r → IsZero (cross (ray_dir t q) (ray_dir t r)) → (q.normal ≡ r.normal) × (q.ahead ≡ true) × (r.ahead ≡ false)
-first-ahead t W k q r g h z = ⊎_elim (λ l. absurd (vector-below_not r.normal (subst (λ (v : Vector). VectorBelow v r.normal) (one-normal t W zero (suc k) q r g h z) l))) (λ x. x) (W.least_first k q r g h)
+first-ahead t W k q r g h z = ⊎_elim (λ l. absurd (below-itself r.normal (subst (λ (v : Vector). VectorBelow v r.normal) (one-normal t W zero (suc k) q r g h z) l))) (λ x. x) (W.least_first k q r g h)
 
 -- no other ray goes the way of the first
 first-alone : (t : Star) → IsWellFormed t → (k : ℕ) (q r : Ray) → At t.rays zero q → At t.rays (suc k) r → SameDirection (ray_dir t q) (ray_dir t r) → ⊥
@@ -108,11 +75,7 @@ first-alone t W k q r g h w = back q.normal t.axis ways
 
     back : (n d : Vector) → SameDirection (cross n d) (cross d n) → ⊥
     back n d s =
-        let e : dot (cross n d) (cross d n) ≡ pos 0 -ℤ dot (cross n d) (cross n d) = (
-        let nx = at 0 in let ny = at 1 in let nz = at 2 in let dx = at 3 in let dy = at 4 in let dz = at 5 in
-        let ux = ny ⊗ dz ⊖ nz ⊗ dy in let uy = nz ⊗ dx ⊖ nx ⊗ dz in let uz = nx ⊗ dy ⊖ ny ⊗ dx in
-        ring (n.x ∷ n.y ∷ n.z ∷ d.x ∷ d.y ∷ d.z ∷ []) (ux ⊗ (dy ⊗ nz ⊖ dz ⊗ ny) ⊕ uy ⊗ (dz ⊗ nx ⊖ dx ⊗ nz) ⊕ uz ⊗ (dx ⊗ ny ⊖ dy ⊗ nx))
-        (num (pos 0) ⊖ (ux ⊗ ux ⊕ uy ⊗ uy ⊕ uz ⊗ uz)) tt) in
+        let e : dot (cross n d) (cross d n) ≡ pos 0 -ℤ dot (cross n d) (cross n d) = (let k = cross_of (vec 0) (vec 3) in ring (numbers n d d d) (dot_of k (cross_of (vec 3) (vec 0))) (num (pos 0) ⊖ dot_of k k) tt) in
         let f = s.forward in
         let p = self-pos (cross n d) (λ z. let g = zero-dot (cross n d) (cross d n) z in omega (arith, ints)) in
         omega (arith, ints)
@@ -162,7 +125,7 @@ module _ (t : Star) (W : IsWellFormed t) (M : Map) (V : Valid M) (S : StarShows 
       w = cross P.normal d
 
       along : (k : ℕ) (r : Ray) → At t.rays k r → IsZero (cross (cross P.normal d) (ray_dir t r))
-      along k r a = let x = at-ray k r a in along-meet P.normal d (ray_dir t r) x.0 (straight-level t M V S simple P k r a)
+      along k r a = let x = at-ray k r a in crossed P.normal d (ray_dir t r) (straight-level t M V S simple P k r a) x.0
 
   -- all other rays go the other way
   other-rays : (k : ℕ) (q r : Ray) → At t.rays zero q → At t.rays (suc k) r → IsOpposite (ray_dir t q) (ray_dir t r)

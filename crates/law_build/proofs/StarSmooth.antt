@@ -1,24 +1,5 @@
 -- Plain and straight stars that show labels, and the normals of rays.
-use Rattle.std.proofs.Common.{◌≡◌, zero, suc, ℤ, pos, negsuc, ◌+ℤ◌, ◌-ℤ◌, ◌*ℤ◌, arith, refl, ap, sym, ◌∙◌, inr, List, [], ◌∷◌, subst, length, Bool, true, false, cond}
-use Rattle.std.proofs.lemmas.Int.{ints}
-use Rattle.nef_space.proofs.Ring.{ring, at, num, ◌⊕◌, ◌⊖◌, ◌⊗◌}
-use Rattle.nef_space.proofs.Combination.{follows, given, none}
-use Rattle.nef_space.proofs.Order.{sign, sign-scaled, nought-is}
-use Rattle.nef_space.specs.Vectors.{Vector, IsDirection, cross, triple, dot, SameDirection, IsOpposite, IsNormal}
-use Rattle.nef_space.specs.declared.label.Label.{Label}
-use Rattle.law_near.proofs.Directions.{self-pos, dot-comm, dot-zero}
-use Rattle.law_near.proofs.Flats.{vector-same}
-use Rattle.law_sphere.specs.Maps.{At}
-use Rattle.law_sphere.specs.Labelling.{Near, PlainAt, StraightAt}
-use Rattle.law_sphere.specs.Builds.{Proper}
-use Rattle.law_sphere.specs.Stars.{Ray, Star, ray_dir, in_only_sector, IsRay, IsPlain, IsStraight, IsSimplified}
-use Rattle.law_sphere.proofs.Vectors.{same-plus}
-use Rattle.law_sphere.proofs.Parallel.{parallel-in_plane}
-use Rattle.law_sphere.proofs.Compare.{normals-not_opposite}
-use Rattle.law_sphere.proofs.Kind.{away}
-use Rattle.law_sphere.proofs.Flips.{dot-away}
-use Rattle.law_sphere.proofs.StarKinds.{straight_star-level, straight_star-normal, straight_star-label}
-use Rattle.law_sphere.specs.Raw.{Of, IsLabelling, ShowsLabels}
+use Rattle.law_build.proofs.Prelude.{◌≡◌, zero, suc, pos, ◌*ℤ◌, refl, ap, sym, ◌∙◌, inr, List, subst, length, Bool, true, false, cond, ring, num, ◌⊗◌, follows, given, none, sign, sign-scaled, nought-is, Vector, IsDirection, cross, triple, dot, SameDirection, IsNormal, opposite, Label, At, Near, PlainAt, StraightAt, Proper, Ray, Star, ray_dir, in_only_sector, IsRay, IsPlain, IsStraight, IsSimplified, same-plus, normals-not_opposite, straight_star-level, straight_star-normal, straight_star-label, Of, IsLabelling, ShowsLabels, dot-comm, dot-zero, self-pos, parallel-in_plane, from-opposite, cross-opposite, level-opposite, opposite-cross, cross_of, dot_of, dot_poly, triple_of, triple_poly, vec, numbers}
 use Rattle.law_build.proofs.BuiltLabels.{plain-from, straight-from}
 
 -- ---- plain and straight stars
@@ -46,22 +27,10 @@ straight-proper t K simple x y = simple (suc zero) zero K.second K.first K.neg K
 -- ---- normals
 -- where a and b are at right angles to d: (d.d) d.(a x b) = d.((a x d) x (b x d)), and (d.d)(a.b) = (a x d).(b x d)
 pub beside-turn : (d a b : Vector) → dot a d ≡ pos 0 → dot b d ≡ pos 0 → dot d d *ℤ triple d a b ≡ dot d (cross (cross a d) (cross b d))
-beside-turn d a b la lb =
-    let dx = at 0 in let dy = at 1 in let dz = at 2 in let ax = at 3 in let ay = at 4 in let az = at 5 in let bx = at 6 in let by = at 7 in let bz = at 8 in
-    let ux = ay ⊗ dz ⊖ az ⊗ dy in let uy = az ⊗ dx ⊖ ax ⊗ dz in let uz = ax ⊗ dy ⊖ ay ⊗ dx in
-    let vx = by ⊗ dz ⊖ bz ⊗ dy in let vy = bz ⊗ dx ⊖ bx ⊗ dz in let vz = bx ⊗ dy ⊖ by ⊗ dx in
-    ring (d.x ∷ d.y ∷ d.z ∷ a.x ∷ a.y ∷ a.z ∷ b.x ∷ b.y ∷ b.z ∷ [])
-    ((dx ⊗ dx ⊕ dy ⊗ dy ⊕ dz ⊗ dz) ⊗ (dx ⊗ (ay ⊗ bz ⊖ az ⊗ by) ⊕ dy ⊗ (az ⊗ bx ⊖ ax ⊗ bz) ⊕ dz ⊗ (ax ⊗ by ⊖ ay ⊗ bx)))
-    (dx ⊗ (uy ⊗ vz ⊖ uz ⊗ vy) ⊕ dy ⊗ (uz ⊗ vx ⊖ ux ⊗ vz) ⊕ dz ⊗ (ux ⊗ vy ⊖ uy ⊗ vx)) tt
+beside-turn d a b la lb = ring (numbers d a b b) (dot_poly 0 0 ⊗ triple_poly 0 3 6) (triple_of (vec 0) (cross_of (vec 3) (vec 0)) (cross_of (vec 6) (vec 0))) tt
 
 beside-dot : (d a b : Vector) → dot a d ≡ pos 0 → dot d d *ℤ dot a b ≡ dot (cross a d) (cross b d)
-beside-dot d a b la =
-    let dx = at 0 in let dy = at 1 in let dz = at 2 in let ax = at 3 in let ay = at 4 in let az = at 5 in let bx = at 6 in let by = at 7 in let bz = at 8 in
-    let ux = ay ⊗ dz ⊖ az ⊗ dy in let uy = az ⊗ dx ⊖ ax ⊗ dz in let uz = ax ⊗ dy ⊖ ay ⊗ dx in
-    let vx = by ⊗ dz ⊖ bz ⊗ dy in let vy = bz ⊗ dx ⊖ bx ⊗ dz in let vz = bx ⊗ dy ⊖ by ⊗ dx in
-    follows (d.x ∷ d.y ∷ d.z ∷ a.x ∷ a.y ∷ a.z ∷ b.x ∷ b.y ∷ b.z ∷ [])
-    ((dx ⊗ dx ⊕ dy ⊗ dy ⊕ dz ⊗ dz) ⊗ (ax ⊗ bx ⊕ ay ⊗ by ⊕ az ⊗ bz)) (ux ⊗ vx ⊕ uy ⊗ vy ⊕ uz ⊗ vz)
-    (given (bx ⊗ dx ⊕ by ⊗ dy ⊕ bz ⊗ dz) (ax ⊗ dx ⊕ ay ⊗ dy ⊕ az ⊗ dz) (num (pos 0)) la none) tt
+beside-dot d a b la = follows (numbers d a b b) (dot_poly 0 0 ⊗ dot_poly 3 6) (dot_of (cross_of (vec 3) (vec 0)) (cross_of (vec 6) (vec 0))) (given (dot_poly 6 0) (dot_poly 3 0) (num (pos 0)) la none) tt
 
 same-beside : (d a b : Vector) → IsDirection d → dot a d ≡ pos 0 → dot b d ≡ pos 0 → SameDirection (cross a d) (cross b d) → SameDirection a b
 same-beside d a b hd la lb w = record {
@@ -70,26 +39,8 @@ same-beside d a b hd la lb w = record {
   forward = same-plus (dot (cross a d) (cross b d)) (dot a b) (sym (ap sign (sym (beside-dot d a b la)) ∙ sign-scaled (dot d d) (dot a b) (self-pos d hd))) w.forward;
 }
 
-pub cross-away : (a d : Vector) → cross d a ≡ cross (away a) d
-cross-away a d = vector-same (cross d a) (cross (away a) d) (one d.y d.z a.y a.z) (one d.z d.x a.z a.x) (one d.x d.y a.x a.y)
-  where
-    one : (x y u v : ℤ) → x *ℤ v -ℤ y *ℤ u ≡ (negsuc 0 *ℤ u +ℤ pos 0 *ℤ u) *ℤ y -ℤ (negsuc 0 *ℤ v +ℤ pos 0 *ℤ v) *ℤ x
-    one x y u v = ring (x ∷ y ∷ u ∷ v ∷ []) (at 0 ⊗ at 3 ⊖ at 1 ⊗ at 2)
-        ((num (negsuc 0) ⊗ at 2 ⊕ num (pos 0) ⊗ at 2) ⊗ at 1 ⊖ (num (negsuc 0) ⊗ at 3 ⊕ num (pos 0) ⊗ at 3) ⊗ at 0) tt
-
-away-opposite : (u w : Vector) → SameDirection (away u) w → IsOpposite u w
-away-opposite u w s = record {
-  parallel = (one u.y u.z w.y w.z s.parallel.0, one u.z u.x w.z w.x s.parallel.1, one u.x u.y w.x w.y s.parallel.2);
-  backward = let e = dot-away u w in let f = s.forward in omega (arith, ints);
-}
-  where
-    one : (a b c d : ℤ) → (negsuc 0 *ℤ a +ℤ pos 0 *ℤ a) *ℤ d -ℤ (negsuc 0 *ℤ b +ℤ pos 0 *ℤ b) *ℤ c ≡ pos 0 → a *ℤ d -ℤ b *ℤ c ≡ pos 0
-    one a b c d z =
-        let e = ring (a ∷ b ∷ c ∷ d ∷ []) ((num (negsuc 0) ⊗ at 0 ⊕ num (pos 0) ⊗ at 0) ⊗ at 3 ⊖ (num (negsuc 0) ⊗ at 1 ⊕ num (pos 0) ⊗ at 1) ⊗ at 2)
-        (num (pos 0) ⊖ (at 0 ⊗ at 3 ⊖ at 1 ⊗ at 2)) tt in omega (arith, ints)
-
-pub away-level : (n d : Vector) → dot n d ≡ pos 0 → dot (away n) d ≡ pos 0
-away-level n d z = let e = dot-away n d in omega (arith, ints)
+pub cross-away : (a d : Vector) → cross d a ≡ cross (opposite a) d
+cross-away a d = sym (opposite-cross a d) ∙ sym (cross-opposite a d)
 
 -- a ray along the circle of a normal goes ahead and has that normal's direction
 pub ray-ahead : (t : Star) (r : Ray) (n : Vector) → IsDirection t.axis → IsRay t r → IsNormal n → dot n t.axis ≡ pos 0 → SameDirection (ray_dir t r) (cross n t.axis) → (r.ahead ≡ true) × SameDirection r.normal n
@@ -97,5 +48,5 @@ ray-ahead t r n hd A hn ln = by r.ahead refl
   where
     by : (b : Bool) → r.ahead ≡ b → SameDirection (cond b (cross r.normal t.axis) (cross t.axis r.normal)) (cross n t.axis) → (r.ahead ≡ true) × SameDirection r.normal n
     by true e w = (e, same-beside t.axis r.normal n hd A.level ln w)
-    by false e w = absurd (normals-not_opposite r.normal n A.normal hn (away-opposite r.normal n
-        (same-beside t.axis (away r.normal) n hd (away-level r.normal t.axis A.level) ln (subst (λ (v : Vector). SameDirection v (cross n t.axis)) (cross-away r.normal t.axis) w))))
+    by false e w = absurd (normals-not_opposite r.normal n A.normal hn (from-opposite r.normal n
+        (same-beside t.axis (opposite r.normal) n hd (level-opposite r.normal t.axis A.level) ln (subst (λ (v : Vector). SameDirection v (cross n t.axis)) (cross-away r.normal t.axis) w))))

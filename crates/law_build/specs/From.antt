@@ -1,39 +1,37 @@
--- What a builder makes of simplified stars.
-use Rattle.std.specs.Prelude.{◌≡◌, ℕ, pos, List, [], ◌∷◌, map, length, Option, Some, None, ◌⊎◌, true}
+-- Maps that are made of the simplified stars of a raw map.
+use Rattle.std.specs.Prelude.{◌≡◌, ◌∷◌, ◌⊎◌, ℕ, pos, List, [], map, length, Option, Some, None, true}
 use Rattle.nef_space.specs.Vectors.{Vector, dot, cross, IsDirection}
 use Rattle.nef_space.specs.declared.label.Label.{Label}
 use Rattle.law_cyclic.specs.Arcs.{IsStrictlyOn}
-use Rattle.law_sphere.specs.Vectors.{VectorBelow}
-use Rattle.law_sphere.specs.Maps.{At, MapVertex, Arc, MapSloop, Map}
-use Rattle.law_sphere.specs.Least.{InOrder, ArcBelow}
+use Rattle.law_sphere.specs.Prelude.{VectorBelow, At, MapVertex, Arc, MapSloop, Map, InOrder, ArcBelow}
 use Rattle.law_sphere.specs.Stars.{Ray, Star, StarLabel, IsPlain, IsStraight, Follows, IsSimplified}
 use Rattle.law_sphere.specs.Builds.{Proper}
 use Rattle.law_sphere.specs.Raw.{RawMap, IsWellFormed, IsBare}
 
--- s has t's axis and mark, and each label of t
+-- the star s has the axis, the mark and all labels of the star t
 pub record IsKeptStar (t s : Star) : Type 0 where
   pub star : IsWellFormed s
   pub axis : s.axis ≡ t.axis
   pub mark : s.mark ≡ t.mark
   pub labels : (e : Vector) (l : Label) → IsDirection (cross t.axis e) → StarLabel t e l → StarLabel s e l
 
--- each star has kept its labels
+-- us are the stars of ts in the same order, each with its labels kept
 pub record AreKept (ts us : List Star) : Type 0 where
   pub as_many : length us ≡ length ts
   pub kept : (k : ℕ) (t s : Star) → At ts k t → At us k s → IsKeptStar t s
 
--- Q is R, with stars that have kept their labels
+-- the raw map Q is the raw map R, with stars that kept their labels
 pub record IsKeptRaw (R Q : RawMap) : Type 0 where
   pub mark : Q.mark ≡ R.mark
   pub stars : AreKept R.stars Q.stars
   pub sloop : Q.sloop ≡ R.sloop
   pub same_ground : Q.ground ≡ R.ground
 
--- no ray of a star has the mark of both its sectors
+-- no ray of any star has the mark of both neighbouring sectors
 abbrev pub AreSimplified : List Star → Type 0
 AreSimplified ts = (k : ℕ) (t : Star) → At ts k t → IsSimplified t
 
--- the label round a star without rays
+-- the label of the one sector of a star without rays
 abbrev pub around_of : List Ray → List Label → Option Label
 around_of [] [] = None
 around_of [] (l ∷ ls) = Some l
@@ -42,14 +40,14 @@ around_of (r ∷ rs) ls = None
 abbrev pub svertex_at : Star → MapVertex
 svertex_at t = record { dir = t.axis; mark = t.mark; around = around_of t.rays t.sectors }
 
--- of the axes on the circle of n the one with number j comes first after the axis of t, counterclockwise; t's own comes last
+-- the axis of star j comes first on the circle of n after the axis of t, counterclockwise, where t's own comes last
 pub record IsFirstAfter (kept : List Star) (n : Vector) (t : Star) (j : ℕ) : Type 0 where
   pub first : Star
   pub listed : At kept j first
   pub level : dot n first.axis ≡ pos 0
   pub none_before : (k : ℕ) (u : Star) → At kept k u → IsStrictlyOn n t.axis first.axis u.axis → ⊥
 
--- the arc leaves the axis of its source along a ray that goes ahead, and has the ray's mark and the labels of the sectors after and before it
+-- the arc follows a ray ahead of its source's star, with the ray's mark and the labels of both neighbouring sectors
 pub record IsArcFrom (kept : List Star) (a : Arc) : Type 0 where
   pub star : Star
   pub ray : Ray
@@ -65,20 +63,20 @@ pub record IsArcFrom (kept : List Star) (a : Arc) : Type 0 where
   pub neg : At star.sectors before a.neg
   pub target : IsFirstAfter kept a.normal star a.target
 
--- the circle of a straight star
+-- the circle of a straight star, with the star's labels
 abbrev pub sloop_at : (t : Star) → IsStraight t → MapSloop
 sloop_at t s = record { normal = s.first.normal; pos = s.pos; mark = t.mark; neg = s.neg }
 
--- the circle of the raw map, or of a straight star of it that no kept axis lies on
+-- l is the circle of the raw map, or the circle of a straight star of R that no kept axis lies on
 pub data IsSloopFrom (R : RawMap) (kept : List Star) (l : MapSloop) : Type 0 where
   raw_sloop : R.sloop ≡ Some l → Proper l.pos l.mark l.neg → IsSloopFrom R kept l
   straight_sloop : (k : ℕ) (t : Star) → At R.stars k t → (s : IsStraight t) → IsBare kept s.first.normal → l ≡ sloop_at t s → IsSloopFrom R kept l
 
--- one of the labels of a raw map
+-- m is the label of the ground, of a star's axis or of the circle of R
 abbrev pub IsRawLabel : RawMap → Label → Type 0
 IsRawLabel R m = (R.ground ≡ Some m) ⊎ ((k : ℕ) × (t : Star) × At R.stars k t × (t.mark ≡ m)) ⊎ ((l : MapSloop) × (R.sloop ≡ Some l) × (l.mark ≡ m))
 
--- M is made of the simplified stars of R: those that are neither plain nor straight become its svertices, their rays its arcs
+-- M is made of the simplified stars of R: the stars neither plain nor straight are its svertices, their rays its arcs
 pub record IsBuiltFrom (R : RawMap) (M : Map) : Type 0 where
   pub kept : List Star
   pub kept_from : (k : ℕ) (t : Star) → At kept k t → (j : ℕ) × At R.stars j t

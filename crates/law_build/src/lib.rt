@@ -1,7 +1,5 @@
-//! The theory of overlays and of least maps: the stars of two maps overlaid show the combined labels, and
-//! what is made of simplified stars is the one least map with their labels.
-//!
-//! Nothing here runs. Each law is a clause of a function with an empty body.
+//! The theory of overlays and of least maps: the stars of two maps overlaid show the combined labels, and simplified
+//! stars make the one least map with their labels. Each law is a clause of a function with an empty body.
 #![tactic(auto)]
 
 mod building;

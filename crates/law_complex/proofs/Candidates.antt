@@ -1,35 +1,13 @@
 -- A vertex of a combination of two sets is a vertex of one of them, or a cut of the one's edges by a carrier of the other in which that has something there: elsewhere some direction is flat for both.
-use Rattle.std.proofs.Common.{◌≡◌, ℕ, zero, suc, ◌+◌, ℤ, pos, ◌-ℤ◌, ◌*ℤ◌, arith, ap, ◌∙◌, ◌⊎◌, ◌↔◌, inl, inr, ⊎_elim, [], ◌∷◌, subst}
-use Rattle.nef_space.specs.Signs.{nought, Lies}
-use Rattle.nef_space.proofs.Ring.{ring, at, num, ◌⊕◌, ◌⊖◌, ◌⊗◌}
-use Rattle.nef_space.proofs.Order.{nought-is}
-use Rattle.nef_space.specs.Local.{Flat, HasFlat, FlatDim, IsVertex}
-use Rattle.nef_space.specs.Place.{Place, Form, form_at, slope, toward, IsBetween}
-use Rattle.nef_space.specs.Sets.{Set}
-use Rattle.nef_space.specs.Vectors.{Vector, dot, cross, IsZero, IsDirection}
-use Rattle.law_near.specs.Cells.{sign_at, carriers}
-use Rattle.law_near.specs.Laws.{EdgeSupport, FacetSupport}
-use Rattle.law_near.specs.Cones.{label_and, label_or, label_less, label_one_of}
+use Rattle.law_complex.proofs.Prelude.{◌≡◌, ℕ, zero, suc, ◌+◌, pos, arith, ◌∙◌, ◌⊎◌, ◌↔◌, inl, inr, ⊎_elim, subst, nought, Lies, nought-is, nought-or, Flat, HasFlat, FlatDim, IsVertex, Place, Form, form_at, slope, toward, IsBetween, Set, Vector, dot, cross, IsZero, IsDirection, sign_at, carriers, EdgeSupport, FacetSupport, label_and, label_or, label_less, label_one_of, HasFlat-fewer, flat_dim-of, edge-support, facet-support, flat-plane, span-3, At, circle-point, Vertex, Edge, Complex, HasEnds, Shows, SamePlane, IsEdgePoint, meets_edge, IsNearCut, IsSkeletonIn, IsVertexOfBoth, zero-decided, square-cross, in-span, level_cross_second, dot-comm}
 use Rattle.law_near.proofs.Combine.{and-label, or-label, less-label, one_of-label}
 use Rattle.law_near.proofs.FlatOperations.{flat-of_two}
-use Rattle.law_near.proofs.Alike.{HasFlat-fewer}
-use Rattle.law_near.proofs.FlatDecided.{flat_dim-of}
-use Rattle.law_near.proofs.Supports.{edge-support, facet-support, flat-plane, square-cross}
-use Rattle.law_near.proofs.Even.{span-3}
-use Rattle.law_near.proofs.Far.{nought-or}
-use Rattle.law_near.proofs.Directions.{zero-decided}
-use Rattle.law_sphere.specs.Maps.{At}
-use Rattle.law_sphere.proofs.Parallel.{circle-point}
-use Rattle.law_sphere.proofs.KindFlats.{in-span}
-use Rattle.law_complex.specs.Complexes.{Vertex, Edge, Complex, HasEnds}
-use Rattle.law_complex.specs.Shows.{Shows, SamePlane}
-use Rattle.law_complex.specs.Skeleton.{IsEdgePoint, meets_edge}
-use Rattle.law_complex.specs.Laws.{IsNearCut, IsSkeletonIn, IsVertexOfBoth}
 use Rattle.law_complex.proofs.Planes.{plane-turned, plane-point, plane-slope, plane-way}
 use Rattle.law_complex.proofs.Ways.{between-ends}
 use Rattle.law_complex.proofs.Edges.{edge-points, edge-way}
 use Rattle.law_complex.proofs.Joining.{edges-complete}
 use Rattle.law_complex.proofs.FacetWays.{plane-ends}
+use Rattle.law_sphere.proofs.Walk.{cross-direction_left}
 
 -- some direction is flat for both sets
 abbrev AreFlatTogether : Set → Set → Place → Type 0
@@ -92,20 +70,13 @@ along-edge s t C D S T y (k, (e, v, w, a, H, b)) j g = beside s t C D S T y k e 
 
 -- a direction in two planes
 in-both : (n m : Vector) → IsDirection n → IsDirection m → (d : Vector) × IsDirection d × (dot n d ≡ pos 0) × (dot m d ≡ pos 0)
-in-both n m i j = ⊎_elim parallel (λ f. (cross n m, f, square-cross n m, square-second n m)) (zero-decided (cross n m))
+in-both n m i j = ⊎_elim parallel (λ f. (cross n m, f, square-cross n m, level_cross_second n m)) (zero-decided (cross n m))
   where
-    square-second : (n m : Vector) → dot m (cross n m) ≡ pos 0
-    square-second n m = ring (n.x ∷ n.y ∷ n.z ∷ m.x ∷ m.y ∷ m.z ∷ [])
-        (at 3 ⊗ (at 1 ⊗ at 5 ⊖ at 2 ⊗ at 4) ⊕ at 4 ⊗ (at 2 ⊗ at 3 ⊖ at 0 ⊗ at 5) ⊕ at 5 ⊗ (at 0 ⊗ at 4 ⊖ at 1 ⊗ at 3)) (num (pos 0)) tt
-
-    dot-turned : (u v : Vector) → dot u v ≡ dot v u
-    dot-turned u v = ring (u.x ∷ u.y ∷ u.z ∷ v.x ∷ v.y ∷ v.z ∷ []) (at 0 ⊗ at 3 ⊕ at 1 ⊗ at 4 ⊕ at 2 ⊗ at 5) (at 3 ⊗ at 0 ⊕ at 4 ⊗ at 1 ⊕ at 5 ⊗ at 2) tt
-
     parallel : IsZero (cross n m) → (d : Vector) × IsDirection d × (dot n d ≡ pos 0) × (dot m d ≡ pos 0)
     parallel z =
         let p = circle-point n i in
         let on = p.1 in
-        (p.0, on.direction, on.level, dot-turned m p.0 ∙ in-span p.0 n m i z (dot-turned p.0 n ∙ on.level))
+        (p.0, on.direction, on.level, dot-comm m p.0 ∙ in-span p.0 n m i z (dot-comm p.0 n ∙ on.level))
 
 -- a vertex of one of the sets, or a cut of one's edges by a carrier of the other that holds something of that there
 abbrev IsCandidate : Set → Set → Complex → Complex → Place → Type 0
@@ -114,13 +85,6 @@ IsCandidate s t C D y = IsVertex s y ⊎ IsVertex t y ⊎ IsNearCut C t D y ⊎ 
 candidate-or_flat : (s t : Set) (C D : Complex) (y : Place) → Shows s C → Shows t D → IsCandidate s t C D y ⊎ AreFlatTogether s t y
 candidate-or_flat s t C D y S T = let j = flat_dim-of s y in let k = flat_dim-of t y in by j.0 k.0 j.1 k.1
   where
-    -- the first of two independent vectors is a direction
-    first : (d e : Vector) → IsDirection (cross d e) → IsDirection d
-    first d e i z = i (one e.z e.y d.y d.z z.1 z.2, one e.x e.z d.z d.x z.2 z.0, one e.y e.x d.x d.y z.0 z.1)
-      where
-        one : (a b x y : ℤ) → x ≡ pos 0 → y ≡ pos 0 → x *ℤ a -ℤ y *ℤ b ≡ pos 0
-        one a b x y e f = ap (λ r. r *ℤ a -ℤ y *ℤ b) e ∙ ap (λ r. pos 0 *ℤ a -ℤ r *ℤ b) f ∙ ring (a ∷ b ∷ []) (num (pos 0) ⊗ at 0 ⊖ num (pos 0) ⊗ at 1) (num (pos 0)) tt
-
     by : (j k : ℕ) → FlatDim s y j → FlatDim t y k → IsCandidate s t C D y ⊎ AreFlatTogether s t y
     by zero k f g = inl (inl f)
     by (suc j) zero f g = inl (inr (inl g))
@@ -133,7 +97,7 @@ candidate-or_flat s t C D y S T = let j = flat_dim-of s y in let k = flat_dim-of
         inr (d.0, d.1, (n.2 d.0).1 d.2, (m.2 d.0).1 d.3)
     by (suc (suc zero)) (suc (suc (suc zero))) f g =
         let d = f.0 in
-        inr (d.0, first d.0 d.1 d.2, d.3, (let h = g.0 in span-3 t y h.0 h.1 h.2 d.0 h.3 h.4 h.5 h.6))
+        inr (d.0, cross-direction_left d.0 d.1 d.2, d.3, (let h = g.0 in span-3 t y h.0 h.1 h.2 d.0 h.3 h.4 h.5 h.6))
     by (suc (suc (suc zero))) (suc (suc k)) f g =
         let e : suc (suc k) ≡ suc k + 1 = omega arith in
         let d = HasFlat-fewer t y (suc k) 1 (subst (HasFlat t y) e g.0) in

@@ -1,28 +1,6 @@
 -- The labels of a map are the germs of the set that it shows; where the flat directions are those of a plane, germs look only at the sides of it.
-use Rattle.std.proofs.Common.{◌≡◌, ℕ, zero, suc, ◌<◌, ℤ, pos, negsuc, ◌+ℤ◌, ◌*ℤ◌, neg_ℤ, nat_abs, arith, refl, ap, sym, ◌∙◌, ⊎_elim, ◌↔◌, [], ◌∷◌, subst}
-use Rattle.std.proofs.lemmas.Int.{ints}
-use Rattle.nef_space.specs.Signs.{Sign, minus, nought, plus, sign, sign_times}
-use Rattle.nef_space.proofs.Ring.{ring, at, num, neg, ◌⊕◌, ◌⊖◌, ◌⊗◌}
-use Rattle.nef_space.proofs.Combination.{given, none, follows}
-use Rattle.nef_space.proofs.Order.{nought-is, sign-plus, sign-minus, sign_of_product, mul_pos}
-use Rattle.nef_space.specs.Local.{HasLabel, Germ, Flat, HasFlat}
-use Rattle.nef_space.specs.Place.{Place, Form, form, slope}
-use Rattle.nef_space.specs.Sets.{Set}
-use Rattle.nef_space.specs.Vectors.{Vector, opposite, blend, dot, cross, IsDirection}
-use Rattle.nef_space.specs.declared.label.Label.{Label}
-use Rattle.law_near.specs.Cones.{slide, NearGerm}
-use Rattle.law_near.proofs.Decided.{label_of}
+use Rattle.law_complex.proofs.Prelude.{◌≡◌, ℕ, zero, suc, ◌<◌, ℤ, pos, negsuc, ◌+ℤ◌, ◌*ℤ◌, neg_ℤ, nat_abs, arith, refl, ap, sym, ◌∙◌, ⊎_elim, ◌↔◌, ◌∷◌, subst, [], ints, Sign, minus, nought, plus, sign, sign_times, ring, at, num, neg, ◌⊕◌, ◌⊗◌, given, none, follows, nought-is, sign-plus, sign-minus, sign_of_product, nought-or, HasLabel, Germ, Flat, HasFlat, Place, Form, form, slope, Set, Vector, opposite, blend, dot, cross, IsDirection, Label, slide, NearGerm, label_of, Germ-unique, Flat-from_cone, FlatCone-from_flat, Germ-by_signs, slope-slide, flat-germ, by_side, Cone, Map, MapLabel, NearLabel, label-direction, label-unique, near-exists, self-pos, square-cross, cross-turned, dot-comm, dot-opposite, level_cross_second, nought-if}
 use Rattle.law_near.proofs.Decisions.{near-germ_one}
-use Rattle.law_near.proofs.Germs.{Germ-unique}
-use Rattle.law_near.proofs.Flats.{Flat-from_cone, FlatCone-from_flat, Germ-by_signs, slope-slide}
-use Rattle.law_near.proofs.Alike.{flat-germ}
-use Rattle.law_near.proofs.Supports.{square-cross}
-use Rattle.law_near.proofs.Far.{nought-or}
-use Rattle.law_near.proofs.Directions.{self-pos}
-use Rattle.law_sphere.specs.Least.{by_side, Cone}
-use Rattle.law_sphere.specs.Maps.{Map, MapLabel, NearLabel}
-use Rattle.law_sphere.proofs.Vectors.{direction-by}
-use Rattle.law_sphere.proofs.Labels.{label-direction, label-unique, near-exists}
 
 -- ---- labels and germs
 pub label-germ : (M : Map) (s : Set) (p : Place) → Cone M s p → (d : Vector) (l : Label) → MapLabel M d l → Germ s p d l
@@ -102,7 +80,7 @@ module _ (s : Set) (p : Place) (n : Vector) (flat : FlatAre s p n) where
       by minus q = plane-germ (opposite n) e (sign-back ∙ sym q) b below
         where
           sign-back : sign (dot n (opposite n)) ≡ minus
-          sign-back = let h = self-pos n some in sign-minus (dot n (opposite n)) (let r : dot n (opposite n) ≡ neg_ℤ (dot n n) = ring (n.x ∷ n.y ∷ n.z ∷ []) (at 0 ⊗ neg (at 0) ⊕ at 1 ⊗ neg (at 1) ⊕ at 2 ⊗ neg (at 2)) (neg (at 0 ⊗ at 0 ⊕ at 1 ⊗ at 1 ⊕ at 2 ⊗ at 2)) tt in omega (arith, ints))
+          sign-back = let h = self-pos n some in let r = dot-opposite n n in sign-minus (dot n (opposite n)) (omega (arith, ints))
 
 -- ---- labels by the sides of a plane make the directions of the plane flat
 pub sided-flat : (s : Set) (p : Place) (n : Vector) (a m b : Label) → ((e : Vector) → Germ s p e (by_side a m b (sign (dot n e)))) → (f : Vector) → dot n f ≡ pos 0 → Flat s p f
@@ -120,13 +98,7 @@ sided-flat s p n a m b all f level = Flat-from_cone s p f (λ v k x some l.
 
 -- d and n x d are independent, for d in the plane of n
 independent : (n d : Vector) → IsDirection n → IsDirection d → dot n d ≡ pos 0 → IsDirection (cross d (cross n d))
-independent n d i j e = direction-by n (cross d (cross n d)) (λ z.
-    let h = mul_pos (dot d d) (dot n n) (self-pos d j) (self-pos n i) in
-    let q = follows (n.x ∷ n.y ∷ n.z ∷ d.x ∷ d.y ∷ d.z ∷ [])
-    (at 0 ⊗ (at 4 ⊗ (at 0 ⊗ at 4 ⊖ at 1 ⊗ at 3) ⊖ at 5 ⊗ (at 2 ⊗ at 3 ⊖ at 0 ⊗ at 5)) ⊕ at 1 ⊗ (at 5 ⊗ (at 1 ⊗ at 5 ⊖ at 2 ⊗ at 4) ⊖ at 3 ⊗ (at 0 ⊗ at 4 ⊖ at 1 ⊗ at 3)) ⊕ at 2 ⊗ (at 3 ⊗ (at 2 ⊗ at 3 ⊖ at 0 ⊗ at 5) ⊖ at 4 ⊗ (at 1 ⊗ at 5 ⊖ at 2 ⊗ at 4)))
-    ((at 3 ⊗ at 3 ⊕ at 4 ⊗ at 4 ⊕ at 5 ⊗ at 5) ⊗ (at 0 ⊗ at 0 ⊕ at 1 ⊗ at 1 ⊕ at 2 ⊗ at 2))
-    (given (neg (at 0 ⊗ at 3 ⊕ at 1 ⊗ at 4 ⊕ at 2 ⊗ at 5)) (at 0 ⊗ at 3 ⊕ at 1 ⊗ at 4 ⊕ at 2 ⊗ at 5) (num (pos 0)) e none) tt in
-    omega (arith, ints, sym q ∙ z))
+independent n d i j e z = i (nought-if d n j (cross-turned n d (nought-if d (cross n d) j z (level_cross_second n d))) (dot-comm d n ∙ e))
 
 -- so there are two independent ones
 pub sided-two : (s : Set) (p : Place) (n d : Vector) (a m b : Label) → ((e : Vector) → Germ s p e (by_side a m b (sign (dot n e)))) → IsDirection n → IsDirection d → dot n d ≡ pos 0 → HasFlat s p 2

@@ -1,36 +1,7 @@
 -- The points of a set with one flat direction are those strictly between the ends of edges.
-use Rattle.std.proofs.Common.{◌≡◌, ℕ, zero, suc, pos, arith, refl, sym, inl, inr, ⊎_elim, ◌↔◌, subst}
-use Rattle.nef_space.specs.Signs.{sign}
-use Rattle.nef_space.specs.Local.{HasLabel, Germ, Flat, FlatDim, IsVertex, IsEven}
-use Rattle.nef_space.specs.Place.{Place, toward, IsBetween}
-use Rattle.nef_space.specs.Sets.{Set}
-use Rattle.nef_space.specs.Vectors.{Vector, zero_vector, opposite, dot, cross, IsZero, IsDirection, SameDirection}
-use Rattle.nef_space.specs.declared.label.Label.{Label}
-use Rattle.law_near.specs.Cells.{carriers}
-use Rattle.law_near.specs.Cones.{NearGerm, IsOnSegment}
-use Rattle.law_near.specs.Laws.{Drop}
-use Rattle.law_near.proofs.Decided.{label_of, germ_of}
+use Rattle.law_complex.proofs.Prelude.{◌≡◌, ℕ, zero, suc, pos, arith, refl, sym, inl, inr, ⊎_elim, ◌↔◌, subst, sign, HasLabel, Germ, Flat, FlatDim, IsVertex, IsEven, Place, toward, IsBetween, Set, Vector, zero_vector, opposite, dot, cross, IsZero, IsDirection, SameDirection, Label, carriers, NearGerm, IsOnSegment, Drop, label_of, germ_of, Flat-from_cone, FlatCone-from_flat, Germ-zero, signs-same, same-place_sym, slope-same, germs-by_cell, Flat-by_germs, FlatDim-by_germs, flat-germ, flat-plane, flat-line, germ-nearby, flat-toward, even-germs, labels-by_germs, span-1, span-3, flat_dim-of, near-by_signs, flat-by_signs, between-inner, start, start-close, start-between, start-toward, even-until, reach_all, between-same, at-one, dir-at, label-unique, by_side, NearPlain, NearStraight, Cone, At, Map, MapVertex, MapLabel, at_svertex, NearLabel, dir_of, Item, items, Vertex, Edge, Complex, HasEnds, IsEdge, Corner, IsCorner, Shows, cross-turned, parallel-both, SameDirection-turned, SameDirection-trans, dir-self, direction-left, neg}
 use Rattle.law_near.proofs.Topology.{near-germ_zero}
-use Rattle.law_near.proofs.Flats.{Flat-from_cone, FlatCone-from_flat}
-use Rattle.law_near.proofs.Rays.{Germ-zero, signs-same, same-place_sym, slope-same}
-use Rattle.law_near.proofs.Alike.{germs-by_cell, Flat-by_germs, FlatDim-by_germs, flat-germ}
-use Rattle.law_near.proofs.Supports.{flat-plane, flat-line}
-use Rattle.law_near.proofs.Even.{germ-nearby, flat-toward, even-germs, labels-by_germs, span-1, span-3}
-use Rattle.law_near.proofs.FlatDecided.{flat_dim-of, near-by_signs, flat-by_signs, parallel-both, cross-turned}
-use Rattle.law_near.proofs.Between.{between-inner}
-use Rattle.law_near.proofs.Edges.{start, start-close, start-between, start-toward, even-until}
-use Rattle.law_near.proofs.Near.{reach_all}
-use Rattle.law_near.proofs.Directions.{direction-left}
-use Rattle.law_near.proofs.Mixed.{between-same}
 use Rattle.law_complex.proofs.Ways.{between-way, between-rest, between-outer, same-itself}
-use Rattle.law_sphere.proofs.Compare.{SameDirection-turned, SameDirection-trans, dir-self}
-use Rattle.law_sphere.proofs.Lists.{at-one}
-use Rattle.law_sphere.proofs.Shot.{dir-at}
-use Rattle.law_sphere.proofs.Labels.{label-unique}
-use Rattle.law_sphere.specs.Least.{by_side, NearPlain, NearStraight, Cone}
-use Rattle.law_sphere.specs.Maps.{At, Map, MapVertex, MapLabel, at_svertex, NearLabel, dir_of}
-use Rattle.law_complex.specs.Complexes.{Vertex, Edge, Complex, HasEnds, IsEdge}
-use Rattle.law_complex.specs.Shows.{Shows}
 use Rattle.law_complex.proofs.Cones.{germ-label, near-germ, near-label, FlatAre, plane-sides}
 
 -- ---- at points close to p toward d, where the germs are those near d
@@ -216,3 +187,9 @@ edge-way s C k e v w S a H =
     (subst (λ (x : Vertex). IsZero (cross (dir_of E.low_vertex.map.svertices e.low_svertex) (toward E.low_vertex.point x.point))) g
     (subst (λ (d : Vector). IsZero (cross d (toward E.low_vertex.point E.high_vertex.point))) (sym (svertex-dir e E.low_vertex E.low_end E.leaves))
     (cross-turned (toward E.low_vertex.point E.high_vertex.point) E.low_end.dir E.ahead.parallel)))
+
+-- a corner has one vertex and one item
+pub corner-one : (C : Complex) (k : Corner) (v w : Vertex) (x z : Item) → IsCorner C k v x → IsCorner C k w z → x ≡ z
+corner-one C k v w x z a b =
+    let f = at-one C.vertices k.vertex v w a.vertex b.vertex in
+    at-one (items w.map) k.item x z (subst (λ (r : Vertex). At (items r.map) k.item x) f a.item) b.item

@@ -1,25 +1,5 @@
 -- Equal points lie at the same places of a complex.
-use Rattle.std.proofs.Common.{◌≡◌, ℕ, ◌*◌, ◌≤◌, ℤ, pos, ◌*ℤ◌, neg_ℤ, nat_abs, arith, inl, inr, ⊎_elim, [], ◌∷◌, subst}
-use Rattle.std.proofs.lemmas.Int.{ints}
-use Rattle.nef_space.proofs.Order.{mul_le_right, cancel_le}
-use Rattle.nef_space.proofs.Ring.{ring, at, num, neg, ◌⊗◌}
-use Rattle.nef_space.specs.Limits.{half_side}
-use Rattle.nef_space.specs.Place.{Place, Form, SamePlace, InClosedFrame, toward, IsAhead, IsBetween}
-use Rattle.nef_space.specs.Sets.{Set}
-use Rattle.nef_space.specs.Vectors.{Vector, SameDirection, opposite}
-use Rattle.law_near.proofs.Mixed.{between-same}
-use Rattle.law_near.specs.Cells.{carriers}
-use Rattle.law_near.specs.Laws.{SameGerms}
-use Rattle.law_near.proofs.Alike.{germs-by_cell, Flat-by_germs, FlatDim-by_germs}
-use Rattle.law_near.proofs.Flats.{vector-same}
-use Rattle.law_near.proofs.Rays.{signs-same, same-place_sym}
-use Rattle.law_sphere.specs.Maps.{Map, Item, OnItem}
-use Rattle.law_sphere.proofs.Compare.{SameDirection-turned, dir-self}
-use Rattle.law_sphere.proofs.Forms.{on-direction, OnItem-by_signs}
-use Rattle.law_sphere.proofs.Labels.{dir-signs}
-use Rattle.law_complex.specs.Complexes.{Vertex, Complex, Corner}
-use Rattle.law_complex.specs.Laws.{IsFlatIn}
-use Rattle.law_complex.specs.Skeleton.{PlaneMeet, IsVertexPoint, IsEdgePoint, IsOnEdges, IsFacetPoint, at_vertex, on_edge, in_facet, IsSkeletonPoint, IsFirstInPlane, HasCorner}
+use Rattle.law_complex.proofs.Prelude.{◌≡◌, ℕ, ◌*◌, ◌≤◌, ℤ, pos, ◌*ℤ◌, neg_ℤ, nat_abs, arith, inl, inr, ⊎_elim, ◌∷◌, subst, [], ints, mul_le_right, cancel_le, ring, at, num, neg, ◌⊗◌, half_side, Place, Form, SamePlace, InClosedFrame, toward, IsAhead, IsBetween, Set, Vector, SameDirection, opposite, between-same, carriers, SameGerms, germs-by_cell, Flat-by_germs, FlatDim-by_germs, signs-same, same-place_sym, Map, Item, OnItem, on-direction, OnItem-by_signs, Vertex, Complex, Corner, IsFlatIn, PlaneMeet, IsVertexPoint, IsEdgePoint, IsOnEdges, IsFacetPoint, at_vertex, on_edge, in_facet, IsSkeletonPoint, IsFirstInPlane, HasCorner, vector-same, SameDirection-turned, dir-self, dir-signs}
 use Rattle.law_complex.proofs.FacetEdges.{ahead-same, ahead-back}
 use Rattle.law_complex.proofs.Ways.{same-itself, same-place_trans}
 

@@ -1,19 +1,6 @@
 -- Angles in a plane by the signs of triple products, as forms of points; where a form is nought on a segment.
-use Rattle.std.proofs.Common.{◌≡◌, ℕ, ◌+◌, ◌*◌, ◌<◌, ℤ, pos, ◌+ℤ◌, ◌-ℤ◌, ◌*ℤ◌, neg_ℤ, ◌<ℤ◌, ◌≤ℤ◌, nat_abs, arith, ap, sym, ◌∙◌, [], ◌∷◌}
-use Rattle.std.proofs.lemmas.Int.{ints}
-use Rattle.std.proofs.Math.Nat.{mul-pos}
-use Rattle.nef_space.proofs.Ring.{ring, at, num, neg, ◌⊕◌, ◌⊖◌, ◌⊗◌, Poly}
-use Rattle.nef_space.proofs.Combination.{given, none, follows, follows_times}
-use Rattle.nef_space.proofs.Order.{mul_pos, mul_nonneg, cancel_lt, cancel_le}
-use Rattle.nef_space.specs.Place.{Place, Form, form_at, slope, plane_through, toward, IsBetween}
-use Rattle.nef_space.specs.Vectors.{Vector, opposite, dot, cross, triple, IsZero, IsDirection, SameDirection}
-use Rattle.law_near.specs.Homogeneous.{of_place, IsMixed}
-use Rattle.law_near.proofs.Sums.{form-mix, form-sum, mixed-mix}
-use Rattle.law_near.proofs.Directions.{self-pos, dot-zero}
-use Rattle.law_near.proofs.FlatDecided.{triple-dot}
-use Rattle.law_near.proofs.Between.{mixed-of, between-of}
+use Rattle.law_complex.proofs.Prelude.{◌≡◌, ℕ, ◌+◌, ◌*◌, ◌<◌, ℤ, pos, ◌+ℤ◌, ◌-ℤ◌, ◌*ℤ◌, ◌<ℤ◌, ◌≤ℤ◌, nat_abs, arith, ap, sym, ◌∙◌, ◌∷◌, ⊎_elim, [], ints, mul-pos, ring, at, num, neg, ◌⊕◌, ◌⊖◌, ◌⊗◌, Poly, given, none, follows, follows_times, mul_pos, mul_nonneg, plus-of, nonneg-of, mul_neg, minus-of, Place, Form, form_at, slope, plane_through, toward, IsBetween, Vector, opposite, dot, cross, triple, IsZero, IsDirection, SameDirection, of_place, IsMixed, form-mix, form-sum, mixed-mix, mixed-of, between-of, dot-zero, self-pos, triple-dot, triple-turned, opposite-dot, cross-turned, zero-decided, in-span}
 use Rattle.law_sphere.proofs.Turning.{turns}
-use Rattle.law_sphere.proofs.Around.{triple-turned}
 
 -- ---- parallel vectors on one side of a plane go one way
 module _ (m u v : Vector) (z : IsZero (cross u v)) where
@@ -37,32 +24,14 @@ module _ (m u v : Vector) (z : IsZero (cross u v)) where
       plain : (mu mv uv uu : ℤ) → pos 0 <ℤ mu → pos 0 <ℤ mv → pos 0 <ℤ uu → mu *ℤ uv ≡ mv *ℤ uu → pos 0 <ℤ uv
       plain mu mv uv uu a b c e =
           let p = mul_pos mv uu b c in
-          let q = ring (uv ∷ mu ∷ []) (at 1 ⊗ at 0) (at 0 ⊗ at 1) tt in
-          let o = ring (mu ∷ []) (num (pos 0) ⊗ at 0) (num (pos 0)) tt in
-          cancel_lt (pos 0) uv mu a (omega (arith, ints))
+          plus-of mu uv a (omega (arith, ints))
 
   -- what is parallel to a vector off the plane, and lies in the plane, is nought
   pub zero-by : dot m u <ℤ pos 0 → dot m v ≡ pos 0 → IsZero v
-  zero-by a e =
-      let mx = at 0 in let my = at 1 in let mz = at 2 in
-      let ux = at 3 in let uy = at 4 in let uz = at 5 in
-      let vx = at 6 in let vy = at 7 in let vz = at 8 in
-      let cx = uy ⊗ vz ⊖ uz ⊗ vy in let cy = uz ⊗ vx ⊖ ux ⊗ vz in let cz = ux ⊗ vy ⊖ uy ⊗ vx in
-      let xs = m.x ∷ m.y ∷ m.z ∷ u.x ∷ u.y ∷ u.z ∷ v.x ∷ v.y ∷ v.z ∷ [] in
-      let k = neg (mx ⊗ ux ⊕ my ⊗ uy ⊕ mz ⊗ uz) in
-      let mv = mx ⊗ vx ⊕ my ⊗ vy ⊕ mz ⊗ vz in
-      let o = num (pos 0) in
-      let h : pos 0 <ℤ neg_ℤ (dot m u) = omega (arith, ints) in (
-        follows_times xs k vx o (given (neg ux) mv o e (given my cz o z.2 (given (neg mz) cy o z.1 none))) h tt,
-        follows_times xs k vy o (given (neg uy) mv o e (given mz cx o z.0 (given (neg mx) cz o z.2 none))) h tt,
-        follows_times xs k vz o (given (neg uz) mv o e (given mx cy o z.1 (given (neg my) cx o z.0 none))) h tt,
-      )
+  zero-by a e = ⊎_elim (λ o. o) (λ i. absurd (let w = in-span m v u i (cross-turned u v z) e in omega (arith, ints))) (zero-decided v)
 
 pub same-by-minus : (m u v : Vector) → IsZero (cross u v) → dot m u <ℤ pos 0 → dot m v <ℤ pos 0 → SameDirection u v
-same-by-minus m u v z a b = same-by (opposite m) u v z (let e = neg-dot m u in omega (arith, ints)) (let e = neg-dot m v in omega (arith, ints))
-  where
-    neg-dot : (m u : Vector) → dot (opposite m) u ≡ neg_ℤ (dot m u)
-    neg-dot m u = ring (m.x ∷ m.y ∷ m.z ∷ u.x ∷ u.y ∷ u.z ∷ []) (neg (at 0) ⊗ at 3 ⊕ neg (at 1) ⊗ at 4 ⊕ neg (at 2) ⊗ at 5) (neg (at 0 ⊗ at 3 ⊕ at 1 ⊗ at 4 ⊕ at 2 ⊗ at 5)) tt
+same-by-minus m u v z a b = same-by (opposite m) u v z (let e = opposite-dot m u in omega (arith, ints)) (let e = opposite-dot m v in omega (arith, ints))
 
 -- ---- points on one line
 pub cross-back : (d : Vector) (p q : Place) → IsZero (cross d (toward p q)) → IsZero (cross d (toward q p))
@@ -126,7 +95,7 @@ way-p p q k = at (q + k) ⊗ at (p + 3) ⊖ at (p + k) ⊗ at (q + 3)
 abbrev turn-p : ℕ → ℕ → ℕ → Poly
 turn-p y p q = at 0 ⊗ (way-p y p 1 ⊗ way-p y q 2 ⊖ way-p y p 2 ⊗ way-p y q 1) ⊕ at 1 ⊗ (way-p y p 2 ⊗ way-p y q 0 ⊖ way-p y p 0 ⊗ way-p y q 2) ⊕ at 2 ⊗ (way-p y p 0 ⊗ way-p y q 1 ⊖ way-p y p 1 ⊗ way-p y q 0)
 
-angle-cyclic : (n : Vector) (y z w : Place) → pos z.w *ℤ angle n y z w ≡ pos y.w *ℤ angle n z w y
+pub angle-cyclic : (n : Vector) (y z w : Place) → pos z.w *ℤ angle n y z w ≡ pos y.w *ℤ angle n z w y
 angle-cyclic n y z w = ring (n.x ∷ n.y ∷ n.z ∷ y.x ∷ y.y ∷ y.z ∷ pos y.w ∷ z.x ∷ z.y ∷ z.z ∷ pos z.w ∷ w.x ∷ w.y ∷ w.z ∷ pos w.w ∷ [])
     (at 10 ⊗ turn-p 3 7 11) (at 6 ⊗ turn-p 7 11 3) tt
 
@@ -136,9 +105,7 @@ angle-inside n y z w h = plain (angle n y z w) (angle n z w y) (angle-cyclic n y
     plain : (a b : ℤ) → pos z.w *ℤ a ≡ pos y.w *ℤ b → pos 0 <ℤ a → pos 0 <ℤ b
     plain a b e h =
         let p = mul_pos (pos z.w) a (let l = z.proper in omega (arith, ints)) h in
-        let q = ring (b ∷ pos y.w ∷ []) (at 1 ⊗ at 0) (at 0 ⊗ at 1) tt in
-        let o = ring (pos y.w ∷ []) (num (pos 0) ⊗ at 0) (num (pos 0)) tt in
-        cancel_lt (pos 0) b (pos y.w) (let l = y.proper in omega (arith, ints)) (omega (arith, ints))
+        plus-of (pos y.w) b (let l = y.proper in omega (arith, ints)) (omega (arith, ints))
 
 -- ---- the order of angles within a half-turn from z
 -- [za][cb] = [zc][ab] + [zb][ca]
@@ -153,17 +120,13 @@ at-least : (za cb zc ab zb ca : ℤ) → za *ℤ cb ≡ zc *ℤ ab +ℤ zb *ℤ 
 at-least za cb zc ab zb ca e h i j k l =
     let p = mul_nonneg zc ab i j in
     let q = mul_nonneg zb ca k l in
-    let r = ring (cb ∷ za ∷ []) (at 1 ⊗ at 0) (at 0 ⊗ at 1) tt in
-    let o = ring (za ∷ []) (num (pos 0) ⊗ at 0) (num (pos 0)) tt in
-    cancel_le (pos 0) cb za h (omega (arith, ints))
+    nonneg-of za cb h (omega (arith, ints))
 
 more : (za cb zc ab zb ca : ℤ) → za *ℤ cb ≡ zc *ℤ ab +ℤ zb *ℤ ca → pos 0 <ℤ za → pos 0 ≤ℤ zc → pos 0 ≤ℤ ab → pos 0 <ℤ zb → pos 0 <ℤ ca → pos 0 <ℤ cb
 more za cb zc ab zb ca e h i j k l =
     let p = mul_nonneg zc ab i j in
     let q = mul_pos zb ca k l in
-    let r = ring (cb ∷ za ∷ []) (at 1 ⊗ at 0) (at 0 ⊗ at 1) tt in
-    let o = ring (za ∷ []) (num (pos 0) ⊗ at 0) (num (pos 0)) tt in
-    cancel_lt (pos 0) cb za h (omega (arith, ints))
+    plus-of za cb h (omega (arith, ints))
 
 pub angle-trans : (n : Vector) (y z a b c : Place) → pos 0 <ℤ angle n y z a → pos 0 ≤ℤ angle n y z b → pos 0 ≤ℤ angle n y z c → pos 0 ≤ℤ angle n y c a → pos 0 ≤ℤ angle n y a b → pos 0 ≤ℤ angle n y c b
 angle-trans n y z a b c h i j k l =
@@ -185,21 +148,16 @@ module _ (h : Form) (p r q : Place) (b : IsBetween p r q) where
       plain a c d k i j sk si e x y =
           let u = mul_pos (pos i) a (omega (arith, ints)) x in
           let v = mul_nonneg (pos j) d (omega (arith, ints)) y in
-          let r = ring (c ∷ pos k ∷ []) (at 1 ⊗ at 0) (at 0 ⊗ at 1) tt in
-          let o = ring (pos k ∷ []) (num (pos 0) ⊗ at 0) (num (pos 0)) tt in
-          cancel_lt (pos 0) c (pos k) (omega (arith, ints)) (omega (arith, ints))
+          plus-of (pos k) c (omega (arith, ints)) (omega (arith, ints))
 
   pub between-minus : form_at h p ≡ pos 0 → form_at h q <ℤ pos 0 → form_at h r <ℤ pos 0
   between-minus x y = let m = mixed-of p r q b in plain (form_at h p) (form_at h r) (form_at h q) m.k m.i m.j m.some_k m.some_j (sum-at m) x y
     where
       plain : (a c d : ℤ) (k i j : ℕ) → 0 < k → 0 < j → pos k *ℤ c ≡ pos i *ℤ a +ℤ pos j *ℤ d → a ≡ pos 0 → d <ℤ pos 0 → c <ℤ pos 0
       plain a c d k i j sk sj e x y =
-          let u = mul_pos (pos j) (pos 0 -ℤ d) (omega (arith, ints)) (omega (arith, ints)) in
-          let v = ring (pos j ∷ d ∷ []) (at 0 ⊗ (num (pos 0) ⊖ at 1)) (num (pos 0) ⊖ at 0 ⊗ at 1) tt in
+          let u = mul_neg (pos j) d (omega (arith, ints)) (omega (arith, ints)) in
           let w = ap (λ r. pos i *ℤ r) x ∙ ring (pos i ∷ []) (at 0 ⊗ num (pos 0)) (num (pos 0)) tt in
-          let r = ring (c ∷ pos k ∷ []) (at 1 ⊗ at 0) (at 0 ⊗ at 1) tt in
-          let o = ring (pos k ∷ []) (num (pos 0) ⊗ at 0) (num (pos 0)) tt in
-          cancel_lt c (pos 0) (pos k) (omega (arith, ints)) (omega (arith, ints))
+          minus-of (pos k) c (omega (arith, ints)) (omega (arith, ints))
 
   -- a form that is nought between and negative at the start is positive at the end
   pub between-level : form_at h r ≡ pos 0 → form_at h p <ℤ pos 0 → pos 0 <ℤ form_at h q
@@ -207,12 +165,9 @@ module _ (h : Form) (p r q : Place) (b : IsBetween p r q) where
     where
       plain : (a c d : ℤ) (k i j : ℕ) → 0 < i → 0 < j → pos k *ℤ c ≡ pos i *ℤ a +ℤ pos j *ℤ d → c ≡ pos 0 → a <ℤ pos 0 → pos 0 <ℤ d
       plain a c d k i j si sj e x y =
-          let u = mul_pos (pos i) (pos 0 -ℤ a) (omega (arith, ints)) (omega (arith, ints)) in
-          let v = ring (pos i ∷ a ∷ []) (at 0 ⊗ (num (pos 0) ⊖ at 1)) (num (pos 0) ⊖ at 0 ⊗ at 1) tt in
+          let u = mul_neg (pos i) a (omega (arith, ints)) (omega (arith, ints)) in
           let w = ap (λ r. pos k *ℤ r) x ∙ ring (pos k ∷ []) (at 0 ⊗ num (pos 0)) (num (pos 0)) tt in
-          let r = ring (d ∷ pos j ∷ []) (at 1 ⊗ at 0) (at 0 ⊗ at 1) tt in
-          let o = ring (pos j ∷ []) (num (pos 0) ⊗ at 0) (num (pos 0)) tt in
-          cancel_lt (pos 0) d (pos j) (omega (arith, ints)) (omega (arith, ints))
+          plus-of (pos j) d (omega (arith, ints)) (omega (arith, ints))
 
   -- and one that is positive at the start is negative at the end
   pub between-level_minus : form_at h r ≡ pos 0 → pos 0 <ℤ form_at h p → form_at h q <ℤ pos 0
@@ -222,9 +177,7 @@ module _ (h : Form) (p r q : Place) (b : IsBetween p r q) where
       plain a c d k i j si sj e x y =
           let u = mul_pos (pos i) a (omega (arith, ints)) y in
           let w = ap (λ r. pos k *ℤ r) x ∙ ring (pos k ∷ []) (at 0 ⊗ num (pos 0)) (num (pos 0)) tt in
-          let r = ring (d ∷ pos j ∷ []) (at 1 ⊗ at 0) (at 0 ⊗ at 1) tt in
-          let o = ring (pos j ∷ []) (num (pos 0) ⊗ at 0) (num (pos 0)) tt in
-          cancel_lt d (pos 0) (pos j) (omega (arith, ints)) (omega (arith, ints))
+          minus-of (pos j) d (omega (arith, ints)) (omega (arith, ints))
 
 -- where a form changes its sign it is nought between
 pub record Cut (h : Form) (p q : Place) : Type 0 where

@@ -1,27 +1,5 @@
 -- An arc that is met close to a svertex ends there, on the side on which it is met; and each arc that ends there is met close to it on its side.
-use Rattle.std.proofs.Common.{◌≡◌, ℕ, ◌≤◌, ℤ, pos, ◌<ℤ◌, arith, refl, ap, sym, ◌∙◌, inl, inr, ⊎_elim, [], ◌∷◌, subst}
-use Rattle.std.proofs.lemmas.Int.{ints}
-use Rattle.nef_space.specs.Signs.{sign}
-use Rattle.nef_space.proofs.Ring.{ring, at, num, ◌⊕◌, ◌⊖◌, ◌⊗◌}
-use Rattle.nef_space.proofs.Order.{by_order}
-use Rattle.nef_space.specs.Vectors.{Vector, blend, dot, cross, triple, IsDirection, SameDirection}
-use Rattle.law_cyclic.specs.Arcs.{IsOnCircle, IsStrictlyOn}
-use Rattle.law_near.proofs.FlatDecided.{triple-dot, cross-turned}
-use Rattle.law_near.proofs.Far.{same-nought}
-use Rattle.law_near.proofs.Directions.{self-pos, dot-zero, dot-comm, direction-left}
-use Rattle.law_sphere.specs.Forms.{Keeps, arc_forms, forms}
-use Rattle.law_sphere.specs.Maps.{At, MapVertex, Arc, Map, arc_item, items, dir_of, Shaped}
-use Rattle.law_sphere.proofs.Vectors.{triple-middle, normal-is, same-plus, same-minus}
-use Rattle.law_sphere.proofs.Generic.{amount, far-keeps}
-use Rattle.law_sphere.proofs.Places.{kept-plus, kept-minus, SameDirection-decided}
-use Rattle.law_sphere.proofs.Forms.{item-forms}
-use Rattle.law_sphere.proofs.Parallel.{parallel-in_plane}
-use Rattle.law_sphere.proofs.Shot.{dir-at, arc-at}
-use Rattle.law_sphere.proofs.Labels.{dir-signs}
-use Rattle.law_sphere.proofs.Around.{opposite-triple, triple-turned, turn-plus, Beside, same_way, other_way, beside, IsStrictlyOn-back, direction-around, svertex-around}
-use Rattle.law_sphere.proofs.Compare.{SameDirection-turned, SameDirection-trans}
-use Rattle.law_sphere.proofs.Turn.{after-target}
-use Rattle.law_sphere.proofs.Arcs.{Ends, ends-of}
+use Rattle.law_complex.proofs.Prelude.{◌≡◌, ℕ, ◌≤◌, ℤ, pos, ◌<ℤ◌, arith, refl, ap, sym, ◌∙◌, inl, inr, ⊎_elim, ◌∷◌, subst, [], ints, sign, ring, at, num, ◌⊕◌, ◌⊖◌, ◌⊗◌, by_order, Vector, blend, dot, cross, triple, IsDirection, SameDirection, IsOnCircle, IsStrictlyOn, same-nought, Keeps, arc_forms, forms, At, MapVertex, Arc, Map, arc_item, items, dir_of, Shaped, normal-is, same-plus, same-minus, amount, far-keeps, kept-plus, kept-minus, SameDirection-decided, item-forms, dir-at, arc-at, opposite-triple, turn-plus, Beside, same_way, other_way, beside, IsStrictlyOn-back, direction-around, svertex-around, after-target, Ends, ends-of, dot-comm, dot-zero, self-pos, triple-dot, cross-turned, triple-middle, triple-turned, SameDirection-turned, SameDirection-trans, dir-signs, parallel-in_plane, direction-left}
 
 -- ---- close before its source an arc isn't met, unless it ends there too
 module _ (n s t y : Vector) (hs : IsDirection s) (ht : IsDirection t) (ls : dot n s ≡ pos 0) (lt : dot n t ≡ pos 0) (hn : IsDirection n)

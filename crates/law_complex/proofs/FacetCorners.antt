@@ -1,27 +1,5 @@
 -- Where the labels near a direction of a least map are the germs of a facet point, an item of the facet's plane lies at that direction.
-use Rattle.std.proofs.Common.{◌≡◌, ℕ, ◌+◌, ◌≤◌, pos, ◌+ℤ◌, ◌*ℤ◌, arith, refl, ap, sym, ◌∙◌, inr, ⊎_elim, [], ◌∷◌, subst}
-use Rattle.std.proofs.lemmas.Int.{ints}
-use Rattle.nef_space.specs.Signs.{sign}
-use Rattle.nef_space.proofs.Ring.{ring, at, num, ◌⊕◌, ◌⊗◌}
-use Rattle.nef_space.proofs.Order.{sign-scaled}
-use Rattle.nef_space.specs.Local.{HasLabel, Germ, FlatDim}
-use Rattle.nef_space.specs.Place.{Place}
-use Rattle.nef_space.specs.Sets.{Set}
-use Rattle.nef_space.specs.Vectors.{Vector, zero_vector, opposite, blend, dot, IsDirection, IsNormal, SameDirection}
-use Rattle.nef_space.specs.declared.label.Label.{Label}
-use Rattle.law_near.proofs.Decided.{label_of, germ_of}
-use Rattle.law_near.proofs.Rays.{Germ-zero}
-use Rattle.law_near.proofs.Far.{nought-or, same-nought, same-off}
-use Rattle.law_near.proofs.Directions.{dot-zero}
-use Rattle.law_sphere.specs.Forms.{SameSigns, forms}
-use Rattle.law_sphere.specs.Least.{by_side, NearStraight, Least}
-use Rattle.law_sphere.specs.Maps.{At, Map, Item, items, item_normal, item_pos, item_mark, item_neg, OnItem, MapLabel, NearLabel, Valid}
-use Rattle.law_sphere.proofs.Vectors.{normal-direction, normal-is, dot-comb}
-use Rattle.law_sphere.proofs.Generic.{amount, far-keeps, far-level}
-use Rattle.law_sphere.proofs.Forms.{PlaceOf, svertex_place, item_place, free_place, place_of}
-use Rattle.law_sphere.proofs.Labels.{label-by_signs, near-from_far, far-from_near, near-unique}
-use Rattle.law_sphere.proofs.NearItems.{near-free, near-item}
-use Rattle.law_sphere.proofs.Unique.{svertex-neither}
+use Rattle.law_complex.proofs.Prelude.{◌≡◌, ℕ, ◌+◌, ◌≤◌, pos, ◌+ℤ◌, ◌*ℤ◌, arith, refl, ap, sym, ◌∙◌, inr, ⊎_elim, ◌∷◌, subst, [], ints, sign, ring, at, num, ◌⊕◌, ◌⊗◌, neg, sign-scaled, nought-or, HasLabel, Germ, FlatDim, Place, Set, Vector, zero_vector, opposite, blend, dot, IsDirection, IsNormal, SameDirection, Label, label_of, germ_of, Germ-zero, same-nought, same-off, SameSigns, forms, by_side, NearStraight, Least, At, Map, Item, items, item_normal, item_pos, item_mark, item_neg, OnItem, MapLabel, NearLabel, Valid, normal-direction, normal-is, dot-comb, amount, far-keeps, far-level, PlaceOf, svertex_place, item_place, free_place, place_of, label-by_signs, near-from_far, far-from_near, near-unique, near-free, near-item, svertex-neither, dot-zero}
 use Rattle.law_complex.proofs.Cones.{FlatAre, plane-sides}
 use Rattle.law_complex.proofs.FacetSides.{IsSided, one-label-not_two, sided-flats, flats-one}
 

@@ -1,34 +1,5 @@
 -- Beside an edge point: the labels of its lower end near the edge are the germs close to it; and turned ways.
-use Rattle.std.proofs.Common.{◌≡◌, ℕ, ℤ, pos, ◌-ℤ◌, ◌*ℤ◌, ◌+ℤ◌, neg_ℤ, ◌<ℤ◌, arith, sym, ◌∙◌, inl, inr, ⊎_elim, [], ◌∷◌, subst}
-use Rattle.std.proofs.lemmas.Int.{ints}
-use Rattle.nef_space.specs.Signs.{sign}
-use Rattle.nef_space.proofs.Ring.{ring, at, num, neg, ◌⊕◌, ◌⊖◌, ◌⊗◌}
-use Rattle.nef_space.proofs.Combination.{given, none, follows}
-use Rattle.nef_space.proofs.Order.{by_order}
-use Rattle.nef_space.specs.Local.{Germ, Flat, FlatDim}
-use Rattle.nef_space.specs.Place.{Place, SamePlace, toward, IsBetween}
-use Rattle.nef_space.specs.Sets.{Set}
-use Rattle.nef_space.specs.Vectors.{Vector, opposite, blend, dot, cross, triple, IsZero, IsDirection, IsNormal, SameDirection}
-use Rattle.nef_space.specs.declared.label.Label.{Label}
-use Rattle.law_near.specs.Laws.{SameGerms}
-use Rattle.law_near.proofs.Alike.{FlatDim-by_germs, FlatDim-one}
-use Rattle.law_near.proofs.Flats.{FlatCone-from_flat, vector-same}
-use Rattle.law_near.proofs.FlatDecided.{near-of_flat}
-use Rattle.law_near.proofs.Directions.{factor-same, direction-left, direction-right}
-use Rattle.law_sphere.specs.Forms.{forms}
-use Rattle.law_sphere.specs.Maps.{At, MapVertex, Arc, Item, arc_item, sloop_item, items, item_normal, dir_of, OnItem, NearLabel, Valid}
-use Rattle.law_sphere.proofs.Vectors.{normal-direction, dot-comb, same-plus, same-minus}
-use Rattle.law_sphere.proofs.Generic.{amount, far-keeps}
-use Rattle.law_sphere.proofs.Lists.{at-one}
-use Rattle.law_sphere.proofs.Shot.{dir-at, arc-at}
-use Rattle.law_sphere.proofs.Parallel.{parallel-in_plane}
-use Rattle.law_sphere.proofs.Around.{direction-around}
-use Rattle.law_sphere.proofs.Compare.{SameDirection-turned, SameDirection-trans, dir-self}
-use Rattle.law_sphere.proofs.Turn.{turn-same}
-use Rattle.law_sphere.proofs.Arcs.{level-same}
-use Rattle.law_complex.specs.Complexes.{Vertex, Edge, Complex, HasEnds}
-use Rattle.law_complex.specs.Shows.{Shows}
-use Rattle.law_complex.specs.Skeleton.{IsArcOnSide}
+use Rattle.law_complex.proofs.Prelude.{◌≡◌, ℕ, ℤ, pos, ◌-ℤ◌, ◌*ℤ◌, ◌+ℤ◌, ◌<ℤ◌, arith, sym, ◌∙◌, inl, inr, ⊎_elim, ◌∷◌, subst, [], ints, sign, ring, at, num, neg, ◌⊕◌, ◌⊖◌, ◌⊗◌, given, none, follows, by_order, Germ, Flat, FlatDim, Place, SamePlace, toward, IsBetween, Set, Vector, opposite, blend, dot, cross, triple, IsZero, IsDirection, IsNormal, SameDirection, Label, SameGerms, FlatDim-by_germs, FlatDim-one, FlatCone-from_flat, near-of_flat, factor-same, forms, At, MapVertex, Arc, Item, arc_item, sloop_item, items, item_normal, dir_of, OnItem, NearLabel, Valid, normal-direction, dot-comb, same-plus, same-minus, amount, far-keeps, at-one, dir-at, arc-at, direction-around, turn-same, level-same, Vertex, Edge, Complex, HasEnds, Shows, IsArcOnSide, vector-same, SameDirection-turned, SameDirection-trans, dir-self, parallel-in_plane, opposite-same, direction-left, direction-right}
 use Rattle.law_complex.proofs.Cones.{FlatAre}
 use Rattle.law_complex.proofs.Edges.{edge-points, near_point, near-germs}
 use Rattle.law_complex.proofs.FacetSides.{IsSided}
@@ -37,16 +8,7 @@ use Rattle.law_complex.proofs.FacetArcs.{source-met, target-met, source-meets, t
 
 -- ---- turned ways
 pub ahead-back : (p q : Place) (d : Vector) → SameDirection (toward p q) d → SameDirection (toward q p) (opposite d)
-ahead-back p q d w = subst (λ (e : Vector). SameDirection e (opposite d)) (vector-same (opposite (toward p q)) (toward q p) (omega (arith, ints)) (omega (arith, ints)) (omega (arith, ints))) (both (toward p q) d w)
-  where
-    both : (e h : Vector) → SameDirection e h → SameDirection (opposite e) (opposite h)
-    both e h w = record {
-      parallel = (each e.y e.z h.y h.z w.parallel.0, each e.z e.x h.z h.x w.parallel.1, each e.x e.y h.x h.y w.parallel.2);
-      forward = let g = w.forward in let r : dot (opposite e) (opposite h) ≡ dot e h = ring (e.x ∷ e.y ∷ e.z ∷ h.x ∷ h.y ∷ h.z ∷ []) (neg (at 0) ⊗ neg (at 3) ⊕ neg (at 1) ⊗ neg (at 4) ⊕ neg (at 2) ⊗ neg (at 5)) (at 0 ⊗ at 3 ⊕ at 1 ⊗ at 4 ⊕ at 2 ⊗ at 5) tt in omega (arith, ints);
-    }
-      where
-        each : (a b c d : ℤ) → a *ℤ d -ℤ b *ℤ c ≡ pos 0 → neg_ℤ a *ℤ neg_ℤ d -ℤ neg_ℤ b *ℤ neg_ℤ c ≡ pos 0
-        each a b c d z = ring (a ∷ b ∷ c ∷ d ∷ []) (neg (at 0) ⊗ neg (at 3) ⊖ neg (at 1) ⊗ neg (at 2)) (at 0 ⊗ at 3 ⊖ at 1 ⊗ at 2) tt ∙ z
+ahead-back p q d w = subst (λ (e : Vector). SameDirection e (opposite d)) (vector-same (opposite (toward p q)) (toward q p) (omega (arith, ints)) (omega (arith, ints)) (omega (arith, ints))) (opposite-same (toward p q) d w)
 
 -- an equal point lies the same way
 pub ahead-same : (y z p : Place) (d : Vector) → SamePlace p z → SameDirection (toward y z) d → SameDirection (toward y p) d

@@ -1,34 +1,10 @@
 -- What a ray within a facet first meets has an item of the facet's plane on the ray's side; and where such an item lies behind what is first met, the point lies in a facet.
-use Rattle.std.proofs.Common.{◌≡◌, ℕ, pos, neg_ℤ, arith, refl, sym, ◌∙◌, ⊎_elim, [], ◌∷◌, subst}
-use Rattle.std.proofs.lemmas.Int.{ints}
-use Rattle.nef_space.specs.Signs.{sign}
-use Rattle.nef_space.proofs.Ring.{ring, at, neg, ◌⊕◌, ◌⊗◌}
-use Rattle.nef_space.specs.Local.{HasLabel, Germ, Flat, FlatDim}
-use Rattle.nef_space.specs.Place.{Place, Form, form_at, normal_of, slope, SamePlace, toward, IsBetween}
-use Rattle.nef_space.specs.Sets.{Set}
-use Rattle.nef_space.specs.Vectors.{Vector, opposite, dot, IsDirection, IsNormal, SameDirection}
-use Rattle.law_near.specs.Laws.{Drop, IsFlatBelow, SameGerms}
-use Rattle.law_near.proofs.FlatDecided.{cross-turned}
-use Rattle.law_near.proofs.Even.{even-germs}
-use Rattle.law_near.proofs.Between.{between-turned, between-inner}
-use Rattle.law_near.proofs.Edges.{flat_way-end, even-until}
-use Rattle.law_near.proofs.Mixed.{between-same}
-use Rattle.law_near.proofs.Directions.{dot-comm, direction-left, direction-right}
-use Rattle.law_sphere.specs.Least.{by_side}
-use Rattle.law_sphere.specs.Maps.{At, Item, arc_item, items, item_normal, item_pos, item_mark, item_neg, dir_of}
-use Rattle.law_sphere.proofs.Lists.{at-one}
-use Rattle.law_sphere.proofs.KindFlats.{in-span}
-use Rattle.law_sphere.proofs.Compare.{SameDirection-turned, SameDirection-trans}
-use Rattle.law_sphere.proofs.Arcs.{at-arc, level-same}
-use Rattle.law_complex.specs.Complexes.{Vertex, Edge, Complex, Corner, HasEnds, IsCorner}
-use Rattle.law_complex.specs.Shows.{Shows}
-use Rattle.law_complex.specs.Skeleton.{IsVertexPoint, IsEdgePoint, PlaneMeet, meets_vertex, meets_edge, Meets, LiesIn, IsFirstInPlane, IsCornerAt}
-use Rattle.law_complex.specs.Laws.{IsFlatIn}
+use Rattle.law_complex.proofs.Prelude.{◌≡◌, ℕ, pos, arith, refl, sym, ◌∙◌, ⊎_elim, subst, ints, sign, HasLabel, Germ, Flat, FlatDim, Place, Form, form_at, normal_of, slope, SamePlace, toward, IsBetween, Set, Vector, opposite, dot, IsDirection, IsNormal, SameDirection, Drop, IsFlatBelow, SameGerms, even-germs, between-turned, between-inner, flat_way-end, even-until, between-same, by_side, At, Item, arc_item, item_normal, item_pos, item_mark, item_neg, dir_of, at-one, at-arc, level-same, Vertex, Edge, Complex, Corner, HasEnds, IsCorner, Shows, IsVertexPoint, IsEdgePoint, PlaneMeet, meets_vertex, meets_edge, Meets, LiesIn, IsFirstInPlane, IsCornerAt, IsFlatIn, dot-comm, cross-turned, SameDirection-turned, SameDirection-trans, in-span, dot-opposite, level-way, direction-left, direction-right}
 use Rattle.law_complex.proofs.Cones.{FlatAre, near-label}
 use Rattle.law_complex.proofs.Planes.{plane-way}
 use Rattle.law_complex.proofs.Ways.{between-way, between-start, between-ends, same-itself}
-use Rattle.law_complex.proofs.Edges.{near_point, near-between, near-germs, edge-way}
-use Rattle.law_complex.proofs.FacetSides.{level-way, sided-carried, flats-carried}
+use Rattle.law_complex.proofs.Edges.{near_point, near-between, near-germs, edge-way, corner-one}
+use Rattle.law_complex.proofs.FacetSides.{sided-carried, flats-carried}
 use Rattle.law_complex.proofs.FacetWays.{plane-ahead, even-by, even-to, two-off, meets-on, end-meets}
 use Rattle.law_complex.proofs.FacetCorners.{ItemAt, item-at}
 use Rattle.law_complex.proofs.FacetPoints.{IsInFacetOf, in-facet, beside-vertex}
@@ -53,15 +29,6 @@ level-normal n m v w z = dot-comm m v ∙ level-way v n m w (dot-comm v n ∙ z)
 
 flats-normal : (s : Set) (q : Place) (n m : Vector) → SameDirection n m → FlatAre s q n → FlatAre s q m
 flats-normal s q n m w flat v = (λ f. level-normal n m v w ((flat v).0 f), λ z. (flat v).1 (level-normal m n v (SameDirection-turned n m w) z))
-
-dot-opposite : (n d : Vector) → dot n (opposite d) ≡ neg_ℤ (dot n d)
-dot-opposite n d = ring (n.x ∷ n.y ∷ n.z ∷ d.x ∷ d.y ∷ d.z ∷ []) (at 0 ⊗ neg (at 3) ⊕ at 1 ⊗ neg (at 4) ⊕ at 2 ⊗ neg (at 5)) (neg (at 0 ⊗ at 3 ⊕ at 1 ⊗ at 4 ⊕ at 2 ⊗ at 5)) tt
-
--- a corner has one vertex and one item
-pub corner-one : (C : Complex) (k : Corner) (v w : Vertex) (x z : Item) → IsCorner C k v x → IsCorner C k w z → x ≡ z
-corner-one C k v w x z a b =
-    let f = at-one C.vertices k.vertex v w a.vertex b.vertex in
-    at-one (items w.map) k.item x z (subst (λ (r : Vertex). At (items r.map) k.item x) f a.item) b.item
 
 module _ (s : Set) (C : Complex) (S : Shows s C) (h : Form) (y : Place) (normal : IsNormal (normal_of h)) (on : form_at h y ≡ pos 0) (d : Vector) (some : IsDirection d) (level : slope h d ≡ pos 0) where
   abbrev n : Vector

@@ -1,32 +1,7 @@
 -- Each point with two flat directions is a facet point of an item of a vertex that it sees, and has a corner.
-use Rattle.std.proofs.Common.{◌≡◌, ℤ, pos, ◌*ℤ◌, ◌<ℤ◌, arith, refl, ap, sym, ◌∙◌, ⊎_elim, ◌↔◌, [], ◌∷◌, subst, Bool, true, false, cond, ◌&&◌, Decides}
-use Rattle.std.proofs.lemmas.Int.{ints}
+use Rattle.law_complex.proofs.Prelude.{◌≡◌, ℤ, pos, ◌*ℤ◌, ◌<ℤ◌, arith, refl, ap, sym, ◌∙◌, ⊎_elim, ◌↔◌, ◌∷◌, subst, Bool, true, false, cond, ◌&&◌, Decides, [], ints, ring, at, num, neg, ◌⊕◌, ◌⊗◌, mul_nonneg, mul_pos, nought-or, Flat, FlatDim, Place, Form, form_at, normal_of, slope, plane_through, toward, Set, Vector, vector, opposite, dot, IsDirection, IsNormal, plane_axis, beside_x, beside_y, flat-plane, between-turned, place-toward, Item, item_normal, OnItem, normal-direction, on-level, product-off, Vertex, Complex, Corner, IsCorner, Shows, IsFacetPoint, item_plane, RayNames, HasCorner, IsFlatIn, dot-zero, vector-same, dir-self, opposite-dot}
 use Rattle.std.specs.Ordering.{int_eq}
 use Rattle.std.proofs.lemmas.Bool.Decides.{Decides-int_eq}
-use Rattle.nef_space.proofs.Ring.{ring, at, num, neg, ◌⊕◌, ◌⊗◌}
-use Rattle.nef_space.proofs.Order.{mul_nonneg, mul_pos}
-use Rattle.nef_space.specs.Local.{Flat, FlatDim}
-use Rattle.nef_space.specs.Place.{Place, Form, form_at, normal_of, slope, plane_through, toward}
-use Rattle.nef_space.specs.Sets.{Set}
-use Rattle.nef_space.specs.Vectors.{Vector, vector, opposite, dot, IsDirection, IsNormal, plane_axis, beside_x, beside_y}
-use Rattle.law_near.proofs.Flats.{vector-same}
-use Rattle.law_near.proofs.Supports.{flat-plane}
-use Rattle.law_near.proofs.Between.{between-turned}
-use Rattle.law_near.proofs.Far.{nought-or}
-use Rattle.law_near.proofs.Directions.{dot-zero}
-use Rattle.law_near.proofs.Mixed.{place-toward}
-use Rattle.law_sphere.specs.Maps.{Item, item_normal, OnItem}
-use Rattle.law_sphere.proofs.Vectors.{normal-direction}
-use Rattle.law_sphere.proofs.Forms.{on-level}
-use Rattle.law_sphere.proofs.Shot.{product-off}
-use Rattle.law_sphere.proofs.Builder.{normal-or}
-use Rattle.law_sphere.proofs.Kind.{away}
-use Rattle.law_sphere.proofs.Flips.{dot-away}
-use Rattle.law_sphere.proofs.Compare.{dir-self}
-use Rattle.law_complex.specs.Complexes.{Vertex, Complex, Corner, IsCorner}
-use Rattle.law_complex.specs.Shows.{Shows}
-use Rattle.law_complex.specs.Skeleton.{IsFacetPoint, item_plane, RayNames, HasCorner}
-use Rattle.law_complex.specs.Laws.{IsFlatIn}
 use Rattle.law_complex.proofs.Cones.{FlatAre}
 use Rattle.law_complex.proofs.Planes.{plane-way}
 use Rattle.law_complex.proofs.Ways.{same-itself}
@@ -36,6 +11,7 @@ use Rattle.law_complex.proofs.Skeletons.{FacetAt}
 use Rattle.law_complex.proofs.FacetEnds.{item-seen, facet-behind}
 use Rattle.law_complex.proofs.FacetAngles.{through-at, through-slope}
 use Rattle.law_complex.proofs.FacetSight.{sees-vertex}
+use Rattle.law_sphere.proofs.Builder.{normal-either}
 
 -- ---- the plane of an item
 scaled-nought : (k x : ℤ) → pos 0 <ℤ k → x *ℤ k ≡ pos 0 → x ≡ pos 0
@@ -80,7 +56,7 @@ axis-in n i = by (int_eq n.z (pos 0)) (int_eq n.y (pos 0)) (Decides-int_eq n.z (
     by false true f g = ((λ z. let q : false ≡ true = f.1 z.1 in cc), level-x)
     by false false f g = ((λ z. let q : false ≡ true = f.1 z.1 in cc), level-x)
 
-toward-turned : (p q : Place) → opposite (toward p q) ≡ toward q p
+pub toward-turned : (p q : Place) → opposite (toward p q) ≡ toward q p
 toward-turned p q = vector-same (opposite (toward p q)) (toward q p) (omega (arith, ints)) (omega (arith, ints)) (omega (arith, ints))
 
 -- ---- an item beside a facet point
@@ -133,10 +109,10 @@ module _ (s : Set) (C : Complex) (S : Shows s C) where
   pub facet-of : (y : Place) → FlatDim s y 2 → (k : Corner) × (v : Vertex) × (x : Item) × IsCorner C k v x × IsFacetPoint C v x y
   facet-of y f =
       let p = flat-plane s y f in
-      ⊎_elim (λ N. found p.0 N p.2) (λ N. found (away p.0) N (λ d. turned p.0 d (p.2 d))) (normal-or p.0 p.1)
+      ⊎_elim (λ N. found p.0 N p.2) (λ N. found (opposite p.0) N (λ d. turned p.0 d (p.2 d))) (normal-either p.0 p.1)
     where
-      turned : {A : Type 0} (n d : Vector) → A ↔ (dot n d ≡ pos 0) → A ↔ (dot (away n) d ≡ pos 0)
-      turned n d e = ((λ a. let z = e.0 a in let q = dot-away n d in omega (arith, ints)), (λ z. e.1 (let q = dot-away n d in omega (arith, ints))))
+      turned : {A : Type 0} (n d : Vector) → A ↔ (dot n d ≡ pos 0) → A ↔ (dot (opposite n) d ≡ pos 0)
+      turned n d e = ((λ a. let z = e.0 a in let q = opposite-dot n d in omega (arith, ints)), (λ z. e.1 (let q = opposite-dot n d in omega (arith, ints))))
 
       found : (n : Vector) → IsNormal n → FlatAre s y n → (k : Corner) × (v : Vertex) × (x : Item) × IsCorner C k v x × IsFacetPoint C v x y
       found n N flat =

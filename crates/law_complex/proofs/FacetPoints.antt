@@ -1,25 +1,9 @@
 -- The points of a facet: from the item beside it on, two directions are flat, and the labels are those of the item.
-use Rattle.nef_space.specs.Signs.{sign}
-use Rattle.nef_space.specs.Local.{HasLabel, Flat, FlatDim}
-use Rattle.nef_space.specs.Place.{Place, toward, IsBetween}
-use Rattle.nef_space.specs.Sets.{Set}
-use Rattle.nef_space.specs.Vectors.{Vector, dot, IsDirection, SameDirection}
-use Rattle.law_near.specs.Laws.{SameGerms, Drop}
-use Rattle.law_near.proofs.Even.{even-germs}
-use Rattle.law_near.proofs.Directions.{direction-right}
-use Rattle.law_sphere.specs.Least.{by_side}
-use Rattle.law_sphere.specs.Maps.{Item, item_normal, item_pos, item_mark, item_neg, OnItem}
-use Rattle.law_sphere.proofs.Vectors.{normal-is}
-use Rattle.law_sphere.proofs.Forms.{on-direction, on-level}
-use Rattle.law_sphere.proofs.NearItems.{near-item}
-use Rattle.law_sphere.proofs.Compare.{SameDirection-turned, SameDirection-trans, dir-self}
-use Rattle.law_complex.specs.Complexes.{Vertex, Complex, Corner, IsCorner}
-use Rattle.law_complex.specs.Shows.{Shows}
-use Rattle.law_complex.specs.Skeleton.{IsFacetPoint}
+use Rattle.law_complex.proofs.Prelude.{sign, HasLabel, Flat, FlatDim, Place, toward, IsBetween, Set, Vector, dot, IsDirection, SameDirection, SameGerms, Drop, even-germs, by_side, Item, item_normal, item_pos, item_mark, item_neg, OnItem, normal-is, on-direction, on-level, near-item, Vertex, Complex, Corner, IsCorner, Shows, IsFacetPoint, SameDirection-turned, SameDirection-trans, dir-self, level-way, direction-right}
 use Rattle.law_complex.proofs.Cones.{FlatAre, near-germ}
 use Rattle.law_complex.proofs.Ways.{between-outer}
 use Rattle.law_complex.proofs.Edges.{near_point, near-between, near-germs, way-near}
-use Rattle.law_complex.proofs.FacetSides.{IsSided, level-way, sided-carried, sided-label, sided-dim, sided-flats}
+use Rattle.law_complex.proofs.FacetSides.{IsSided, sided-carried, sided-label, sided-dim, sided-flats}
 use Rattle.law_complex.proofs.FacetWays.{even-to, below-on}
 
 -- y has two flat directions, those of the item's plane, and the item's labels

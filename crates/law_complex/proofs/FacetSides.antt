@@ -1,40 +1,11 @@
 -- Germs by the sides of a plane: where they aren't all one, the flat directions are those of the plane, and two planes with these flat directions are one.
-use Rattle.std.proofs.Common.{◌≡◌, pos, ◌*ℤ◌, neg_ℤ, arith, refl, ap, sym, ◌∙◌, ⊎_elim, [], ◌∷◌, subst}
-use Rattle.std.proofs.lemmas.Int.{ints}
-use Rattle.nef_space.specs.Signs.{Sign, minus, nought, plus, sign}
-use Rattle.nef_space.proofs.Ring.{ring, at, num, neg, ◌⊕◌, ◌⊖◌, ◌⊗◌}
-use Rattle.nef_space.proofs.Combination.{given, none, follows}
-use Rattle.nef_space.proofs.Order.{sign-plus, sign-minus}
-use Rattle.nef_space.specs.Local.{HasLabel, Germ, Flat, HasFlat, FlatDim}
-use Rattle.nef_space.specs.Place.{Place}
-use Rattle.nef_space.specs.Sets.{Set}
-use Rattle.nef_space.specs.Vectors.{Vector, zero_vector, opposite, dot, cross, triple, IsZero, IsDirection, IsNormal, SameDirection}
-use Rattle.nef_space.specs.declared.label.Label.{Label}
-use Rattle.law_near.specs.Laws.{SameGerms}
-use Rattle.law_near.proofs.Rays.{Germ-zero}
-use Rattle.law_near.proofs.Germs.{Germ-unique}
-use Rattle.law_near.proofs.Alike.{flat-germ, Flat-by_germs}
-use Rattle.law_near.proofs.Even.{span-3}
-use Rattle.law_near.proofs.Supports.{flat-plane, square-cross}
-use Rattle.law_near.proofs.Far.{nought-or, same-nought}
-use Rattle.law_near.proofs.Directions.{self-pos, dot-zero, dot-comm, direction-left}
-use Rattle.law_sphere.specs.Least.{by_side}
-use Rattle.law_sphere.proofs.Shot.{product-off}
-use Rattle.law_sphere.proofs.Vectors.{normal-direction}
-use Rattle.law_sphere.proofs.Labels.{dir-signs}
-use Rattle.law_sphere.proofs.Places.{row_x, row_y, row_z, row_x-is, row_y-is, row_z-is}
-use Rattle.law_sphere.proofs.Parallel.{circle-point, row-level}
-use Rattle.law_sphere.proofs.Around.{Beside, same_way, other_way, beside}
-use Rattle.law_sphere.proofs.Compare.{normals-not_opposite}
+use Rattle.law_complex.proofs.Prelude.{◌≡◌, pos, neg_ℤ, arith, refl, ap, sym, ◌∙◌, ⊎_elim, ◌∷◌, subst, [], ints, Sign, minus, nought, plus, sign, ring, at, neg, ◌⊕◌, ◌⊗◌, sign-plus, sign-minus, nought-or, HasLabel, Germ, Flat, HasFlat, FlatDim, Place, Set, Vector, zero_vector, opposite, dot, cross, IsZero, IsDirection, IsNormal, SameDirection, Label, SameGerms, Germ-zero, Germ-unique, flat-germ, Flat-by_germs, span-3, flat-plane, by_side, product-off, row_x, row_y, row_z, row_x-is, row_y-is, row_z-is, circle-point, row-level, normals-same, dot-comm, dot-zero, self-pos, square-cross}
 use Rattle.law_complex.proofs.Cones.{FlatAre, sided-flat, sided-two}
+use Rattle.law_sphere.proofs.StarKinds.{turn-ahead}
 
 -- a is the label above the plane of n, m in it, b below
 abbrev pub IsSided : Set → Place → Vector → Label → Label → Label → Type 0
 IsSided s q n a m b = (e : Vector) → Germ s q e (by_side a m b (sign (dot n e)))
-
--- a direction of the same way lies in the plane too
-pub level-way : (n d e : Vector) → SameDirection d e → dot n d ≡ pos 0 → dot n e ≡ pos 0
-level-way n d e w z = same-nought (dot n d) (dot n e) (dir-signs d e n (direction-left d e w) w) z
 
 pub sided-carried : (s : Set) (q y : Place) (n : Vector) (a m b : Label) → SameGerms s q y → IsSided s q n a m b → IsSided s y n a m b
 sided-carried s q y n a m b same all e = (same e (by_side a m b (sign (dot n e)))).0 (all e)
@@ -98,19 +69,8 @@ module _ (s : Set) (q : Place) (n : Vector) (a m b : Label) (all : IsSided s q n
         third f o =
             let c = circle-point n some in
             let d = c.0 in
-            let r = product n d v c.1.level in
+            let r = turn-ahead n d v c.1.level in
             not-three (d, cross n d, v, (λ z. product-off (dot d d) (dot n v) (self-pos d c.1.direction) o (sym r ∙ z)), sided-flat s q n a m b all d c.1.level, sided-flat s q n a m b all (cross n d) (square-cross n d), f)
-          where
-            product : (n d v : Vector) → dot n d ≡ pos 0 → triple d (cross n d) v ≡ dot d d *ℤ dot n v
-            product n d v z =
-                let nx = at 0 in let ny = at 1 in let nz = at 2 in
-                let dx = at 3 in let dy = at 4 in let dz = at 5 in
-                let vx = at 6 in let vy = at 7 in let vz = at 8 in
-                let cx = ny ⊗ dz ⊖ nz ⊗ dy in let cy = nz ⊗ dx ⊖ nx ⊗ dz in let cz = nx ⊗ dy ⊖ ny ⊗ dx in
-                follows (n.x ∷ n.y ∷ n.z ∷ d.x ∷ d.y ∷ d.z ∷ v.x ∷ v.y ∷ v.z ∷ [])
-                (dx ⊗ (cy ⊗ vz ⊖ cz ⊗ vy) ⊕ dy ⊗ (cz ⊗ vx ⊖ cx ⊗ vz) ⊕ dz ⊗ (cx ⊗ vy ⊖ cy ⊗ vx))
-                ((dx ⊗ dx ⊕ dy ⊗ dy ⊕ dz ⊗ dz) ⊗ (nx ⊗ vx ⊕ ny ⊗ vy ⊕ nz ⊗ vz))
-                (given (neg (dx ⊗ vx ⊕ dy ⊗ vy ⊕ dz ⊗ vz)) (nx ⊗ dx ⊕ ny ⊗ dy ⊕ nz ⊗ dz) (num (pos 0)) z none) tt
 
 -- ---- two planes with the same flat directions are one
 flats-parallel : (s : Set) (q : Place) (n m : Vector) → FlatAre s q n → FlatAre s q m → IsZero (cross n m)
@@ -124,8 +84,4 @@ flats-parallel s q n m f g =
 
 -- normals point to one side
 pub flats-one : (s : Set) (q : Place) (n m : Vector) → IsNormal n → IsNormal m → FlatAre s q n → FlatAre s q m → SameDirection n m
-flats-one s q n m h k f g = by (beside n m (normal-direction n h) (normal-direction m k) (flats-parallel s q n m f g))
-  where
-    by : Beside n m → SameDirection n m
-    by (same_way w) = w
-    by (other_way o) = absurd (normals-not_opposite n m h k o)
+flats-one s q n m h k f g = normals-same n m h k (flats-parallel s q n m f g)

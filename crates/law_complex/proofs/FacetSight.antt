@@ -1,31 +1,5 @@
 -- Each facet point sees a vertex: of the vertices in the triangle with a point of an edge that it sees and an end of the edge, it sees that of the least angle or one before it.
-use Rattle.std.proofs.Common.{◌≡◌, ℕ, zero, suc, ℤ, pos, ◌<ℤ◌, ◌≤ℤ◌, arith, refl, ap, sym, ◌∙◌, ◌⊎◌, inl, inr, ⊎_elim, List, [], ◌∷◌, subst}
-use Rattle.std.proofs.lemmas.Int.{ints}
-use Rattle.nef_space.specs.Signs.{sign}
-use Rattle.nef_space.proofs.Order.{by_order, nought-is}
-use Rattle.nef_space.specs.Local.{FlatDim}
-use Rattle.nef_space.specs.Place.{Place, Form, form_at, normal_of, SamePlace, toward, IsBetween}
-use Rattle.nef_space.specs.Sets.{Set}
-use Rattle.nef_space.specs.Vectors.{Vector, cross, IsDirection}
-use Rattle.law_near.specs.Laws.{Drop}
-use Rattle.law_near.proofs.Decided.{Decided, decided-both}
-use Rattle.law_near.proofs.Rays.{sign-same, same-place_sym}
-use Rattle.law_near.proofs.FlatDecided.{cross-turned, triple-dot}
-use Rattle.law_near.proofs.Even.{span-1}
-use Rattle.law_near.proofs.Between.{between-turned}
-use Rattle.law_near.proofs.Edges.{even-until, flat_way-end}
-use Rattle.law_near.proofs.Mixed.{between-same, place-toward, toward-place}
-use Rattle.law_near.proofs.Directions.{dot-zero, direction-left}
-use Rattle.law_near.proofs.Far.{nought-or}
-use Rattle.law_sphere.specs.Maps.{At}
-use Rattle.law_sphere.proofs.Vectors.{positive-or, same-plus}
-use Rattle.law_sphere.proofs.Parallel.{parallel-in_plane, circle-point}
-use Rattle.law_sphere.proofs.Compare.{dir-self}
-use Rattle.law_sphere.proofs.Turn.{turn-last}
-use Rattle.law_complex.specs.Complexes.{Vertex, Complex}
-use Rattle.law_complex.specs.Shows.{Shows}
-use Rattle.law_complex.specs.Skeleton.{IsEdgePoint, IsOnEdges}
-use Rattle.law_complex.specs.Laws.{IsFlatIn}
+use Rattle.law_complex.proofs.Prelude.{◌≡◌, ℕ, zero, suc, ℤ, pos, ◌<ℤ◌, ◌≤ℤ◌, arith, refl, ap, sym, ◌∙◌, ◌⊎◌, inl, inr, ⊎_elim, List, ◌∷◌, subst, [], ints, sign, by_order, nought-is, nought-or, FlatDim, Place, Form, form_at, normal_of, SamePlace, toward, IsBetween, Set, Vector, cross, IsDirection, Drop, Decided, decided-both, sign-same, same-place_sym, span-1, between-turned, even-until, flat_way-end, between-same, place-toward, toward-place, At, positive-or, same-plus, circle-point, turn-last, Vertex, Complex, Shows, IsEdgePoint, IsOnEdges, IsFlatIn, dot-zero, triple-dot, cross-turned, dir-self, parallel-in_plane, direction-left}
 use Rattle.law_complex.proofs.Planes.{plane-way}
 use Rattle.law_complex.proofs.Ways.{between-way, between-start, same-itself}
 use Rattle.law_complex.proofs.Edges.{near_point, near-between}

@@ -1,30 +1,9 @@
 -- No edge enters the triangle of a facet point, a point of an edge that it sees and an end of that edge, unless it has an end in the triangle.
-use Rattle.std.proofs.Common.{◌≡◌, ℕ, ℤ, pos, ◌-ℤ◌, ◌*ℤ◌, ◌<ℤ◌, ◌≤ℤ◌, arith, ap, sym, ◌∙◌, ◌⊎◌, inl, inr, ⊎_elim, [], ◌∷◌, subst}
-use Rattle.std.proofs.lemmas.Int.{ints}
-use Rattle.nef_space.proofs.Ring.{ring, at, num, ◌⊖◌, ◌⊗◌}
-use Rattle.nef_space.proofs.Order.{mul_pos, by_order}
-use Rattle.nef_space.specs.Local.{Flat, FlatDim}
-use Rattle.nef_space.specs.Place.{Place, Form, form_at, normal_of, slope, SamePlace, toward, IsBetween}
-use Rattle.nef_space.specs.Sets.{Set}
-use Rattle.nef_space.specs.Vectors.{Vector, dot, cross, IsZero, IsDirection}
-use Rattle.law_near.specs.Cells.{carriers}
-use Rattle.law_near.proofs.Rays.{signs-same, same-place_sym}
-use Rattle.law_near.proofs.Alike.{germs-by_cell, FlatDim-one, Flat-by_germs}
-use Rattle.law_near.proofs.FlatDecided.{triple-dot}
-use Rattle.law_near.proofs.Even.{even-germs, span-1}
-use Rattle.law_near.proofs.Between.{between-turned, between-inner}
-use Rattle.law_near.proofs.Near.{slope-toward}
-use Rattle.law_near.proofs.Mixed.{toward-place}
-use Rattle.law_near.proofs.Directions.{dot-zero, zero-decided, direction-right}
-use Rattle.law_sphere.specs.Maps.{At}
-use Rattle.law_sphere.proofs.Parallel.{parallel-in_plane}
-use Rattle.law_sphere.proofs.Compare.{SameDirection-turned, SameDirection-trans}
-use Rattle.law_complex.specs.Complexes.{Vertex, Edge, Complex, HasEnds}
-use Rattle.law_complex.specs.Shows.{Shows}
+use Rattle.law_complex.proofs.Prelude.{◌≡◌, ℕ, ℤ, pos, ◌-ℤ◌, ◌*ℤ◌, ◌<ℤ◌, ◌≤ℤ◌, arith, ap, sym, ◌∙◌, ◌⊎◌, inl, inr, ⊎_elim, ◌∷◌, subst, neg_ℤ, [], ints, ring, at, num, ◌⊖◌, ◌⊗◌, neg, by_order, sign-scaled, Flat, FlatDim, Place, Form, form_at, normal_of, slope, SamePlace, toward, IsBetween, Set, Vector, dot, cross, IsZero, IsDirection, carriers, signs-same, same-place_sym, germs-by_cell, FlatDim-one, Flat-by_germs, even-germs, span-1, between-turned, between-inner, slope-toward, toward-place, At, Vertex, Edge, Complex, HasEnds, Shows, zero-decided, dot-zero, triple-dot, SameDirection-turned, SameDirection-trans, parallel-in_plane, level-way, direction-right, same-plus, same-minus}
+use Rattle.nef_space.proofs.Order.{sign}
 use Rattle.law_complex.proofs.Planes.{plane-way}
 use Rattle.law_complex.proofs.Ways.{between-way, between-outer, between-start, between-ends}
 use Rattle.law_complex.proofs.Edges.{edge-points, edge-way}
-use Rattle.law_complex.proofs.FacetSides.{level-way}
 use Rattle.law_complex.proofs.FacetWays.{dim-same, even-by, plane-onward, plane-back}
 use Rattle.law_complex.proofs.FacetAngles.{same-by, same-by-minus, zero-by, cross-back, aligned, through-slope, angle, turn_form, turn-at, angle-turned, angle-self, angle-start, angle-inside, angle-before, between-plus, between-minus, cut-at}
 
@@ -67,56 +46,26 @@ parallel-at s r d e one f g = ⊎_elim (λ z. z) (λ n. absurd (one.1 (d, e, n, 
 
 -- ---- the slope of a form along a way
 module _ (F : Form) (p q : Place) where
-  slope-plain : (a b m : ℤ) → m ≡ pos p.w *ℤ b -ℤ pos q.w *ℤ a → a ≡ pos 0 → pos 0 <ℤ b → pos 0 <ℤ m
-  slope-plain a b m e x y =
-      let u = mul_pos (pos p.w) b (let l = p.proper in omega (arith, ints)) y in
-      let v = ap (λ r. pos q.w *ℤ r) x in
-      let w = ring (pos q.w ∷ []) (at 0 ⊗ num (pos 0)) (num (pos 0)) tt in
-      omega (arith, ints)
+  from-plane : form_at F p ≡ pos 0 → sign (slope F (toward p q)) ≡ sign (form_at F q)
+  from-plane z = ap sign (slope-toward F p q ∙ ap (λ r. pos p.w *ℤ form_at F q -ℤ pos q.w *ℤ r) z ∙ ring (pos p.w ∷ pos q.w ∷ form_at F q ∷ []) (at 0 ⊗ at 2 ⊖ at 1 ⊗ num (pos 0)) (at 0 ⊗ at 2) tt)
+      ∙ sign-scaled (pos p.w) (form_at F q) (let l = p.proper in omega (arith, ints))
 
-  slope-plain-end : (a b m : ℤ) → m ≡ pos p.w *ℤ b -ℤ pos q.w *ℤ a → b ≡ pos 0 → pos 0 <ℤ a → m <ℤ pos 0
-  slope-plain-end a b m e x y =
-      let u = mul_pos (pos q.w) a (let l = q.proper in omega (arith, ints)) y in
-      let v = ap (λ r. pos p.w *ℤ r) x in
-      let w = ring (pos p.w ∷ []) (at 0 ⊗ num (pos 0)) (num (pos 0)) tt in
-      omega (arith, ints)
+  to-plane : form_at F q ≡ pos 0 → sign (neg_ℤ (slope F (toward p q))) ≡ sign (form_at F p)
+  to-plane z = ap (λ r. sign (neg_ℤ r)) (slope-toward F p q ∙ ap (λ r. pos p.w *ℤ r -ℤ pos q.w *ℤ form_at F p) z)
+      ∙ ap sign (ring (pos p.w ∷ pos q.w ∷ form_at F p ∷ []) (neg (at 0 ⊗ num (pos 0) ⊖ at 1 ⊗ at 2)) (at 1 ⊗ at 2) tt) ∙ sign-scaled (pos q.w) (form_at F p) (let l = q.proper in omega (arith, ints))
 
-  minus-plain : (a b m : ℤ) → m ≡ pos p.w *ℤ b -ℤ pos q.w *ℤ a → a ≡ pos 0 → b <ℤ pos 0 → m <ℤ pos 0
-  minus-plain a b m e x y =
-      let u = mul_pos (pos p.w) (pos 0 -ℤ b) (let l = p.proper in omega (arith, ints)) (omega (arith, ints)) in
-      let n = ring (pos p.w ∷ b ∷ []) (at 0 ⊗ (num (pos 0) ⊖ at 1)) (num (pos 0) ⊖ at 0 ⊗ at 1) tt in
-      let v = ap (λ r. pos q.w *ℤ r) x in
-      let w = ring (pos q.w ∷ []) (at 0 ⊗ num (pos 0)) (num (pos 0)) tt in
-      omega (arith, ints)
+  -- it rises from nought, falls to nought, falls from nought, or rises to nought
+  pub rises : form_at F p ≡ pos 0 → pos 0 <ℤ form_at F q → pos 0 <ℤ slope F (toward p q)
+  rises z h = same-plus (form_at F q) (slope F (toward p q)) (from-plane z) h
 
-  minus-plain-end : (a b m : ℤ) → m ≡ pos p.w *ℤ b -ℤ pos q.w *ℤ a → b ≡ pos 0 → a <ℤ pos 0 → pos 0 <ℤ m
-  minus-plain-end a b m e x y =
-      let u = mul_pos (pos q.w) (pos 0 -ℤ a) (let l = q.proper in omega (arith, ints)) (omega (arith, ints)) in
-      let n = ring (pos q.w ∷ a ∷ []) (at 0 ⊗ (num (pos 0) ⊖ at 1)) (num (pos 0) ⊖ at 0 ⊗ at 1) tt in
-      let v = ap (λ r. pos p.w *ℤ r) x in
-      let w = ring (pos p.w ∷ []) (at 0 ⊗ num (pos 0)) (num (pos 0)) tt in
-      omega (arith, ints)
+  pub falls-to : form_at F q ≡ pos 0 → pos 0 <ℤ form_at F p → slope F (toward p q) <ℤ pos 0
+  falls-to z h = let e = same-plus (form_at F p) (neg_ℤ (slope F (toward p q))) (to-plane z) h in omega (arith, ints)
 
-  level-plain : (a b m : ℤ) → m ≡ pos p.w *ℤ b -ℤ pos q.w *ℤ a → a ≡ pos 0 → b ≡ pos 0 → m ≡ pos 0
-  level-plain a b m e x y =
-      e ∙ ap (λ r. pos p.w *ℤ r -ℤ pos q.w *ℤ a) y ∙ ap (λ r. pos p.w *ℤ pos 0 -ℤ pos q.w *ℤ r) x
-      ∙ ring (pos p.w ∷ pos q.w ∷ []) (at 0 ⊗ num (pos 0) ⊖ at 1 ⊗ num (pos 0)) (num (pos 0)) tt
-
-  -- it rises from nought, falls to nought, falls from nought, rises to nought, or stays
-  rises : form_at F p ≡ pos 0 → pos 0 <ℤ form_at F q → pos 0 <ℤ slope F (toward p q)
-  rises x y = slope-plain (form_at F p) (form_at F q) (slope F (toward p q)) (slope-toward F p q) x y
-
-  falls-to : form_at F q ≡ pos 0 → pos 0 <ℤ form_at F p → slope F (toward p q) <ℤ pos 0
-  falls-to x y = slope-plain-end (form_at F p) (form_at F q) (slope F (toward p q)) (slope-toward F p q) x y
-
-  falls : form_at F p ≡ pos 0 → form_at F q <ℤ pos 0 → slope F (toward p q) <ℤ pos 0
-  falls x y = minus-plain (form_at F p) (form_at F q) (slope F (toward p q)) (slope-toward F p q) x y
+  pub falls : form_at F p ≡ pos 0 → form_at F q <ℤ pos 0 → slope F (toward p q) <ℤ pos 0
+  falls z h = same-minus (form_at F q) (slope F (toward p q)) (from-plane z) h
 
   rises-to : form_at F q ≡ pos 0 → form_at F p <ℤ pos 0 → pos 0 <ℤ slope F (toward p q)
-  rises-to x y = minus-plain-end (form_at F p) (form_at F q) (slope F (toward p q)) (slope-toward F p q) x y
-
-  stays : form_at F p ≡ pos 0 → form_at F q ≡ pos 0 → slope F (toward p q) ≡ pos 0
-  stays x y = level-plain (form_at F p) (form_at F q) (slope F (toward p q)) (slope-toward F p q) x y
+  rises-to z h = let e = same-minus (form_at F p) (neg_ℤ (slope F (toward p q))) (to-plane z) h in omega (arith, ints)
 
 pub plane-between : (h : Form) (p r q : Place) → IsBetween p r q → form_at h p ≡ pos 0 → form_at h q ≡ pos 0 → form_at h r ≡ pos 0
 plane-between h p r q b x y = plane-onward h p r (level-way (normal_of h) (toward p q) (toward p r) (SameDirection-turned (toward p r) (toward p q) (between-way p r q b)) (plane-way h p q x y)) x
@@ -178,7 +127,7 @@ module _ (s : Set) (h : Form) (hn : IsDirection (normal_of h)) (y z w : Place) (
       let down = falls-to G y z at-z (subst (λ x. pos 0 <ℤ x) (sym (G-is y)) (angle-inside n y z w turn)) in
       by_order (side r) (pos 0)
       (λ l. absurd (omega (arith, ints)))
-      (λ l. inr (toward-place r z (zero-by (normal_of G) (toward y z) (toward r z) c down (stays G r z (G-is r ∙ l) at-z)), l))
+      (λ l. inr (toward-place r z (zero-by (normal_of G) (toward y z) (toward r z) c down (plane-way G r z (G-is r ∙ l) at-z)), l))
       (λ l. inl (SameDirection-trans (toward y r) (toward y z) (toward r z) (SameDirection-turned (toward y z) (toward y r) ahead)
       (same-by-minus (normal_of G) (toward y z) (toward r z) c down (falls-to G r z at-z (subst (λ x. pos 0 <ℤ x) (sym (G-is r)) l)))))
 

@@ -1,35 +1,10 @@
 -- Ways within a plane: a flat way within a facet ends at a vertex or at an edge of the plane, and up to its end there is one cone.
-use Rattle.std.proofs.Common.{◌≡◌, ℕ, zero, suc, ℤ, pos, ◌-ℤ◌, ◌*ℤ◌, arith, sym, ◌∙◌, inl, inr, ⊎_elim, [], ◌∷◌, subst}
-use Rattle.std.proofs.lemmas.Int.{ints}
-use Rattle.std.proofs.lemmas.Bool.{cases_order}
-use Rattle.nef_space.proofs.Ring.{at, num, ◌⊖◌, ◌⊗◌}
-use Rattle.nef_space.proofs.Combination.{given, none, follows_times}
-use Rattle.nef_space.specs.Local.{Flat, FlatDim, IsEven}
-use Rattle.nef_space.specs.Place.{Place, Form, form_at, normal_of, slope, SamePlace, toward, IsBetween}
-use Rattle.nef_space.specs.Sets.{Set}
-use Rattle.nef_space.specs.Vectors.{Vector, IsDirection, SameDirection}
-use Rattle.law_near.specs.Cells.{carriers}
-use Rattle.law_near.specs.Laws.{IsFlatBelow, Drop}
-use Rattle.law_near.proofs.Rays.{signs-same, same-place_sym}
-use Rattle.law_near.proofs.Alike.{germs-by_cell, FlatDim-by_germs, FlatDim-one, Flat-by_germs}
-use Rattle.law_near.proofs.Flats.{Flat-from_cone, FlatCone-from_flat}
-use Rattle.law_near.proofs.Even.{even-germs, flat-nearby}
-use Rattle.law_near.proofs.FlatDecided.{flat_dim-of}
+use Rattle.law_complex.proofs.Prelude.{◌≡◌, ℕ, zero, suc, ℤ, pos, ◌-ℤ◌, ◌*ℤ◌, arith, sym, ◌∙◌, inl, inr, ⊎_elim, ◌∷◌, subst, [], ints, cases_order, at, num, ◌⊖◌, ◌⊗◌, given, none, follows_times, Flat, FlatDim, IsEven, Place, Form, form_at, normal_of, slope, SamePlace, toward, IsBetween, Set, Vector, IsDirection, SameDirection, carriers, IsFlatBelow, Drop, signs-same, same-place_sym, germs-by_cell, FlatDim-by_germs, FlatDim-one, Flat-by_germs, Flat-from_cone, FlatCone-from_flat, even-germs, flat-nearby, flat_dim-of, between-turned, between-inner, start, start-close, start-between, even-until, reach_all, slope-toward, toward-place, place-toward, At, Vertex, Edge, Complex, HasEnds, Shows, IsEdgePoint, IsOnEdges, PlaneMeet, meets_vertex, meets_edge, Meets, LiesIn, SameDirection-turned, level-way}
 use Rattle.law_near.proofs.Skeleton.{flat_dim-nearby}
-use Rattle.law_near.proofs.Between.{between-turned, between-inner}
-use Rattle.law_near.proofs.Edges.{start, start-close, start-between, even-until}
-use Rattle.law_near.proofs.Near.{reach_all, slope-toward}
-use Rattle.law_near.proofs.Mixed.{toward-place, place-toward}
-use Rattle.law_sphere.specs.Maps.{At}
-use Rattle.law_sphere.proofs.Compare.{SameDirection-turned}
-use Rattle.law_complex.specs.Complexes.{Vertex, Edge, Complex, HasEnds}
-use Rattle.law_complex.specs.Shows.{Shows}
-use Rattle.law_complex.specs.Skeleton.{IsEdgePoint, IsOnEdges, PlaneMeet, meets_vertex, meets_edge, Meets, LiesIn}
 use Rattle.law_complex.proofs.Cones.{FlatAre}
 use Rattle.law_complex.proofs.Ways.{between-way}
 use Rattle.law_complex.proofs.Edges.{edge-points, edge-way}
 use Rattle.law_complex.proofs.Joining.{edges-complete}
-use Rattle.law_complex.proofs.FacetSides.{level-way}
 
 -- ---- points of a plane
 -- where the way from p to q lies in the plane, the one point lies in it where the other does

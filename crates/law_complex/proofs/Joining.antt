@@ -1,36 +1,5 @@
 -- Two vertices between which one direction is flat are the ends of an edge; so each point with one flat direction lies on an edge, and each svertex is an end of one.
-use Rattle.std.proofs.Common.{◌≡◌, ℕ, ◌<◌, ℤ, pos, ◌-ℤ◌, ◌*ℤ◌, neg_ℤ, arith, refl, ap, sym, ◌∙◌, ◌⊎◌, inl, inr, ⊎_elim, [], ◌∷◌, subst}
-use Rattle.std.proofs.lemmas.Int.{ints}
-use Rattle.std.proofs.lemmas.Bool.{cases_order}
-use Rattle.nef_space.specs.Signs.{Sign, minus, nought, plus, sign}
-use Rattle.nef_space.proofs.Ring.{ring, at, num, neg, ◌⊕◌, ◌⊖◌, ◌⊗◌}
-use Rattle.nef_space.specs.Local.{Germ, FlatDim, IsVertex}
-use Rattle.nef_space.specs.Place.{Place, SamePlace, toward, IsBetween}
-use Rattle.nef_space.specs.Sets.{Set}
-use Rattle.nef_space.specs.Vectors.{Vector, dot, cross, opposite, IsZero, IsDirection, SameDirection, IsOpposite}
-use Rattle.nef_space.specs.declared.label.Label.{Label}
-use Rattle.law_near.proofs.Decided.{label_of}
-use Rattle.law_near.proofs.Alike.{FlatDim-one, FlatDim-by_germs, germs-by_cell, flat-germ}
-use Rattle.law_near.proofs.Even.{span-1}
-use Rattle.law_near.proofs.Between.{between-turned, ray-cell}
-use Rattle.law_near.specs.Cells.{carriers}
-use Rattle.law_near.proofs.Near.{reach_all}
-use Rattle.law_near.proofs.Directions.{direction-right, zero-decided, self-pos}
-use Rattle.law_near.proofs.Mixed.{between-same, toward-place, place-toward}
-use Rattle.law_near.proofs.Rays.{same-place_sym, signs-same}
-use Rattle.law_near.proofs.Edges.{start-close, flat_way-end, edge-around}
-use Rattle.law_near.specs.Laws.{WayEnd}
-use Rattle.law_sphere.specs.Least.{by_side, NearPlain, NearStraight, Least, Cone}
-use Rattle.law_sphere.specs.Maps.{At, Map, MapVertex, MapLabel}
-use Rattle.law_sphere.proofs.Compare.{SameDirection-turned, SameDirection-trans, dir-self, Matched}
-use Rattle.law_sphere.proofs.Unique.{neither-svertex}
-use Rattle.law_sphere.proofs.Labels.{label-unique}
-use Rattle.law_sphere.proofs.Lists.{at-one}
-use Rattle.law_sphere.proofs.Parallel.{circle-point}
-use Rattle.law_sphere.proofs.KindFlats.{in-span}
-use Rattle.law_complex.specs.Complexes.{Vertex, Edge, Complex, IsEdge}
-use Rattle.law_complex.specs.Shows.{Shows}
-use Rattle.law_complex.specs.Skeleton.{IsEdgePoint}
+use Rattle.law_complex.proofs.Prelude.{◌≡◌, ℕ, ◌<◌, ℤ, pos, ◌-ℤ◌, ◌*ℤ◌, neg_ℤ, arith, refl, ap, sym, ◌∙◌, ◌⊎◌, inl, inr, ⊎_elim, ◌∷◌, subst, [], ints, cases_order, Sign, minus, nought, plus, sign, ring, at, num, neg, ◌⊕◌, ◌⊖◌, ◌⊗◌, Germ, FlatDim, IsVertex, Place, SamePlace, toward, IsBetween, Set, Vector, dot, cross, IsZero, IsDirection, SameDirection, IsOpposite, Label, label_of, FlatDim-one, FlatDim-by_germs, germs-by_cell, flat-germ, span-1, between-turned, ray-cell, carriers, reach_all, between-same, toward-place, place-toward, same-place_sym, signs-same, start-close, flat_way-end, edge-around, WayEnd, by_side, NearPlain, NearStraight, Least, Cone, At, Map, MapVertex, MapLabel, Matched, neither-svertex, label-unique, at-one, circle-point, Vertex, Edge, Complex, IsEdge, Shows, IsEdgePoint, zero-decided, self-pos, SameDirection-turned, SameDirection-trans, dir-self, in-span, dot-comm, direction-right, IsOpposite-same}
 use Rattle.law_complex.proofs.Cones.{near-germ, sided-two}
 use Rattle.law_complex.proofs.Ways.{between-way, between-ends, between-cases, same-itself, onward, onward-way}
 use Rattle.law_complex.proofs.Edges.{near_point, near-between, near-germs, near-flat, way-near, near-one, label-near}
@@ -59,16 +28,13 @@ module _ (s : Set) (p : Place) (M : Map) (K : Cone M s p) (L : Least M) (d : Vec
       let y = circle-point d some in
       let n = y.0 in
       let on = y.1 in
-      let level : dot n d ≡ pos 0 = dot-turned n d ∙ on.level in
+      let level : dot n d ≡ pos 0 = dot-comm n d ∙ on.level in
       one.1 (sided-two s q n d P.label P.label P.label (sided n P.label P.label P.label level P.at_d (λ e i. plain e i (sign (dot n e)))) on.direction some level)
     where
       plain : (e : Vector) → IsDirection (cross d e) → (t : Sign) → Germ s q e (by_side P.label P.label P.label t)
       plain e i plus = (near-germs s p d y w e P.label).1 (near-germ M s p K d e P.label (P.near e i))
       plain e i nought = (near-germs s p d y w e P.label).1 (near-germ M s p K d e P.label (P.near e i))
       plain e i minus = (near-germs s p d y w e P.label).1 (near-germ M s p K d e P.label (P.near e i))
-
-      dot-turned : (u v : Vector) → dot u v ≡ dot v u
-      dot-turned u v = ring (u.x ∷ u.y ∷ u.z ∷ v.x ∷ v.y ∷ v.z ∷ []) (at 0 ⊗ at 3 ⊕ at 1 ⊗ at 4 ⊕ at 2 ⊗ at 5) (at 3 ⊗ at 0 ⊕ at 4 ⊗ at 1 ⊕ at 5 ⊗ at 2) tt
   not-smooth (inr P) =
       one.1 (sided-two s q P.normal d P.pos P.label P.neg
       (sided P.normal P.pos P.label P.neg P.level P.at_d (λ e i.
@@ -115,36 +81,6 @@ module _ (s : Set) (C : Complex) (S : Shows s C) where
     none-between : (k : ℕ) (x : Vertex) → At C.vertices k x → IsBetween v.point x.point w.point → ⊥
     none-between k x c d = let e = FlatDim-one s x.point 0 1 (S.vertices k x c) (one x.point d) in cc
 
-    opposite-ways : (g h d e : Vector) → SameDirection g d → SameDirection h e → IsOpposite d e → IsOpposite g h
-    opposite-ways g h d e x y o = let t = SameDirection-trans g d (opposite e) x (to-opposite d e o) in from-opposite g h (SameDirection-trans g (opposite e) (opposite h) t (both-opposite e h (SameDirection-turned h e y)))
-      where
-        neg-dot : (d e : Vector) → dot d (opposite e) ≡ neg_ℤ (dot d e)
-        neg-dot d e = ring (d.x ∷ d.y ∷ d.z ∷ e.x ∷ e.y ∷ e.z ∷ []) (at 0 ⊗ neg (at 3) ⊕ at 1 ⊗ neg (at 4) ⊕ at 2 ⊗ neg (at 5)) (neg (at 0 ⊗ at 3 ⊕ at 1 ⊗ at 4 ⊕ at 2 ⊗ at 5)) tt
-
-        to-opposite : (d e : Vector) → IsOpposite d e → SameDirection d (opposite e)
-        to-opposite d e o = record { parallel = turned d e o.parallel; forward = let h = o.backward in let r = neg-dot d e in omega (arith, ints) }
-          where
-            turned : (d e : Vector) → IsZero (cross d e) → IsZero (cross d (opposite e))
-            turned d e z = (each d.y d.z e.y e.z z.0, each d.z d.x e.z e.x z.1, each d.x d.y e.x e.y z.2)
-              where
-                each : (a b c d : ℤ) → a *ℤ d -ℤ b *ℤ c ≡ pos 0 → a *ℤ neg_ℤ d -ℤ b *ℤ neg_ℤ c ≡ pos 0
-                each a b c d e = ring (a ∷ b ∷ c ∷ d ∷ []) (at 0 ⊗ neg (at 3) ⊖ at 1 ⊗ neg (at 2)) (neg (at 0 ⊗ at 3 ⊖ at 1 ⊗ at 2)) tt ∙ ap neg_ℤ e
-
-        from-opposite : (d e : Vector) → SameDirection d (opposite e) → IsOpposite d e
-        from-opposite d e w = record { parallel = (each d.y d.z e.y e.z w.parallel.0, each d.z d.x e.z e.x w.parallel.1, each d.x d.y e.x e.y w.parallel.2); backward = let h = w.forward in let r = neg-dot d e in omega (arith, ints) }
-          where
-            each : (a b c d : ℤ) → a *ℤ neg_ℤ d -ℤ b *ℤ neg_ℤ c ≡ pos 0 → a *ℤ d -ℤ b *ℤ c ≡ pos 0
-            each a b c d e = ring (a ∷ b ∷ c ∷ d ∷ []) (at 0 ⊗ at 3 ⊖ at 1 ⊗ at 2) (neg (at 0 ⊗ neg (at 3) ⊖ at 1 ⊗ neg (at 2))) tt ∙ ap neg_ℤ e
-
-        both-opposite : (e h : Vector) → SameDirection e h → SameDirection (opposite e) (opposite h)
-        both-opposite e h w = record {
-          parallel = (each e.y e.z h.y h.z w.parallel.0, each e.z e.x h.z h.x w.parallel.1, each e.x e.y h.x h.y w.parallel.2);
-          forward = let g = w.forward in let r : dot (opposite e) (opposite h) ≡ dot e h = ring (e.x ∷ e.y ∷ e.z ∷ h.x ∷ h.y ∷ h.z ∷ []) (neg (at 0) ⊗ neg (at 3) ⊕ neg (at 1) ⊗ neg (at 4) ⊕ neg (at 2) ⊗ neg (at 5)) (at 0 ⊗ at 3 ⊕ at 1 ⊗ at 4 ⊕ at 2 ⊗ at 5) tt in omega (arith, ints);
-        }
-          where
-            each : (a b c d : ℤ) → a *ℤ d -ℤ b *ℤ c ≡ pos 0 → neg_ℤ a *ℤ neg_ℤ d -ℤ neg_ℤ b *ℤ neg_ℤ c ≡ pos 0
-            each a b c d z = ring (a ∷ b ∷ c ∷ d ∷ []) (neg (at 0) ⊗ neg (at 3) ⊖ neg (at 1) ⊗ neg (at 2)) (at 0 ⊗ at 3 ⊖ at 1 ⊗ at 2) tt ∙ z
-
     opposite-ends : (p q : Place) → IsDirection (toward p q) → IsOpposite (toward p q) (toward q p)
     opposite-ends p q i = record {
       parallel = (each p.y q.y p.z q.z (pos p.w) (pos q.w), each p.z q.z p.x q.x (pos p.w) (pos q.w), each p.x q.x p.y q.y (pos p.w) (pos q.w));
@@ -176,7 +112,7 @@ module _ (s : Set) (C : Complex) (S : Shows s C) where
       upward = up;
       ahead = SameDirection-turned from-v.svertex.dir (toward v.point w.point) from-v.same;
       first = none-between;
-      back = opposite-ways from-v.svertex.dir from-w.svertex.dir (toward v.point w.point) (toward w.point v.point) from-v.same from-w.same (opposite-ends v.point w.point leads);
+      back = IsOpposite-same from-v.svertex.dir (toward v.point w.point) from-w.svertex.dir (toward w.point v.point) from-v.same from-w.same (opposite-ends v.point w.point leads);
       mark = refl;
     }
 

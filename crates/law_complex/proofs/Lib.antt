@@ -1,3 +1,4 @@
+pub mod Prelude
 pub mod Cones
 pub mod Ways
 pub mod Edges

@@ -1,13 +1,5 @@
 -- Forms of one plane are nought at the same points and along the same directions.
-use Rattle.std.proofs.Common.{◌≡◌, ℤ, pos, ◌+ℤ◌, ◌*ℤ◌, sym, ◌∙◌, ⊎_elim, [], ◌∷◌}
-use Rattle.nef_space.proofs.Ring.{ring, at, num, ◌⊕◌, ◌⊖◌, ◌⊗◌}
-use Rattle.nef_space.proofs.Combination.{given, none, follows}
-use Rattle.nef_space.specs.Place.{Place, Form, form_at, slope, toward}
-use Rattle.nef_space.specs.Vectors.{Vector}
-use Rattle.law_near.proofs.Far.{nought-or}
-use Rattle.law_near.proofs.Directions.{square_pos}
-use Rattle.law_sphere.proofs.Shot.{product-off}
-use Rattle.law_complex.specs.Shows.{SamePlane}
+use Rattle.law_complex.proofs.Prelude.{◌≡◌, ℤ, pos, ◌+ℤ◌, ◌*ℤ◌, sym, ◌∙◌, ⊎_elim, ◌∷◌, [], ring, at, num, ◌⊕◌, ◌⊖◌, ◌⊗◌, given, none, follows, Place, Form, form_at, slope, toward, Vector, product-off, SamePlane, nought-or, square_pos}
 
 nought-factor : (a x : ℤ) → (x ≡ pos 0 → ⊥) → a *ℤ x ≡ pos 0 → a ≡ pos 0
 nought-factor a x f e = ⊎_elim (λ z. z) (λ n. absurd (product-off (x *ℤ x) a (square_pos x f) n

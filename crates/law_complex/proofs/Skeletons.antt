@@ -1,43 +1,9 @@
 -- The skeleton points of a complex that shows a set are those where not all directions are flat; the labels between them are theirs.
-use Rattle.std.proofs.Common.{◌≡◌, ℕ, zero, suc, ◌<◌, ℤ, pos, ◌+ℤ◌, ◌*ℤ◌, arith, refl, ap, sym, ◌∙◌, ◌⊎◌, inl, inr, ⊎_elim, ◌↔◌, List, [], ◌∷◌, subst}
-use Rattle.std.proofs.lemmas.Int.{ints}
-use Rattle.nef_space.specs.Signs.{Sign, minus, nought, plus, sign}
-use Rattle.nef_space.proofs.Order.{sign-plus, sign-minus, by_order}
-use Rattle.nef_space.proofs.Ring.{ring, at, num, ◌⊕◌, ◌⊗◌}
-use Rattle.nef_space.specs.Local.{HasLabel, Germ, Flat, FlatDim, IsEven}
-use Rattle.nef_space.specs.Place.{Place, SamePlace, InFrame, InClosedFrame, toward, IsAhead, IsBetween}
-use Rattle.nef_space.specs.Sets.{Set, Holds}
-use Rattle.nef_space.specs.Vectors.{Vector, vector, dot, IsDirection, SameDirection}
-use Rattle.nef_space.specs.declared.label.Label.{Label}
-use Rattle.nef_space.specs.declared.label.Label.TheVariants.{Out, In}
-use Rattle.law_near.specs.Cells.{carriers}
-use Rattle.law_near.specs.Cones.{IsOnSegment}
-use Rattle.law_near.specs.Laws.{IsFlatBelow, Drop, SameGerms}
-use Rattle.law_near.proofs.Decided.{label_of, InFrame-decided}
-use Rattle.law_near.proofs.Germs.{Germ-unique, label-one, Label-cells}
-use Rattle.law_near.proofs.Flats.{germ-toward}
-use Rattle.law_near.proofs.Rays.{signs-same, same-place_sym}
-use Rattle.law_near.proofs.Alike.{germs-by_cell, FlatDim-by_germs, FlatDim-one}
-use Rattle.law_near.proofs.Even.{even-germs, labels-by_germs, span-3}
-use Rattle.law_near.proofs.FlatDecided.{flat_dim-of}
-use Rattle.law_near.proofs.Between.{between-turned, between-inner}
-use Rattle.law_near.proofs.Edges.{start-close, start-toward, even-until, beyond, halfway, halfway-between, halfway-outside, leads, leads-somewhere, way_factor, way_factor-some}
-use Rattle.law_near.proofs.Near.{reach_all}
-use Rattle.law_near.proofs.Mixed.{toward-place, place-toward}
-use Rattle.law_near.proofs.Directions.{factor-same, direction-left}
-use Rattle.law_sphere.specs.Least.{by_side}
-use Rattle.law_sphere.specs.Maps.{At, MapVertex, Item, items, item_normal, item_pos, item_mark, item_neg, dir_of, MapLabel, NearLabel}
-use Rattle.law_sphere.proofs.Labels.{label-exists, near-exists}
-use Rattle.law_sphere.proofs.Lists.{at-one}
-use Rattle.law_sphere.proofs.Shot.{dir-at}
-use Rattle.law_sphere.proofs.Compare.{SameDirection-trans}
-use Rattle.law_complex.specs.Complexes.{Vertex, Edge, Complex, Corner, IsCorner}
-use Rattle.law_complex.specs.Shows.{Shows}
-use Rattle.law_complex.specs.Skeleton.{IsFacetPoint, Spot, at_vertex, on_edge, in_facet, IsSpot, IsSkeletonPoint}
+use Rattle.law_complex.proofs.Prelude.{◌≡◌, ℕ, zero, suc, ◌<◌, ℤ, pos, ◌+ℤ◌, ◌*ℤ◌, arith, refl, ap, sym, ◌∙◌, ◌⊎◌, inl, inr, ⊎_elim, ◌↔◌, List, ◌∷◌, subst, [], ints, Sign, minus, nought, plus, sign, sign-plus, sign-minus, by_order, ring, at, num, ◌⊕◌, ◌⊗◌, HasLabel, Germ, Flat, FlatDim, IsEven, Place, SamePlace, InFrame, InClosedFrame, toward, IsAhead, IsBetween, Set, Holds, Vector, vector, dot, IsDirection, SameDirection, Label, Out, In, carriers, IsOnSegment, IsFlatBelow, Drop, SameGerms, label_of, InFrame-decided, Germ-unique, label-one, Label-cells, germ-toward, signs-same, same-place_sym, germs-by_cell, FlatDim-by_germs, FlatDim-one, even-germs, labels-by_germs, span-3, flat_dim-of, between-turned, between-inner, start-close, start-toward, even-until, beyond, halfway, halfway-between, halfway-outside, leads, leads-somewhere, way_factor, way_factor-some, reach_all, toward-place, place-toward, factor-same, by_side, At, MapVertex, Item, item_normal, item_pos, item_mark, item_neg, dir_of, MapLabel, NearLabel, label-exists, near-exists, at-one, dir-at, Vertex, Edge, Complex, Corner, IsCorner, Shows, IsFacetPoint, Spot, at_vertex, on_edge, in_facet, IsSpot, IsSkeletonPoint, SameDirection-trans, direction-left}
 use Rattle.law_complex.specs.Belongs.{SpotMark, ItemLabel, Towards, Belongs, on_skeleton, off_skeleton}
 use Rattle.law_complex.proofs.Cones.{label-germ}
 use Rattle.law_complex.proofs.Ways.{between-way}
-use Rattle.law_complex.proofs.Edges.{near_point, near-between, edge-points}
+use Rattle.law_complex.proofs.Edges.{near_point, near-between, edge-points, corner-one}
 use Rattle.law_complex.proofs.Joining.{edges-complete}
 
 -- only listed svertices have a way
@@ -92,12 +58,7 @@ module _ (s : Set) (C : Complex) (S : Shows s C) (facet-at : FacetAt s C) (facet
   spot-mark (on_edge k) y (e, v, w, a, H, b) l (g, c, m) =
       let f = at-one C.edges k g e c a in
       subst (HasLabel s y) (ap (λ (r : Edge). r.mark) (sym f) ∙ m) (edge-points s C k e v w y S a H b).2
-  spot-mark (in_facet k) y (v, x, a, F) l (u, z, b, m) = subst (HasLabel s y) (ap item_mark (sym (corner-one k u v z x b a)) ∙ m) (facet-at k v x y a F).2
-    where
-      corner-one : (k : Corner) (u v : Vertex) (z x : Item) → IsCorner C k u z → IsCorner C k v x → z ≡ x
-      corner-one k u v z x b a =
-          let f = at-one C.vertices k.vertex u v b.vertex a.vertex in
-          at-one (items v.map) k.item z x (subst (λ (r : Vertex). At (items r.map) k.item z) f b.item) a.item
+  spot-mark (in_facet k) y (v, x, a, F) l (u, z, b, m) = subst (HasLabel s y) (ap item_mark (sym (corner-one C k u v z x b a)) ∙ m) (facet-at k v x y a F).2
 
   pub spot-toward : (o : Spot) (y : Place) → IsSpot C o y → (d : Vector) (l : Label) → Towards C o d l → Germ s y d l
   spot-toward (at_vertex k) y (v, a, e) d l (u, b, m) =
@@ -107,13 +68,8 @@ module _ (s : Set) (C : Complex) (S : Shows s C) (facet-at : FacetAt s C) (facet
       let f = at-one C.edges k g e c a in
       let h = at-one C.vertices e.low u v (subst (λ (r : Edge). At C.vertices r.low u) f q) H.low in
       ((edge-points s C k e v w y S a H b).3 d l).1 (subst (λ (r : Vertex). NearLabel r.map (dir_of r.map.svertices e.low_svertex) d l) h (subst (λ (r : Edge). NearLabel u.map (dir_of u.map.svertices r.low_svertex) d l) f n))
-  spot-toward (in_facet k) y (v, x, a, F) d l (u, z, b, m) = by (subst (λ (r : Item). ItemLabel r d l) (corner-one k u v z x b a) m)
+  spot-toward (in_facet k) y (v, x, a, F) d l (u, z, b, m) = by (subst (λ (r : Item). ItemLabel r d l) (corner-one C k u v z x b a) m)
     where
-      corner-one : (k : Corner) (u v : Vertex) (z x : Item) → IsCorner C k u z → IsCorner C k v x → z ≡ x
-      corner-one k u v z x b a =
-          let f = at-one C.vertices k.vertex u v b.vertex a.vertex in
-          at-one (items v.map) k.item z x (subst (λ (r : Vertex). At (items r.map) k.item z) f b.item) a.item
-
       side : (t : Sign) → sign (dot (item_normal x) d) ≡ t → (r : Label) → by_side (item_pos x) (item_mark x) (item_neg x) t ≡ r → Germ s y d r
       side t e r f = subst (Germ s y d) (ap (λ q. by_side (item_pos x) (item_mark x) (item_neg x) q) e ∙ f) ((facet-at k v x y a F).3 d)
 

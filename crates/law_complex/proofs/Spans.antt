@@ -1,25 +1,5 @@
 -- An edge point lies between its ends, and a facet point between the ends of two opposite ways in its plane; so what bounds the vertices of a plane bounds both. And y and z hardly change along the upward direction.
-use Rattle.std.proofs.Common.{◌≡◌, ℕ, ◌*◌, ◌<◌, ℤ, pos, neg_ℤ, ◌+ℤ◌, ◌-ℤ◌, ◌*ℤ◌, ◌<ℤ◌, ◌≤ℤ◌, arith, [], ◌∷◌, subst}
-use Rattle.std.proofs.lemmas.Int.{ints}
-use Rattle.nef_space.proofs.Ring.{ring, at, num, neg, ◌⊕◌, ◌⊖◌, ◌⊗◌}
-use Rattle.nef_space.proofs.Combination.{given, none, follows, follows_times}
-use Rattle.nef_space.proofs.Order.{mul_nonneg, mul_le_right, cancel_le}
-use Rattle.nef_space.specs.Local.{Flat}
-use Rattle.nef_space.specs.Place.{Place, Form, form, form_at, slope, SamePlace, InClosedFrame, toward, IsAhead, IsBetween}
-use Rattle.nef_space.specs.Sets.{Set}
-use Rattle.nef_space.specs.Vectors.{Vector, opposite, cross, IsZero, IsDirection, SameDirection, up}
-use Rattle.law_near.proofs.Between.{mixed-of}
-use Rattle.law_near.proofs.Edges.{flat_way-end}
-use Rattle.law_near.specs.Homogeneous.{of_place}
-use Rattle.law_near.proofs.Sums.{form-sum}
-use Rattle.law_near.proofs.Directions.{direction-left}
-use Rattle.law_sphere.specs.Maps.{At}
-use Rattle.law_sphere.proofs.Lists.{at-one}
-use Rattle.law_sphere.proofs.Compare.{SameDirection-turned, SameDirection-trans}
-use Rattle.law_complex.specs.Complexes.{Vertex, Edge, Complex}
-use Rattle.law_complex.specs.Shows.{Shows}
-use Rattle.law_complex.specs.Skeleton.{IsVertexPoint, IsEdgePoint, PlaneMeet, meets_vertex, meets_edge, Meets, LiesIn}
-use Rattle.law_complex.specs.Laws.{IsFlatIn}
+use Rattle.law_complex.proofs.Prelude.{◌≡◌, ℕ, ◌*◌, ◌<◌, ℤ, pos, neg_ℤ, ◌+ℤ◌, ◌-ℤ◌, ◌*ℤ◌, ◌<ℤ◌, ◌≤ℤ◌, arith, ◌∷◌, subst, [], ints, ring, at, num, neg, ◌⊕◌, ◌⊖◌, ◌⊗◌, given, none, follows, follows_times, mul_nonneg, mul_le_right, cancel_le, Flat, Place, Form, form, form_at, slope, SamePlace, InClosedFrame, toward, IsAhead, IsBetween, Set, Vector, opposite, cross, IsZero, IsDirection, SameDirection, up, mixed-of, flat_way-end, of_place, form-sum, At, at-one, Vertex, Edge, Complex, Shows, IsVertexPoint, IsEdgePoint, PlaneMeet, meets_vertex, meets_edge, Meets, LiesIn, IsFlatIn, SameDirection-turned, SameDirection-trans, direction-opposite, direction-left}
 use Rattle.law_complex.specs.Spans.{EachVertexOn, EachPointOn, IsAtMostNought, Coordinate, coordinate_x, coordinate_y, coordinate_z, coordinate_of, IsWithin, IsCloseAbove}
 use Rattle.law_complex.proofs.FacetWays.{plane-ahead, end-meets}
 use Rattle.law_complex.proofs.FacetEdges.{ahead-back}
@@ -69,12 +49,6 @@ opposite-level h d z =
     follows (h.a ∷ h.b ∷ h.c ∷ d.x ∷ d.y ∷ d.z ∷ []) (at 0 ⊗ neg (at 3) ⊕ at 1 ⊗ neg (at 4) ⊕ at 2 ⊗ neg (at 5)) (num (pos 0))
     (given (num (pos 0) ⊖ num (pos 1)) (at 0 ⊗ at 3 ⊕ at 1 ⊗ at 4 ⊕ at 2 ⊗ at 5) (num (pos 0)) z none) tt
 
-opposite-some : (d : Vector) → IsDirection d → IsDirection (opposite d)
-opposite-some d i z = i (one d.x z.0, one d.y z.1, one d.z z.2)
-  where
-    one : (x : ℤ) → neg_ℤ x ≡ pos 0 → x ≡ pos 0
-    one x e = omega (arith, ints)
-
 cross-zero : (d e : Vector) → IsZero d → (d.y *ℤ e.z -ℤ d.z *ℤ e.y ≡ pos 0) × (d.z *ℤ e.x -ℤ d.x *ℤ e.z ≡ pos 0) × (d.x *ℤ e.y -ℤ d.y *ℤ e.x ≡ pos 0)
 cross-zero d e z = (one d.y d.z e.y e.z z.1 z.2, one d.z d.x e.z e.x z.2 z.0, one d.x d.y e.x e.y z.0 z.1)
   where
@@ -112,7 +86,7 @@ module _ (s : Set) (C : Complex) (S : Shows s C) (h f : Form) (below : EachVerte
     both-below : (d : Vector) → IsDirection d → slope h d ≡ pos 0 → IsAtMostNought f y
     both-below d some level =
         let u = way-below d some level in
-        let v = way-below (opposite d) (opposite-some d some) (opposite-level h d level) in
+        let v = way-below (opposite d) (direction-opposite d some) (opposite-level h d level) in
         let b = SameDirection-trans (toward u.0 y) (opposite d) (toward y v.0) (ahead-back y u.0 d u.1) (SameDirection-turned (toward y v.0) (opposite d) v.1) in
         below-between f u.0 y v.0 b u.2 v.2
 

@@ -1,17 +1,5 @@
 -- Directions from point to point along a segment.
-use Rattle.std.proofs.Common.{◌≡◌, ℕ, ◌*◌, ℤ, pos, neg_ℤ, ◌+ℤ◌, ◌-ℤ◌, ◌*ℤ◌, arith, refl, ◌⊎◌, inl, inr, ⊎_elim, [], ◌∷◌}
-use Rattle.std.proofs.Math.Nat.{mul-pos}
-use Rattle.nef_space.proofs.Ring.{ring, at, num, neg, ◌⊕◌, ◌⊖◌, ◌⊗◌}
-use Rattle.std.proofs.lemmas.Int.{ints}
-use Rattle.nef_space.proofs.Combination.{given, none, follows}
-use Rattle.nef_space.specs.Place.{Place, step, SamePlace, toward, IsBetween}
-use Rattle.nef_space.specs.Vectors.{Vector, opposite, SameDirection, IsDirection}
-use Rattle.law_near.specs.Homogeneous.{SameUpToFactor, of_place, of_direction}
-use Rattle.law_near.proofs.Mixed.{from-start, place-factor, factor-place}
-use Rattle.law_near.proofs.Sums.{same-trans, past-mixed, before-at-after}
-use Rattle.law_near.proofs.Directions.{same-factor, factor-same, direction-left, direction-right}
-use Rattle.law_near.proofs.Between.{mixed-of, between-of, between-turned, between-inner}
-use Rattle.law_sphere.proofs.Compare.{SameDirection-turned, SameDirection-trans}
+use Rattle.law_complex.proofs.Prelude.{◌≡◌, ℕ, ◌*◌, ℤ, pos, neg_ℤ, ◌+ℤ◌, ◌-ℤ◌, ◌*ℤ◌, arith, refl, ◌⊎◌, inl, inr, ⊎_elim, ◌∷◌, [], mul-pos, ring, at, num, neg, ◌⊕◌, ◌⊖◌, ◌⊗◌, ints, given, none, follows, Place, step, SamePlace, toward, IsBetween, Vector, SameDirection, IsDirection, SameUpToFactor, of_place, of_direction, from-start, place-factor, factor-place, same-trans, past-mixed, before-at-after, factor-same, mixed-of, between-of, between-turned, between-inner, SameDirection-turned, SameDirection-trans, direction-left, direction-right}
 
 -- from p the point u between p and q lies in the direction of q
 pub between-way : (p u q : Place) → IsBetween p u q → SameDirection (toward p u) (toward p q)
@@ -87,17 +75,3 @@ onward-way p d i = SameDirection-turned d (toward p (onward p d)) (factor-same d
 -- ---- opposite directions
 pub opposed : (k l : ℕ) (x y : ℤ) → pos k *ℤ x ≡ pos l *ℤ y → pos k *ℤ neg_ℤ x ≡ pos l *ℤ neg_ℤ y
 opposed k l x y e = follows (pos k ∷ pos l ∷ x ∷ y ∷ []) (at 0 ⊗ neg (at 2)) (at 1 ⊗ neg (at 3)) (given (neg (num (pos 1))) (at 0 ⊗ at 2) (at 1 ⊗ at 3) e none) tt
-
-pub opposite-same : (d f : Vector) → SameDirection d f → SameDirection (opposite d) (opposite f)
-opposite-same d f w =
-    let F = same-factor d f w in
-    factor-same (opposite d) (opposite f) (record {
-      k = F.k;
-      l = F.l;
-      some_k = F.some_k;
-      some_l = F.some_l;
-      is_x = opposed F.k F.l d.x f.x F.is_x;
-      is_y = opposed F.k F.l d.y f.y F.is_y;
-      is_z = opposed F.k F.l d.z f.z F.is_z;
-      is_w = F.is_w;
-    }) (λ z. let x = z.0 in let y = z.1 in let t = z.2 in direction-left d f w (omega (arith, ints), omega (arith, ints), omega (arith, ints)))

@@ -1,17 +1,14 @@
--- Complexes: vertices with their sphere maps, edges, and the planes that the set was made of.
-use Rattle.std.specs.Prelude.{◌≡◌, ℕ, ◌<◌, pos, List, [], ◌∷◌}
-use Rattle.nef_space.specs.Numbers.{IsBelow}
-use Rattle.nef_space.specs.Place.{Place, Form, IsAhead, IsBetween}
-use Rattle.nef_space.specs.Vectors.{IsOpposite}
+-- Complexes: vertices with their sphere maps, edges, and the carriers, which are the planes that the set was made of.
+use Rattle.std.specs.Prelude.{◌≡◌, ◌<◌, ◌∷◌}
+use Rattle.nef_space.specs.Prelude.{ℕ, pos, List, [], IsBelow, Place, Form, IsAhead, IsBetween, IsOpposite}
 use Rattle.nef_space.specs.declared.label.Label.{Label}
-use Rattle.law_sphere.specs.Least.{InOrder}
-use Rattle.law_sphere.specs.Maps.{At, MapVertex, Item, Map, items}
+use Rattle.law_sphere.specs.Prelude.{InOrder, At, MapVertex, Item, Map, items}
 
 pub record Vertex : Type 0 where
   pub point : Place
   pub map : Map
 
--- a lower vertex with one of its svertices, a higher vertex with one of its, and the mark of both
+-- an edge: its lower vertex with a svertex there, its higher vertex with a svertex there, and its mark
 pub record Edge : Type 0 where
   pub low : ℕ
   pub low_svertex : ℕ
@@ -24,22 +21,22 @@ pub record Complex : Type 0 where
   pub vertices : List Vertex
   pub edges : List Edge
 
--- an item of a vertex
+-- a corner: a vertex and an item of this vertex's map
 pub record Corner : Type 0 where
   pub vertex : ℕ
   pub item : ℕ
 
--- v and w are the ends of the edge, the lower one first
+-- v is the lower end of the edge and w the higher end
 pub record HasEnds (C : Complex) (e : Edge) (v w : Vertex) : Type 0 where
   pub low : At C.vertices e.low v
   pub high : At C.vertices e.high w
 
--- the corner is at the vertex v, on its item x
+-- the corner k is the item x of the vertex v
 pub record IsCorner (C : Complex) (k : Corner) (v : Vertex) (x : Item) : Type 0 where
   pub vertex : At C.vertices k.vertex v
   pub item : At (items v.map) k.item x
 
--- the edge joins a vertex, along one of its svertices, with the first vertex on that ray
+-- the edge goes from its lower vertex, along a svertex of this vertex, to the first vertex on this ray
 pub record IsEdge (vs : List Vertex) (e : Edge) : Type 0 where
   pub low_vertex : Vertex
   pub high_vertex : Vertex
@@ -58,7 +55,7 @@ pub record IsEdge (vs : List Vertex) (e : Edge) : Type 0 where
 abbrev pub IsEdgeBelow : Edge → Edge → Type 0
 IsEdgeBelow e f = IsBelow (pos e.low ∷ pos e.low_svertex ∷ []) (pos f.low ∷ pos f.low_svertex ∷ [])
 
--- all edges of the vertices, in order
+-- es lists all edges of the vertices vs, in order
 pub record Edges (vs : List Vertex) (es : List Edge) : Type 0 where
   pub edges : (k : ℕ) (e : Edge) → At es k e → IsEdge vs e
   pub complete : (e : Edge) → IsEdge vs e → (k : ℕ) × At es k e

@@ -1,3 +1,4 @@
+pub mod Prelude
 pub mod Complexes
 pub mod Shows
 pub mod Skeleton

@@ -1,17 +1,11 @@
--- When a complex shows a set.
-use Rattle.std.specs.Prelude.{◌≡◌, ℕ, ◌*ℤ◌, List}
-use Rattle.nef_space.specs.Signs.{Lies}
-use Rattle.nef_space.specs.Numbers.{IsBelow}
-use Rattle.nef_space.specs.Place.{Place, Form, form_numbers, normal_of, SamePlace, IsPlaceBelow}
-use Rattle.nef_space.specs.Vectors.{IsDirection}
-use Rattle.nef_space.specs.Sets.{Set}
-use Rattle.nef_space.specs.Local.{IsVertex}
+-- Complexes that show a set.
+use Rattle.std.specs.Prelude.{◌≡◌, ◌*ℤ◌}
+use Rattle.nef_space.specs.Prelude.{ℕ, List, Lies, IsBelow, Place, Form, form_numbers, normal_of, SamePlace, IsPlaceBelow, IsDirection, Set, IsVertex}
 use Rattle.law_near.specs.Cells.{carriers}
-use Rattle.law_sphere.specs.Least.{Least, Ordered, Cone, InOrder}
-use Rattle.law_sphere.specs.Maps.{At}
+use Rattle.law_sphere.specs.Prelude.{Least, Ordered, Cone, InOrder, At}
 use Rattle.law_complex.specs.Complexes.{Vertex, Complex, Edges}
 
--- the forms of planes are multiples of each other
+-- g and h are forms of one plane: multiples of each other, with a normal that isn't zero
 pub record SamePlane (g h : Form) : Type 0 where
   pub is_plane : IsDirection (normal_of g)
   pub is_other_plane : IsDirection (normal_of h)
@@ -22,13 +16,13 @@ pub record SamePlane (g h : Form) : Type 0 where
   pub bd : g.b *ℤ h.d ≡ g.d *ℤ h.b
   pub cd : g.c *ℤ h.d ≡ g.d *ℤ h.c
 
--- the planes of the set's halves and of the frame, in order of their numbers, once each
+-- hs lists the planes of the halves of s and of the frame, in order of their four numbers, once each
 pub record Carriers (s : Set) (hs : List Form) : Type 0 where
   pub each : (k : ℕ) (h : Form) → At hs k h → (f : Form) × Lies (carriers s) f × SamePlane h f
   pub all : (f : Form) → Lies (carriers s) f → (k : ℕ) × (h : Form) × At hs k h × SamePlane h f
   pub ordered : InOrder (λ g h. IsBelow (form_numbers g) (form_numbers h)) hs
 
--- the vertices are those of the set, in order, once each, with least maps
+-- the complex C shows the set s: its vertices are the vertices of s, in order, once each, with least maps
 pub record Shows (s : Set) (C : Complex) : Type 0 where
   pub vertices : (k : ℕ) (v : Vertex) → At C.vertices k v → IsVertex s v.point
   pub complete : (p : Place) → IsVertex s p → (k : ℕ) × (v : Vertex) × At C.vertices k v × SamePlace v.point p

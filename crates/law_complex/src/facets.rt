@@ -1,10 +1,10 @@
-//! The laws of facets.
+//! Laws of facets: the labels of facet points, and the item behind the first thing that a ray meets in a plane.
 
 ghost use Rattle.law_complex.specs.Laws.{FacetBehind, FacetFromBehind, FacetPoints, FacetsComplete};
 
-/// The points of a facet have the labels of the item beside them; what a ray within a facet first meets has an item of
-/// its plane on the ray's side, and where such an item lies behind what is first met, the ray begins in a facet, if it
-/// begins at no vertex and on no edge of the plane; each point with two flat directions has a corner.
+/// The points of a facet have the labels of the item beside them. A ray in a facet's plane from a point of the facet
+/// first meets a vertex or an edge with an item of the plane on the ray's side; where such an item lies behind what a
+/// ray meets, the ray began in a facet, unless on a vertex or an edge. A point with two flat directions has a corner.
 pub fn facet_laws()
     ensures points { FacetPoints }
     ensures behind { FacetBehind }

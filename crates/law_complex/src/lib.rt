@@ -1,7 +1,6 @@
-//! The theory of complexes: vertices with their sphere maps, edges between them, and how they show a set.
-//!
-//! Here a complex is plain data over points and vectors of any size; nothing runs. Each law is a clause of a
-//! function with an empty body. Source: Granados et al., "Boolean Operations on 3D Selective Nef Complexes", ESA 2003.
+//! The theory of complexes: vertices with their sphere maps, edges between vertices, and how a complex shows a set
+//! (Granados et al., "Boolean Operations on 3D Selective Nef Complexes", ESA 2003). Here a complex is plain data over
+//! points and vectors of any size; nothing runs. Each law is a clause of a function with an empty body.
 #![tactic(auto)]
 
 mod facets;

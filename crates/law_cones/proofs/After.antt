@@ -1,54 +1,23 @@
 -- Close after a direction on a circle the labels above, in and below the circle stay.
-use Rattle.std.proofs.Common.{◌≡◌, ℕ, ◌+◌, pos, ◌+ℤ◌, ◌*ℤ◌, ◌<ℤ◌, arith, ap, sym, ◌∙◌, List, [], ◌∷◌, subst}
-use Rattle.std.proofs.lemmas.Int.{ints}
-use Rattle.nef_space.proofs.Ring.{ring, at, num, ◌⊕◌, ◌⊖◌, ◌⊗◌}
-use Rattle.nef_space.proofs.Combination.{follows, given, none}
-use Rattle.nef_space.proofs.Order.{sign, sign-plus, sign-minus, mul_pos}
-use Rattle.nef_space.specs.Signs.{Lies}
-use Rattle.nef_space.specs.Vectors.{Vector, IsDirection, cross, dot, SameDirection}
-use Rattle.nef_space.specs.declared.label.Label.{Label}
-use Rattle.law_near.proofs.Supports.{square-cross}
-use Rattle.law_near.proofs.Directions.{self-pos}
-use Rattle.law_sphere.specs.Least.{by_side}
-use Rattle.law_sphere.specs.Labelling.{Labelling, Near}
-use Rattle.law_sphere.specs.Builds.{StraightAfter, Proper}
-use Rattle.law_sphere.proofs.Vectors.{dot-comb, nought-if}
-use Rattle.law_sphere.proofs.Generic.{amount, far-same}
-use Rattle.law_sphere.proofs.Parallel.{past_source}
-use Rattle.law_sphere.proofs.Labels.{dir-signs}
-use Rattle.law_sphere.proofs.Compare.{dir-self}
-use Rattle.law_sphere.proofs.Kind.{away, away-dot}
-use Rattle.law_sphere.proofs.Turn.{dir-directed}
-use Rattle.law_sphere.proofs.Arcs.{level-same}
-use Rattle.law_sphere.proofs.Flips.{Axial}
+use Rattle.law_cones.proofs.Prelude.{◌≡◌, ℕ, ◌+◌, pos, ◌+ℤ◌, ◌*ℤ◌, ◌<ℤ◌, arith, ap, sym, ◌∙◌, List, ◌∷◌, subst, [], ints, ring, at, num, ◌⊕◌, ◌⊗◌, neg, follows, given, none, sign, sign-plus, sign-minus, mul_pos, Lies, Vector, IsDirection, cross, dot, SameDirection, opposite, Label, by_side, Labelling, Near, StraightAfter, Proper, dot-comb, amount, far-same, past_source, level-same, Axial, self-pos, square-cross, nought-if, dir-self, dir-signs, direction-left, cross_of, dot-opposite, dot_of, dot_poly, level_cross_second, numbers, parallel-in_plane, triple-dot, vec, zero-dot}
 use Rattle.law_cones.proofs.Signs.{leading, leading-nought, far-leading, far-direction, straight-carried, straight-pos, straight-neg}
 use Rattle.law_cones.proofs.Smooth.{FormOf, proper-form, parallel-by, straight-if}
+use lib.IntN.{*ℤ-zero}
+use Rattle.law_sphere.proofs.StarKinds.{turn-ahead}
 
 pub cross-some : (n d : Vector) → IsDirection n → IsDirection d → dot n d ≡ pos 0 → IsDirection (cross n d)
 cross-some n d hn hd q z = hd (nought-if n d hn z q)
 
 -- (n x d) x (u x d) = d (d.(n x u)), and (n x d).(u x d) = (n.u)(d.d) - (n.d)(u.d)
 pub cross-same : (n u d : Vector) → SameDirection n u → IsDirection d → dot n d ≡ pos 0 → SameDirection (cross n d) (cross u d)
-cross-same n u d w hd q =
-    let xs = n.x ∷ n.y ∷ n.z ∷ u.x ∷ u.y ∷ u.z ∷ d.x ∷ d.y ∷ d.z ∷ [] in
-    let o = num (pos 0) in
-    let nx = at 0 in let ny = at 1 in let nz = at 2 in
-    let ux = at 3 in let uy = at 4 in let uz = at 5 in
-    let dx = at 6 in let dy = at 7 in let dz = at 8 in
-    -- n x d, u x d and n x u
-    let ex = ny ⊗ dz ⊖ nz ⊗ dy in let ey = nz ⊗ dx ⊖ nx ⊗ dz in let ez = nx ⊗ dy ⊖ ny ⊗ dx in
-    let fx = uy ⊗ dz ⊖ uz ⊗ dy in let fy = uz ⊗ dx ⊖ ux ⊗ dz in let fz = ux ⊗ dy ⊖ uy ⊗ dx in
-    let vx = ny ⊗ uz ⊖ nz ⊗ uy in let vy = nz ⊗ ux ⊖ nx ⊗ uz in let vz = nx ⊗ uy ⊖ ny ⊗ ux in
-    let p = mul_pos (dot n u) (dot d d) w.forward (self-pos d hd) in
-    let e = follows xs (ex ⊗ fx ⊕ ey ⊗ fy ⊕ ez ⊗ fz) ((nx ⊗ ux ⊕ ny ⊗ uy ⊕ nz ⊗ uz) ⊗ (dx ⊗ dx ⊕ dy ⊗ dy ⊕ dz ⊗ dz)) (given (o ⊖ (ux ⊗ dx ⊕ uy ⊗ dy ⊕ uz ⊗ dz)) (nx ⊗ dx ⊕ ny ⊗ dy ⊕ nz ⊗ dz) o q none) tt in
-    record {
-      parallel = (
-        follows xs (ey ⊗ fz ⊖ ez ⊗ fy) o (given (dx ⊗ dx) vx o w.parallel.0 (given (dx ⊗ dy) vy o w.parallel.1 (given (dx ⊗ dz) vz o w.parallel.2 none))) tt,
-        follows xs (ez ⊗ fx ⊖ ex ⊗ fz) o (given (dy ⊗ dx) vx o w.parallel.0 (given (dy ⊗ dy) vy o w.parallel.1 (given (dy ⊗ dz) vz o w.parallel.2 none))) tt,
-        follows xs (ex ⊗ fy ⊖ ey ⊗ fx) o (given (dz ⊗ dx) vx o w.parallel.0 (given (dz ⊗ dy) vy o w.parallel.1 (given (dz ⊗ dz) vz o w.parallel.2 none))) tt,
-      );
-      forward = omega (arith, ints);
-    }
+cross-same n u d w hd q = record {
+  parallel = parallel-in_plane d (cross n d) (cross u d) hd (level_cross_second n d) (level_cross_second u d)
+      (turn-ahead n d (cross u d) q ∙ ap (λ r. dot d d *ℤ r) (triple-dot n u d ∙ zero-dot (cross n u) d w.parallel) ∙ *ℤ-zero (dot d d));
+  forward =
+      let p = mul_pos (dot n u) (dot d d) w.forward (self-pos d hd) in
+      let e = follows (numbers n u d d) (dot_of (cross_of (vec 0) (vec 6)) (cross_of (vec 3) (vec 6))) (dot_poly 0 3 ⊗ dot_poly 6 6) (given (neg (dot_poly 3 6)) (dot_poly 0 6) (num (pos 0)) q none) tt in
+      omega (arith, ints);
+}
 
 module _ (gs : List Vector) (F : Vector → Label → Type 0) (L : Labelling gs F) (axial : Axial gs) where
   pub record After (n d : Vector) : Type 0 where
@@ -83,11 +52,11 @@ module _ (gs : List Vector) (F : Vector → Label → Type 0) (L : Labelling gs 
   after-same n u a m b d hd q w (k, f) = (
     k + amount gs (cross n d) + amount gs (cross u d),
     λ i l.
-        let hn = dir-directed n u w in
+        let hn = direction-left n u w in
         let v = cross-same n u d w hd q in
         straight-carried gs F L axial n u a m b (past_source n d i) (past_source u d i) (far-direction gs F L axial d (cross n d) i (omega arith) hd) (far-direction gs F L axial d (cross u d) i (omega arith) hd) w
         (past-level u d i (level-same n u d d w (dir-self d hd) q))
-        (λ g j. far-leading gs d (cross u d) i (omega arith) g j ∙ ap (leading (sign (dot g d))) (dir-signs (cross n d) (cross u d) g (dir-directed (cross n d) (cross u d) v) v) ∙ sym (far-leading gs d (cross n d) i (omega arith) g j))
+        (λ g j. far-leading gs d (cross u d) i (omega arith) g j ∙ ap (leading (sign (dot g d))) (dir-signs (cross n d) (cross u d) g (direction-left (cross n d) (cross u d) v) v) ∙ sym (far-leading gs d (cross n d) i (omega arith) g j))
         (f i (omega arith)),
   )
 
@@ -99,11 +68,11 @@ module _ (gs : List Vector) (F : Vector → Label → Type 0) (L : Labelling gs 
       let p = f i (omega arith) in
       let r = g i (omega arith) in
       let h = self-pos n hn in
-      let w = away-dot n n in
-      let down : dot n (away n) <ℤ pos 0 = omega (arith, ints) in (
+      let w = dot-opposite n n in
+      let down : dot n (opposite n) <ℤ pos 0 = omega (arith, ints) in (
         straight-pos gs F L axial n a m b z n a' hz p h (subst (Near F z n) (ap (by_side a' m' b') (sign-plus (dot n n) h)) (r.near n)),
         L.one z m m' hz p.at_d r.at_d,
-        straight-neg gs F L axial n a m b z (away n) b' hz p down (subst (Near F z (away n)) (ap (by_side a' m' b') (sign-minus (dot n (away n)) down)) (r.near (away n))),
+        straight-neg gs F L axial n a m b z (opposite n) b' hz p down (subst (Near F z (opposite n)) (ap (by_side a' m' b') (sign-minus (dot n (opposite n)) down)) (r.near (opposite n))),
       )
 
   pub after-form : (n : Vector) (a m b : Label) (d : Vector) → IsDirection n → IsDirection d → Proper a m b → StraightAfter F n a m b d → FormOf gs F L axial n

@@ -1,25 +1,8 @@
 -- The map of a labelling, put together from its svertices, arcs and sloop.
-use Rattle.std.proofs.Common.{◌≡◌, ℕ, pos, refl, sym, ◌∙◌, ◌⊎◌, inl, inr, ⊎_elim, List, [], ◌++◌, subst, Option, Some, None}
-use Rattle.std.proofs.lemmas.Option.{none-some, same_Some}
-use Rattle.nef_space.proofs.Lists.{lies-left, lies-right}
-use Rattle.nef_space.specs.Vectors.{Vector, IsDirection, cross, dot, SameDirection, IsNormal}
-use Rattle.nef_space.specs.declared.label.Label.{Label}
-use Rattle.law_near.proofs.Decided.{Decided}
-use Rattle.law_cyclic.specs.Arcs.{IsStrictlyOn}
-use Rattle.law_sphere.specs.Vectors.{IsPrimitive}
-use Rattle.law_sphere.specs.Maps.{At, MapVertex, Arc, MapSloop, Map, Item, arc_item, sloop_item, items, item_normal, dir_of, OnItem, ArcBetween, HasArc}
-use Rattle.law_sphere.specs.Forms.{axes}
-use Rattle.law_sphere.specs.Least.{Ordered}
-use Rattle.law_sphere.specs.Labelling.{Labelling, Near}
-use Rattle.law_sphere.specs.Builds.{StraightAfter, IsBuilt, Kept}
+use Rattle.law_cones.proofs.Prelude.{◌≡◌, ℕ, pos, refl, sym, ◌∙◌, ◌⊎◌, inl, inr, ⊎_elim, List, ◌++◌, subst, Option, Some, None, [], none-some, same_Some, lies-left, lies-right, Vector, IsDirection, cross, dot, SameDirection, IsNormal, Label, Decided, IsStrictlyOn, IsPrimitive, At, MapVertex, Arc, MapSloop, Map, Item, arc_item, sloop_item, items, item_normal, dir_of, OnItem, ArcBetween, HasArc, axes, Ordered, Labelling, Near, StraightAfter, IsBuilt, Kept, lowest-same, sloop-at, Axial, labelling-more, SameDirection-turned, neg, none-at, none-empty}
 use Rattle.law_sphere.proofs.Shot.{dir-at, arc-at}
-use Rattle.law_sphere.proofs.Compare.{SameDirection-turned}
-use Rattle.law_sphere.proofs.Equal.{lowest-same}
 use Rattle.law_sphere.proofs.Unique.{HasArc-decided, beside-d}
-use Rattle.law_sphere.proofs.Arcs.{sloop-at}
-use Rattle.law_sphere.proofs.Flips.{Axial}
-use Rattle.law_sphere.proofs.BuiltLeast.{labelling-more}
-use Rattle.law_cones.proofs.Listing.{Mapped, map-list, none-empty, empty-none}
+use Rattle.law_cones.proofs.Listing.{Mapped, map-list}
 use Rattle.law_cones.proofs.Signs.{near-of}
 use Rattle.law_cones.proofs.SmoothDecided.{smooth-decided}
 use Rattle.law_cones.proofs.Dirs.{Dirs, dirs, dirs-one}
@@ -168,8 +151,8 @@ module _ (gs : List Vector) (F : Vector → Label → Type 0) (L : Labelling gs 
     around_lone = around-lone;
     around_not = around-not;
     around_near = around-near;
-    ground_alone = λ e o. K.alone (none-empty W.list (λ k w h. let r = at-dir k w h in empty-none svertices.list e k r.0 r.1)) o;
-    ground_not = λ m q. let r = K.only m q in (none-empty svertices.list (λ k v a. empty-none W.list r.0 k v.dir (listed k v a)), r.1);
+    ground_alone = λ e o. K.alone (none-empty W.list (λ k w h. let r = at-dir k w h in none-at svertices.list k r.0 e r.1)) o;
+    ground_not = λ m q. let r = K.only m q in (none-empty svertices.list (λ k v a. none-at W.list k v.dir r.0 (listed k v a)), r.1);
     ground_label = λ m d q h. K.everywhere m d q h;
   }
     where

@@ -1,26 +1,7 @@
 -- A circle that is needed close before a svertex has an arc to it; so a svertex without arcs has one label all around it.
-use Rattle.std.proofs.Common.{◌≡◌, ℕ, ◌+◌, ℤ, pos, negsuc, ◌+ℤ◌, ◌*ℤ◌, arith, sym, ◌⊎◌, inl, inr, ⊎_elim, List, [], ◌∷◌, subst}
-use Rattle.std.proofs.lemmas.Int.{ints}
-use Rattle.nef_space.proofs.Ring.{ring, at, num, ◌⊕◌, ◌⊗◌}
-use Rattle.nef_space.specs.Vectors.{Vector, IsDirection, cross, dot, SameDirection, IsNormal}
-use Rattle.nef_space.specs.declared.label.Label.{Label}
-use Rattle.law_near.proofs.Flats.{vector-same}
-use Rattle.law_cyclic.specs.Arcs.{IsStrictlyOn}
-use Rattle.law_sphere.specs.Maps.{At, Arc}
-use Rattle.law_sphere.specs.Labelling.{Labelling, Near, StraightAt, IsSmooth}
-use Rattle.law_sphere.specs.Builds.{StraightAfter, Proper}
-use Rattle.law_sphere.proofs.Vectors.{normal-direction}
-use Rattle.law_sphere.proofs.Lists.{at-one}
-use Rattle.law_sphere.proofs.Generic.{amount}
-use Rattle.law_sphere.proofs.Parallel.{past_source, arc-point}
-use Rattle.law_sphere.proofs.Compare.{SameDirection-turned, dir-self}
+use Rattle.law_cones.proofs.Prelude.{◌≡◌, ℕ, ◌+◌, pos, arith, sym, ◌⊎◌, inl, inr, ⊎_elim, List, ◌∷◌, subst, [], ints, neg, Vector, IsDirection, cross, dot, SameDirection, IsNormal, opposite, Label, IsStrictlyOn, At, Arc, Labelling, Near, StraightAt, IsSmooth, StraightAfter, Proper, normal-direction, at-one, amount, past_source, arc-point, level-same, First, first-after, reversed, unflipped, Axial, directed-by, far_directed-by, SameDirection-turned, dir-self, direction-opposite, level-opposite, level-opposite-back, opposite-dot, opposite-twice, normal-either}
 use Rattle.law_sphere.proofs.Turn.{IsStrictlyOn-same, ends-together}
-use Rattle.law_sphere.proofs.Arcs.{level-same}
-use Rattle.law_sphere.proofs.Kind.{away}
 use Rattle.law_sphere.proofs.ArcLabels.{arc-along}
-use Rattle.law_sphere.proofs.Firsts.{First, first-after}
-use Rattle.law_sphere.proofs.Flips.{dot-away, away-direction, reversed, unflipped, Axial, directed-by, far_directed-by}
-use Rattle.law_sphere.proofs.Builder.{normal-or}
 use Rattle.law_cones.proofs.Smooth.{even-or}
 use Rattle.law_cones.proofs.SmoothDecided.{smooth-decided}
 use Rattle.law_cones.proofs.Lone.{lone-near}
@@ -31,20 +12,14 @@ use Rattle.law_cones.proofs.Rays.{IsArc, Arcs}
 abbrev pub Arrives : List Arc → ℕ → Type 0
 Arrives as' k = (i : ℕ) × (a : Arc) × At as' i a × ((a.source ≡ k) ⊎ (a.target ≡ k))
 
-away-twice : (n : Vector) → away (away n) ≡ n
-away-twice n = vector-same (away (away n)) n (one n.x) (one n.y) (one n.z)
-  where
-    one : (x : ℤ) → negsuc 0 *ℤ (negsuc 0 *ℤ x +ℤ pos 0 *ℤ x) +ℤ pos 0 *ℤ (negsuc 0 *ℤ x +ℤ pos 0 *ℤ x) ≡ x
-    one x = let y = num (negsuc 0) ⊗ at 0 ⊕ num (pos 0) ⊗ at 0 in ring (x ∷ []) (num (negsuc 0) ⊗ y ⊕ num (pos 0) ⊗ y) (at 0) tt
-
 module _ (gs : List Vector) (F : Vector → Label → Type 0) (L : Labelling gs F) (axial : Axial gs) (W : Dirs gs F L axial) (A : Arcs gs F L axial W) where
   -- w is svertex k, and the labels close before it on the circle of n are a, m and b
-  module _ (n : Vector) (normal : IsNormal n) (k : ℕ) (w : Vector) (h : At W.list k w) (lw : dot n w ≡ pos 0) (a m b : Label) (proper : Proper a m b) (before : StraightAfter F (away n) b m a w) where
+  module _ (n : Vector) (normal : IsNormal n) (k : ℕ) (w : Vector) (h : At W.list k w) (lw : dot n w ≡ pos 0) (a m b : Label) (proper : Proper a m b) (before : StraightAfter F (opposite n) b m a w) where
     hn : IsDirection n
     hn = normal-direction n normal
 
-    ha : IsDirection (away n)
-    ha = away-direction n hn
+    ha : IsDirection (opposite n)
+    ha = direction-opposite n hn
 
     hw : IsDirection w
     hw = W.direction k w h
@@ -52,24 +27,21 @@ module _ (gs : List Vector) (F : Vector → Label → Type 0) (L : Labelling gs 
     proper_turned : Proper b m a
     proper_turned x y = proper y x
 
-    level-away : (v : Vector) → dot n v ≡ pos 0 → dot (away n) v ≡ pos 0
-    level-away v z = let e = dot-away n v in omega (arith, ints)
-
     -- s is the last svertex before w
-    module _ (j : ℕ) (s : Vector) (g : At W.list j s) (ls : dot n s ≡ pos 0) (clear : (i : ℕ) (x : Vector) → At W.list i x → IsStrictlyOn (away n) w s x → ⊥) where
+    module _ (j : ℕ) (s : Vector) (g : At W.list j s) (ls : dot n s ≡ pos 0) (clear : (i : ℕ) (x : Vector) → At W.list i x → IsStrictlyOn (opposite n) w s x → ⊥) where
       hs : IsDirection s
       hs = W.direction j s g
 
-      back-smooth : (y : Vector) → IsStrictlyOn (away n) w s y → IsSmooth F y
+      back-smooth : (y : Vector) → IsStrictlyOn (opposite n) w s y → IsSmooth F y
       back-smooth y o = ⊎_elim (λ r. r) (λ f.
           let v = W.all y o.on_circle.direction f in
-          absurd (clear v.0 v.1 v.2 (IsStrictlyOn-same (away n) (away n) w w s s y v.1 (dir-self (away n) ha) (dir-self w hw) (dir-self s hs) v.3 o)))
+          absurd (clear v.0 v.1 v.2 (IsStrictlyOn-same (opposite n) (opposite n) w w s s y v.1 (dir-self (opposite n) ha) (dir-self w hw) (dir-self s hs) v.3 o)))
           (smooth-decided gs F L axial y o.on_circle.direction)
 
-      back-labels : (y : Vector) → IsStrictlyOn (away n) w s y → StraightAt F (away n) b m a y
+      back-labels : (y : Vector) → IsStrictlyOn (opposite n) w s y → StraightAt F (opposite n) b m a y
       back-labels y o =
-          let K = amount (cross s (away n) ∷ []) (cross (away n) w) + before.0 in
-          arc-along gs F L (directed-by gs axial) (far_directed-by gs axial) (away n) b m a proper_turned ha w s hw hs (level-away w lw) (level-away s ls) back-smooth K (omega arith) (before.1 K (omega arith)) y o
+          let K = amount (cross s (opposite n) ∷ []) (cross (opposite n) w) + before.0 in
+          arc-along gs F L (directed-by gs axial) (far_directed-by gs axial) (opposite n) b m a proper_turned ha w s hw hs (level-opposite n w lw) (level-opposite n s ls) back-smooth K (omega arith) (before.1 K (omega arith)) y o
 
       after : StraightAfter F n a m b s
       after = (
@@ -106,13 +78,10 @@ module _ (gs : List Vector) (F : Vector → Label → Type 0) (L : Labelling gs 
                   (λ o. clear c.target e.target e.has_target (reversed n s w e.target hs o))
 
     pub behind : (i : ℕ) × (c : Arc) × At A.list i c × (c.target ≡ k)
-    behind = by (first-after (away n) w ha hw (level-away w lw) W.list)
+    behind = by (first-after (opposite n) w ha hw (level-opposite n w lw) W.list)
       where
-        level-back : (v : Vector) → dot (away n) v ≡ pos 0 → dot n v ≡ pos 0
-        level-back v z = let e = dot-away n v in omega (arith, ints)
-
-        by : First (away n) w W.list → (i : ℕ) × (c : Arc) × At A.list i c × (c.target ≡ k)
-        by f = ⊎_elim (λ e. arrives k f.target (subst (At W.list k) e h) (level-back f.target f.level) f.none_before) (λ j. arrives j.0 f.target j.1 (level-back f.target f.level) f.none_before) f.listed
+        by : First (opposite n) w W.list → (i : ℕ) × (c : Arc) × At A.list i c × (c.target ≡ k)
+        by f = ⊎_elim (λ e. arrives k f.target (subst (At W.list k) e h) (level-opposite-back n f.target f.level) f.none_before) (λ j. arrives j.0 f.target j.1 (level-opposite-back n f.target f.level) f.none_before) f.listed
 
   -- no circle is needed close to a svertex without arcs
   module _ (k : ℕ) (w : Vector) (h : At W.list k w) (lone : Arrives A.list k → ⊥) where
@@ -120,9 +89,9 @@ module _ (gs : List Vector) (F : Vector → Label → Type 0) (L : Labelling gs 
     even n a m b hn q f = even-or a m b (λ p. ⊎_elim
         (λ x. let r = A.all n k x (record { dir = w; listed = h; level = q; pos = a; mark = m; neg = b; labels = f; proper = p }) in lone (r.0, r.1, r.2, inl r.3))
         (λ x.
-        let r = behind (away n) x k w h (let e = dot-away n w in omega (arith, ints)) b m a (λ u v. p v u) (subst (λ (u : Vector). StraightAfter F u a m b w) (sym (away-twice n)) f) in
+        let r = behind (opposite n) x k w h (let e = opposite-dot n w in omega (arith, ints)) b m a (λ u v. p v u) (subst (λ (u : Vector). StraightAfter F u a m b w) (sym (opposite-twice n)) f) in
         lone (r.0, r.1, r.2, inr r.3))
-        (normal-or n hn))
+        (normal-either n hn))
 
     pub lone-around : (e u : Vector) → IsDirection (cross w e) → IsDirection (cross w u) → (m : Label) → Near F w e m → Near F w u m
     lone-around = lone-near gs F L axial w (W.direction k w h) even

@@ -1,18 +1,6 @@
 -- Every point has a least map of every set, and every operation on two maps has one.
-use Rattle.std.proofs.Common.{◌≡◌, sym, ◌↔◌, ◌++◌, subst}
-use Rattle.nef_space.specs.Place.{Place}
-use Rattle.nef_space.specs.Vectors.{Vector, IsDirection}
-use Rattle.nef_space.specs.Sets.{Set}
-use Rattle.nef_space.specs.declared.label.Label.{Label}
-use Rattle.nef_space.specs.Local.{HasLabel, Germ}
-use Rattle.law_near.specs.Cells.{carriers}
-use Rattle.law_near.proofs.Decided.{label_of}
-use Rattle.law_sphere.specs.Maps.{Map, MapLabel, Valid}
-use Rattle.law_sphere.specs.Forms.{forms}
-use Rattle.law_sphere.specs.Least.{Least, Ordered, Cone}
-use Rattle.law_sphere.specs.Labelling.{ByOp}
+use Rattle.law_cones.proofs.Prelude.{◌≡◌, sym, ◌↔◌, ◌++◌, subst, Place, Vector, IsDirection, Set, Label, HasLabel, Germ, carriers, label_of, Map, MapLabel, Valid, forms, Least, Ordered, Cone, ByOp, op-build, set-build}
 use Rattle.law_sphere.proofs.Labellings.{normals_of, germ-labelling, op-labelling}
-use Rattle.law_sphere.proofs.BuiltLeast.{op-build, set-build}
 use Rattle.law_cones.proofs.Assembled.{labelling-map}
 
 pub point-map : (s : Set) (p : Place) → (M : Map) × Cone M s p × Least M × Ordered M

@@ -1,34 +1,8 @@
 -- The svertices of a labelling: in order, the directions in lowest terms that are neither plain nor straight; and the planes of the forms.
-use Rattle.std.proofs.Common.{◌≡◌, ℕ, ℤ, pos, negsuc, ◌-ℤ◌, ◌*ℤ◌, neg_ℤ, arith, refl, ◌⊎◌, inl, inr, ⊎_elim, List, [], ◌∷◌, subst}
-use Rattle.std.proofs.lemmas.Int.{ints}
-use Rattle.std.proofs.lemmas.Bool.{cases_lt}
-use Rattle.nef_space.proofs.Ring.{ring, at, num, ◌⊕◌, ◌⊖◌, ◌⊗◌, neg}
-use Rattle.nef_space.proofs.Combination.{follows, given, none}
-use Rattle.nef_space.proofs.Lists.{pairs, lies-pairs}
-use Rattle.nef_space.specs.Signs.{Lies}
-use Rattle.nef_space.specs.Vectors.{Vector, IsDirection, cross, dot, IsZero, SameDirection, IsNormal, opposite}
-use Rattle.nef_space.specs.declared.label.Label.{Label}
-use Rattle.law_near.proofs.Decided.{Decided, decided-both}
-use Rattle.law_near.proofs.Flats.{vector-same}
-use Rattle.law_near.proofs.Far.{nought-or}
-use Rattle.law_sphere.specs.Vectors.{IsPrimitive, VectorBelow}
-use Rattle.law_sphere.specs.Maps.{At}
-use Rattle.law_sphere.specs.Least.{InOrder}
-use Rattle.law_sphere.specs.Labelling.{Labelling, IsSmooth}
-use Rattle.law_sphere.proofs.Vectors.{normal-direction}
-use Rattle.law_sphere.proofs.Lists.{Found, search_list}
-use Rattle.law_sphere.proofs.Places.{direction-decided}
-use Rattle.law_sphere.proofs.Parallel.{parallel-trans}
-use Rattle.law_sphere.proofs.Labels.{dir-direction}
-use Rattle.law_sphere.proofs.Around.{Beside, same_way, other_way, beside}
-use Rattle.law_sphere.proofs.Compare.{SameDirection-turned, SameDirection-trans, normals-not_opposite}
-use Rattle.law_sphere.proofs.Equal.{lowest-same}
-use Rattle.law_sphere.proofs.Kind.{away, away-dot}
-use Rattle.law_sphere.proofs.Flips.{dot-away, Axial}
-use Rattle.law_sphere.proofs.Builder.{normal-or}
+use Rattle.law_cones.proofs.Prelude.{◌≡◌, ℕ, pos, arith, refl, ◌⊎◌, inl, inr, ⊎_elim, List, subst, ints, cases_lt, pairs, lies-pairs, Lies, Vector, IsDirection, cross, dot, IsZero, SameDirection, IsNormal, opposite, Label, Decided, decided-both, IsPrimitive, VectorBelow, At, InOrder, Labelling, IsSmooth, normal-direction, below-itself, Found, search_list, lies-at, at-lies, direction-decided, normals-same, lowest-same, Axial, nought-or, SameDirection-turned, SameDirection-trans, direction-right, parallel-trans, opposite-cross, cross-turned, dot-opposite, opposite-dot, parallel-opposite, normal-either}
 use Rattle.law_cyclic.proofs.Directions.{two_meets}
-use Rattle.law_cones.proofs.Listing.{lies-at, at-lies, Collected, collect, Sorted, sort, chain-order}
-use Rattle.law_cones.proofs.Lowest.{Lowest, lowest, below-trans, below-either, below-itself}
+use Rattle.law_cones.proofs.Listing.{Collected, collect, Sorted, sort, chain-order}
+use Rattle.law_cones.proofs.Lowest.{Lowest, lowest, below-trans, below-either}
 use Rattle.law_cones.proofs.Smooth.{FormOf, smooth-off}
 use Rattle.law_cones.proofs.SmoothDecided.{smooth-decided, smooth-same}
 
@@ -38,13 +12,6 @@ order-one ws o i k w a b = ⊎_elim
     (λ l. absurd (below-itself w (o i k w w l a b)))
     (λ l. ⊎_elim (λ m. absurd (below-itself w (o k i w w m b a))) (λ m. omega arith) (cases_lt k i))
     (cases_lt i k)
-
--- the opposite direction of g x h is h x g
-pair-turned : (g h : Vector) → opposite (cross g h) ≡ cross h g
-pair-turned g h = vector-same (opposite (cross g h)) (cross h g) (one g.y h.z g.z h.y) (one g.z h.x g.x h.z) (one g.x h.y g.y h.x)
-  where
-    one : (a b c d : ℤ) → neg_ℤ (a *ℤ b -ℤ c *ℤ d) ≡ d *ℤ c -ℤ b *ℤ a
-    one a b c d = ring (a ∷ b ∷ c ∷ d ∷ []) (neg (at 0 ⊗ at 1 ⊖ at 2 ⊗ at 3)) (at 3 ⊗ at 2 ⊖ at 1 ⊗ at 0) tt
 
 -- a plane by its normal in normal form and lowest terms
 pub record Plane : Type 0 where
@@ -63,28 +30,16 @@ plane-of g h = by (lowest g h)
         (λ n. (record { normal = l.direction; is_normal = n; primitive = l.primitive }, l.same.parallel))
         (λ n. (
           record {
-            normal = away l.direction;
+            normal = opposite l.direction;
             is_normal = n;
             primitive = record {
-              by = away l.primitive.by;
-              one = let a = dot-away l.primitive.by (away l.direction) in let b = away-dot l.primitive.by l.direction in let c = l.primitive.one in omega (arith, ints);
+              by = opposite l.primitive.by;
+              one = let a = opposite-dot l.primitive.by (opposite l.direction) in let b = dot-opposite l.primitive.by l.direction in let c = l.primitive.one in omega (arith, ints);
             };
           },
-          turned l.direction l.same.parallel,
+          cross-turned (opposite l.direction) g (parallel-opposite l.direction g (cross-turned g l.direction l.same.parallel)),
         ))
-        (normal-or l.direction (dir-direction g l.direction l.same))
-      where
-        turned : (u : Vector) → IsZero (cross g u) → IsZero (cross g (away u))
-        turned u z =
-            let xs = g.x ∷ g.y ∷ g.z ∷ u.x ∷ u.y ∷ u.z ∷ [] in
-            let o = num (pos 0) in
-            let ax = num (negsuc 0) ⊗ at 3 ⊕ o ⊗ at 3 in
-            let ay = num (negsuc 0) ⊗ at 4 ⊕ o ⊗ at 4 in
-            let az = num (negsuc 0) ⊗ at 5 ⊕ o ⊗ at 5 in (
-              follows xs (at 1 ⊗ az ⊖ at 2 ⊗ ay) o (given (num (negsuc 0)) (at 1 ⊗ at 5 ⊖ at 2 ⊗ at 4) o z.0 none) tt,
-              follows xs (at 2 ⊗ ax ⊖ at 0 ⊗ az) o (given (num (negsuc 0)) (at 2 ⊗ at 3 ⊖ at 0 ⊗ at 5) o z.1 none) tt,
-              follows xs (at 0 ⊗ ay ⊖ at 1 ⊗ ax) o (given (num (negsuc 0)) (at 0 ⊗ at 4 ⊖ at 1 ⊗ at 3) o z.2 none) tt,
-            )
+        (normal-either l.direction (direction-right g l.direction l.same))
 
 module _ (gs : List Vector) (F : Vector → Label → Type 0) (L : Labelling gs F) (axial : Axial gs) where
   -- ---- planes
@@ -100,12 +55,8 @@ module _ (gs : List Vector) (F : Vector → Label → Type 0) (L : Labelling gs 
         list = c.list;
         all = λ n h f.
             let r = c.all f.form f.listed f.direction in
-            (r.0, r.1, same n h r.0 (beside n r.0.normal (normal-direction n h) (plane-direction r.0) (parallel-trans n f.form r.0.normal f.direction f.parallel r.2)));
+            (r.0, r.1, normals-same n r.0.normal h r.0.is_normal (parallel-trans n f.form r.0.normal f.direction f.parallel r.2));
       }
-        where
-          same : (n : Vector) → IsNormal n → (p : Plane) → Beside n p.normal → SameDirection n p.normal
-          same n h p (same_way w) = w
-          same n h p (other_way o) = absurd (normals-not_opposite n p.normal h p.is_normal o)
 
   -- ---- svertices
   pub record Dirs : Type 0 where
@@ -145,7 +96,7 @@ module _ (gs : List Vector) (F : Vector → Label → Type 0) (L : Labelling gs 
       where
         cases : (g h : Vector) → Lies gs g → Lies gs h → SameDirection (cross g h) d ⊎ SameDirection (opposite (cross g h)) d → Crossing d
         cases g h a b (inl s) = record { first = g; second = h; first_listed = a; second_listed = b; same = s }
-        cases g h a b (inr s) = record { first = h; second = g; first_listed = b; second_listed = a; same = subst (λ (v : Vector). SameDirection v d) (pair-turned g h) s }
+        cases g h a b (inr s) = record { first = h; second = g; first_listed = b; second_listed = a; same = subst (λ (v : Vector). SameDirection v d) (opposite-cross g h) s }
 
         by : Found gs (λ i g. Crossed g) ⊎ ((i : ℕ) (g : Vector) → At gs i g → Crossed g → ⊥) → Crossing d
         by (inl f) =
@@ -169,7 +120,7 @@ module _ (gs : List Vector) (F : Vector → Label → Type 0) (L : Labelling gs 
       smooth : (v : Vector) → IsDirection v → Decided (IsSmooth F v) → ((w : Vector) × Gives v w) ⊎ (Wanted v → ⊥)
       smooth v h (inl s) = inr (λ w. w.1 s)
       smooth v h (inr f) = let l = lowest v h in
-          inl (l.direction, (l.same, l.primitive, λ s. f (smooth-same gs F L axial l.direction v (dir-direction v l.direction l.same) (SameDirection-turned v l.direction l.same) s)))
+          inl (l.direction, (l.same, l.primitive, λ s. f (smooth-same gs F L axial l.direction v (direction-right v l.direction l.same) (SameDirection-turned v l.direction l.same) s)))
 
   pub dirs : Dirs
   dirs = by (collect (pairs cross gs gs) Gives Wanted given-by)
@@ -182,12 +133,12 @@ module _ (gs : List Vector) (F : Vector → Label → Type 0) (L : Labelling gs 
             list = r.list;
             order = chain-order VectorBelow (λ u w. u ≡ w) r.list r.chain;
             primitive = λ k w a. (gives k w a).1.1;
-            direction = λ k w a. let g = gives k w a in dir-direction g.0 w g.1.0;
+            direction = λ k w a. let g = gives k w a in direction-right g.0 w g.1.0;
             rough = λ k w a. (gives k w a).1.2;
             all = λ d hd rough.
                 let x = crossing-of d hd rough in
                 let v = cross x.first x.second in
-                let hv = dir-direction d v (SameDirection-turned v d x.same) in
+                let hv = direction-right d v (SameDirection-turned v d x.same) in
                 let g = c.all v (lies-pairs cross gs gs x.first x.second x.first_listed x.second_listed) (hv, λ s. rough (smooth-same gs F L axial v d hv x.same s)) in
                 let s = r.all g.0 g.1 in
                 let k = lies-at r.list s.0 s.1 in

@@ -1,23 +1,5 @@
 -- Where there is no svertex and no sloop, all directions have one label.
-use Rattle.std.proofs.Common.{◌≡◌, arith, refl, sym, ◌∙◌, inl, inr, ⊎_elim, List, [], ◌∷◌, subst, Option, Some, None}
-use Rattle.std.proofs.lemmas.Int.{ints}
-use Rattle.std.proofs.lemmas.Option.{none-some, same_Some}
-use Rattle.nef_space.specs.Vectors.{Vector, IsDirection, IsOpposite, IsNormal, blend}
-use Rattle.nef_space.specs.declared.label.Label.{Label}
-use Rattle.law_near.proofs.Decided.{Decided, decided-both}
-use Rattle.law_near.proofs.Directions.{dot-comm}
-use Rattle.law_cyclic.specs.Arcs.{IsOnCircle}
-use Rattle.law_sphere.specs.Forms.{axis_x}
-use Rattle.law_sphere.specs.Labelling.{Labelling, Near, Plain, StraightAt, IsSmooth, plain, straight}
-use Rattle.law_sphere.specs.Builds.{Proper}
-use Rattle.law_sphere.proofs.Places.{IsOpposite-decided}
-use Rattle.law_sphere.proofs.Parallel.{circle-point}
-use Rattle.law_sphere.proofs.KindFlats.{in-span}
-use Rattle.law_sphere.proofs.Walk.{carried, cross-direction_left}
-use Rattle.law_sphere.proofs.Kind.{away}
-use Rattle.law_sphere.proofs.Flips.{flipped, Axial}
-use Rattle.law_sphere.proofs.Builder.{normal-or}
-use Rattle.law_cones.proofs.Listing.{empty-none}
+use Rattle.law_cones.proofs.Prelude.{◌≡◌, arith, refl, sym, ◌∙◌, inl, inr, ⊎_elim, List, ◌∷◌, subst, Option, Some, None, [], ints, none-some, same_Some, Vector, IsDirection, IsOpposite, IsNormal, blend, opposite, Label, Decided, decided-both, IsOnCircle, axis_x, Labelling, Near, Plain, StraightAt, IsSmooth, plain, straight, Proper, IsOpposite-decided, circle-point, carried, cross-direction_left, flipped, Axial, dot-comm, in-span, normal-either, neg, none-at}
 use Rattle.law_cones.proofs.Smooth.{even-side, even-or}
 use Rattle.law_cones.proofs.SmoothDecided.{smooth-decided}
 use Rattle.law_cones.proofs.Dirs.{Dirs}
@@ -40,7 +22,7 @@ module _ (gs : List Vector) (F : Vector → Label → Type 0) (L : Labelling gs 
         hd = cross-direction_left d e off
 
         needless : (n : Vector) (a c b : Label) → IsDirection n → StraightAt F n a c b d → Proper a c b → ⊥
-        needless n a c b hn p q = ⊎_elim (λ x. never n d a c b x (cross-direction_left d e off) q p) (λ x. never (away n) d b c a x (cross-direction_left d e off) (λ u v. q v u) (flipped F n a c b d p)) (normal-or n hn)
+        needless n a c b hn p q = ⊎_elim (λ x. never n d a c b x (cross-direction_left d e off) q p) (λ x. never (opposite n) d b c a x (cross-direction_left d e off) (λ u v. q v u) (flipped F n a c b d p)) (normal-either n hn)
 
         by : IsSmooth F d → Near F d e m
         by (plain l p) = subst (Near F d e) (L.one d l m hd p.at_d f) (p.near e)
@@ -72,9 +54,9 @@ module _ (gs : List Vector) (F : Vector → Label → Type 0) (L : Labelling gs 
 
     alike : W.list ≡ [] → S.sloop ≡ None → (d e : Vector) → IsDirection d → IsDirection e → (m : Label) → F d m → F e m
     alike e o = one-label
-        (λ d h. ⊎_elim (λ s. s) (λ f. let r = W.all d h f in absurd (empty-none W.list e r.0 r.1 r.2)) (smooth-decided gs F L axial d h))
+        (λ d h. ⊎_elim (λ s. s) (λ f. let r = W.all d h f in absurd (none-at W.list r.0 r.1 e r.2)) (smooth-decided gs F L axial d h))
         (λ n y a m b hn hy q p.
-        let r = S.all n hn (record { clear = λ k w h z. empty-none W.list e k w h; point = y; direction = hy; pos = a; mark = m; neg = b; labels = p; proper = q }) in
+        let r = S.all n hn (record { clear = λ k w h z. none-at W.list k w e h; point = y; direction = hy; pos = a; mark = m; neg = b; labels = p; proper = q }) in
         none-some r.0 (sym o ∙ r.1))
 
     pub ground : Ground

@@ -1,3 +1,4 @@
+pub mod Prelude
 pub mod Listing
 pub mod Lowest
 pub mod Signs

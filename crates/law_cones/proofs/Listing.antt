@@ -1,32 +1,11 @@
 -- Lists of exactly the elements that are wanted, in order.
-use Rattle.std.proofs.Common.{◌≡◌, ℕ, zero, suc, arith, refl, sym, ◌⊎◌, inl, inr, ⊎_elim, List, [], ◌∷◌, subst}
-use Rattle.nef_space.specs.Signs.{Lies}
-use Rattle.nef_space.proofs.Lists.{each, lies-each}
-use Rattle.law_sphere.specs.Maps.{At}
-use Rattle.law_sphere.specs.Least.{InOrder}
+use Rattle.law_cones.proofs.Prelude.{◌≡◌, ℕ, zero, suc, arith, refl, sym, ◌⊎◌, inl, inr, ⊎_elim, List, ◌∷◌, subst, [], Lies, each, lies-each, At, InOrder, at-lies}
 
 -- ---- places
-pub lies-at : {A : Type 0} (xs : List A) (x : A) → Lies xs x → (k : ℕ) × At xs k x
-lies-at [] x l = absurd l
-lies-at (y ∷ ys) x (inl e) = (zero, e)
-lies-at (y ∷ ys) x (inr l) = let r = lies-at ys x l in (suc r.0, r.1)
-
-pub at-lies : {A : Type 0} (xs : List A) (k : ℕ) (x : A) → At xs k x → Lies xs x
-at-lies [] k x a = absurd a
-at-lies (y ∷ ys) zero x e = inl e
-at-lies (y ∷ ys) (suc k) x a = inr (at-lies ys k x a)
-
 pub at-or : {A : Type 0} (xs : List A) (k : ℕ) → ((x : A) × At xs k x) ⊎ ((x : A) → At xs k x → ⊥)
 at-or [] k = inr (λ x a. a)
 at-or (y ∷ ys) zero = inl (y, refl)
 at-or (y ∷ ys) (suc k) = at-or ys k
-
-pub none-empty : {A : Type 0} (xs : List A) → ((k : ℕ) (x : A) → At xs k x → ⊥) → xs ≡ []
-none-empty [] f = refl
-none-empty (y ∷ ys) f = absurd (f zero y refl)
-
-pub empty-none : {A : Type 0} (xs : List A) → xs ≡ [] → (k : ℕ) (x : A) → At xs k x → ⊥
-empty-none {A} xs e k x a = subst (λ (ys : List A). At ys k x) e a
 
 -- the numbers of the places of a list
 abbrev pub numbers : {A : Type 0} → List A → List ℕ

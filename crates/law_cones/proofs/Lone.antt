@@ -1,25 +1,6 @@
 -- Where no circle through a direction is needed close to it, there is one label all around it.
-use Rattle.std.proofs.Common.{◌≡◌, ℕ, ◌+◌, ◌<◌, pos, ◌*ℤ◌, arith, ap, sym, ◌∙◌, ⊎_elim, List, [], ◌∷◌, subst}
-use Rattle.std.proofs.lemmas.Int.{ints}
-use Rattle.nef_space.proofs.Ring.{ring, at, num, ◌⊕◌, ◌⊖◌, ◌⊗◌}
-use Rattle.nef_space.proofs.Combination.{follows, given, none}
-use Rattle.nef_space.proofs.Order.{sign, sign-scaled}
-use Rattle.nef_space.specs.Signs.{Lies}
-use Rattle.nef_space.specs.Vectors.{Vector, IsDirection, cross, triple, dot, IsZero, blend}
-use Rattle.nef_space.specs.declared.label.Label.{Label}
-use Rattle.law_near.proofs.FlatDecided.{triple-dot}
-use Rattle.law_near.proofs.Supports.{square-cross}
-use Rattle.law_near.proofs.Far.{nought-or}
-use Rattle.law_near.proofs.Directions.{self-pos, zero-dot, dot-zero}
-use Rattle.law_sphere.specs.Labelling.{Labelling, Near, Plain}
-use Rattle.law_sphere.specs.Builds.{StraightAfter}
-use Rattle.law_sphere.proofs.Vectors.{nought-if}
-use Rattle.law_sphere.proofs.Generic.{amount}
-use Rattle.law_sphere.proofs.Parallel.{past_source}
+use Rattle.law_cones.proofs.Prelude.{◌≡◌, ℕ, ◌+◌, ◌<◌, pos, ◌*ℤ◌, arith, ap, sym, ◌∙◌, ⊎_elim, List, ◌∷◌, subst, [], ints, ring, at, num, ◌⊕◌, ◌⊖◌, ◌⊗◌, follows, given, none, sign, sign-scaled, nought-or, Lies, Vector, IsDirection, cross, triple, dot, IsZero, blend, Label, Labelling, Near, Plain, StraightAfter, amount, past_source, carried, cross-direction_right, Axial, dot-zero, zero-dot, self-pos, triple-dot, square-cross, nought-if, triple-turned}
 use Rattle.law_sphere.proofs.Direct.{cross-self, between-off}
-use Rattle.law_sphere.proofs.Around.{triple-turned}
-use Rattle.law_sphere.proofs.Walk.{carried, cross-direction_right}
-use Rattle.law_sphere.proofs.Flips.{Axial}
 use Rattle.law_cones.proofs.Signs.{leading, leading-joined, leading-same, far-leading, far-direction, near-of, near-at, near-back, near-by_signs, near-one}
 use Rattle.law_cones.proofs.Smooth.{even-side}
 use Rattle.law_cones.proofs.After.{After, after-of}

@@ -1,13 +1,5 @@
 -- Every direction is a multiple of one in lowest terms; the order of vectors.
-use Rattle.std.proofs.Common.{◌≡◌, ℕ, zero, suc, ℤ, pos, negsuc, ◌+ℤ◌, ◌-ℤ◌, ◌*ℤ◌, ◌≤ℤ◌, ◌<ℤ◌, nat_abs, arith, ap, sym, ◌∙◌, ◌⊎◌, inl, inr, [], ◌∷◌, subst}
-use Rattle.std.proofs.lemmas.Int.{ints, by_lt_z}
-use Rattle.nef_space.proofs.Ring.{ring, at, num, ◌⊕◌, ◌⊖◌, ◌⊗◌}
-use Rattle.nef_space.proofs.Combination.{follows, given, none}
-use Rattle.nef_space.proofs.Order.{by_order, cancel_eq, cancel_lt}
-use Rattle.nef_space.specs.Vectors.{Vector, IsDirection, cross, dot, vector, IsZero, SameDirection}
-use Rattle.law_near.proofs.Flats.{vector-same}
-use Rattle.law_near.proofs.Directions.{self-pos}
-use Rattle.law_sphere.specs.Vectors.{IsPrimitive, VectorBelow}
+use Rattle.law_cones.proofs.Prelude.{◌≡◌, ℕ, zero, suc, ℤ, pos, negsuc, ◌+ℤ◌, ◌-ℤ◌, ◌*ℤ◌, ◌≤ℤ◌, ◌<ℤ◌, nat_abs, arith, ap, sym, ◌∙◌, ◌⊎◌, inl, inr, ◌∷◌, subst, [], ints, by_lt_z, ring, at, num, ◌⊕◌, ◌⊖◌, ◌⊗◌, follows, given, none, by_order, cancel_eq, cancel_lt, Vector, IsDirection, cross, dot, vector, IsZero, SameDirection, IsPrimitive, VectorBelow, self-pos, vector-same}
 
 -- ---- greatest common divisors
 -- g is a sum of multiples of x and y, and both are multiples of g
@@ -182,8 +174,3 @@ below-either u v = by_order u.x v.x (λ l. inl (inl l))
     (λ y. by_order u.z v.z (λ l. inl (inr (inr (x, y, l)))) (λ z. inr (inl (vector-same u v x y z))) (λ l. inr (inr (inr (inr (sym x, sym y, l))))))
     (λ l. inr (inr (inr (inl (sym x, l))))))
     (λ l. inr (inr (inl l)))
-
-pub below-itself : (u : Vector) → VectorBelow u u → ⊥
-below-itself u (inl a) = omega (arith, ints)
-below-itself u (inr (inl a)) = let x = a.1 in omega (arith, ints)
-below-itself u (inr (inr a)) = let x = a.2 in omega (arith, ints)

@@ -1,25 +1,7 @@
 -- The arcs of a labelling: one from each svertex along each circle that is needed close after it, to the first svertex; in order.
-use Rattle.std.proofs.Common.{◌≡◌, ℕ, pos, arith, refl, sym, ◌∙◌, ◌⊎◌, inl, inr, ⊎_elim, List, subst}
-use Rattle.std.proofs.lemmas.Bool.{cases_lt}
-use Rattle.nef_space.proofs.Lists.{pairs, lies-pairs}
-use Rattle.nef_space.specs.Vectors.{Vector, dot, SameDirection, IsNormal}
-use Rattle.nef_space.specs.declared.label.Label.{Label}
-use Rattle.law_near.proofs.Decided.{Decided}
-use Rattle.law_near.proofs.Far.{nought-or}
-use Rattle.law_cyclic.specs.Arcs.{IsStrictlyOn}
-use Rattle.law_sphere.specs.Vectors.{IsPrimitive, VectorBelow}
-use Rattle.law_sphere.specs.Maps.{At, Arc}
-use Rattle.law_sphere.specs.Least.{ArcBelow, InOrder}
-use Rattle.law_sphere.specs.Labelling.{Labelling}
-use Rattle.law_sphere.specs.Builds.{StraightAfter, Proper}
-use Rattle.law_sphere.proofs.Vectors.{normal-direction}
-use Rattle.law_sphere.proofs.Lists.{at-one}
-use Rattle.law_sphere.proofs.Compare.{dir-self}
-use Rattle.law_sphere.proofs.Arcs.{level-same}
-use Rattle.law_sphere.proofs.Firsts.{First, first-after}
-use Rattle.law_sphere.proofs.Flips.{Axial}
-use Rattle.law_cones.proofs.Listing.{lies-at, at-lies, at-or, numbers, at-number, Collected, collect, Sorted, sort, chain-order}
-use Rattle.law_cones.proofs.Lowest.{below-trans, below-either, below-itself}
+use Rattle.law_cones.proofs.Prelude.{◌≡◌, ℕ, pos, arith, refl, sym, ◌∙◌, ◌⊎◌, inl, inr, ⊎_elim, List, subst, cases_lt, pairs, lies-pairs, Vector, dot, SameDirection, IsNormal, Label, Decided, IsStrictlyOn, IsPrimitive, VectorBelow, At, Arc, ArcBelow, InOrder, Labelling, StraightAfter, Proper, normal-direction, below-itself, at-one, lies-at, at-lies, level-same, First, first-after, Axial, nought-or, dir-self}
+use Rattle.law_cones.proofs.Listing.{at-or, numbers, at-number, Collected, collect, Sorted, sort, chain-order}
+use Rattle.law_cones.proofs.Lowest.{below-trans, below-either}
 use Rattle.law_cones.proofs.Smooth.{proper-decided}
 use Rattle.law_cones.proofs.After.{After, after-of, after-same, after-one, after-form}
 use Rattle.law_cones.proofs.Dirs.{Plane, plane-direction, Planes, planes, Dirs}

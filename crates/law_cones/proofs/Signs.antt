@@ -1,20 +1,5 @@
 -- Near labels of a labelling: each direction has one toward each vector, which the signs of the forms determine.
-use Rattle.std.proofs.Common.{◌≡◌, ℕ, ◌+◌, ◌≤◌, ℤ, pos, ◌*ℤ◌, ◌<ℤ◌, arith, refl, ap, sym, ◌∙◌, ⊎_elim, List, [], ◌∷◌, subst}
-use Rattle.nef_space.proofs.Ring.{at, num, ◌⊕◌, ◌⊖◌, ◌⊗◌}
-use Rattle.nef_space.proofs.Combination.{follows, given, none}
-use Rattle.nef_space.proofs.Order.{Sign, minus, nought, plus, sign, sign_times, sign-plus, sign-minus, sign-scaled, sign_of_product, by_order, nought-is}
-use Rattle.nef_space.specs.Signs.{Lies}
-use Rattle.nef_space.specs.Vectors.{Vector, IsDirection, cross, dot, IsZero, SameDirection, blend}
-use Rattle.nef_space.specs.declared.label.Label.{Label}
-use Rattle.law_near.proofs.Far.{nought-or}
-use Rattle.law_near.proofs.Directions.{dot-comm, self-pos}
-use Rattle.law_sphere.specs.Forms.{SameSigns}
-use Rattle.law_sphere.specs.Least.{by_side}
-use Rattle.law_sphere.specs.Labelling.{Labelling, Near, StraightAt}
-use Rattle.law_sphere.proofs.Generic.{amount, far-keeps, far-level}
-use Rattle.law_sphere.proofs.Labels.{dir-signs}
-use Rattle.law_sphere.proofs.Turn.{dir-directed}
-use Rattle.law_sphere.proofs.Flips.{Axial, far_directed-by}
+use Rattle.law_cones.proofs.Prelude.{◌≡◌, ℕ, ◌+◌, ◌≤◌, ℤ, pos, ◌<ℤ◌, arith, refl, ap, sym, ◌∙◌, ⊎_elim, List, subst, Sign, minus, nought, plus, sign, sign_times, sign-plus, sign-minus, sign-scaled, sign_of_product, by_order, nought-is, nought-or, Lies, Vector, IsDirection, cross, dot, IsZero, SameDirection, blend, Label, SameSigns, by_side, Labelling, Near, StraightAt, amount, far-keeps, far-level, Axial, far_directed-by, dot-comm, self-pos, dir-signs, direction-left, dot-scaled}
 
 -- ---- signs
 -- the first of two signs that isn't nought
@@ -63,24 +48,12 @@ far-leading gs d e k l g m = ⊎_elim
 pub parallel-signs : (g h d e : Vector) → IsDirection g → IsZero (cross g h) → sign (dot g d) ≡ sign (dot g e) → sign (dot h d) ≡ sign (dot h e)
 parallel-signs g h d e hg p s = one d ∙ ap (sign_times (sign (dot g h))) s ∙ sym (one e)
   where
-    eq : (v : Vector) → dot g g *ℤ dot h v ≡ dot g h *ℤ dot g v
-    eq v =
-        let gx = at 0 in let gy = at 1 in let gz = at 2 in
-        let hx = at 3 in let hy = at 4 in let hz = at 5 in
-        let vx = at 6 in let vy = at 7 in let vz = at 8 in
-        let o = num (pos 0) in
-        follows (g.x ∷ g.y ∷ g.z ∷ h.x ∷ h.y ∷ h.z ∷ v.x ∷ v.y ∷ v.z ∷ [])
-        ((gx ⊗ gx ⊕ gy ⊗ gy ⊕ gz ⊗ gz) ⊗ (hx ⊗ vx ⊕ hy ⊗ vy ⊕ hz ⊗ vz)) ((gx ⊗ hx ⊕ gy ⊗ hy ⊕ gz ⊗ hz) ⊗ (gx ⊗ vx ⊕ gy ⊗ vy ⊕ gz ⊗ vz))
-        (given (gy ⊗ vz ⊖ gz ⊗ vy) (gy ⊗ hz ⊖ gz ⊗ hy) o p.0
-        (given (gz ⊗ vx ⊖ gx ⊗ vz) (gz ⊗ hx ⊖ gx ⊗ hz) o p.1
-        (given (gx ⊗ vy ⊖ gy ⊗ vx) (gx ⊗ hy ⊖ gy ⊗ hx) o p.2 none))) tt
-
     one : (v : Vector) → sign (dot h v) ≡ sign_times (sign (dot g h)) (sign (dot g v))
-    one v = sym (sign-scaled (dot g g) (dot h v) (self-pos g hg)) ∙ ap sign (eq v) ∙ sign_of_product (dot g h) (dot g v)
+    one v = ap sign (dot-comm h v) ∙ sym (sign-scaled (dot g g) (dot v h) (self-pos g hg)) ∙ ap sign (dot-scaled v g h p) ∙ sign_of_product (dot g h) (dot v g) ∙ ap (λ r. sign_times (sign (dot g h)) (sign r)) (dot-comm v g)
 
 -- the same plane from its two normals
 pub plane-signs : (n u d : Vector) → SameDirection n u → sign (dot u d) ≡ sign (dot n d)
-plane-signs n u d w = ap sign (dot-comm u d) ∙ dir-signs n u d (dir-directed n u w) w ∙ ap sign (dot-comm d n)
+plane-signs n u d w = ap sign (dot-comm u d) ∙ dir-signs n u d (direction-left n u w) w ∙ ap sign (dot-comm d n)
 
 -- ---- near labels
 module _ (gs : List Vector) (F : Vector → Label → Type 0) (L : Labelling gs F) (axial : Axial gs) where

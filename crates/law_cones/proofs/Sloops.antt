@@ -1,28 +1,5 @@
 -- The sloop of a labelling: where a circle that is needed holds no svertex it is the only one.
-use Rattle.std.proofs.Common.{◌≡◌, ℕ, pos, refl, sym, ◌∙◌, ◌⊎◌, inl, inr, ⊎_elim, List, subst, Option, Some, None}
-use Rattle.std.proofs.lemmas.Option.{none-some, same_Some}
-use Rattle.nef_space.specs.Signs.{Lies}
-use Rattle.nef_space.specs.Vectors.{Vector, IsDirection, cross, dot, IsZero, SameDirection, IsNormal}
-use Rattle.nef_space.specs.declared.label.Label.{Label}
-use Rattle.law_near.proofs.Decided.{Decided}
-use Rattle.law_near.proofs.Supports.{square-cross}
-use Rattle.law_near.proofs.Far.{nought-or}
-use Rattle.law_near.proofs.Directions.{zero-decided}
-use Rattle.law_cyclic.specs.Arcs.{IsOnCircle}
-use Rattle.law_cyclic.proofs.Directions.{level_cross_second}
-use Rattle.law_sphere.specs.Vectors.{IsPrimitive}
-use Rattle.law_sphere.specs.Maps.{At, MapSloop}
-use Rattle.law_sphere.specs.Labelling.{Labelling, StraightAt, IsSmooth}
-use Rattle.law_sphere.specs.Builds.{Proper}
-use Rattle.law_sphere.proofs.Vectors.{normal-direction}
-use Rattle.law_sphere.proofs.Lists.{Found, search_list}
-use Rattle.law_sphere.proofs.Parallel.{circle-point}
-use Rattle.law_sphere.proofs.Around.{Beside, same_way, other_way, beside}
-use Rattle.law_sphere.proofs.Compare.{SameDirection-turned, SameDirection-trans, dir-self, normals-not_opposite}
-use Rattle.law_sphere.proofs.Arcs.{level-same}
-use Rattle.law_sphere.proofs.Kind.{away}
-use Rattle.law_sphere.proofs.Flips.{straight-same_way, Axial, planes-parallel, sloop-along}
-use Rattle.law_cones.proofs.Listing.{lies-at}
+use Rattle.law_cones.proofs.Prelude.{◌≡◌, ℕ, pos, refl, sym, ◌∙◌, ◌⊎◌, inl, inr, ⊎_elim, List, subst, Option, Some, None, none-some, same_Some, Lies, Vector, IsDirection, cross, dot, IsZero, SameDirection, IsNormal, opposite, Label, Decided, IsOnCircle, IsPrimitive, At, MapSloop, Labelling, StraightAt, IsSmooth, Proper, normal-direction, Found, search_list, lies-at, circle-point, Beside, same_way, other_way, beside, normals-not_opposite, level-same, straight-same_way, Axial, planes-parallel, sloop-along, nought-or, zero-decided, square-cross, level_cross_second, SameDirection-turned, SameDirection-trans, dir-self}
 use Rattle.law_cones.proofs.Smooth.{proper-form, proper-decided, label, beyond}
 use Rattle.law_cones.proofs.SmoothDecided.{straight-decided, straight-named, named, smooth-decided}
 use Rattle.law_cones.proofs.Dirs.{Plane, plane-direction, Planes, planes, Dirs}
@@ -86,7 +63,7 @@ module _ (gs : List Vector) (F : Vector → Label → Type 0) (L : Labelling gs 
   round-decided p = by (search_list W.list (λ k w. dot p.normal w ≡ pos 0) (λ k w. nought-or (dot p.normal w))) (circle-point p.normal (plane-direction p))
     where
       on : ((k : ℕ) (w : Vector) → At W.list k w → dot p.normal w ≡ pos 0 → ⊥) → (y : Vector) (o : IsOnCircle p.normal y) (a b : Label) → a ≡ beyond gs F L axial y p.normal o.direction
-          → b ≡ beyond gs F L axial y (away p.normal) o.direction
+          → b ≡ beyond gs F L axial y (opposite p.normal) o.direction
           → Decided (StraightAt F p.normal a (label gs F L axial y o.direction) b y) → Decided (Proper a (label gs F L axial y o.direction) b) → Decided (Round p.normal)
       on clear y o a b ea eb (inl s) (inl q) = inl (record { clear = clear; point = y; direction = o.direction; pos = a; mark = label gs F L axial y o.direction; neg = b; labels = s; proper = q })
       on clear y o a b ea eb (inr f) q = inr (λ r.
@@ -100,7 +77,7 @@ module _ (gs : List Vector) (F : Vector → Label → Type 0) (L : Labelling gs 
       by (inl f) c = inr (λ r. r.clear f.number f.element f.listed f.holds)
       by (inr clear) (y, o) =
           let a = beyond gs F L axial y p.normal o.direction in
-          let b = beyond gs F L axial y (away p.normal) o.direction in
+          let b = beyond gs F L axial y (opposite p.normal) o.direction in
           on clear y o a b refl refl (straight-decided gs F L axial y o.direction p.normal a b) (proper-decided a (label gs F L axial y o.direction) b)
 
   -- ---- the sloop

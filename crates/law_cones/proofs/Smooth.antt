@@ -1,64 +1,13 @@
 -- A direction is plain or straight about it, or not: it is decided, and a plane that is needed there is that of a form.
-use Rattle.std.proofs.Common.{◌≡◌, ℕ, ◌≤◌, ◌⊎◌, pos, negsuc, ◌+ℤ◌, ◌*ℤ◌, arith, refl, ap, sym, ◌∙◌, inl, inr, ⊎_elim, List, [], ◌∷◌, subst}
-use Rattle.std.proofs.lemmas.Int.{ints}
-use Rattle.nef_space.proofs.Ring.{ring, at, num, ◌⊕◌, ◌⊖◌, ◌⊗◌}
-use Rattle.nef_space.proofs.Combination.{follows, given, none}
-use Rattle.nef_space.proofs.Order.{Sign, minus, nought, plus, sign, sign-plus, sign-minus, by_order}
-use Rattle.nef_space.specs.Signs.{Lies}
-use Rattle.nef_space.specs.Vectors.{Vector, IsDirection, cross, dot, IsZero, blend}
-use Rattle.nef_space.specs.declared.label.Label.{Label}
-use Rattle.law_near.proofs.Decided.{Decided, decided-both}
-use Rattle.law_near.proofs.Supports.{square-cross}
-use Rattle.law_near.proofs.Far.{nought-or}
-use Rattle.law_near.proofs.Directions.{self-pos, zero-dot, zero-decided}
-use Rattle.law_sphere.specs.Maps.{At}
-use Rattle.law_sphere.specs.Least.{by_side}
-use Rattle.law_sphere.specs.Labelling.{Labelling, Near, StraightAt, IsSmooth, plain, straight}
-use Rattle.law_sphere.specs.Builds.{Proper}
-use Rattle.law_sphere.proofs.Vectors.{dot-comb, nought-if}
-use Rattle.law_sphere.proofs.Generic.{amount}
-use Rattle.law_sphere.proofs.Lists.{Found, search_list}
-use Rattle.law_sphere.proofs.Places.{direction-decided}
-use Rattle.law_sphere.proofs.Kind.{away, away-dot}
-use Rattle.law_sphere.proofs.Flips.{label-eq, Axial}
-use Rattle.law_cones.proofs.Listing.{lies-at, at-lies}
+use Rattle.law_cones.proofs.Prelude.{◌≡◌, ℕ, ◌≤◌, ◌⊎◌, pos, ◌+ℤ◌, ◌*ℤ◌, arith, refl, ap, sym, ◌∙◌, inl, inr, ⊎_elim, List, ◌∷◌, subst, ◌-ℤ◌, [], ints, ring, at, num, ◌⊕◌, ◌⊗◌, Sign, minus, nought, plus, sign, sign-plus, sign-minus, by_order, nought-or, Lies, Vector, IsDirection, cross, dot, IsZero, blend, opposite, Label, Decided, decided-both, At, by_side, Labelling, Near, StraightAt, IsSmooth, plain, straight, Proper, dot-comb, amount, Found, search_list, lies-at, at-lies, direction-decided, Axial, zero-decided, zero-dot, self-pos, square-cross, nought-if, dot-comm, dot-opposite, level-both, triple-cycle, triple-turned, same-label_or}
 use Rattle.law_cones.proofs.Signs.{leading, leading-self, leading-same, leading-off, far-leading, parallel-signs, near-of, near-at, near-by_signs, straight-pos, straight-neg}
 
 -- where two planes meet in a line and a form is nought both there and across, it is a multiple of the first plane's
 pub parallel-by : (n d g : Vector) → IsDirection d → dot n d ≡ pos 0 → dot g d ≡ pos 0 → dot g (cross n d) ≡ pos 0 → IsZero (cross n g)
-parallel-by n d g h a b c =
-    let xs = n.x ∷ n.y ∷ n.z ∷ d.x ∷ d.y ∷ d.z ∷ g.x ∷ g.y ∷ g.z ∷ [] in
-    let o = num (pos 0) in
-    let nx = at 0 in let ny = at 1 in let nz = at 2 in
-    let dx = at 3 in let dy = at 4 in let dz = at 5 in
-    let gx = at 6 in let gy = at 7 in let gz = at 8 in
-    let nd = nx ⊗ dx ⊕ ny ⊗ dy ⊕ nz ⊗ dz in
-    let gd = gx ⊗ dx ⊕ gy ⊗ dy ⊕ gz ⊗ dz in
-    let ex = ny ⊗ gz ⊖ nz ⊗ gy in
-    let ey = nz ⊗ gx ⊖ nx ⊗ gz in
-    let ez = nx ⊗ gy ⊖ ny ⊗ gx in
-    -- d x (n x g) = n (d.g) - g (d.n)
-    nought-if d (cross n g) h (
-      follows xs (dy ⊗ ez ⊖ dz ⊗ ey) o (given nx gd o b (given (o ⊖ gx) nd o a none)) tt,
-      follows xs (dz ⊗ ex ⊖ dx ⊗ ez) o (given ny gd o b (given (o ⊖ gy) nd o a none)) tt,
-      follows xs (dx ⊗ ey ⊖ dy ⊗ ex) o (given nz gd o b (given (o ⊖ gz) nd o a none)) tt,
-    ) (follows xs (dx ⊗ ex ⊕ dy ⊗ ey ⊕ dz ⊗ ez) o
-    (given (o ⊖ num (pos 1)) (gx ⊗ (ny ⊗ dz ⊖ nz ⊗ dy) ⊕ gy ⊗ (nz ⊗ dx ⊖ nx ⊗ dz) ⊕ gz ⊗ (nx ⊗ dy ⊖ ny ⊗ dx)) o c none) tt)
-
-pub away-cross : (n g : Vector) → IsZero (cross n g) → IsZero (cross (away n) g)
-away-cross n g z =
-    let xs = n.x ∷ n.y ∷ n.z ∷ g.x ∷ g.y ∷ g.z ∷ [] in
-    let o = num (pos 0) in
-    let ax = num (negsuc 0) ⊗ at 0 ⊕ o ⊗ at 0 in
-    let ay = num (negsuc 0) ⊗ at 1 ⊕ o ⊗ at 1 in
-    let az = num (negsuc 0) ⊗ at 2 ⊕ o ⊗ at 2 in (
-      follows xs (ay ⊗ at 5 ⊖ az ⊗ at 4) o (given (num (negsuc 0)) (at 1 ⊗ at 5 ⊖ at 2 ⊗ at 4) o z.0 none) tt,
-      follows xs (az ⊗ at 3 ⊖ ax ⊗ at 5) o (given (num (negsuc 0)) (at 2 ⊗ at 3 ⊖ at 0 ⊗ at 5) o z.1 none) tt,
-      follows xs (ax ⊗ at 4 ⊖ ay ⊗ at 3) o (given (num (negsuc 0)) (at 0 ⊗ at 4 ⊖ at 1 ⊗ at 3) o z.2 none) tt,
-    )
+parallel-by n d g h a b c = nought-if d (cross n g) h (level-both d n g (dot-comm d n ∙ a) (dot-comm d g ∙ b)) (triple-cycle d n g ∙ triple-turned n g d ∙ ap (λ r. pos 0 -ℤ r) (triple-cycle n d g ∙ triple-cycle d g n) ∙ omega (arith, ints))
 
 pub proper-decided : (a m b : Label) → Decided (Proper a m b)
-proper-decided a m b = by (label-eq a m) (label-eq b m)
+proper-decided a m b = by (same-label_or a m) (same-label_or b m)
   where
     by : Decided (a ≡ m) → Decided (b ≡ m) → Decided (Proper a m b)
     by (inl x) (inl y) = inr (λ p. p x y)
@@ -71,7 +20,7 @@ even-side a m b nought x y = refl
 even-side a m b plus x y = x
 
 pub even-or : (a m b : Label) → (Proper a m b → ⊥) → (a ≡ m) × (b ≡ m)
-even-or a m b f = by (label-eq a m) (label-eq b m)
+even-or a m b f = by (same-label_or a m) (same-label_or b m)
   where
     by : Decided (a ≡ m) → Decided (b ≡ m) → (a ≡ m) × (b ≡ m)
     by (inl x) (inl y) = (x, y)
@@ -112,12 +61,12 @@ module _ (gs : List Vector) (F : Vector → Label → Type 0) (L : Labelling gs 
       needless =
           let h = self-pos n hn in
           let k = amount gs n in
-          let j = amount gs (away n) in
+          let j = amount gs (opposite n) in
           let x = turned n k in
-          let y = turned (away n) j in
-          let w = away-dot n n in
+          let y = turned (opposite n) j in
+          let w = dot-opposite n n in
           proper (straight-pos gs F L axial n a m b d (blend k c 1 n) m hd p (omega (arith, ints)) (flat n k (omega arith)))
-          (straight-neg gs F L axial n a m b d (blend j c 1 (away n)) m hd p (omega (arith, ints)) (flat (away n) j (omega arith)))
+          (straight-neg gs F L axial n a m b d (blend j c 1 (opposite n)) m hd p (omega (arith, ints)) (flat (opposite n) j (omega arith)))
 
     pub proper-form : FormOf n
     proper-form = by (search_list gs (λ k g. IsDirection g × IsZero (cross n g)) (λ k g. decided-both (direction-decided g) (zero-decided (cross n g))))
@@ -134,20 +83,20 @@ module _ (gs : List Vector) (F : Vector → Label → Type 0) (L : Labelling gs 
   beyond z e h = (near-of gs F L axial z e h).0
 
   pub straight-if : (n z : Vector) → IsDirection n → (h : IsDirection z) → dot n z ≡ pos 0 → ((g : Vector) → Lies gs g → dot g z ≡ pos 0 → IsZero (cross n g))
-      → StraightAt F n (beyond z n h) (label z h) (beyond z (away n) h) z
+      → StraightAt F n (beyond z n h) (label z h) (beyond z (opposite n) h) z
   straight-if n z hn h q one = record { level = q; at_d = (L.exists z h).1; near = near }
     where
       side : Sign → Label
-      side = by_side (beyond z n h) (label z h) (beyond z (away n) h)
+      side = by_side (beyond z n h) (label z h) (beyond z (opposite n) h)
 
       like : (e u : Vector) → sign (dot n e) ≡ sign (dot n u) → (g : Vector) → Lies gs g → leading (sign (dot g z)) (sign (dot g e)) ≡ leading (sign (dot g z)) (sign (dot g u))
       like e u s g l = leading-same (dot g z) (sign (dot g e)) (sign (dot g u)) (λ w. parallel-signs n g e u hn (one g l w) s)
 
       near : (e : Vector) → Near F z e (side (sign (dot n e)))
       near e = by_order (dot n e) (pos 0)
-          (λ l. let w = away-dot n n in let p = self-pos n hn in
+          (λ l. let w = dot-opposite n n in let p = self-pos n hn in
           subst (Near F z e) (ap side (sym (sign-minus (dot n e) l)))
-          (near-by_signs gs F L axial z (away n) z e (beyond z (away n) h) h h (like e (away n) (sign-minus (dot n e) l ∙ sym (sign-minus (dot n (away n)) (omega (arith, ints))))) (near-of gs F L axial z (away n) h).1))
+          (near-by_signs gs F L axial z (opposite n) z e (beyond z (opposite n) h) h h (like e (opposite n) (sign-minus (dot n e) l ∙ sym (sign-minus (dot n (opposite n)) (omega (arith, ints))))) (near-of gs F L axial z (opposite n) h).1))
           (λ w. subst (Near F z e) (ap side (sym (ap sign w)))
           (near-at gs F L axial z e z (label z h) h h (λ g l. sym (like e z (ap sign w ∙ sym (ap sign q)) g l ∙ leading-self (sign (dot g z)))) (L.exists z h).1))
           (λ l. let p = self-pos n hn in

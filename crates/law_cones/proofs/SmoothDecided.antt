@@ -1,29 +1,8 @@
 -- It is decided whether a direction is plain or straight about it, and the same for all vectors of its way.
-use Rattle.std.proofs.Common.{◌≡◌, ℕ, pos, arith, refl, ap, sym, ◌∙◌, ◌⊎◌, inl, inr, ⊎_elim, List, ◌∷◌, subst}
-use Rattle.std.proofs.lemmas.Int.{ints}
-use Rattle.nef_space.proofs.Order.{sign}
-use Rattle.nef_space.specs.Signs.{Lies}
-use Rattle.nef_space.specs.Vectors.{Vector, IsDirection, dot, SameDirection}
-use Rattle.nef_space.specs.declared.label.Label.{Label}
-use Rattle.law_near.proofs.Decided.{Decided, every, decided-both}
-use Rattle.law_near.proofs.Far.{nought-or, same-nought}
-use Rattle.law_near.proofs.Directions.{self-pos}
+use Rattle.law_cones.proofs.Prelude.{◌≡◌, ℕ, pos, arith, refl, ap, sym, ◌∙◌, ◌⊎◌, inl, inr, ⊎_elim, List, ◌∷◌, subst, ints, sign, nought-or, Lies, Vector, IsDirection, dot, SameDirection, opposite, Label, Decided, every, decided-both, same-nought, At, SameSigns, by_side, Labelling, Near, PlainAt, StraightAt, IsSmooth, plain, straight, Proper, Found, search_list, lies-at, direction-decided, Beside, same_way, other_way, beside, flipped, straight-same_way, Axial, self-pos, dir-self, dir-signs, direction-right, parallel-opposite, direction-opposite, dot-opposite, opposite-dot, same-label_or}
 use Rattle.law_near.proofs.Representatives.{representative_directions, representative}
-use Rattle.law_sphere.specs.Maps.{At}
-use Rattle.law_sphere.specs.Forms.{SameSigns}
-use Rattle.law_sphere.specs.Least.{by_side}
-use Rattle.law_sphere.specs.Labelling.{Labelling, Near, PlainAt, StraightAt, IsSmooth, plain, straight}
-use Rattle.law_sphere.specs.Builds.{Proper}
-use Rattle.law_sphere.proofs.Lists.{Found, search_list}
-use Rattle.law_sphere.proofs.Places.{direction-decided}
-use Rattle.law_sphere.proofs.Labels.{dir-signs, dir-direction}
-use Rattle.law_sphere.proofs.Around.{Beside, same_way, other_way, beside}
-use Rattle.law_sphere.proofs.Compare.{dir-self}
-use Rattle.law_sphere.proofs.Kind.{away, away-dot}
-use Rattle.law_sphere.proofs.Flips.{label-eq, dot-away, away-direction, flipped, straight-same_way, Axial}
-use Rattle.law_cones.proofs.Listing.{lies-at}
 use Rattle.law_cones.proofs.Signs.{leading, near-of, near-by_signs, near-one, straight-carried, straight-pos, straight-neg}
-use Rattle.law_cones.proofs.Smooth.{FormOf, proper-form, away-cross, proper-decided, even-side, even-or, label, beyond}
+use Rattle.law_cones.proofs.Smooth.{FormOf, proper-form, proper-decided, even-side, even-or, label, beyond}
 
 module _ (gs : List Vector) (F : Vector → Label → Type 0) (L : Labelling gs F) (axial : Axial gs) where
   module _ (d : Vector) (h : IsDirection d) where
@@ -39,7 +18,7 @@ module _ (gs : List Vector) (F : Vector → Label → Type 0) (L : Labelling gs 
               let v = representative gs e in
               near-by_signs gs F L axial d v.direction d e m h h (λ g l. ap (leading (sign (dot g d))) (v.same g l)) (subst (Near F d v.direction) (f v.direction v.listed) (near-of gs F L axial d v.direction h).1);
         }))
-        (every (representative_directions gs) (λ v. beyond gs F L axial d v h ≡ m) (λ v. label-eq (beyond gs F L axial d v h) m))
+        (every (representative_directions gs) (λ v. beyond gs F L axial d v h ≡ m) (λ v. same-label_or (beyond gs F L axial d v h) m))
 
     pub straight-decided : (n : Vector) (a b : Label) → Decided (StraightAt F n a m b d)
     straight-decided n a b = by (nought-or (dot n d))
@@ -57,25 +36,25 @@ module _ (gs : List Vector) (F : Vector → Label → Type 0) (L : Labelling gs 
                   (near-by_signs gs F L axial d v.direction d e _ h h (λ g l. ap (leading (sign (dot g d))) (v.same g (inr l)))
                   (subst (Near F d v.direction) (f v.direction v.listed) (near-of gs F L axial d v.direction h).1));
             }))
-            (every (representative_directions (n ∷ gs)) (λ v. beyond gs F L axial d v h ≡ by_side a m b (sign (dot n v))) (λ v. label-eq (beyond gs F L axial d v h) (by_side a m b (sign (dot n v)))))
+            (every (representative_directions (n ∷ gs)) (λ v. beyond gs F L axial d v h ≡ by_side a m b (sign (dot n v))) (λ v. same-label_or (beyond gs F L axial d v h) (by_side a m b (sign (dot n v)))))
 
     -- straight about a plane, with the labels that there are
     abbrev pub Straight : Vector → Type 0
-    Straight n = StraightAt F n (beyond gs F L axial d n h) m (beyond gs F L axial d (away n) h) d
+    Straight n = StraightAt F n (beyond gs F L axial d n h) m (beyond gs F L axial d (opposite n) h) d
 
-    pub straight-named : (n : Vector) (a c b : Label) → IsDirection n → StraightAt F n a c b d → (a ≡ beyond gs F L axial d n h) × (c ≡ m) × (b ≡ beyond gs F L axial d (away n) h)
+    pub straight-named : (n : Vector) (a c b : Label) → IsDirection n → StraightAt F n a c b d → (a ≡ beyond gs F L axial d n h) × (c ≡ m) × (b ≡ beyond gs F L axial d (opposite n) h)
     straight-named n a c b hn p =
         let q = self-pos n hn in
-        let w = away-dot n n in (
+        let w = dot-opposite n n in (
           straight-pos gs F L axial n a c b d n _ h p q (near-of gs F L axial d n h).1,
           L.one d c m h p.at_d (L.exists d h).1,
-          straight-neg gs F L axial n a c b d (away n) _ h p (omega (arith, ints)) (near-of gs F L axial d (away n) h).1,
+          straight-neg gs F L axial n a c b d (opposite n) _ h p (omega (arith, ints)) (near-of gs F L axial d (opposite n) h).1,
         )
 
     pub named : (n : Vector) (a c b : Label) → IsDirection n → StraightAt F n a c b d → Straight n
     named n a c b hn p =
         let e = straight-named n a c b hn p in
-        subst (λ r. StraightAt F n r m (beyond gs F L axial d (away n) h) d) e.0 (subst (λ r. StraightAt F n a m r d) e.2 (subst (λ r. StraightAt F n a r b d) e.1 p))
+        subst (λ r. StraightAt F n r m (beyond gs F L axial d (opposite n) h) d) e.0 (subst (λ r. StraightAt F n a m r d) e.2 (subst (λ r. StraightAt F n a r b d) e.1 p))
 
     flat-plain : (n : Vector) (a c b : Label) → a ≡ c → b ≡ c → StraightAt F n a c b d → PlainAt F d m
     flat-plain n a c b x y p =
@@ -91,11 +70,11 @@ module _ (gs : List Vector) (F : Vector → Label → Type 0) (L : Labelling gs 
           where
             cases : Beside n f.form → Straight f.form
             cases (same_way w) = named f.form a c b f.direction (straight-same_way F n f.form a c b d hn w p)
-            cases (other_way o) = named f.form b c a f.direction (straight-same_way F (away n) f.form b c a d (away-direction n hn)
-                (record { parallel = away-cross n f.form o.parallel; forward = let e = dot-away n f.form in let k = o.backward in omega (arith, ints) }) (flipped F n a c b d p))
+            cases (other_way o) = named f.form b c a f.direction (straight-same_way F (opposite n) f.form b c a d (direction-opposite n hn)
+                (record { parallel = parallel-opposite n f.form o.parallel; forward = let e = opposite-dot n f.form in let k = o.backward in omega (arith, ints) }) (flipped F n a c b d p))
 
     pub smooth-decided : Decided (IsSmooth F d)
-    smooth-decided = by plain-decided (search_list gs (λ k g. IsDirection g × Straight g) (λ k g. decided-both (direction-decided g) (straight-decided g (beyond gs F L axial d g h) (beyond gs F L axial d (away g) h))))
+    smooth-decided = by plain-decided (search_list gs (λ k g. IsDirection g × Straight g) (λ k g. decided-both (direction-decided g) (straight-decided g (beyond gs F L axial d g h) (beyond gs F L axial d (opposite g) h))))
       where
         never : (PlainAt F d m → ⊥) → ((k : ℕ) (g : Vector) → At gs k g → IsDirection g × Straight g → ⊥) → IsSmooth F d → ⊥
         never f g (plain l p) = f (subst (PlainAt F d) (L.one d l m h p.at_d (L.exists d h).1) p)
@@ -112,7 +91,7 @@ module _ (gs : List Vector) (F : Vector → Label → Type 0) (L : Labelling gs 
   smooth-same d e h w s = by s
     where
       he : IsDirection e
-      he = dir-direction d e w
+      he = direction-right d e w
 
       same : SameSigns gs d e
       same g l = dir-signs d e g h w

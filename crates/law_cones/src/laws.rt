@@ -1,8 +1,8 @@
-//! The laws of the maps of points.
+//! Laws of existence for least sphere maps.
 
 ghost use Rattle.law_cones.specs.Laws.{EveryPointHasMap, EveryOpHasMap};
 
-/// Every point has a least map of every set, and every operation on two maps has one.
+/// Every set has a least map at every point, and every operation on two maps has a least map.
 pub fn cone_laws()
     ensures point { EveryPointHasMap }
     ensures op { EveryOpHasMap }

@@ -1,5 +1,5 @@
-//! Least sphere maps exist: labels that the signs of finitely many forms determine are those of a map in
-//! order, so every set has one at every point. Each law is a clause of a function with an empty body.
+//! The existence of least sphere maps: labels that the signs of finitely many forms determine are those of an ordered
+//! map, so every set has one at every point. Each law is a clause of a function with an empty body.
 #![tactic(auto)]
 
 mod laws;

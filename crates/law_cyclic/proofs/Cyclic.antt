@@ -1,15 +1,8 @@
 -- The cyclic order of directions about an axis n. Any test on the signs of the products of three or four of them is decided by
 -- computing it at all signs that they can have, and each law of the order is such a test.
-use Rattle.std.proofs.Common.{◌≡◌, zero, suc, ℤ, neg_ℤ, Bool, true, false, cond, List, [], ◌∷◌, arith, refl, ap, ◌∙◌, inl, inr, ◌⊎◌}
-use Rattle.std.specs.List.{All}
+use Rattle.law_cyclic.proofs.Prelude.{◌≡◌, zero, suc, ℤ, neg_ℤ, Bool, true, false, cond, List, [], ◌∷◌, arith, refl, ap, ◌∙◌, inl, inr, ◌⊎◌, All, IsSign, every_key, passes_at, Vector, dot, triple, IsDirection, SameDirection, IsOnCircle, Passes, AboutThree, AboutFour, OneIsFirst, NeverBothWays, OrderIsTransitive, SameInPlace, OrderIsCyclic, WaysGlue, WaysSplit, NearerOnes, SeenFromLater, SeenFromBetween, SeenFromAfter, NextRises, InSector, SectorHolds, NoRayBetween, dot-comm, triple-back}
 use lib.Dec.{T}
-use Rattle.nef_case.specs.Keys.{IsSign}
-use Rattle.nef_case.proofs.Rows.{every_key, passes_at}
-use Rattle.nef_space.specs.Vectors.{Vector, dot, triple, IsDirection, SameDirection}
-use Rattle.law_cyclic.specs.Arcs.{IsOnCircle, Passes, AboutThree, AboutFour}
-use Rattle.law_cyclic.specs.Laws.{OneIsFirst, NeverBothWays, OrderIsTransitive, SameInPlace, OrderIsCyclic, WaysGlue, WaysSplit, NearerOnes, SeenFromLater, SeenFromBetween, SeenFromAfter, NextRises, InSector, SectorHolds, NoRayBetween}
 use Rattle.law_cyclic.proofs.Signs.{sgn, is_not, both, one_of, rule, consistent, every_three, ThreeTest, holds_at_signs, sgn_is_sign, use_test, related_consistent, sgn-neg_ℤ, both_of, both_left, both_right, one_of_left, one_of_right, either_of, not_of, not_is}
-use Rattle.law_cyclic.proofs.Planar.{triple-back, dot_comm}
 use Rattle.law_cyclic.proofs.StrictlyOn.{Setting, related, passes_test, same_test, is_same, same_is, is_same_if, strict_from_rule, rule_from_strict}
 
 -- ---- a fact that a test decides
@@ -56,15 +49,15 @@ bac n a b c g = record { axis = g.axis; first = g.second; second = g.first; thir
 
 -- c passed from a to b, by the signs of the pairs of a, b and c in this order
 says_acb : (n a b c : Vector) → AboutThree n a b c → Says (Passes n a c b) (rule (sgn (triple n a b)) (sgn (dot a b)) (sgn (triple n a c)) (sgn (dot a c)) (neg_ℤ (sgn (triple n b c))) (sgn (dot b c)))
-says_acb n a b c g = rw (← sgn-triple-back n b c, dot_comm b c) (says_passes n a c b (acb n a b c g))
+says_acb n a b c g = rw (← sgn-triple-back n b c, dot-comm b c) (says_passes n a c b (acb n a b c g))
 
 -- c passed from b to a
 says_bca : (n a b c : Vector) → AboutThree n a b c → Says (Passes n b c a) (rule (neg_ℤ (sgn (triple n a b))) (sgn (dot a b)) (sgn (triple n b c)) (sgn (dot b c)) (neg_ℤ (sgn (triple n a c))) (sgn (dot a c)))
-says_bca n a b c g = rw (← sgn-triple-back n a b, dot_comm a b, ← sgn-triple-back n a c, dot_comm a c) (says_passes n b c a (bca n a b c g))
+says_bca n a b c g = rw (← sgn-triple-back n a b, dot-comm a b, ← sgn-triple-back n a c, dot-comm a c) (says_passes n b c a (bca n a b c g))
 
 -- a passed from b to c
 says_bac : (n a b c : Vector) → AboutThree n a b c → Says (Passes n b a c) (rule (sgn (triple n b c)) (sgn (dot b c)) (neg_ℤ (sgn (triple n a b))) (sgn (dot a b)) (sgn (triple n a c)) (sgn (dot a c)))
-says_bac n a b c g = rw (← sgn-triple-back n a b, dot_comm a b) (says_passes n b a c (bac n a b c g))
+says_bac n a b c g = rw (← sgn-triple-back n a b, dot-comm a b) (says_passes n b a c (bac n a b c g))
 
 -- ---- tests on the turn and the dot product of the pairs ac, ab and bc
 pub holds_at_three : (test : ThreeTest) → T (every_three test) → (n a b c : Vector) → AboutThree n a b c

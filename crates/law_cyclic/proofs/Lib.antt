@@ -1,3 +1,4 @@
+pub mod Prelude
 pub mod Signs
 pub mod Planar
 pub mod StrictlyOn

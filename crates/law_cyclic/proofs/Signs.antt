@@ -1,13 +1,8 @@
 -- Signs of sums and products as numbers, and the rule of an arc by signs.
-use Rattle.std.proofs.Common.{◌≡◌, zero, suc, ℤ, pos, negsuc, neg_ℤ, ◌+ℤ◌, ◌*ℤ◌, ◌<ℤ◌, Bool, true, false, cond, List, [], ◌∷◌, arith, refl, ap, ◌∙◌, inl, inr, ◌⊎◌}
-use Rattle.std.proofs.lemmas.Int.{ints}
-use Rattle.std.specs.List.{All}
+use Rattle.law_cyclic.proofs.Prelude.{◌≡◌, zero, suc, ℤ, pos, negsuc, neg_ℤ, ◌+ℤ◌, ◌*ℤ◌, ◌<ℤ◌, Bool, true, false, cond, List, [], ◌∷◌, arith, refl, ap, ◌∙◌, inl, inr, ◌⊎◌, ints, All, IsSign, between_signs, every_key, passes_at}
 use lib.Dec.{T}
 use Rattle.nef_space.proofs.Order.{Sign, minus, nought, plus, sign, sign_times, sign_of_product, sign-scaled, sign_of_sum}
 use Rattle.law_cyclic.specs.Signs.{number_of, sign_number}
-use Rattle.nef_case.specs.Keys.{IsSign}
-use Rattle.nef_case.specs.Between.{between_signs}
-use Rattle.nef_case.proofs.Rows.{every_key, passes_at}
 
 abbrev pub sgn : ℤ → ℤ
 sgn = sign_number

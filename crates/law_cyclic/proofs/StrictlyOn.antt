@@ -1,11 +1,8 @@
 -- The rule of the eight classes of five signs is that the direction is strictly on the arc.
-use Rattle.std.proofs.Common.{ℤ, pos, ◌<ℤ◌, Bool, sym, subst, ◌↔◌}
+use Rattle.law_cyclic.proofs.Prelude.{ℤ, ◌<ℤ◌, Bool, sym, subst, ◌↔◌, between_signs, Vector, dot, triple, IsDirection, SameDirection, IsOnCircle, IsStrictlyOn, self-pos, SameDirection-turned}
 use lib.Dec.{T}
-use Rattle.nef_case.specs.Between.{between_signs}
-use Rattle.nef_space.specs.Vectors.{Vector, dot, triple, IsDirection, SameDirection}
-use Rattle.law_cyclic.specs.Arcs.{IsOnCircle, IsStrictlyOn}
 use Rattle.law_cyclic.proofs.Signs.{sgn, is_zero, is_plus, is_not, both, rule, cases_from_test, test_from_cases, plus_is, is_plus_if, zero_is, is_zero_if, both_left, both_right, both_of, not_of, not_is, Related, between_is_rule}
-use Rattle.law_cyclic.proofs.Planar.{self_positive, turn_law, along_law, parallel_from_turn, turn_from_parallel, parallel-sym, dot_comm, turn_or_dot}
+use Rattle.law_cyclic.proofs.Planar.{turn_law, along_law, parallel_from_turn, turn_from_parallel, turn_or_dot}
 
 -- a normal and three directions on its circle
 pub record Setting (n s t d : Vector) : Type 0 where
@@ -16,8 +13,8 @@ pub record Setting (n s t d : Vector) : Type 0 where
 
 pub related : (n s t d : Vector) → Setting n s t d → Related (triple n s t) (dot s t) (triple n s d) (dot s d) (triple n d t) (dot d t) (dot s s) (dot n n)
 related n s t d g =
-    let hn = self_positive n g.normal in let hs = self_positive s g.source.direction in
-    let ht = self_positive t g.target.direction in let hd = self_positive d g.passed.direction in
+    let hn = self-pos n g.normal in let hs = self-pos s g.source.direction in
+    let ht = self-pos t g.target.direction in let hd = self-pos d g.passed.direction in
     record {
       s_positive = hs;
       n_positive = hn;
@@ -40,15 +37,12 @@ is_same n a b = same_test (sgn (triple n a b)) (sgn (dot a b))
 
 pub same_is : (n a b : Vector) → IsDirection n → IsOnCircle n a → IsOnCircle n b → T (is_same n a b) → SameDirection a b
 same_is n a b h p q t = record {
-  parallel = parallel_from_turn n a b (self_positive n h) p.level q.level (zero_is _ (both_left (is_zero (sgn (triple n a b))) (is_plus (sgn (dot a b))) t));
+  parallel = parallel_from_turn n a b (self-pos n h) p.level q.level (zero_is _ (both_left (is_zero (sgn (triple n a b))) (is_plus (sgn (dot a b))) t));
   forward = plus_is _ (both_right (is_zero (sgn (triple n a b))) (is_plus (sgn (dot a b))) t);
 }
 
 pub is_same_if : (n a b : Vector) → SameDirection a b → T (is_same n a b)
 is_same_if n a b h = both_of _ _ (is_zero_if _ (turn_from_parallel n a b h.parallel)) (is_plus_if _ h.forward)
-
-pub same-sym : (a b : Vector) → SameDirection a b → SameDirection b a
-same-sym a b h = record { parallel = parallel-sym a b h.parallel; forward = subst (λ (z : ℤ). pos 0 <ℤ z) (dot_comm a b) h.forward }
 
 pub strict_from_rule : (n s t d : Vector) → Setting n s t d → T (passes_test n s d t) → IsStrictlyOn n s t d
 strict_from_rule n s t d g h =
@@ -59,7 +53,7 @@ strict_from_rule n s t d g h =
     record {
       on_circle = g.passed;
       not_source = λ k. not_is _ first (is_same_if n s d k);
-      not_target = λ k. not_is _ second (is_same_if n d t (same-sym t d k));
+      not_target = λ k. not_is _ second (is_same_if n d t (SameDirection-turned t d k));
       less_than_half = cases.less;
       more_than_half = cases.more;
       just_half = λ k. cases.half (turn_from_parallel n s t k.parallel) k.backward;
@@ -68,12 +62,12 @@ strict_from_rule n s t d g h =
 pub rule_from_strict : (n s t d : Vector) → Setting n s t d → IsStrictlyOn n s t d → T (passes_test n s d t)
 rule_from_strict n s t d g h =
     both_of (is_not (is_same n s d)) _ (not_of _ (λ k. h.not_source (same_is n s d g.normal g.source g.passed k)))
-    (both_of (is_not (is_same n d t)) _ (not_of _ (λ k. h.not_target (same-sym d t (same_is n d t g.normal g.passed g.target k))))
+    (both_of (is_not (is_same n d t)) _ (not_of _ (λ k. h.not_target (SameDirection-turned d t (same_is n d t g.normal g.passed g.target k))))
     (test_from_cases (triple n s t) (dot s t) (triple n s d) (triple n d t) ((related n s t d g).target_not_both)
     (record {
       less = h.less_than_half;
       more = h.more_than_half;
-      half = λ e k. h.just_half (record { parallel = parallel_from_turn n s t (self_positive n g.normal) g.source.level g.target.level e; backward = k });
+      half = λ e k. h.just_half (record { parallel = parallel_from_turn n s t (self-pos n g.normal) g.source.level g.target.level e; backward = k });
     })))
 
 pub strictly_on_is_rule : (n s t d : Vector) → Setting n s t d → T (passes_test n s d t) ↔ IsStrictlyOn n s t d

@@ -1,4 +1,4 @@
--- The sign of a whole number as a number: -1, 0 or 1.
+-- The sign of a whole number as one of the numbers -1, 0 and 1.
 use Rattle.std.specs.Prelude.{ℤ, pos, negsuc}
 use Rattle.nef_space.specs.Signs.{Sign, minus, nought, plus, sign}
 

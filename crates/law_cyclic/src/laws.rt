@@ -1,7 +1,9 @@
+//! Laws of arcs and of the cyclic order of directions about an axis.
+
 ghost use Rattle.law_cyclic.specs.Laws.{ClassesAreArcs, ArcsAreOfDirections, WayBackPassesTheSame, TwoMeets, OneIsFirst, NeverBothWays, OrderIsTransitive, SameInPlace, OrderIsCyclic, WaysGlue, WaysSplit, NearerOnes, SeenFromLater, SeenFromBetween, SeenFromAfter, NextRises, InSector, SectorHolds, NoRayBetween};
 
-/// Whether a direction is strictly on an arc is decided by five signs, and is kept by the way back. Two great circles
-/// meet in two opposite directions.
+/// Five signs decide whether a direction lies strictly on an arc; the way back passes the same directions; two great
+/// circles meet in two opposite directions.
 pub fn arc_laws()
     ensures classes { ClassesAreArcs }
     ensures directions { ArcsAreOfDirections }
@@ -17,7 +19,7 @@ pub fn order_laws()
     ensures same { SameInPlace }
 {}
 
-/// The order seen from another direction, and ways about the axis that are parts of others.
+/// The order about an axis, seen from another direction, and the ways about the axis that are parts of other ways.
 pub fn turned_laws()
     ensures cyclic { OrderIsCyclic }
     ensures glue { WaysGlue }
@@ -28,8 +30,8 @@ pub fn turned_laws()
     ensures from_after { SeenFromAfter }
 {}
 
-/// A direction lies in the sector between two neighbouring rays exactly where it is past the one and before the
-/// other, seen from the first ray.
+/// A direction lies in the sector between two neighbouring rays exactly where it comes after the one ray and before the
+/// other, seen from the first of all rays.
 pub fn sector_laws()
     ensures rises { NextRises }
     ensures inside { InSector }

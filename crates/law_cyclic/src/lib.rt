@@ -1,5 +1,5 @@
-//! Arcs of great circles and the cyclic order of directions about an axis, for directions of any size. Nothing here
-//! runs; each law is a clause of a function with an empty body, and the lemmas that prove them are cited by the crates above.
+//! Arcs of great circles and the cyclic order of directions about an axis, for directions of any size. Nothing runs;
+//! each law is a clause of a function with an empty body, and the crates above cite the lemmas that prove the laws.
 #![tactic(auto)]
 
 mod laws;

@@ -1,43 +1,8 @@
 -- Across a facet: a point of it is tied to the points close to the corner that a ray within its plane names.
-use Rattle.std.proofs.Common.{◌≡◌, ℕ, pos, ◌<ℤ◌, arith, sym, ◌∙◌, ◌⊎◌, inl, inr, ⊎_elim, [], ◌∷◌, subst}
-use Rattle.std.proofs.lemmas.Int.{ints}
-use Rattle.nef_space.proofs.Ring.{ring, at, num, ◌⊗◌}
-use Rattle.nef_space.specs.Local.{FlatDim}
-use Rattle.nef_space.specs.Place.{Place, Form, form_at, normal_of, slope, plane_through, SamePlace, toward, IsBetween}
-use Rattle.nef_space.specs.Sets.{Set}
-use Rattle.nef_space.specs.Vectors.{Vector, opposite, dot, triple, IsDirection, SameDirection, plane_axis, plane_dir}
-use Rattle.law_near.specs.Cells.{carriers}
-use Rattle.law_near.specs.Laws.{Drop}
-use Rattle.law_near.proofs.Decisions.{ahead}
-use Rattle.law_near.proofs.Rays.{same-place_sym}
-use Rattle.law_near.proofs.Between.{between-turned}
-use Rattle.law_near.proofs.Edges.{even-until, start-close}
-use Rattle.law_near.proofs.Near.{reach_all}
-use Rattle.law_near.proofs.Mixed.{between-same}
-use Rattle.law_near.proofs.Directions.{factor-same, direction-left, direction-right}
-use Rattle.law_sphere.specs.Maps.{At, Item, arc_item, item_normal, dir_of, OnItem}
-use Rattle.law_sphere.proofs.Vectors.{same-plus, same-minus, normal-is}
-use Rattle.law_sphere.proofs.Forms.{on-level}
-use Rattle.law_sphere.proofs.Lists.{at-one}
-use Rattle.law_sphere.proofs.Shot.{dir-at}
-use Rattle.law_sphere.proofs.Compare.{SameDirection-turned, SameDirection-trans, dir-self}
-use Rattle.law_sphere.proofs.Turn.{turn-same}
-use Rattle.law_sphere.proofs.Arcs.{at-arc, level-same}
-use Rattle.law_complex.specs.Complexes.{Vertex, Edge, Complex, Corner, HasEnds, IsCorner}
-use Rattle.law_complex.specs.Shows.{Shows}
-use Rattle.law_complex.specs.Skeleton.{item_plane, IsVertexPoint, IsEdgePoint, PlaneMeet, meets_vertex, meets_edge, LiesIn, IsFirstInPlane, IsCornerAt, RayNames, HasCorner}
-use Rattle.law_complex.specs.Laws.{IsFlatIn}
-use Rattle.law_complex.proofs.Ways.{between-way, between-start, between-outer, same-itself}
-use Rattle.law_complex.proofs.Edges.{near_point, near-between, way-near}
-use Rattle.law_complex.proofs.FacetSides.{level-way}
-use Rattle.law_complex.proofs.FacetWays.{dim-same, plane-ahead, end-meets}
-use Rattle.law_complex.proofs.FacetPoints.{IsInFacetOf, beside-vertex, facet-point}
-use Rattle.law_complex.proofs.FacetEdges.{ahead-back, ahead-same}
+use Rattle.law_links.proofs.Prelude.{◌≡◌, ℕ, pos, ◌<ℤ◌, arith, sym, ◌∙◌, ◌⊎◌, inl, inr, ⊎_elim, ◌∷◌, subst, [], ints, ring, at, num, ◌⊗◌, FlatDim, Place, Form, form_at, normal_of, slope, plane_through, SamePlace, toward, IsBetween, Set, Vector, opposite, dot, triple, IsDirection, SameDirection, plane_axis, plane_dir, carriers, Drop, ahead, same-place_sym, between-turned, even-until, start-close, reach_all, between-same, factor-same, At, Item, arc_item, item_normal, dir_of, OnItem, same-plus, same-minus, normal-is, on-level, at-one, dir-at, turn-same, at-arc, level-same, Vertex, Edge, Complex, Corner, HasEnds, IsCorner, Shows, item_plane, IsVertexPoint, IsEdgePoint, PlaneMeet, meets_vertex, meets_edge, LiesIn, IsFirstInPlane, IsCornerAt, RayNames, HasCorner, IsFlatIn, between-way, between-start, between-outer, same-itself, near_point, near-between, way-near, dim-same, plane-ahead, end-meets, IsInFacetOf, beside-vertex, facet-point, ahead-back, ahead-same, through-level, axis-in, LinkAcross, SameDirection-turned, SameDirection-trans, dir-self, dot-opposite, level-way, direction-left, direction-right}
 use Rattle.law_complex.proofs.FacetAngles.{through-at}
-use Rattle.law_complex.proofs.FacetNames.{through-level, axis-in}
-use Rattle.law_links.specs.Links.{LinkAcross}
 use Rattle.law_links.proofs.Ties.{beside-close, beside-ahead, beside-cell, IsTied, tied-cell, tied-both, tied-ahead, tied-ray}
-use Rattle.law_links.proofs.EdgeEnds.{edge-ways, tied-low, EndsOnSide, close_way, on-close, tied-close_way, AreTiedItems, dot-opposite}
+use Rattle.law_links.proofs.EdgeEnds.{edge-ways, tied-low, EndsOnSide, close_way, on-close, tied-close_way, AreTiedItems}
 
 -- y is tied to a point close to a vertex on the item of the corner, whose plane has the normal n
 pub record IsAcross (s : Set) (C : Complex) (n : Vector) (y : Place) (k : Corner) : Type 0 where

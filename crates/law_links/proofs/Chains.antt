@@ -1,10 +1,6 @@
 -- Where each link joins some points at its two ends, and all points at one thing are joined, all points at the ends of a chain are joined.
-use Rattle.std.proofs.Common.{◌⊎◌, inl, inr, List, [], ◌∷◌, subst}
+use Rattle.law_links.proofs.Prelude.{◌⊎◌, inl, inr, List, ◌∷◌, subst, [], Joined, Place, Set, joined-turned, joined-both}
 use Rattle.nef_space.specs.Lists.{IsChain}
-use Rattle.nef_space.specs.Local.{Joined}
-use Rattle.nef_space.specs.Place.{Place}
-use Rattle.nef_space.specs.Sets.{Set}
-use Rattle.law_near.proofs.Even.{joined-turned, joined-both}
 
 module _ (X : Type 0) (Link : X → X → Type 0) (s : Set) (IsPoint : X → Place → Type 0) where
   -- points at both are joined

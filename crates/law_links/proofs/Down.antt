@@ -1,37 +1,7 @@
 -- A ray down ties the points below a vertex to those above the point where it ends, and these to a side there.
-use Rattle.std.proofs.Common.{◌≡◌, ℕ, ◌+◌, arith, sym, ◌∙◌, ⊎_elim, subst}
-use Rattle.nef_space.specs.Signs.{nought, plus}
-use Rattle.nef_space.proofs.Order.{sign-plus}
-use Rattle.nef_space.specs.Local.{FlatDim}
-use Rattle.nef_space.specs.Place.{Place, normal_of, SamePlace, toward, IsBetween}
-use Rattle.nef_space.specs.Sets.{Set}
-use Rattle.nef_space.specs.Vectors.{Vector, opposite, blend, dot, SameDirection, up}
-use Rattle.nef_space.specs.declared.label.Label.{Label}
-use Rattle.law_near.specs.Cells.{carriers}
-use Rattle.law_near.proofs.Decisions.{ahead}
-use Rattle.law_near.proofs.NearGerms.{steep}
-use Rattle.law_near.proofs.Rays.{signs-same, same-place_sym}
-use Rattle.law_near.proofs.Between.{between-turned, between-inner}
-use Rattle.law_near.proofs.Directions.{self-pos, direction-left}
-use Rattle.law_sphere.specs.Maps.{At, item_normal, item_pos, item_mark, item_neg, HasSide, Sees}
-use Rattle.law_sphere.proofs.Vectors.{normal-is}
-use Rattle.law_sphere.proofs.Lists.{at-one}
+use Rattle.law_links.proofs.Prelude.{◌≡◌, ℕ, ◌+◌, arith, sym, ◌∙◌, ⊎_elim, subst, nought, plus, sign-plus, FlatDim, Place, normal_of, SamePlace, toward, IsBetween, Set, Vector, opposite, blend, dot, SameDirection, up, Label, carriers, ahead, steep, signs-same, same-place_sym, between-turned, between-inner, At, item_normal, item_pos, item_mark, item_neg, HasSide, Sees, normal-is, at-one, dir-at, Vertex, Edge, Complex, Corner, HasEnds, Shows, item_plane, IsVertexPoint, IsEdgePoint, Spot, at_vertex, on_edge, in_facet, IsSpot, IsSkeletonPoint, VertexSide, HasSideLabel, IsAbove, between-way, near_point, near-between, dim-same, facet-point, ahead-back, facet-of, LinkDown, IsUpright, self-pos, SameDirection-turned, SameDirection-trans, direction-left}
 use Rattle.law_sphere.proofs.Sectors.{bounds-sees}
-use Rattle.law_sphere.proofs.Shot.{dir-at}
-use Rattle.law_sphere.proofs.Compare.{SameDirection-turned, SameDirection-trans}
-use Rattle.law_complex.specs.Complexes.{Vertex, Edge, Complex, Corner, HasEnds}
-use Rattle.law_complex.specs.Shows.{Shows}
-use Rattle.law_complex.specs.Skeleton.{item_plane, IsVertexPoint, IsEdgePoint, Spot, at_vertex, on_edge, in_facet, IsSpot, IsSkeletonPoint}
-use Rattle.law_complex.specs.Rays.{VertexSide, HasSideLabel, IsAbove}
-use Rattle.law_complex.proofs.Ways.{between-way}
-use Rattle.law_complex.proofs.Edges.{near_point, near-between}
-use Rattle.law_complex.proofs.FacetWays.{dim-same}
-use Rattle.law_complex.proofs.FacetPoints.{facet-point}
-use Rattle.law_complex.proofs.FacetEdges.{ahead-back}
-use Rattle.law_complex.proofs.FacetNames.{facet-of}
 use Rattle.law_complex.proofs.Skeletons.{FacetAt, skeleton-or_flat}
-use Rattle.law_links.specs.Links.{LinkDown}
-use Rattle.law_links.specs.Components.{IsUpright}
 use Rattle.law_links.proofs.Ties.{ahead-way, ahead-cells, IsTied, tied-cell, tied-turned, tied-both, tied-ahead, tied-ray}
 use Rattle.law_links.proofs.NearVertex.{tied-off}
 use Rattle.law_links.proofs.EdgeEnds.{edge-ways, tied-low, tied-turn}

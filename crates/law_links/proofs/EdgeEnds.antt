@@ -1,37 +1,6 @@
 -- Beside an edge: its points are tied to those close to both of its ends; and the arcs along it.
-use Rattle.std.proofs.Common.{◌≡◌, ℕ, ◌+◌, ◌≤◌, ℤ, pos, ◌+ℤ◌, ◌-ℤ◌, ◌*ℤ◌, neg_ℤ, ◌<ℤ◌, arith, ap, sym, ◌∙◌, ◌⊎◌, inl, inr, ⊎_elim, [], ◌∷◌, subst}
-use Rattle.std.proofs.lemmas.Int.{ints}
-use Rattle.nef_space.specs.Signs.{sign}
-use Rattle.nef_space.proofs.Ring.{ring, at, num, neg, ◌⊕◌, ◌⊖◌, ◌⊗◌}
-use Rattle.nef_space.specs.Local.{FlatDim}
-use Rattle.nef_space.specs.Place.{Place, SamePlace, toward, IsBetween}
-use Rattle.nef_space.specs.Sets.{Set}
-use Rattle.nef_space.specs.Vectors.{Vector, opposite, blend, dot, cross, triple, IsZero, IsDirection, SameDirection, IsOpposite}
-use Rattle.law_near.specs.Cells.{carriers}
-use Rattle.law_near.proofs.Decisions.{ahead}
-use Rattle.law_near.proofs.NearGerms.{steep}
-use Rattle.law_near.proofs.Rays.{same-place_sym}
-use Rattle.law_near.proofs.Between.{between-turned, between-inner}
-use Rattle.law_near.proofs.FlatDecided.{triple-dot}
-use Rattle.law_near.proofs.Supports.{square-cross}
-use Rattle.law_near.proofs.Directions.{self-pos, direction-left, direction-right}
-use Rattle.law_sphere.specs.Forms.{forms}
-use Rattle.law_sphere.specs.Maps.{At, MapVertex, Arc, Item, arc_item, item_normal, dir_of, OnItem, Shaped}
-use Rattle.law_sphere.proofs.Vectors.{dot-comb, normal-is, same-plus, same-minus, nought-if}
-use Rattle.law_sphere.proofs.Generic.{amount}
-use Rattle.law_sphere.proofs.Lists.{at-one}
-use Rattle.law_sphere.proofs.Shot.{dir-at, arc-at}
-use Rattle.law_sphere.proofs.Compare.{SameDirection-trans, dir-self}
-use Rattle.law_sphere.proofs.Turn.{turn-same}
-use Rattle.law_sphere.proofs.Arcs.{at-arc, ends-of, level-same}
-use Rattle.law_complex.specs.Complexes.{Vertex, Edge, Complex, Corner, HasEnds, IsCorner}
-use Rattle.law_complex.specs.Shows.{Shows}
-use Rattle.law_complex.proofs.Ways.{between-way}
-use Rattle.law_complex.proofs.Edges.{near_point, near-between, edge-points}
-use Rattle.law_complex.proofs.FacetWays.{dim-same}
-use Rattle.law_complex.proofs.FacetEdges.{ahead-back}
+use Rattle.law_links.proofs.Prelude.{◌≡◌, ℕ, ◌+◌, ◌≤◌, ℤ, pos, ◌+ℤ◌, ◌*ℤ◌, neg_ℤ, ◌<ℤ◌, arith, ap, sym, ◌∙◌, ◌⊎◌, inl, inr, ⊎_elim, ◌∷◌, subst, [], ints, sign, ring, at, num, ◌⊕◌, ◌⊗◌, FlatDim, Place, SamePlace, toward, IsBetween, Set, Vector, opposite, blend, dot, cross, triple, IsZero, IsDirection, SameDirection, IsOpposite, carriers, ahead, steep, same-place_sym, between-turned, between-inner, forms, At, MapVertex, Arc, Item, arc_item, item_normal, dir_of, OnItem, Shaped, dot-comb, normal-is, same-plus, same-minus, amount, at-one, dir-at, arc-at, turn-same, at-arc, ends-of, level-same, Vertex, Edge, Complex, Corner, HasEnds, IsCorner, Shows, between-way, near_point, near-between, edge-points, dim-same, ahead-back, AreAlong, self-pos, triple-dot, square-cross, nought-if, SameDirection-trans, dir-self, dot-opposite, opposite-way, direction-left, direction-right, right-turn, back-triple}
 use Rattle.law_complex.proofs.FacetArcs.{source-meets, target-meets}
-use Rattle.law_links.specs.Links.{AreAlong}
 use Rattle.law_links.proofs.Ties.{ahead-ahead, IsTied, tied-cell, tied-turned, tied-both, tied-ahead, tied-ray}
 
 -- ---- the ends of an edge
@@ -43,15 +12,6 @@ pub record EdgeWays (e : Edge) (v w : Vertex) : Type 0 where
   pub is_high : At w.map.svertices e.high_svertex high
   pub onward : SameDirection (toward v.point w.point) low.dir
   pub back : IsOpposite low.dir high.dir
-
-pub opposite-way : (d e : Vector) → IsOpposite d e → SameDirection (opposite d) e
-opposite-way d e o = record {
-  parallel = (each d.y d.z e.y e.z o.parallel.0, each d.z d.x e.z e.x o.parallel.1, each d.x d.y e.x e.y o.parallel.2);
-  forward = let h = o.backward in let r : dot (opposite d) e ≡ neg_ℤ (dot d e) = ring (d.x ∷ d.y ∷ d.z ∷ e.x ∷ e.y ∷ e.z ∷ []) (neg (at 0) ⊗ at 3 ⊕ neg (at 1) ⊗ at 4 ⊕ neg (at 2) ⊗ at 5) (neg (at 0 ⊗ at 3 ⊕ at 1 ⊗ at 4 ⊕ at 2 ⊗ at 5)) tt in omega (arith, ints);
-}
-  where
-    each : (a b c d : ℤ) → a *ℤ d -ℤ b *ℤ c ≡ pos 0 → neg_ℤ a *ℤ d -ℤ neg_ℤ b *ℤ c ≡ pos 0
-    each a b c d e = ring (a ∷ b ∷ c ∷ d ∷ []) (neg (at 0) ⊗ at 3 ⊖ neg (at 1) ⊗ at 2) (neg (at 0 ⊗ at 3 ⊖ at 1 ⊗ at 2)) tt ∙ ap neg_ℤ e
 
 module _ (s : Set) (C : Complex) (S : Shows s C) (k : ℕ) (e : Edge) (v w : Vertex) (a : At C.edges k e) (H : HasEnds C e v w) where
   pub edge-ways : EdgeWays e v w
@@ -152,19 +112,6 @@ corner_of i j = record { vertex = i; item = j }
 pub left-turn : (n u : Vector) → IsDirection n → IsDirection u → dot n u ≡ pos 0 → pos 0 <ℤ triple n u (cross n u)
 left-turn n u hn hu z = subst (λ (r : ℤ). pos 0 <ℤ r) (sym (triple-dot n u (cross n u))) (self-pos (cross n u) (λ o. hu (nought-if n u hn o z)))
 
-pub right-turn : (n u f : Vector) → triple n u (opposite f) ≡ neg_ℤ (triple n u f)
-right-turn n u f = ring (n.x ∷ n.y ∷ n.z ∷ u.x ∷ u.y ∷ u.z ∷ f.x ∷ f.y ∷ f.z ∷ [])
-    (at 0 ⊗ (at 4 ⊗ neg (at 8) ⊖ at 5 ⊗ neg (at 7)) ⊕ at 1 ⊗ (at 5 ⊗ neg (at 6) ⊖ at 3 ⊗ neg (at 8)) ⊕ at 2 ⊗ (at 3 ⊗ neg (at 7) ⊖ at 4 ⊗ neg (at 6)))
-    (neg (at 0 ⊗ (at 4 ⊗ at 8 ⊖ at 5 ⊗ at 7) ⊕ at 1 ⊗ (at 5 ⊗ at 6 ⊖ at 3 ⊗ at 8) ⊕ at 2 ⊗ (at 3 ⊗ at 7 ⊖ at 4 ⊗ at 6))) tt
-
-back-turn : (n u f : Vector) → triple n (opposite u) f ≡ neg_ℤ (triple n u f)
-back-turn n u f = ring (n.x ∷ n.y ∷ n.z ∷ u.x ∷ u.y ∷ u.z ∷ f.x ∷ f.y ∷ f.z ∷ [])
-    (at 0 ⊗ (neg (at 4) ⊗ at 8 ⊖ neg (at 5) ⊗ at 7) ⊕ at 1 ⊗ (neg (at 5) ⊗ at 6 ⊖ neg (at 3) ⊗ at 8) ⊕ at 2 ⊗ (neg (at 3) ⊗ at 7 ⊖ neg (at 4) ⊗ at 6))
-    (neg (at 0 ⊗ (at 4 ⊗ at 8 ⊖ at 5 ⊗ at 7) ⊕ at 1 ⊗ (at 5 ⊗ at 6 ⊖ at 3 ⊗ at 8) ⊕ at 2 ⊗ (at 3 ⊗ at 7 ⊖ at 4 ⊗ at 6))) tt
-
-pub dot-opposite : (n d : Vector) → dot n (opposite d) ≡ neg_ℤ (dot n d)
-dot-opposite n d = ring (n.x ∷ n.y ∷ n.z ∷ d.x ∷ d.y ∷ d.z ∷ []) (at 0 ⊗ neg (at 3) ⊕ at 1 ⊗ neg (at 4) ⊕ at 2 ⊗ neg (at 5)) (neg (at 0 ⊗ at 3 ⊕ at 1 ⊗ at 4 ⊕ at 2 ⊗ at 5)) tt
-
 module _ (s : Set) (C : Complex) (S : Shows s C) (k : ℕ) (e : Edge) (a : At C.edges k e) (i j : ℕ) (A : AreAlong C e i j) where
   abbrev v : Vertex
   v = A.low_vertex
@@ -221,7 +168,7 @@ module _ (s : Set) (C : Complex) (S : Shows s C) (k : ℕ) (e : Edge) (a : At C.
 
   -- at the other end the turn is the other one
   turn-there : (f : Vector) → IsDirection f → sign (triple A.high_arc.normal t.dir f) ≡ sign (neg_ℤ (triple A.low_arc.normal u.dir f))
-  turn-there f some = turn-same A.low_arc.normal A.high_arc.normal (opposite u.dir) t.dir f f A.one_normal (opposite-way u.dir t.dir W.back) (dir-self f some) ∙ ap sign (back-turn A.low_arc.normal u.dir f)
+  turn-there f some = turn-same A.low_arc.normal A.high_arc.normal (opposite u.dir) t.dir f f A.one_normal (opposite-way u.dir t.dir W.back) (dir-self f some) ∙ ap sign (back-triple A.low_arc.normal u.dir f)
 
   pub along-tied : AreTiedItems s C (corner_of e.low i) (corner_of e.high j)
   along-tied = ⊎_elim from-source from-target A.one_way

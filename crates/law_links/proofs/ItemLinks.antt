@@ -1,11 +1,5 @@
 -- Links of items tie points at both, so points at items of one class are joined.
-use Rattle.std.proofs.Common.{ℕ, sym, inl, inr, subst}
-use Rattle.nef_space.specs.Sets.{Set}
-use Rattle.law_near.proofs.Decisions.{ahead}
-use Rattle.law_complex.specs.Complexes.{Complex, Corner}
-use Rattle.law_complex.specs.Shows.{Shows}
-use Rattle.law_links.specs.Links.{LinkAlong, FacetLink}
-use Rattle.law_links.specs.Components.{IsAtItem, ItemsJoined}
+use Rattle.law_links.proofs.Prelude.{ℕ, sym, inl, inr, subst, Set, ahead, Complex, Corner, Shows, LinkAlong, FacetLink, IsAtItem, ItemsJoined}
 use Rattle.law_links.proofs.ItemPoints.{at-item, one-item}
 use Rattle.law_links.proofs.EdgeEnds.{AreTiedItems, corner_of, along-tied}
 use Rattle.law_links.proofs.Across.{across-tied}

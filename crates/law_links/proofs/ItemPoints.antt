@@ -1,18 +1,5 @@
 -- Each item has points at it, and all points at one item are joined.
-use Rattle.std.proofs.Common.{subst}
-use Rattle.nef_space.specs.Place.{Place, toward}
-use Rattle.nef_space.specs.Sets.{Set}
-use Rattle.nef_space.specs.Vectors.{Vector, SameDirection}
-use Rattle.law_near.proofs.Decisions.{ahead}
-use Rattle.law_sphere.specs.Maps.{At, Map, Item, items, OnItem}
-use Rattle.law_sphere.proofs.Forms.{OnItem-by_signs, on-direction}
-use Rattle.law_sphere.proofs.Labels.{dir-signs}
-use Rattle.law_sphere.proofs.Lists.{at-one}
-use Rattle.law_sphere.proofs.Shot.{item-point}
-use Rattle.law_sphere.proofs.Compare.{SameDirection-turned, dir-self}
-use Rattle.law_complex.specs.Complexes.{Vertex, Complex, Corner, IsCorner}
-use Rattle.law_complex.specs.Shows.{Shows}
-use Rattle.law_links.specs.Components.{IsEvenAfter, IsAtItem, ItemsHavePoints}
+use Rattle.law_links.proofs.Prelude.{subst, Place, toward, Set, Vector, SameDirection, ahead, At, Map, Item, items, OnItem, OnItem-by_signs, on-direction, at-one, item-point, Vertex, Complex, Corner, IsCorner, Shows, IsEvenAfter, IsAtItem, ItemsHavePoints, SameDirection-turned, dir-self, dir-signs}
 use Rattle.law_links.proofs.Ties.{ahead-toward, IsTied, tied-turned, tied-both, tied-ray, even-after}
 use Rattle.law_links.proofs.NearVertex.{facet-near, item-tied}
 

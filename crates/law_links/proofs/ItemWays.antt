@@ -1,15 +1,5 @@
 -- What short ways along a circle carry on, holds all along it.
-use Rattle.std.proofs.Common.{◌≡◌, ℕ, ◌<◌, pos, arith, ◌∙◌, ⊎_elim, [], ◌∷◌}
-use Rattle.std.proofs.lemmas.Int.{ints}
-use Rattle.nef_space.proofs.Ring.{ring, at, num, ◌⊕◌, ◌⊖◌, ◌⊗◌}
-use Rattle.nef_space.specs.Vectors.{Vector, IsDirection, cross, dot, SameDirection, IsOpposite, blend}
-use Rattle.law_cyclic.specs.Arcs.{IsOnCircle}
-use Rattle.law_sphere.proofs.Vectors.{nought-if}
-use Rattle.law_near.proofs.Directions.{dot-zero, zero-decided}
-use Rattle.law_sphere.proofs.Places.{IsOpposite-decided}
-use Rattle.law_sphere.proofs.Around.{Beside, same_way, other_way, beside}
-use Rattle.law_sphere.proofs.Walk.{between-direction}
-use Rattle.law_sphere.proofs.ArcWays.{level-blend}
+use Rattle.law_links.proofs.Prelude.{◌≡◌, ℕ, ◌<◌, pos, arith, ◌∙◌, ⊎_elim, ◌∷◌, [], ints, ring, at, num, ◌⊕◌, ◌⊖◌, ◌⊗◌, Vector, IsDirection, cross, dot, SameDirection, IsOpposite, blend, IsOnCircle, IsOpposite-decided, Beside, same_way, other_way, beside, between-direction, zero-decided, dot-zero, nought-if, level-blend}
 
 -- a property that goes over to the same way
 abbrev pub IsOfWays : (Vector → Type 0) → Type 0

@@ -1,29 +1,7 @@
 -- Close to a point of a set the points toward a free direction of its map have three flat directions, and those toward an item two; two directions on one item are tied.
-use Rattle.std.proofs.Common.{◌≡◌, ℕ, ◌+◌, ◌<◌, pos, nat_abs, arith, refl, ap, sym, ◌∙◌, [], ◌∷◌, subst}
-use Rattle.std.proofs.lemmas.Int.{ints}
-use Rattle.nef_space.specs.Signs.{Sign, nought, sign}
-use Rattle.nef_space.specs.Local.{Germ, FlatDim}
-use Rattle.nef_space.specs.Place.{Place}
-use Rattle.nef_space.specs.Sets.{Set}
-use Rattle.nef_space.specs.Vectors.{Vector, vector, blend, dot, cross, SameDirection}
-use Rattle.nef_space.specs.declared.label.Label.{Label}
-use Rattle.law_cyclic.specs.Arcs.{IsStrictlyOn}
-use Rattle.law_near.proofs.Decisions.{ahead, near-ahead}
-use Rattle.law_near.proofs.NearGerms.{sign-large}
-use Rattle.law_sphere.specs.Least.{by_side, Cone}
-use Rattle.law_sphere.specs.Maps.{Map, Arc, Item, arc_item, sloop_item, item_normal, item_pos, item_mark, item_neg, OnItem, IsFree, dir_of, Shaped}
-use Rattle.law_sphere.proofs.Vectors.{dot-comb, normal-is}
-use Rattle.law_sphere.proofs.Generic.{amount}
-use Rattle.law_sphere.proofs.Labels.{label-exists, mixed-sign}
-use Rattle.law_sphere.proofs.NearItems.{near-free, near-item}
-use Rattle.law_sphere.proofs.Parallel.{past_source}
-use Rattle.law_sphere.proofs.Shot.{arc-at}
-use Rattle.law_sphere.proofs.Arcs.{ends-of}
-use Rattle.law_complex.specs.Complexes.{Vertex, Complex, Corner, IsCorner}
-use Rattle.law_complex.specs.Shows.{Shows}
-use Rattle.law_complex.proofs.Cones.{near-germ}
+use Rattle.law_links.proofs.Prelude.{◌≡◌, ℕ, ◌+◌, ◌<◌, pos, nat_abs, arith, refl, ap, sym, ◌∙◌, ◌∷◌, subst, [], ints, Sign, nought, sign, Germ, FlatDim, Place, Set, Vector, vector, blend, dot, cross, SameDirection, Label, IsStrictlyOn, ahead, near-ahead, sign-large, by_side, Cone, Map, Arc, Item, arc_item, sloop_item, item_normal, item_pos, item_mark, item_neg, OnItem, IsFree, dir_of, Shaped, dot-comb, normal-is, amount, label-exists, near-free, near-item, past_source, arc-at, ends-of, Vertex, Complex, Corner, IsCorner, Shows, near-germ, IsInFacetOf, in-facet}
+use Rattle.law_sphere.proofs.Labels.{mixed-sign}
 use Rattle.law_complex.proofs.FacetSides.{IsSided, one-label-flat}
-use Rattle.law_complex.proofs.FacetPoints.{IsInFacetOf, in-facet}
 use Rattle.law_links.proofs.Ties.{even-fan, ahead-way, IsTied, tied-even, tied-cell, tied-both, tied-turned, tied-itself}
 use Rattle.law_sphere.proofs.ArcWays.{arc-all}
 use Rattle.law_links.proofs.ItemWays.{circle-all}

@@ -1,31 +1,7 @@
 -- The points outside the closed frame are joined round the frame.
-use Rattle.std.proofs.Common.{◌≡◌, ℕ, ◌+◌, ◌*◌, ◌<◌, ◌≤◌, ℤ, pos, negsuc, ◌+ℤ◌, ◌-ℤ◌, ◌*ℤ◌, neg_ℤ, ◌<ℤ◌, ◌≤ℤ◌, nat_abs, arith, refl, ap, sym, ◌∙◌, inl, inr, [], ◌∷◌, subst}
-use Rattle.std.proofs.lemmas.Int.{ints, by_lt_z, unsigned_abs-mul}
-use Rattle.std.proofs.Math.Nat.{mul-pos, mul-le-mul_left}
-use Rattle.nef_space.specs.Signs.{Lies}
-use Rattle.nef_space.proofs.Ring.{ring, at, num, ◌⊕◌, ◌⊖◌, ◌⊗◌}
-use Rattle.nef_space.proofs.Order.{sign-plus, plus-is}
-use Rattle.nef_space.specs.Limits.{half_side}
-use Rattle.nef_space.specs.Local.{HasLabel, Germ, FlatDim, Joined}
-use Rattle.nef_space.specs.Place.{Place, Form, form_at, Ratio, InClosedFrame, toward}
-use Rattle.nef_space.specs.Sets.{Set}
-use Rattle.nef_space.specs.Vectors.{zero_vector}
-use Rattle.nef_space.specs.declared.label.Label.TheVariants.{Out}
-use Rattle.law_near.specs.Cells.{side, frame}
-use Rattle.law_near.proofs.Alike.{flat-germ}
-use Rattle.law_near.proofs.Decisions.{ahead, near-ahead}
-use Rattle.law_near.proofs.Even.{span-3, joined-turned, joined-both}
+use Rattle.law_links.proofs.Prelude.{◌≡◌, ℕ, ◌+◌, ◌*◌, ◌<◌, ◌≤◌, ℤ, pos, negsuc, ◌+ℤ◌, ◌-ℤ◌, ◌*ℤ◌, neg_ℤ, ◌<ℤ◌, ◌≤ℤ◌, nat_abs, arith, refl, ap, sym, ◌∙◌, inl, inr, ◌∷◌, subst, [], ints, by_lt_z, unsigned_abs-mul, mul-pos, mul-le-mul_left, Lies, ring, at, num, ◌⊕◌, ◌⊖◌, ◌⊗◌, sign-plus, plus-is, half_side, HasLabel, Germ, FlatDim, Joined, Place, Form, form_at, Ratio, InClosedFrame, toward, Set, zero_vector, Out, side, frame, flat-germ, ahead, near-ahead, span-3, joined-turned, joined-both, Germ-zero, seen, Complex, Shows, VertexSide, HasSideLabel, label-germ, even-by, LinkOutside, IsAtSide}
 use Rattle.law_near.proofs.Frames.{flat_dim-outside}
-use Rattle.law_near.proofs.Rays.{Germ-zero}
 use Rattle.law_near.proofs.Topology.{near-germ_zero}
-use Rattle.law_sphere.specs.Maps.{seen}
-use Rattle.law_complex.specs.Complexes.{Complex}
-use Rattle.law_complex.specs.Shows.{Shows}
-use Rattle.law_complex.specs.Rays.{VertexSide, HasSideLabel}
-use Rattle.law_complex.proofs.Cones.{label-germ}
-use Rattle.law_complex.proofs.FacetWays.{even-by}
-use Rattle.law_links.specs.Links.{LinkOutside}
-use Rattle.law_links.specs.Components.{IsAtSide}
 use Rattle.law_links.proofs.Ties.{same-between, joined-even}
 use Rattle.law_links.proofs.NearVertex.{free-dim}
 use Rattle.law_links.proofs.SideSight.{seen-free, side-sees}

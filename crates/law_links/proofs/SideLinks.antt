@@ -1,29 +1,7 @@
 -- Links of sides in one sface, along an edge and across a facet join points at both.
-use Rattle.std.proofs.Common.{◌≡◌, ℕ, ◌+◌, ℤ, pos, ◌-ℤ◌, ◌*ℤ◌, neg_ℤ, ◌<ℤ◌, arith, refl, sym, ◌∙◌, ⊎_elim, [], ◌∷◌, subst, Some}
-use Rattle.std.proofs.lemmas.Int.{ints}
-use Rattle.nef_space.proofs.Ring.{ring, at, neg, ◌⊕◌, ◌⊖◌, ◌⊗◌}
-use Rattle.nef_space.specs.Place.{Place, toward}
-use Rattle.nef_space.specs.Sets.{Set}
-use Rattle.nef_space.specs.Vectors.{Vector, opposite, blend, dot, cross, IsDirection, SameDirection}
-use Rattle.nef_space.specs.declared.label.Label.{Label}
-use Rattle.law_near.specs.Cells.{carriers}
-use Rattle.law_near.proofs.Decisions.{ahead}
-use Rattle.law_near.proofs.NearGerms.{steep}
-use Rattle.law_near.proofs.Directions.{self-pos, dot-comm, direction-right}
-use Rattle.law_sphere.specs.Forms.{forms}
-use Rattle.law_sphere.specs.Maps.{At, MapVertex, Item, item_normal, item_pos, item_neg, OnItem, Side, around_svertex, pos_item, neg_item, HasSide, Sees, Shaped}
-use Rattle.law_sphere.proofs.Generic.{amount}
-use Rattle.law_sphere.proofs.Vectors.{nought-if, normal-is}
-use Rattle.law_sphere.proofs.Lists.{at-one}
-use Rattle.law_sphere.proofs.Walk.{cross-direction_right}
-use Rattle.law_sphere.proofs.Lone.{sees-around}
-use Rattle.law_complex.specs.Complexes.{Vertex, Edge, Complex, Corner, HasEnds, IsCorner}
-use Rattle.law_complex.specs.Shows.{Shows}
-use Rattle.law_complex.specs.Rays.{VertexSide}
-use Rattle.law_links.specs.Links.{IsSideOf, LinkInSface, AreSidesAlong, pos_arcs, neg_arcs, around_ends, LinkAlongEdge, LinkAcrossFacet, VolumeLink}
-use Rattle.law_links.specs.Components.{IsAtSide}
+use Rattle.law_links.proofs.Prelude.{◌≡◌, ℕ, ◌+◌, pos, ◌<ℤ◌, arith, refl, sym, ◌∙◌, ⊎_elim, subst, Some, ints, Place, toward, Set, Vector, opposite, blend, dot, cross, IsDirection, SameDirection, Label, carriers, ahead, steep, forms, At, MapVertex, Item, item_normal, item_pos, item_neg, OnItem, Side, around_svertex, pos_item, neg_item, HasSide, Sees, Shaped, amount, normal-is, at-one, cross-direction_right, sees-around, Vertex, Edge, Complex, Corner, HasEnds, IsCorner, Shows, VertexSide, IsSideOf, LinkInSface, AreSidesAlong, pos_arcs, neg_arcs, around_ends, LinkAlongEdge, LinkAcrossFacet, VolumeLink, IsAtSide, dot-comm, self-pos, nought-if, opposite-same, dot-opposite, direction-right}
 use Rattle.law_links.proofs.Ties.{ahead-way, IsTied, tied-cell, tied-turned, tied-both, tied-ahead}
-use Rattle.law_links.proofs.EdgeEnds.{edge-ways, ends-tied, tied-turn, AreTiedItems, dot-opposite, along-tied}
+use Rattle.law_links.proofs.EdgeEnds.{edge-ways, ends-tied, tied-turn, AreTiedItems, along-tied}
 use Rattle.law_links.proofs.Across.{across-tied}
 use Rattle.law_links.proofs.SideSight.{sees-pos, sees-neg, lone-of, aside, side-sees}
 use Rattle.law_links.proofs.SidePoints.{at-side, level-opposite, one-sface}
@@ -31,15 +9,6 @@ use Rattle.law_links.proofs.Chains.{JoinsPoints}
 
 abbrev pub JoinsSides : Set → Complex → VertexSide → VertexSide → Type 0
 JoinsSides s C x y = JoinsPoints VertexSide (VolumeLink C) s (IsAtSide s C) x y
-
-pub both-opposite : (e h : Vector) → SameDirection e h → SameDirection (opposite e) (opposite h)
-both-opposite e h w = record {
-  parallel = (each e.y e.z h.y h.z w.parallel.0, each e.z e.x h.z h.x w.parallel.1, each e.x e.y h.x h.y w.parallel.2);
-  forward = let g = w.forward in let r : dot (opposite e) (opposite h) ≡ dot e h = ring (e.x ∷ e.y ∷ e.z ∷ h.x ∷ h.y ∷ h.z ∷ []) (neg (at 0) ⊗ neg (at 3) ⊕ neg (at 1) ⊗ neg (at 4) ⊕ neg (at 2) ⊗ neg (at 5)) (at 0 ⊗ at 3 ⊕ at 1 ⊗ at 4 ⊕ at 2 ⊗ at 5) tt in omega (arith, ints);
-}
-  where
-    each : (a b c d : ℤ) → a *ℤ d -ℤ b *ℤ c ≡ pos 0 → neg_ℤ a *ℤ neg_ℤ d -ℤ neg_ℤ b *ℤ neg_ℤ c ≡ pos 0
-    each a b c d z = ring (a ∷ b ∷ c ∷ d ∷ []) (neg (at 0) ⊗ neg (at 3) ⊖ neg (at 1) ⊗ neg (at 2)) (at 0 ⊗ at 3 ⊖ at 1 ⊗ at 2) tt ∙ z
 
 -- a point at the side, tied to p
 abbrev pub PointTied : Set → Complex → VertexSide → Place → Type 0
@@ -109,7 +78,7 @@ module _ (s : Set) (C : Complex) (S : Shows s C) where
     joins-pos a b = joins-by (item_normal T.item) (item_normal T.other_item) T.one_normal (pos-point j T.vertex T.item T.corner T.dir T.on x e a) (pos-point k T.other_vertex T.other_item T.other_corner T.other_way T.other_on y f b)
 
     pub joins-neg : x.side ≡ neg_item j.item → y.side ≡ neg_item k.item → JoinsSides s C x y
-    joins-neg a b = joins-by (opposite (item_normal T.item)) (opposite (item_normal T.other_item)) (both-opposite (item_normal T.item) (item_normal T.other_item) T.one_normal)
+    joins-neg a b = joins-by (opposite (item_normal T.item)) (opposite (item_normal T.other_item)) (opposite-same (item_normal T.item) (item_normal T.other_item) T.one_normal)
         (neg-point j T.vertex T.item T.corner T.dir T.on x e a) (neg-point k T.other_vertex T.other_item T.other_corner T.other_way T.other_on y f b)
 
   -- ---- in one sface

@@ -1,45 +1,8 @@
 -- Each side has points at it, and all points at one side are joined.
-use Rattle.std.proofs.Common.{◌≡◌, ℕ, ◌+◌, ◌*◌, ◌<◌, ℤ, pos, ◌+ℤ◌, ◌-ℤ◌, ◌*ℤ◌, ◌<ℤ◌, arith, sym, ◌∙◌, ⊎_elim, [], ◌∷◌, subst, Some}
-use Rattle.std.proofs.lemmas.Int.{ints}
-use Rattle.std.proofs.Math.Nat.{mul-pos}
-use Rattle.nef_space.specs.Signs.{minus, nought, plus, sign}
-use Rattle.nef_space.proofs.Ring.{ring, at, num, ◌⊕◌, ◌⊖◌, ◌⊗◌}
-use Rattle.nef_space.proofs.Order.{sign-plus, sign-minus}
-use Rattle.nef_space.specs.Local.{FlatDim}
-use Rattle.nef_space.specs.Place.{Place, toward}
-use Rattle.nef_space.specs.Sets.{Set}
-use Rattle.nef_space.specs.Vectors.{Vector, opposite, blend, dot, cross, IsDirection, SameDirection, IsOpposite}
-use Rattle.nef_space.specs.declared.label.Label.{Label}
-use Rattle.law_near.specs.Cells.{carriers}
-use Rattle.law_near.proofs.Decisions.{ahead}
-use Rattle.law_near.proofs.Cells.{same-sym}
-use Rattle.law_near.proofs.NearGerms.{steep}
-use Rattle.law_near.proofs.Supports.{square-cross}
-use Rattle.law_near.proofs.Flats.{vector-same}
-use Rattle.law_near.proofs.FlatDecided.{cross-turned}
-use Rattle.law_near.proofs.Directions.{self-pos, dot-comm}
-use Rattle.law_sphere.specs.Forms.{forms}
-use Rattle.law_sphere.specs.Least.{Cone}
-use Rattle.law_sphere.specs.Maps.{At, MapVertex, Map, Item, items, item_normal, item_pos, item_mark, item_neg, OnItem, IsFree, Side, around_svertex, pos_item, neg_item, whole, HasSide, IsClear, Reaches, Sees, directly, by_way_of, InOneSface, here, link, HasArc, Shaped}
-use Rattle.law_sphere.proofs.Generic.{amount}
-use Rattle.law_sphere.proofs.Lists.{at-one}
-use Rattle.law_sphere.proofs.Vectors.{nought-if, normal-is, same-minus}
-use Rattle.law_sphere.proofs.Places.{IsOpposite-decided}
-use Rattle.law_sphere.proofs.Parallel.{parallel-trans}
-use Rattle.law_sphere.proofs.StepOff.{blend-turned}
-use Rattle.law_sphere.proofs.Labels.{dir-signs}
-use Rattle.law_sphere.proofs.Around.{Beside, same_way, other_way, beside}
-use Rattle.law_sphere.proofs.Walk.{cross-direction_right}
-use Rattle.law_sphere.proofs.Compare.{SameDirection-turned, dir-self}
-use Rattle.law_sphere.proofs.Lone.{free-close}
-use Rattle.law_complex.specs.Complexes.{Vertex, Complex, IsCorner}
-use Rattle.law_complex.specs.Shows.{Shows}
-use Rattle.law_complex.specs.Rays.{VertexSide}
-use Rattle.law_complex.proofs.FacetSides.{level-way}
-use Rattle.law_links.specs.Components.{IsEvenAfter, IsAtSide, SidesHavePoints}
+use Rattle.law_links.proofs.Prelude.{◌≡◌, ℕ, ◌+◌, ◌*◌, ◌<◌, ℤ, pos, ◌+ℤ◌, ◌*ℤ◌, ◌<ℤ◌, arith, sym, ◌∙◌, ⊎_elim, ◌∷◌, subst, Some, [], ints, mul-pos, minus, nought, plus, sign, ring, at, num, ◌⊕◌, ◌⊗◌, sign-plus, sign-minus, FlatDim, Place, toward, Set, Vector, opposite, blend, dot, cross, IsDirection, SameDirection, IsOpposite, Label, carriers, ahead, same-sym, steep, forms, Cone, At, MapVertex, Map, Item, items, item_normal, item_pos, item_mark, item_neg, OnItem, IsFree, Side, around_svertex, pos_item, neg_item, whole, HasSide, IsClear, Reaches, Sees, directly, by_way_of, InOneSface, here, link, HasArc, Shaped, amount, at-one, normal-is, same-minus, IsOpposite-decided, Beside, same_way, other_way, beside, cross-direction_right, free-close, Vertex, Complex, IsCorner, Shows, VertexSide, IsEvenAfter, IsAtSide, SidesHavePoints, dot-comm, self-pos, vector-same, cross-turned, square-cross, nought-if, SameDirection-turned, dir-self, dir-signs, parallel-trans, dot-opposite, level-way, opposite-way, blend-turned, cross-blend, level_cross_second}
 use Rattle.law_links.proofs.Ties.{ahead-toward, ahead-way, ahead-cells, ahead-ahead, dim-cell, even-fan, IsTied, tied-even, tied-cell, tied-turned, tied-both, tied-itself, tied-ahead, tied-ray, even-after}
 use Rattle.law_links.proofs.NearVertex.{free-dim, tied-off, facet-near, item-tied}
-use Rattle.law_links.proofs.EdgeEnds.{tied-turn, corner_of, dot-opposite, opposite-way}
+use Rattle.law_links.proofs.EdgeEnds.{tied-turn, corner_of}
 use Rattle.law_links.proofs.SideSight.{sees-way, seen-free, blend-direction, lone-of, free-whole, aside, side-sees}
 
 -- ---- points at a side
@@ -137,29 +100,18 @@ module _ (M : Map) (s : Set) (p : Place) (K : Cone M s p) where
         dim-cell s (ahead s p (blend n u.dir 1 d)) (ahead s z d) 3 (same-sym (carriers s) (ahead s z d) (ahead s p (blend n u.dir 1 d)) (ahead-ahead s p u.dir d n (omega arith)))
         (free-dim M s p K (blend n u.dir 1 d) (free-close M V k u a lone d n (omega arith) i))
 
-    cross-blend : (d e : Vector) (i j : ℕ) → blend i (cross u.dir d) j (cross u.dir e) ≡ cross u.dir (blend i d j e)
-    cross-blend d e i j = vector-same (blend i (cross u.dir d) j (cross u.dir e)) (cross u.dir (blend i d j e))
-        (one u.dir.y u.dir.z d.y d.z e.y e.z) (one u.dir.z u.dir.x d.z d.x e.z e.x) (one u.dir.x u.dir.y d.x d.y e.x e.y)
-      where
-        one : (a b c d e f : ℤ) → pos i *ℤ (a *ℤ d -ℤ b *ℤ c) +ℤ pos j *ℤ (a *ℤ f -ℤ b *ℤ e) ≡ a *ℤ (pos i *ℤ d +ℤ pos j *ℤ f) -ℤ b *ℤ (pos i *ℤ c +ℤ pos j *ℤ e)
-        one a b c d e f = ring (pos i ∷ pos j ∷ a ∷ b ∷ c ∷ d ∷ e ∷ f ∷ []) (at 0 ⊗ (at 2 ⊗ at 5 ⊖ at 3 ⊗ at 4) ⊕ at 1 ⊗ (at 2 ⊗ at 7 ⊖ at 3 ⊗ at 6))
-            (at 2 ⊗ (at 0 ⊗ at 5 ⊕ at 1 ⊗ at 7) ⊖ at 3 ⊗ (at 0 ⊗ at 4 ⊕ at 1 ⊗ at 6)) tt
-
     around-step : (d e : Vector) → IsDirection (cross u.dir d) → IsDirection (cross u.dir e) → (IsOpposite (cross u.dir d) (cross u.dir e) → ⊥) → IsTied s (ahead s z d) (ahead s z e)
     around-step d e i j off = tied-even s 3 (ahead s z d) (ahead s z e) (even-fan s z d e 3 (around-dim d i) (around-dim e j)
-        (λ b c sb sc. around-dim (blend b d c e) (subst IsDirection (cross-blend d e b c) (blend-direction (cross u.dir d) (cross u.dir e) b c sb sc i j off))))
+        (λ b c sb sc. around-dim (blend b d c e) (subst IsDirection (sym (cross-blend u.dir d e b c)) (blend-direction (cross u.dir d) (cross u.dir e) b c sb sc i j off))))
 
     pub around-tied : (d e : Vector) → IsDirection (cross u.dir d) → IsDirection (cross u.dir e) → IsTied s (ahead s z d) (ahead s z e)
     around-tied d e i j = ⊎_elim by (λ off. around-step d e i j off) (IsOpposite-decided (cross u.dir d) (cross u.dir e))
       where
-        square : (x : Vector) → dot x (cross u.dir x) ≡ pos 0
-        square x = ring (u.dir.x ∷ u.dir.y ∷ u.dir.z ∷ x.x ∷ x.y ∷ x.z ∷ []) (at 3 ⊗ (at 1 ⊗ at 5 ⊖ at 2 ⊗ at 4) ⊕ at 4 ⊗ (at 2 ⊗ at 3 ⊖ at 0 ⊗ at 5) ⊕ at 5 ⊗ (at 0 ⊗ at 4 ⊖ at 1 ⊗ at 3)) (num (pos 0)) tt
-
         by : IsOpposite (cross u.dir d) (cross u.dir e) → IsTied s (ahead s z d) (ahead s z e)
         by o =
             let m = cross u.dir d in
             let h : IsDirection (cross u.dir m) = λ y. i (nought-if u.dir m (V.svertex_dirs k u a) y (square-cross u.dir d)) in
-            let q = square m in
+            let q = level_cross_second u.dir m in
             let r = level-opposite (cross u.dir m) m (cross u.dir e) o (dot-comm (cross u.dir m) m ∙ q) in
             tied-both s (ahead s z d) (ahead s z m) (ahead s z e) (around-step d m i h (λ w. let b = w.backward in omega (arith, ints))) (around-step m e h j (λ w. let b = w.backward in omega (arith, ints)))
 

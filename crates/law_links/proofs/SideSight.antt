@@ -1,33 +1,7 @@
 -- What sides see: the same way, some direction each, everything where there is nothing.
-use Rattle.std.proofs.Common.{◌≡◌, ℕ, ◌*◌, ◌<◌, ◌≤◌, pos, ◌*ℤ◌, ◌<ℤ◌, arith, ap, sym, ◌∙◌, ⊎_elim, List, [], ◌∷◌, subst, Some}
-use Rattle.std.proofs.lemmas.Int.{ints}
-use Rattle.std.proofs.Math.Nat.{mul-pos}
-use Rattle.nef_space.specs.Signs.{sign}
-use Rattle.nef_space.proofs.Ring.{at, neg, ◌⊕◌, ◌⊗◌}
-use Rattle.nef_space.proofs.Combination.{given, none, follows}
-use Rattle.nef_space.proofs.Order.{sign-scaled, mul_pos}
-use Rattle.nef_space.specs.Vectors.{Vector, vector, opposite, blend, dot, cross, IsDirection, SameDirection, IsOpposite}
-use Rattle.nef_space.specs.declared.label.Label.{Label}
-use Rattle.law_near.specs.Homogeneous.{SameUpToFactor, of_direction}
-use Rattle.law_near.proofs.Directions.{self-pos, dot-comm, dot-zero, zero-decided, same-factor, direction-right}
-use Rattle.law_near.proofs.Far.{same-nought}
-use Rattle.law_sphere.specs.Forms.{forms, Keeps}
-use Rattle.law_sphere.specs.Maps.{At, MapVertex, Map, Item, arc_item, sloop_item, items, item_normal, OnItem, IsFree, Side, around_svertex, pos_item, neg_item, whole, HasSide, IsClear, Reaches, Sees, directly, by_way_of, HasArc, Shaped}
-use Rattle.law_sphere.proofs.Vectors.{dot-comb, normal-is, same-plus, same-minus, nought-if}
-use Rattle.law_sphere.proofs.Generic.{amount, far-keeps, far-level}
-use Rattle.law_sphere.proofs.Forms.{axes-forms, free-by_signs, on-direction, on-level}
-use Rattle.law_sphere.proofs.Parallel.{parallel-trans, circle-point}
-use Rattle.law_sphere.proofs.Shot.{arc-at, item-point}
+use Rattle.law_links.proofs.Prelude.{◌≡◌, ℕ, ◌*◌, ◌<◌, ◌≤◌, pos, ◌*ℤ◌, ◌<ℤ◌, arith, ap, sym, ◌∙◌, ⊎_elim, List, ◌∷◌, subst, Some, [], ints, mul-pos, sign, at, neg, ◌⊕◌, ◌⊗◌, given, none, follows, sign-scaled, mul_pos, Vector, vector, opposite, blend, dot, cross, IsDirection, SameDirection, IsOpposite, Label, SameUpToFactor, of_direction, same-factor, same-nought, forms, Keeps, At, MapVertex, Map, Item, arc_item, sloop_item, items, item_normal, OnItem, IsFree, Side, around_svertex, pos_item, neg_item, whole, HasSide, IsClear, Reaches, Sees, directly, by_way_of, HasArc, Shaped, dot-comb, normal-is, same-plus, same-minus, amount, far-keeps, far-level, axes-forms, free-by_signs, on-direction, on-level, circle-point, arc-at, item-point, keeps-between, kept-not_opposite, Beside, same_way, other_way, beside, free-beside, between-direction, ends-of, sloop-at, sees-around, dot-comm, zero-decided, dot-zero, self-pos, nought-if, dir-signs, opposite-turned, parallel-trans, dot-opposite, direction-right, blend-turned}
 use Rattle.law_sphere.proofs.Direct.{between-off_target}
-use Rattle.law_sphere.proofs.StepOff.{blend-turned}
 use Rattle.law_sphere.proofs.Sight.{clear-self}
-use Rattle.law_sphere.proofs.Labels.{dir-signs}
-use Rattle.law_sphere.proofs.NearItems.{keeps-between, kept-not_opposite, opposite-turned}
-use Rattle.law_sphere.proofs.Around.{Beside, same_way, other_way, beside, free-beside}
-use Rattle.law_sphere.proofs.Walk.{between-direction}
-use Rattle.law_sphere.proofs.Arcs.{ends-of, sloop-at}
-use Rattle.law_sphere.proofs.Lone.{sees-around}
-use Rattle.law_links.proofs.EdgeEnds.{dot-opposite}
 
 -- ---- the same way
 module _ (M : Map) (d e : Vector) (w : SameDirection d e) where

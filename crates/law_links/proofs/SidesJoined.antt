@@ -1,11 +1,5 @@
 -- Where up is above each item, points at sides of one class are joined.
-use Rattle.std.proofs.Common.{inl, inr}
-use Rattle.nef_space.specs.Sets.{Set}
-use Rattle.law_complex.specs.Complexes.{Complex}
-use Rattle.law_complex.specs.Shows.{Shows}
-use Rattle.law_complex.specs.Rays.{VertexSide}
-use Rattle.law_links.specs.Links.{VolumeLink}
-use Rattle.law_links.specs.Components.{IsAtSide, IsUpright, SidesJoined}
+use Rattle.law_links.proofs.Prelude.{inl, inr, Set, Complex, Shows, VertexSide, VolumeLink, IsAtSide, IsUpright, SidesJoined}
 use Rattle.law_links.proofs.SidePoints.{one-side}
 use Rattle.law_links.proofs.SideLinks.{JoinsSides, joins-in_sface, joins-along, joins-across}
 use Rattle.law_links.proofs.Down.{joins-down}

@@ -1,43 +1,9 @@
 -- Points that lie close to a point toward a direction, and what joins such points: one cell, an even segment, and even segments with what lies beside them.
-use Rattle.std.proofs.Common.{◌≡◌, ℕ, ◌+◌, ◌*◌, ◌<◌, ◌≤◌, ℤ, pos, ◌+ℤ◌, ◌-ℤ◌, ◌*ℤ◌, arith, refl, ap, sym, ◌∙◌, ◌⊎◌, inl, inr, ⊎_elim, [], ◌∷◌, subst, false}
-use Rattle.std.proofs.lemmas.Int.{ints}
-use Rattle.std.proofs.Math.Nat.{mul-pos, le-mul_of_pos_right}
-use Rattle.nef_space.specs.Signs.{Sign, minus, nought, plus, sign, Lies}
-use Rattle.nef_space.proofs.Ring.{ring, at, num, ◌⊕◌, ◌⊖◌, ◌⊗◌}
-use Rattle.nef_space.proofs.Order.{nought-is, sign-scaled}
-use Rattle.nef_space.specs.Local.{Germ, Flat, FlatDim, IsEven, Joined}
-use Rattle.nef_space.specs.Place.{Place, Form, form_at, slope, Within, toward, IsBetween}
-use Rattle.nef_space.specs.Sets.{Set}
-use Rattle.nef_space.specs.Vectors.{Vector, blend, IsDirection, SameDirection}
-use Rattle.nef_space.specs.declared.label.Label.{Label}
-use Rattle.law_near.specs.Cells.{sign_at, carriers, SameSigns, SameSlopes}
-use Rattle.law_near.specs.Cones.{slide, NearGerm, FlatCone}
-use Rattle.law_near.specs.Laws.{IsSettled, SameGerms}
-use Rattle.law_near.proofs.Cells.{same-sym, reach-some, keeps-all, is_nought, Cells}
-use Rattle.law_near.proofs.Germs.{Germ-unique, sample, sample-short, sign-along}
-use Rattle.law_near.proofs.Flats.{FlatCone-from_flat, vector-same, slope-slide, sign-toward}
-use Rattle.law_near.proofs.Rays.{signs-same, slope-same, same-place_sym}
-use Rattle.law_near.proofs.NearGerms.{steep, steep-one, sign-large}
-use Rattle.law_near.proofs.Decisions.{ahead, near-ahead}
-use Rattle.law_near.proofs.Decided.{germ_of}
-use Rattle.law_near.proofs.Alike.{germs-by_cell, FlatDim-by_germs}
-use Rattle.law_near.proofs.FlatDecided.{flat_dim-of}
-use Rattle.law_near.proofs.Between.{mixed-of, ray-cell}
+use Rattle.law_links.proofs.Prelude.{◌≡◌, ℕ, ◌+◌, ◌*◌, ◌<◌, ◌≤◌, ℤ, pos, ◌+ℤ◌, ◌-ℤ◌, ◌*ℤ◌, arith, refl, ap, sym, ◌∙◌, ◌⊎◌, inl, inr, ⊎_elim, ◌∷◌, subst, false, [], ints, mul-pos, le-mul_of_pos_right, Sign, minus, nought, plus, sign, Lies, ring, at, num, ◌⊕◌, ◌⊖◌, ◌⊗◌, nought-is, sign-scaled, Germ, Flat, FlatDim, IsEven, Joined, Place, Form, form_at, slope, Within, toward, IsBetween, Set, Vector, blend, IsDirection, SameDirection, Label, sign_at, carriers, SameSigns, SameSlopes, slide, NearGerm, FlatCone, IsSettled, SameGerms, same-sym, reach-some, keeps-all, is_nought, Cells, Germ-unique, FlatCone-from_flat, slope-slide, signs-same, slope-same, same-place_sym, steep, steep-one, sign-large, ahead, near-ahead, germ_of, germs-by_cell, FlatDim-by_germs, flat_dim-of, mixed-of, ray-cell, start-close, flat-way, joined-turned, joined-both, joined-itself, of_place, form-sum, form-step, step-within, reach_all, sign-level, toward-place, factor-same, between-outer, same-itself, near_point, near-between, way-near, dim-same, even-by, IsEvenAfter, zero-decided, vector-same, SameDirection-turned, direction-left}
+use Rattle.law_near.proofs.Germs.{sample, sample-short, sign-along}
+use Rattle.law_near.proofs.Flats.{sign-toward}
 use Rattle.law_near.proofs.FirstChange.{settled-along}
-use Rattle.law_near.proofs.Edges.{start-close}
-use Rattle.law_near.proofs.Even.{flat-way, joined-turned, joined-both, joined-itself}
-use Rattle.law_near.specs.Homogeneous.{of_place}
-use Rattle.law_near.proofs.Sums.{form-sum}
 use Rattle.law_near.proofs.Crossings.{opposite, joint, sign-mixed}
-use Rattle.law_near.proofs.Near.{form-step, step-within, reach_all}
-use Rattle.law_near.proofs.Far.{sign-level}
-use Rattle.law_near.proofs.Mixed.{toward-place}
-use Rattle.law_near.proofs.Directions.{zero-decided, factor-same, direction-left}
-use Rattle.law_sphere.proofs.Compare.{SameDirection-turned}
-use Rattle.law_complex.proofs.Ways.{between-outer, same-itself}
-use Rattle.law_complex.proofs.Edges.{near_point, near-between, way-near}
-use Rattle.law_complex.proofs.FacetWays.{dim-same, even-by}
-use Rattle.law_links.specs.Components.{IsEvenAfter}
 
 -- ---- points beside a point
 -- q lies on the sides of the carriers on which the points just off p toward d lie

@@ -1,22 +1,16 @@
--- Points beside a side or an item of a complex, as far as the set stays as flat; what links say of such points.
-use Rattle.std.specs.Prelude.{ℕ, pos, ◌<ℤ◌, ◌⊎◌}
-use Rattle.nef_space.specs.Lists.{Chained}
-use Rattle.nef_space.specs.Place.{Place, toward, SamePlace, IsBetween}
-use Rattle.nef_space.specs.Sets.{Set}
-use Rattle.nef_space.specs.Vectors.{dot, up}
-use Rattle.nef_space.specs.Local.{FlatDim, Joined}
+-- Points at a side or at an item of a complex, and which of these points links join.
+use Rattle.std.specs.Prelude.{◌<ℤ◌, ◌⊎◌}
+use Rattle.nef_space.specs.Prelude.{ℕ, pos, Chained, Place, toward, SamePlace, IsBetween, Set, dot, up, FlatDim, Joined}
 use Rattle.nef_space.specs.declared.label.Label.{Label}
 use Rattle.law_sphere.specs.Maps.{At, Item, item_normal, OnItem, HasSide, Sees}
-use Rattle.law_complex.specs.Complexes.{Vertex, Complex, Corner, IsCorner}
-use Rattle.law_complex.specs.Shows.{Shows}
-use Rattle.law_complex.specs.Rays.{VertexSide, HasSideLabel}
+use Rattle.law_complex.specs.Prelude.{Vertex, Complex, Corner, IsCorner, Shows, VertexSide, HasSideLabel}
 use Rattle.law_links.specs.Links.{FacetLink, VolumeLink}
 
--- from p, which is left out, up to q the set has k independent flat directions
+-- the set has k independent flat directions at all points from p, which is left out, up to q
 abbrev pub IsEvenAfter : Set → ℕ → Place → Place → Type 0
 IsEvenAfter s k p q = (r : Place) → IsBetween p r q ⊎ SamePlace r q → FlatDim s r k
 
--- q is at the side
+-- the point q is at the side x: from the vertex the side sees the way to q, on which three directions stay flat
 pub record IsAtSide (s : Set) (C : Complex) (x : VertexSide) (q : Place) : Type 0 where
   pub vertex : Vertex
   pub is_vertex : At C.vertices x.vertex vertex
@@ -25,7 +19,7 @@ pub record IsAtSide (s : Set) (C : Complex) (x : VertexSide) (q : Place) : Type 
   pub sees : Sees vertex.map x.side (toward vertex.point q)
   pub even : IsEvenAfter s 3 vertex.point q
 
--- q is at the item
+-- the point q is at the item k: the item holds the way from the vertex to q, on which two directions stay flat
 pub record IsAtItem (s : Set) (C : Complex) (k : Corner) (q : Place) : Type 0 where
   pub vertex : Vertex
   pub item : Item
@@ -41,11 +35,11 @@ ItemsJoined = (s : Set) (C : Complex) (j k : Corner) (p q : Place) → Shows s C
 abbrev pub IsUpright : Complex → Type 0
 IsUpright C = (k : Corner) (v : Vertex) (x : Item) → IsCorner C k v x → pos 0 <ℤ dot (item_normal x) up
 
--- points at sides of one class of links are joined where up is above each item: only then is the side above a facet the one to which a ray down comes
+-- points at sides of one class of links are joined if up is above each item: a ray down comes to a facet's upper side
 abbrev pub SidesJoined : Type 0
 SidesJoined = (s : Set) (C : Complex) (x y : VertexSide) (p q : Place) → Shows s C → IsUpright C → Chained (VolumeLink C) x y → IsAtSide s C x p → IsAtSide s C y q → Joined s p q
 
--- there are points at each side, and at each item
+-- each side of a complex that shows a set has a point at it, and so has each item
 abbrev pub SidesHavePoints : Type 0
 SidesHavePoints = (s : Set) (C : Complex) (x : VertexSide) (l : Label) → Shows s C → HasSideLabel C x l → (q : Place) × IsAtSide s C x q
 

@@ -1,15 +1,14 @@
--- The links of items, whose classes are the facets, and those of sides, whose classes are the volumes.
-use Rattle.std.specs.Prelude.{◌≡◌, ℕ, ◌⊎◌}
-use Rattle.nef_space.specs.Vectors.{SameDirection, opposite, plane_dir, up}
+-- The links of items, whose classes are the facets, and the links of sides, whose classes are the volumes.
+use Rattle.std.specs.Prelude.{◌≡◌, ◌⊎◌}
+use Rattle.nef_space.specs.Prelude.{ℕ, SameDirection, opposite, plane_dir, up}
 use Rattle.nef_space.specs.declared.label.Label.{Label}
 use Rattle.nef_space.specs.declared.label.Label.TheVariants.{Out}
 use Rattle.law_sphere.specs.Maps.{At, Arc, Item, item_normal, OnItem, Side, around_svertex, pos_item, neg_item, HasSide, Sees, InOneSface}
-use Rattle.law_complex.specs.Complexes.{Vertex, Edge, Complex, Corner, HasEnds, IsCorner}
+use Rattle.law_complex.specs.Prelude.{Vertex, Edge, Complex, Corner, HasEnds, IsCorner, VertexSide, HasSideLabel, RayDown}
 use Rattle.law_complex.specs.Skeleton.{item_plane, RayNames}
-use Rattle.law_complex.specs.Rays.{VertexSide, HasSideLabel, RayDown}
 
 -- ---- items
--- arc i of the edge's lower end and arc j of its higher end have one normal, and one begins at the edge where the other ends
+-- arc i of the edge's lower end and arc j of its higher end have one normal, one begins and the other ends at the edge
 pub record AreAlong (C : Complex) (e : Edge) (i j : ℕ) : Type 0 where
   pub low_vertex : Vertex
   pub high_vertex : Vertex
@@ -21,7 +20,7 @@ pub record AreAlong (C : Complex) (e : Edge) (i j : ℕ) : Type 0 where
   pub one_normal : SameDirection low_arc.normal high_arc.normal
   pub one_way : ((low_arc.source ≡ e.low_svertex) × (high_arc.target ≡ e.high_svertex)) ⊎ ((low_arc.target ≡ e.low_svertex) × (high_arc.source ≡ e.high_svertex))
 
--- the link along an edge joins the arc of its lower end with that of its higher end
+-- the link along an edge: from an arc of the edge's lower end to an arc of its higher end
 pub record LinkAlong (C : Complex) (j k : Corner) : Type 0 where
   pub number : ℕ
   pub edge : Edge
@@ -30,7 +29,7 @@ pub record LinkAlong (C : Complex) (j k : Corner) : Type 0 where
   pub to_high : k.vertex ≡ edge.high
   pub along : AreAlong C edge j.item k.item
 
--- the link across the facet joins an item with the corner that the ray inward from its vertex names, where the item holds the way inward: opposite to the direction of its plane
+-- the link across a facet: from an item that holds the way inward to the corner that its vertex's ray inward names
 pub record LinkAcross (C : Complex) (j k : Corner) : Type 0 where
   pub vertex : Vertex
   pub item : Item
@@ -42,11 +41,11 @@ abbrev pub FacetLink : Complex → Corner → Corner → Type 0
 FacetLink C j k = LinkAlong C j k ⊎ LinkAcross C j k
 
 -- ---- sides
--- the side is this one of vertex i, which has it
+-- x is the side o of vertex i, and the vertex has this side
 abbrev pub IsSideOf : Complex → VertexSide → ℕ → Side → Type 0
 IsSideOf C x i o = (l : Label) × (x.vertex ≡ i) × (x.side ≡ o) × HasSideLabel C x l
 
--- the link in one sface joins two sides of a vertex that a chain of sides and of directions that they see joins
+-- the link in one sface: two sides of a vertex, between which a chain of sides with common directions leads
 pub record LinkInSface (C : Complex) (x y : VertexSide) : Type 0 where
   pub vertex : Vertex
   pub is_vertex : At C.vertices x.vertex vertex
@@ -57,13 +56,13 @@ pub record LinkInSface (C : Complex) (x y : VertexSide) : Type 0 where
   pub has_other : HasSide vertex.map y.side other
   pub one_sface : InOneSface vertex.map x.side y.side
 
--- the sides o of the lower and p of the higher end of an edge are one side along it: the same side of two arcs along it, or those around it
+-- o of the lower and p of the higher end are one side along the edge: on one side of arcs along it, or round both ends
 pub data AreSidesAlong (C : Complex) (e : Edge) (o p : Side) : Type 0 where
   pos_arcs : (i j : ℕ) → AreAlong C e i j → o ≡ pos_item i → p ≡ pos_item j → AreSidesAlong C e o p
   neg_arcs : (i j : ℕ) → AreAlong C e i j → o ≡ neg_item i → p ≡ neg_item j → AreSidesAlong C e o p
   around_ends : o ≡ around_svertex e.low_svertex → p ≡ around_svertex e.high_svertex → AreSidesAlong C e o p
 
--- the link along an edge
+-- the link along an edge: a side of the edge's lower end and the side of its higher end that goes on along the edge
 pub record LinkAlongEdge (C : Complex) (x y : VertexSide) : Type 0 where
   pub number : ℕ
   pub edge : Edge
@@ -74,7 +73,7 @@ pub record LinkAlongEdge (C : Complex) (x y : VertexSide) : Type 0 where
   pub is_high : IsSideOf C y edge.high high_side
   pub along : AreSidesAlong C edge low_side high_side
 
--- the link across a facet joins the same side of two items that are linked across their facet
+-- the link across a facet: the upper sides, or the lower sides, of two items that are linked across their facet
 pub record LinkAcrossFacet (C : Complex) (x y : VertexSide) : Type 0 where
   pub here : Corner
   pub there : Corner
@@ -82,7 +81,7 @@ pub record LinkAcrossFacet (C : Complex) (x y : VertexSide) : Type 0 where
   pub sides : (IsSideOf C x here.vertex (pos_item here.item) × IsSideOf C y there.vertex (pos_item there.item))
       ⊎ (IsSideOf C x here.vertex (neg_item here.item) × IsSideOf C y there.vertex (neg_item there.item))
 
--- the link down a ray joins a side that sees straight down, and isn't outside, with the side above the point where the ray down from its vertex ends
+-- the link down: from a side that sees down and isn't outside to the side above the end of the vertex's ray down
 pub record LinkDown (C : Complex) (x y : VertexSide) : Type 0 where
   pub vertex : Vertex
   pub is_vertex : At C.vertices x.vertex vertex
@@ -92,7 +91,7 @@ pub record LinkDown (C : Complex) (x y : VertexSide) : Type 0 where
   pub sees : Sees vertex.map x.side (opposite up)
   pub down : RayDown C vertex.point y
 
--- the link of the outside
+-- the link of the outside: two sides with the label Out
 abbrev pub LinkOutside : Complex → VertexSide → VertexSide → Type 0
 LinkOutside C x y = HasSideLabel C x Out × HasSideLabel C y Out
 

@@ -1,9 +1,9 @@
-//! The laws of links.
+//! Laws of links of items and of sides.
 
 ghost use Rattle.law_links.specs.Components.{ItemsJoined, SidesJoined, ItemsHavePoints, SidesHavePoints};
 
-/// There are points at each item and at each side, and where links join two items or two sides, all points at them are
-/// joined by points that are as flat; of sides that is so where the upward direction is above each item.
+/// Each item and each side has points. Links between two items or two sides join all points at both by points that are
+/// as flat; links between sides do so where the upward direction is above each item.
 pub fn link_laws()
     ensures items { ItemsJoined }
     ensures sides { SidesJoined }

@@ -1,19 +1,8 @@
 -- Points and sets with the same germs have the same flat directions.
-use Rattle.std.proofs.Common.{◌+ℤ◌, ◌≡◌, ℕ, zero, suc, ◌+◌, ◌-◌, ◌<◌, ℤ, pos, ◌-ℤ◌, ◌*ℤ◌, arith, refl, ◌∙◌, ◌⊎◌, inl, inr, ◌↔◌, List, [], ◌∷◌, subst}
-use Rattle.std.proofs.lemmas.Int.{ints}
-use Rattle.std.proofs.lemmas.Bool.{cases_order}
-use Rattle.nef_space.proofs.Ring.{ring, at, num, ◌⊕◌, ◌⊖◌, ◌⊗◌}
-use Rattle.nef_space.proofs.Combination.{given, none, follows}
-use Rattle.nef_space.specs.Place.{Place, form, step, toward}
-use Rattle.nef_space.specs.Vectors.{Vector, blend, IsZero, cross, triple, zero_vector}
-use Rattle.nef_space.specs.Sets.{Set}
-use Rattle.nef_space.specs.Local.{HasLabel, SameSet, Germ, Flat, HasFlat, FlatDim, IsEven, IsEvenPath, Joined}
-use Rattle.nef_space.specs.declared.label.Label.{Label}
-use Rattle.law_near.specs.Cells.{carriers, SameSigns}
-use Rattle.law_near.specs.Cones.{slide, NearGerm, SameCone, SameNear}
+use Rattle.law_near.proofs.Prelude.{◌+ℤ◌, ◌≡◌, ℕ, zero, suc, ◌+◌, ◌-◌, ◌<◌, ℤ, pos, ◌-ℤ◌, ◌*ℤ◌, arith, refl, ◌∙◌, ◌⊎◌, inl, inr, ◌↔◌, List, ◌∷◌, subst, [], ints, cases_order, ring, at, num, ◌⊕◌, ◌⊖◌, ◌⊗◌, given, none, follows, Place, form, step, toward, Vector, blend, IsZero, cross, triple, zero_vector, Set, HasLabel, SameSet, Germ, Flat, HasFlat, FlatDim, IsEven, IsEvenPath, Joined, Label, carriers, SameSigns, slide, NearGerm, SameCone, SameNear, vector-same}
 use Rattle.law_near.proofs.Near.{weaken, stride, step-within, reach_all}
 use Rattle.law_near.proofs.Cells.{same-sym, reach-some}
-use Rattle.law_near.proofs.Flats.{germ-toward, label-toward, Flat-from_cone, FlatCone-from_flat, vector-same}
+use Rattle.law_near.proofs.Flats.{germ-toward, label-toward, Flat-from_cone, FlatCone-from_flat}
 use Rattle.law_near.proofs.Rays.{Germ-cells, within-self, slope-zero, Germ-zero}
 use Rattle.law_near.proofs.Combine.{shorter}
 

@@ -1,15 +1,6 @@
 -- Points at which all carriers have the same signs lie in the same sets.
-use Rattle.std.proofs.Common.{◌≡◌, ℕ, ◌+◌, ◌*◌, ◌<◌, ℤ, pos, negsuc, ◌-ℤ◌, ◌*ℤ◌, neg_ℤ, ◌≤ℤ◌, nat_abs, arith, refl, ap, sym, ◌∙◌, ◌⊎◌, inl, inr, ⊎_elim, ◌↔◌, List, [], ◌∷◌, Bool, true, false}
-use Rattle.std.proofs.lemmas.Int.{ints}
-use Rattle.nef_space.proofs.Ring.{ring, at, num, ◌⊖◌, ◌⊗◌}
-use Rattle.nef_space.proofs.Order.{Sign, minus, nought, plus, sign, sign-minus, plus-is, minus-is, nought-is, sign-scaled}
-use Rattle.nef_space.specs.Place.{Place, Form, form_at, slope, Ratio, step, toward, Within, InFrame}
-use Rattle.nef_space.specs.Vectors.{Vector}
-use Rattle.nef_space.specs.Sets.{Set, Holds, Interior, Closure, InHalf, halves}
-use Rattle.nef_space.specs.Limits.{half_side}
-use Rattle.nef_space.specs.Signs.{Lies}
-use Rattle.law_near.specs.Cells.{sign_at, side, frame, SameSigns}
-use Rattle.nef_space.proofs.Lists.{lies-left, lies-right}
+use Rattle.law_near.proofs.Prelude.{◌≡◌, ℕ, ◌+◌, ◌*◌, ◌<◌, ℤ, pos, negsuc, ◌-ℤ◌, ◌*ℤ◌, neg_ℤ, ◌≤ℤ◌, nat_abs, arith, refl, ap, sym, ◌∙◌, ◌⊎◌, inl, inr, ⊎_elim, ◌↔◌, List, ◌∷◌, Bool, true, false, [], ints, ring, at, num, ◌⊖◌, ◌⊗◌, Sign, minus, nought, plus, sign, sign-minus, plus-is, minus-is, nought-is, sign-scaled, Place, Form, form_at, slope, Ratio, step, toward, Within, InFrame, Vector, Set, Interior, Closure, InHalf, halves, half_side, Lies, sign_at, side, frame, SameSigns, lies-left, lies-right}
+use Rattle.nef_space.specs.Sets.{Holds}
 use Rattle.law_near.proofs.Sums.{some-pos}
 use Rattle.law_near.proofs.Near.{reach_all, keeps-all as keeps-form, slope-toward, weaken, stride, step-within, ray-level}
 

@@ -1,15 +1,6 @@
 -- The germ of a combination is the combination of the germs, so it is flat where both operands are.
-use Rattle.std.proofs.Common.{ℕ, ◌+◌, ◌≤◌, pos, ◌*ℤ◌, ◌<ℤ◌, arith, inl, inr, ⊎_elim, subst}
-use Rattle.std.proofs.lemmas.Int.{ints}
-use Rattle.nef_space.proofs.Order.{mul_le_right}
-use Rattle.law_near.specs.Laws.{LabelsCombine}
-use Rattle.law_near.specs.Cones.{slide, NearGerm, FlatCone, label_and, label_or, label_not, label_less, label_one_of}
-use Rattle.nef_space.specs.Place.{Place, Ratio, step}
-use Rattle.nef_space.specs.Vectors.{Vector, blend}
-use Rattle.nef_space.specs.Sets.{Set, Holds}
-use Rattle.nef_space.specs.Local.{IsShort, HasLabel, Germ}
-use Rattle.nef_space.specs.declared.label.Label.{Label}
-use Rattle.nef_space.specs.declared.label.Label.TheVariants.{Out, Not, In}
+use Rattle.law_near.proofs.Prelude.{ℕ, ◌+◌, ◌≤◌, pos, ◌*ℤ◌, ◌<ℤ◌, arith, inl, inr, ⊎_elim, subst, ints, mul_le_right, LabelsCombine, slide, NearGerm, FlatCone, label_and, label_or, label_not, label_less, label_one_of, Place, Ratio, step, Vector, blend, Set, IsShort, HasLabel, Germ, Label, Out, Not, In}
+use Rattle.nef_space.specs.Sets.{Holds}
 use Rattle.law_near.proofs.Germs.{Germ-unique}
 use Rattle.law_near.proofs.Decided.{germ_of}
 

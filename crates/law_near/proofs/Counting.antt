@@ -1,5 +1,5 @@
 -- How many elements of a list pass a test.
-use Rattle.std.proofs.Common.{◌≡◌, ℕ, ◌+◌, ◌<◌, ◌≤◌, arith, refl, ap, sym, ◌⊎◌, inl, inr, ⊎_elim, List, [], ◌∷◌, subst, Bool, true, false}
+use Rattle.law_near.proofs.Prelude.{◌≡◌, ℕ, ◌+◌, ◌<◌, ◌≤◌, arith, refl, ap, sym, ◌⊎◌, inl, inr, ⊎_elim, List, ◌∷◌, subst, Bool, true, false, []}
 use Rattle.nef_space.proofs.Order.{Lies}
 
 abbrev pub weight : Bool → ℕ

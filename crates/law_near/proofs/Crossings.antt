@@ -1,9 +1,6 @@
 -- How many forms of a list cross a segment: forms with strictly opposite signs at its ends.
-use Rattle.std.proofs.Common.{◌≡◌, ℕ, zero, suc, ◌<◌, ℤ, pos, negsuc, ◌+ℤ◌, ◌-ℤ◌, ◌*ℤ◌, nat_abs, arith, refl, ap, sym, ◌∙◌, ◌⊎◌, List, [], ◌∷◌, Bool, true, false}
-use Rattle.std.proofs.lemmas.Int.{ints}
-use Rattle.nef_space.proofs.Ring.{ring, at, num, ◌⊕◌, ◌⊖◌, ◌⊗◌}
-use Rattle.nef_space.proofs.Order.{Sign, minus, nought, plus, sign, sign_times, sign-plus, sign-minus, sign-scaled, sign_of_product, mul_pos, mul_nonneg, Lies}
-use Rattle.nef_space.specs.Place.{Form}
+use Rattle.law_near.proofs.Prelude.{◌≡◌, ℕ, zero, suc, ◌<◌, ℤ, pos, negsuc, ◌+ℤ◌, ◌-ℤ◌, ◌*ℤ◌, nat_abs, arith, refl, ap, sym, ◌∙◌, ◌⊎◌, List, ◌∷◌, Bool, true, false, [], ints, ring, at, num, ◌⊕◌, ◌⊖◌, ◌⊗◌, Sign, minus, nought, plus, sign, sign-plus, sign-minus, sign-scaled, sign_of_product, mul_pos, mul_nonneg, Form}
+use Rattle.nef_space.proofs.Order.{sign_times, Lies}
 use Rattle.law_near.proofs.Counting.{count, find-passing, count-less}
 use Rattle.law_near.proofs.Sums.{Homogeneous, form_on, mix, IsMixed, SameSigns, form-mix, form-sum, mixed-mix, some-pos}
 

@@ -1,20 +1,9 @@
 -- Each set holds or does not hold at each point: no axiom is needed, since finitely many directions decide an interior.
-use Rattle.std.proofs.Common.{ℕ, ◌+◌, ◌*◌, ◌<◌, ◌≤◌, pos, nat_abs, arith, refl, sym, ◌∙◌, ◌⊎◌, inl, inr, ⊎_elim, List, [], ◌∷◌, subst, Bool, true, false}
-use Rattle.std.proofs.lemmas.Int.{ints, by_lt_z}
-use Rattle.std.proofs.lemmas.Bool.{cases_lt}
-use Rattle.nef_space.specs.Limits.{half_side}
-use Rattle.nef_space.specs.Signs.{Lies}
-use Rattle.law_near.specs.Cells.{frame, carriers, SameSigns, SameSlopes}
-use Rattle.nef_space.specs.Place.{Place, Form, form_at, normal_of, Ratio, step, Within, InFrame, toward}
-use Rattle.nef_space.specs.Vectors.{Vector}
-use Rattle.nef_space.specs.Sets.{Set, Holds, Interior, Closure, InHalf, halves}
-use Rattle.nef_space.specs.Local.{IsShort, HasLabel, Germ}
-use Rattle.nef_space.specs.declared.label.Label.{Label}
-use Rattle.nef_space.specs.declared.label.Label.TheVariants.{Out, Not, In}
+use Rattle.law_near.proofs.Prelude.{ℕ, ◌+◌, ◌*◌, ◌<◌, ◌≤◌, pos, nat_abs, arith, refl, sym, ◌∙◌, ◌⊎◌, inl, inr, ⊎_elim, List, ◌∷◌, subst, Bool, true, false, [], ints, by_lt_z, cases_lt, half_side, Lies, frame, carriers, SameSigns, SameSlopes, Place, Form, form_at, normal_of, Ratio, step, Within, InFrame, toward, Vector, Set, Interior, Closure, InHalf, halves, IsShort, HasLabel, Germ, Label, Out, Not, In, each, lies-each, lies-left, lies-right}
+use Rattle.nef_space.specs.Sets.{Holds}
 use Rattle.law_near.proofs.Representatives.{representative_directions, Representative, representative}
 use Rattle.law_near.proofs.Near.{stride, step-within, reach_all}
 use Rattle.law_near.proofs.Cells.{same-sym, reach-some, Cells, Inside, InFrame-cells, Holds-cells, Interior-cells}
-use Rattle.nef_space.proofs.Lists.{each, lies-each, lies-left, lies-right}
 use Rattle.law_near.proofs.Germs.{near-same, sign-along, Germ-from_sample, sample}
 use Rattle.law_near.proofs.Flats.{sign-toward}
 

@@ -1,19 +1,8 @@
 -- Finitely many vectors show all germs, so what is said of all directions is decided.
-use Rattle.std.proofs.Common.{◌≡◌, refl, sym, ◌∙◌, ◌⊎◌, inl, inr, ⊎_elim, ◌↔◌, List, ◌++◌, subst}
-use Rattle.nef_space.specs.Signs.{Lies}
-use Rattle.nef_space.specs.Place.{Place, Form, step}
-use Rattle.nef_space.specs.Vectors.{Vector, IsDirection}
-use Rattle.nef_space.specs.Sets.{Set, Holds, halves}
-use Rattle.nef_space.specs.Local.{HasLabel, Germ}
-use Rattle.nef_space.specs.declared.label.Label.{Label}
-use Rattle.nef_space.specs.declared.label.Label.TheVariants.{Out, Not, In}
-use Rattle.law_near.specs.Cells.{frame, carriers, SameSlopes}
-use Rattle.law_near.specs.Cones.{NearGerm, SameCone}
-use Rattle.nef_space.proofs.Lists.{lies-left, lies-right}
+use Rattle.law_near.proofs.Prelude.{◌≡◌, refl, sym, ◌∙◌, ◌⊎◌, inl, inr, ⊎_elim, ◌↔◌, List, ◌++◌, subst, Lies, Place, Form, step, Vector, IsDirection, Set, Holds, halves, HasLabel, Germ, Label, Out, Not, In, frame, carriers, SameSlopes, NearGerm, SameCone, lies-left, lies-right, zero-decided}
 use Rattle.law_near.proofs.Germs.{Germ-unique, label-one, sample, sample-short}
 use Rattle.law_near.proofs.Flats.{Germ-by_signs}
 use Rattle.law_near.proofs.Decided.{Decided, Holds-decided, label_of, germ_of, every, decided-not, decided-to, ways, way_of, same-slopes}
-use Rattle.law_near.proofs.Directions.{zero-decided}
 use Rattle.law_near.proofs.NearGerms.{near-from_there, there-from_near}
 
 -- ---- representatives

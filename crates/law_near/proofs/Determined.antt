@@ -1,21 +1,9 @@
 -- The vertices of a set and the cones there determine the set.
-use Rattle.std.proofs.Common.{◌≡◌, ℕ, zero, suc, ◌+◌, ◌-◌, ◌<◌, ◌≤◌, ℤ, pos, ◌-ℤ◌, ◌*ℤ◌, arith, refl, ◌⊎◌, inl, inr, ⊎_elim, ◌↔◌, subst}
-use Rattle.std.proofs.lemmas.Int.{ints}
-use Rattle.std.proofs.lemmas.Bool.{cases_lt}
-use Rattle.nef_space.specs.Place.{Place, Within, InFrame, InClosedFrame, toward, IsBetween}
-use Rattle.nef_space.specs.Vectors.{Vector, vector, zero_vector, IsDirection}
-use Rattle.nef_space.specs.Sets.{Set}
-use Rattle.nef_space.specs.Local.{SameSet, Germ, Flat, HasFlat, FlatDim, IsVertex, IsEven}
-use Rattle.nef_space.specs.declared.label.Label.{Label}
-use Rattle.nef_space.specs.declared.label.Label.TheVariants.{Out}
-use Rattle.law_near.specs.Cells.{carriers}
-use Rattle.law_near.specs.Cones.{SameCone, IsOnSegment}
-use Rattle.law_near.specs.Laws.{IsFlatBelow, Drop, SameGerms}
+use Rattle.law_near.proofs.Prelude.{◌≡◌, ℕ, zero, suc, ◌+◌, ◌-◌, ◌<◌, ◌≤◌, ℤ, pos, ◌-ℤ◌, ◌*ℤ◌, arith, refl, ◌⊎◌, inl, inr, ⊎_elim, ◌↔◌, subst, ints, cases_lt, Place, Within, InFrame, InClosedFrame, toward, IsBetween, Vector, vector, zero_vector, IsDirection, Set, SameSet, Germ, Flat, HasFlat, FlatDim, IsVertex, IsEven, Label, Out, carriers, SameCone, IsOnSegment, IsFlatBelow, Drop, SameGerms, direction-left, direction-right}
 use Rattle.law_near.proofs.Near.{weaken, reach_all}
 use Rattle.law_near.proofs.Germs.{Germ-unique}
 use Rattle.law_near.proofs.Decided.{InFrame-decided}
 use Rattle.law_near.proofs.Rays.{Germ-zero, signs-same, same-place_sym}
-use Rattle.law_near.proofs.Directions.{direction-left, direction-right}
 use Rattle.law_near.proofs.Alike.{germs-by_cell, FlatDim-by_germs, FlatDim-by_cone, FlatDim-one, HasFlat-fewer, Flat-by_cone, NearGerm-by_cone, flat-germ}
 use Rattle.law_near.proofs.Between.{between-turned, between-inner}
 use Rattle.law_near.proofs.FlatDecided.{flat_dim-of}

@@ -1,63 +1,12 @@
 -- Products of vectors of three numbers, and directions that are the same up to a positive factor.
-use Rattle.std.proofs.Common.{◌≡◌, ◌<◌, ℤ, pos, ◌-ℤ◌, ◌*ℤ◌, ◌<ℤ◌, nat_abs, arith, ap, sym, ◌∙◌, ◌⊎◌, inl, inr, ⊎_elim, [], ◌∷◌, ◌↔◌}
-use Rattle.std.proofs.lemmas.Int.{ints}
-use Rattle.nef_space.proofs.Ring.{ring, at, num, ◌⊕◌, ◌⊖◌, ◌⊗◌}
-use Rattle.nef_space.proofs.Combination.{follows, given, none}
-use Rattle.nef_space.proofs.Order.{by_order, mul_pos, square_nonneg, cancel_lt, cancel_eq}
-use Rattle.nef_space.specs.Vectors.{Vector, dot, IsZero, IsDirection, SameDirection}
-use Rattle.law_near.specs.Homogeneous.{SameUpToFactor, of_direction}
+use Rattle.law_near.proofs.Prelude.{◌≡◌, ℤ, pos, ◌*ℤ◌, ◌<ℤ◌, nat_abs, arith, ap, sym, ◌∙◌, ◌∷◌, ◌↔◌, [], ints, ring, at, num, ◌⊕◌, ◌⊖◌, ◌⊗◌, follows, given, none, mul_pos, cancel_lt, cancel_eq, pos-abs, abs-pos, Vector, dot, IsDirection, SameDirection, SameUpToFactor, of_direction, self-pos, direction-left, direction-right}
 use Rattle.law_near.proofs.Sums.{some-pos}
-use Rattle.law_near.proofs.Far.{nought-or}
-
-pub dot-comm : (a b : Vector) → dot a b ≡ dot b a
-dot-comm a b = ring (a.x ∷ a.y ∷ a.z ∷ b.x ∷ b.y ∷ b.z ∷ []) (at 0 ⊗ at 3 ⊕ at 1 ⊗ at 4 ⊕ at 2 ⊗ at 5) (at 3 ⊗ at 0 ⊕ at 4 ⊗ at 1 ⊕ at 5 ⊗ at 2) tt
-
-pub square_pos : (a : ℤ) → (a ≡ pos 0 → ⊥) → pos 0 <ℤ (a *ℤ a)
-square_pos a f = by_order a (pos 0)
-    (λ b. let p = mul_pos (pos 0 -ℤ a) (pos 0 -ℤ a) (omega (arith, ints)) (omega (arith, ints)) in let e = ring (a ∷ []) ((num (pos 0) ⊖ at 0) ⊗ (num (pos 0) ⊖ at 0)) (at 0 ⊗ at 0) tt in omega (arith, ints))
-    (λ e. absurd (f e)) (λ b. mul_pos a a b b)
-
-pub zero-decided : (e : Vector) → IsZero e ⊎ (IsZero e → ⊥)
-zero-decided e = by (nought-or e.x) (nought-or e.y) (nought-or e.z)
-  where
-    by : (e.x ≡ pos 0) ⊎ (e.x ≡ pos 0 → ⊥) → (e.y ≡ pos 0) ⊎ (e.y ≡ pos 0 → ⊥) → (e.z ≡ pos 0) ⊎ (e.z ≡ pos 0 → ⊥) → IsZero e ⊎ (IsZero e → ⊥)
-    by (inr n) y z = inr (λ a. n a.0)
-    by (inl x) (inr n) z = inr (λ a. n a.1)
-    by (inl x) (inl y) (inr n) = inr (λ a. n a.2)
-    by (inl x) (inl y) (inl z) = inl (x, y, z)
-
-pub dot-zero : (g e : Vector) → IsZero e → dot g e ≡ pos 0
-dot-zero g e z = follows (g.x ∷ g.y ∷ g.z ∷ e.x ∷ e.y ∷ e.z ∷ []) (at 0 ⊗ at 3 ⊕ at 1 ⊗ at 4 ⊕ at 2 ⊗ at 5) (num (pos 0))
-    (given (at 0) (at 3) (num (pos 0)) z.0 (given (at 1) (at 4) (num (pos 0)) z.1 (given (at 2) (at 5) (num (pos 0)) z.2 none))) tt
-
-pub zero-dot : (e g : Vector) → IsZero e → dot e g ≡ pos 0
-zero-dot e g z = dot-comm e g ∙ dot-zero g e z
-
-pub self-pos : (h : Vector) → IsDirection h → pos 0 <ℤ dot h h
-self-pos h f =
-    let a = square_nonneg h.x in let b = square_nonneg h.y in let c = square_nonneg h.z in
-    ⊎_elim (λ x. ⊎_elim (λ y. ⊎_elim (λ z. absurd (f (x, y, z)))
-    (λ z. let p = square_pos h.z z in omega (arith, ints)) (nought-or h.z))
-    (λ y. let p = square_pos h.y y in omega (arith, ints)) (nought-or h.y))
-    (λ x. let p = square_pos h.x x in omega (arith, ints)) (nought-or h.x)
-
-pub pos-abs : (z : ℤ) → pos 0 <ℤ z → pos (nat_abs z) ≡ z
-pos-abs z h = omega (arith, ints)
-
-pub abs-pos : (z : ℤ) → pos 0 <ℤ z → 0 < nat_abs z
-abs-pos z h = omega (arith, ints)
 
 -- parallel vectors: (b.b) a = (a.b) b
 module _ (a b : Vector) (s : SameDirection a b) where
-  pub direction-left : IsDirection a
-  direction-left z = let e = zero-dot a b z in let f = s.forward in omega (arith, ints)
-
-  pub direction-right : IsDirection b
-  direction-right z = let e = dot-zero a b z in let f = s.forward in omega (arith, ints)
-
   pub same-factor : SameUpToFactor (of_direction a) (of_direction b)
   same-factor =
-      let p = self-pos b direction-right in
+      let p = self-pos b (direction-right a b s) in
       let xs = a.x ∷ a.y ∷ a.z ∷ b.x ∷ b.y ∷ b.z ∷ [] in
       let o = num (pos 0) in
       let bb = at 3 ⊗ at 3 ⊕ at 4 ⊗ at 4 ⊕ at 5 ⊗ at 5 in

@@ -1,29 +1,13 @@
 -- Along a flat direction the number of flat directions stays until it drops; so each edge ends at two vertices.
-use Rattle.std.proofs.Common.{◌≡◌, ℕ, zero, suc, ◌+◌, ◌*◌, ◌<◌, ◌≤◌, ℤ, pos, negsuc, ◌+ℤ◌, ◌-ℤ◌, ◌*ℤ◌, neg_ℤ, nat_abs, arith, refl, ap, sym, ◌∙◌, ◌⊎◌, inl, inr, ⊎_elim, [], ◌∷◌, subst}
-use Rattle.std.proofs.lemmas.Int.{ints, unsigned_abs-mul}
-use Rattle.std.proofs.lemmas.Bool.{cases_order}
-use Rattle.std.proofs.lemmas.Nat.{mul-le}
-use Rattle.std.proofs.Math.Nat.{mul-pos, le-mul_of_pos_right}
-use Rattle.nef_space.proofs.Ring.{ring, at, num, neg, ◌⊕◌, ◌⊖◌, ◌⊗◌}
-use Rattle.nef_space.proofs.Combination.{given, none, follows, follows_times}
-use Rattle.nef_space.specs.Limits.{half_side}
-use Rattle.nef_space.specs.Place.{Place, step, Within, SamePlace, InClosedFrame, toward, IsBetween}
-use Rattle.nef_space.specs.Vectors.{Vector, opposite, IsDirection, SameDirection}
-use Rattle.nef_space.specs.Sets.{Set}
-use Rattle.nef_space.specs.Local.{Flat, FlatDim, IsVertex}
-use Rattle.law_near.specs.Cells.{carriers}
-use Rattle.law_near.specs.Cones.{combination}
-use Rattle.law_near.specs.Laws.{FirstChange, IsFlatBelow, Drop, WayEnd, EdgeAround}
+use Rattle.law_near.proofs.Prelude.{◌≡◌, ℕ, zero, suc, ◌+◌, ◌*◌, ◌<◌, ◌≤◌, ℤ, pos, negsuc, ◌+ℤ◌, ◌-ℤ◌, ◌*ℤ◌, neg_ℤ, nat_abs, arith, refl, ap, sym, ◌∙◌, ◌⊎◌, inl, inr, ⊎_elim, ◌∷◌, subst, [], ints, unsigned_abs-mul, cases_order, mul-le, mul-pos, le-mul_of_pos_right, ring, at, num, neg, ◌⊕◌, ◌⊖◌, ◌⊗◌, given, none, follows, follows_times, half_side, Place, step, Within, SamePlace, InClosedFrame, toward, IsBetween, Vector, opposite, IsDirection, SameDirection, Set, Flat, FlatDim, IsVertex, carriers, combination, FirstChange, IsFlatBelow, Drop, WayEnd, EdgeAround, SameUpToFactor, of_place, of_direction, nought-or, zero-decided, vector-same, direction-left, direction-right}
 use Rattle.law_near.proofs.Near.{reach_all}
-use Rattle.law_near.proofs.Flats.{Flat-from_cone, FlatCone-from_flat, vector-same}
+use Rattle.law_near.proofs.Flats.{Flat-from_cone, FlatCone-from_flat}
 use Rattle.law_near.proofs.Rays.{signs-same, slope-same, same-place_sym}
-use Rattle.law_near.proofs.Directions.{direction-left, direction-right, zero-decided, same-factor, factor-same}
-use Rattle.law_near.proofs.Far.{nought-or}
+use Rattle.law_near.proofs.Directions.{same-factor, factor-same}
 use Rattle.law_near.proofs.Alike.{germs-by_cell, Flat-by_germs, FlatDim-by_germs, FlatDim-one}
 use Rattle.law_near.proofs.Frames.{flat_dim-outside}
 use Rattle.law_near.proofs.FlatOperations.{flat-combination}
 use Rattle.law_near.proofs.FlatDecided.{near-of_flat, flat-by_signs, flat_dim-of, flat_dim-decided}
-use Rattle.law_near.specs.Homogeneous.{SameUpToFactor, of_place, of_direction}
 use Rattle.law_near.proofs.Sums.{same-sym, same-trans, past-mixed, before-at-after}
 use Rattle.law_near.proofs.Mixed.{factor-place, from-start, place-toward, toward-place}
 use Rattle.law_near.proofs.Places.{mix_place, mix-close, far}

@@ -1,32 +1,17 @@
 -- Along a segment whose points have equally many flat directions the cone doesn't change.
-use Rattle.std.proofs.Common.{◌≡◌, ℕ, zero, suc, ◌+◌, ◌*◌, ◌<◌, ◌≤◌, ℤ, pos, ◌+ℤ◌, ◌-ℤ◌, ◌*ℤ◌, ◌<ℤ◌, arith, refl, ap, sym, ◌∙◌, inl, inr, ⊎_elim, ◌↔◌, List, [], ◌∷◌, ◌++◌, subst}
-use Rattle.std.proofs.lemmas.Int.{ints}
-use Rattle.std.proofs.Math.Nat.{le-mul_of_pos_right}
-use Rattle.nef_space.specs.Signs.{sign, sign_times}
-use Rattle.nef_space.proofs.Ring.{ring, at, num, ◌⊕◌, ◌⊖◌, ◌⊗◌, Poly}
-use Rattle.nef_space.proofs.Combination.{given, none, follows}
-use Rattle.nef_space.proofs.Order.{nought-is, sign-plus, sign_of_product, by_order}
-use Rattle.nef_space.specs.Place.{Place, Form, slope, Within, SamePlace, toward}
-use Rattle.nef_space.specs.Vectors.{Vector, zero_vector, blend, dot, cross, triple, IsZero, IsDirection}
-use Rattle.nef_space.specs.Sets.{Set}
-use Rattle.nef_space.specs.Local.{HasLabel, Germ, Flat, FlatDim, IsEven, IsEvenPath, Joined}
-use Rattle.nef_space.specs.declared.label.Label.{Label}
-use Rattle.law_near.specs.Cells.{sign_at, carriers, SameSigns}
-use Rattle.law_near.specs.Cones.{slide, combination, NearGerm, FlatCone, IsOnSegment}
-use Rattle.law_near.specs.Laws.{IsSettled, SameGerms}
+use Rattle.law_near.proofs.Prelude.{◌≡◌, ℕ, zero, suc, ◌+◌, ◌*◌, ◌<◌, ◌≤◌, ℤ, pos, ◌+ℤ◌, ◌-ℤ◌, ◌*ℤ◌, ◌<ℤ◌, arith, refl, ap, sym, ◌∙◌, inl, inr, ⊎_elim, ◌↔◌, List, ◌∷◌, ◌++◌, subst, [], ints, le-mul_of_pos_right, sign_times, ring, at, num, ◌⊕◌, ◌⊖◌, ◌⊗◌, given, none, follows, nought-is, sign-plus, sign_of_product, by_order, nought-or, Place, Form, slope, Within, SamePlace, toward, Vector, zero_vector, blend, dot, cross, triple, IsZero, IsDirection, Set, HasLabel, Germ, Flat, FlatDim, IsEven, IsEvenPath, Joined, Label, sign_at, carriers, SameSigns, slide, combination, NearGerm, FlatCone, IsOnSegment, IsSettled, SameGerms, zero-decided, self-pos, vector-same, cross_of, dot_of, numbers, scaled-coordinates, triple_poly, vec}
+use Rattle.nef_space.specs.Signs.{sign}
 use Rattle.law_near.proofs.Near.{step-within, reach_all}
 use Rattle.law_near.proofs.Cells.{reach-some, keeps-all, is_nought, Cells}
 use Rattle.law_near.proofs.Germs.{Germ-unique, near-same, sign-along, sample, sample-short}
-use Rattle.law_near.proofs.Flats.{Flat-from_cone, FlatCone-from_flat, FlatCone-from_carriers, vector-same, sign-toward}
+use Rattle.law_near.proofs.Flats.{Flat-from_cone, FlatCone-from_flat, FlatCone-from_carriers, sign-toward}
 use Rattle.law_near.proofs.Rays.{same-place_sym, signs-same, Germ-zero}
 use Rattle.law_near.proofs.Mixed.{toward-place, between-is}
-use Rattle.law_near.proofs.Directions.{zero-decided, self-pos}
-use Rattle.law_near.proofs.Far.{nought-or}
 use Rattle.law_near.proofs.Alike.{germs-by_cell, FlatDim-by_germs, FlatDim-one}
 use Rattle.law_near.proofs.Decisions.{ahead, near-ahead, near-germ_of}
 use Rattle.law_near.proofs.FlatOperations.{flat-combination}
-use Rattle.law_near.proofs.FlatDecided.{near-of_flat, flat-by_signs, cross-turned, flat_dim-of}
-use Rattle.law_near.proofs.Between.{parallel-x, parallel-y, parallel-z, between-turned}
+use Rattle.law_near.proofs.FlatDecided.{near-of_flat, flat-by_signs, flat_dim-of}
+use Rattle.law_near.proofs.Between.{between-turned}
 use Rattle.law_near.proofs.Decided.{germ_of}
 use Rattle.law_near.proofs.FirstChange.{settled-along}
 
@@ -87,66 +72,37 @@ flat-divided s p k d e some i j l f = Flat-from_cone s p e (flat-by_signs s p d 
 -- a multiple of a flat direction
 pub span-1 : (s : Set) (p : Place) (d e : Vector) → IsDirection d → Flat s p d → IsZero (cross d e) → Flat s p e
 span-1 s p d e some f z =
-    let i = cross-turned d e z in
-    flat-divided s p (dot d d) (combination (dot e d) d (pos 0) d) e (self-pos d some)
-    (parallel-x e d i ∙ one d.x) (parallel-y e d i ∙ one d.y) (parallel-z e d i ∙ one d.z) (flat-combination s p d d (dot e d) (pos 0) f f)
+    let i = scaled-coordinates d e z in
+    flat-divided s p (dot d d) (combination (dot d e) d (pos 0) d) e (self-pos d some)
+    (i.0 ∙ one d.x) (i.1 ∙ one d.y) (i.2 ∙ one d.z) (flat-combination s p d d (dot d e) (pos 0) f f)
   where
-    one : (x : ℤ) → dot e d *ℤ x ≡ dot e d *ℤ x +ℤ pos 0 *ℤ x
-    one x = ring (dot e d ∷ x ∷ []) (at 0 ⊗ at 1) (at 0 ⊗ at 1 ⊕ num (pos 0) ⊗ at 1) tt
+    one : (x : ℤ) → dot d e *ℤ x ≡ dot d e *ℤ x +ℤ pos 0 *ℤ x
+    one x = ring (dot d e ∷ x ∷ []) (at 0 ⊗ at 1) (at 0 ⊗ at 1 ⊕ num (pos 0) ⊗ at 1) tt
 
--- the numbers of d, c and e, of n = d x c, and what e is made of: (n.n) e = ((e x c).n) d + ((d x e).n) c where [d c e] = 0
-abbrev nine : Vector → Vector → Vector → List ℤ
-nine d c e = d.x ∷ d.y ∷ d.z ∷ c.x ∷ c.y ∷ c.z ∷ e.x ∷ e.y ∷ e.z ∷ []
-
-abbrev nx : Poly
-nx = at 1 ⊗ at 5 ⊖ at 2 ⊗ at 4
-
-abbrev ny : Poly
-ny = at 2 ⊗ at 3 ⊖ at 0 ⊗ at 5
-
-abbrev nz : Poly
-nz = at 0 ⊗ at 4 ⊖ at 1 ⊗ at 3
-
-abbrev square : Poly
-square = nx ⊗ nx ⊕ ny ⊗ ny ⊕ nz ⊗ nz
-
-abbrev of_d : Poly
-of_d = (at 7 ⊗ at 5 ⊖ at 8 ⊗ at 4) ⊗ nx ⊕ (at 8 ⊗ at 3 ⊖ at 6 ⊗ at 5) ⊗ ny ⊕ (at 6 ⊗ at 4 ⊖ at 7 ⊗ at 3) ⊗ nz
-
-abbrev of_c : Poly
-of_c = (at 1 ⊗ at 8 ⊖ at 2 ⊗ at 7) ⊗ nx ⊕ (at 2 ⊗ at 6 ⊖ at 0 ⊗ at 8) ⊗ ny ⊕ (at 0 ⊗ at 7 ⊖ at 1 ⊗ at 6) ⊗ nz
-
-abbrev determinant : Poly
-determinant = at 0 ⊗ (at 4 ⊗ at 8 ⊖ at 5 ⊗ at 7) ⊕ at 1 ⊗ (at 5 ⊗ at 6 ⊖ at 3 ⊗ at 8) ⊕ at 2 ⊗ (at 3 ⊗ at 7 ⊖ at 4 ⊗ at 6)
-
+-- (n.n) e = ((e x c).n) d + ((d x e).n) c for n = d x c, where [d c e] = 0
 pub span-2 : (s : Set) (p : Place) (d c e : Vector) → IsDirection (cross d c) → Flat s p d → Flat s p c → triple d c e ≡ pos 0 → Flat s p e
 span-2 s p d c e some f g z =
+    let xs = numbers d c e e in let n = cross_of (vec 0) (vec 3) in
+    let i = dot_of (cross_of (vec 6) (vec 3)) n in let j = dot_of (cross_of (vec 0) (vec 6)) n in
     flat-divided s p (dot (cross d c) (cross d c)) (combination (dot (cross e c) (cross d c)) d (dot (cross d e) (cross d c)) c) e (self-pos (cross d c) some)
-    (follows (nine d c e) (square ⊗ at 6) (of_d ⊗ at 0 ⊕ of_c ⊗ at 3) (given nx determinant (num (pos 0)) z none) tt)
-    (follows (nine d c e) (square ⊗ at 7) (of_d ⊗ at 1 ⊕ of_c ⊗ at 4) (given ny determinant (num (pos 0)) z none) tt)
-    (follows (nine d c e) (square ⊗ at 8) (of_d ⊗ at 2 ⊕ of_c ⊗ at 5) (given nz determinant (num (pos 0)) z none) tt)
+    (follows xs (dot_of n n ⊗ at 6) (i ⊗ at 0 ⊕ j ⊗ at 3) (given n.0 (triple_poly 0 3 6) (num (pos 0)) z none) tt)
+    (follows xs (dot_of n n ⊗ at 7) (i ⊗ at 1 ⊕ j ⊗ at 4) (given n.1 (triple_poly 0 3 6) (num (pos 0)) z none) tt)
+    (follows xs (dot_of n n ⊗ at 8) (i ⊗ at 2 ⊕ j ⊗ at 5) (given n.2 (triple_poly 0 3 6) (num (pos 0)) z none) tt)
     (flat-combination s p d c (dot (cross e c) (cross d c)) (dot (cross d e) (cross d c)) f g)
-
--- [a b c] over the numbers of the vectors that begin at these places
-abbrev triple-p : ℕ → ℕ → ℕ → Poly
-triple-p a b c = at a ⊗ (at (b + 1) ⊗ at (c + 2) ⊖ at (b + 2) ⊗ at (c + 1)) ⊕ at (a + 1) ⊗ (at (b + 2) ⊗ at c ⊖ at b ⊗ at (c + 2)) ⊕ at (a + 2) ⊗ (at b ⊗ at (c + 1) ⊖ at (b + 1) ⊗ at c)
 
 -- [d c f] e = [e c f] d + [d e f] c + [d c e] f
 span-3_positive : (s : Set) (p : Place) (d c f e : Vector) → pos 0 <ℤ triple d c f → Flat s p d → Flat s p c → Flat s p f → Flat s p e
 span-3_positive s p d c f e some fd fc ff =
     let m = combination (triple e c f) d (triple d e f) c in
     flat-divided s p (triple d c f) (combination (pos 1) m (triple d c e) f) e some
-    (ring twelve (triple-p 0 3 6 ⊗ at 9) (num (pos 1) ⊗ (triple-p 9 3 6 ⊗ at 0 ⊕ triple-p 0 9 6 ⊗ at 3) ⊕ triple-p 0 3 9 ⊗ at 6) tt)
-    (ring twelve (triple-p 0 3 6 ⊗ at 10) (num (pos 1) ⊗ (triple-p 9 3 6 ⊗ at 1 ⊕ triple-p 0 9 6 ⊗ at 4) ⊕ triple-p 0 3 9 ⊗ at 7) tt)
-    (ring twelve (triple-p 0 3 6 ⊗ at 11) (num (pos 1) ⊗ (triple-p 9 3 6 ⊗ at 2 ⊕ triple-p 0 9 6 ⊗ at 5) ⊕ triple-p 0 3 9 ⊗ at 8) tt)
+    (ring (numbers d c f e) (triple_poly 0 3 6 ⊗ at 9) (num (pos 1) ⊗ (triple_poly 9 3 6 ⊗ at 0 ⊕ triple_poly 0 9 6 ⊗ at 3) ⊕ triple_poly 0 3 9 ⊗ at 6) tt)
+    (ring (numbers d c f e) (triple_poly 0 3 6 ⊗ at 10) (num (pos 1) ⊗ (triple_poly 9 3 6 ⊗ at 1 ⊕ triple_poly 0 9 6 ⊗ at 4) ⊕ triple_poly 0 3 9 ⊗ at 7) tt)
+    (ring (numbers d c f e) (triple_poly 0 3 6 ⊗ at 11) (num (pos 1) ⊗ (triple_poly 9 3 6 ⊗ at 2 ⊕ triple_poly 0 9 6 ⊗ at 5) ⊕ triple_poly 0 3 9 ⊗ at 8) tt)
     (flat-combination s p m f (pos 1) (triple d c e) (flat-combination s p d c (triple e c f) (triple d e f) fd fc) ff)
-  where
-    twelve : List ℤ
-    twelve = d.x ∷ d.y ∷ d.z ∷ c.x ∷ c.y ∷ c.z ∷ f.x ∷ f.y ∷ f.z ∷ e.x ∷ e.y ∷ e.z ∷ []
 
 pub span-3 : (s : Set) (p : Place) (d c f e : Vector) → (triple d c f ≡ pos 0 → ⊥) → Flat s p d → Flat s p c → Flat s p f → Flat s p e
 span-3 s p d c f e some fd fc ff = by_order (triple d c f) (pos 0)
-    (λ l. span-3_positive s p d f c e (turned (triple d c f) (triple d f c) l (ring (nine d c f) (triple-p 0 6 3) (num (pos 0) ⊖ triple-p 0 3 6) tt)) fd ff fc)
+    (λ l. span-3_positive s p d f c e (turned (triple d c f) (triple d f c) l (ring (numbers d c f f) (triple_poly 0 6 3) (num (pos 0) ⊖ triple_poly 0 3 6) tt)) fd ff fc)
     (λ z. absurd (some z))
     (λ l. span-3_positive s p d c f e l fd fc ff)
   where

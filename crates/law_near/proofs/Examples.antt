@@ -1,23 +1,11 @@
 -- The closed examples.
-use Rattle.std.proofs.Common.{◌≡◌, zero, suc, ◌+◌, ◌*◌, ◌<◌, ℤ, pos, negsuc, ◌+ℤ◌, ◌-ℤ◌, ◌*ℤ◌, neg_ℤ, ◌≤ℤ◌, ◌<ℤ◌, nat_abs, arith, refl, ap, ◌∙◌, inl, inr, ⊎_elim, List, [], ◌∷◌, subst, Bool, true, false, cond}
-use Rattle.std.proofs.lemmas.Int.{ints}
+use Rattle.law_near.proofs.Prelude.{◌≡◌, zero, suc, ◌+◌, ◌*◌, ◌<◌, ℤ, pos, negsuc, ◌+ℤ◌, ◌-ℤ◌, ◌*ℤ◌, neg_ℤ, ◌≤ℤ◌, ◌<ℤ◌, nat_abs, arith, refl, ap, ◌∙◌, inl, inr, ⊎_elim, List, ◌∷◌, subst, Bool, true, false, cond, [], ints, ring, at, num, ◌⊕◌, ◌⊖◌, ◌⊗◌, given, none, follows, by_order, half_side, Place, Form, form_at, slope, Ratio, step, InFrame, Vector, vector, zero_vector, blend, IsZero, cross, triple, Set, HasLabel, Germ, Flat, Label, Out, Not, In, sign_at, carriers, IsInAllAt, slide, NearGerm, vector-same}
 use Rattle.nef_space.specs.Signs.{nought, sign}
-use Rattle.nef_space.proofs.Ring.{ring, at, num, ◌⊕◌, ◌⊖◌, ◌⊗◌}
-use Rattle.nef_space.proofs.Combination.{given, none, follows}
-use Rattle.nef_space.proofs.Order.{by_order}
-use Rattle.nef_space.specs.Limits.{half_side}
 use Rattle.nef_space.specs.Laws.{origin}
-use Rattle.nef_space.specs.Place.{Place, Form, form_at, slope, Ratio, step, InFrame}
-use Rattle.nef_space.specs.Vectors.{Vector, vector, zero_vector, blend, IsZero, cross, triple}
-use Rattle.nef_space.specs.Sets.{Set, Holds}
-use Rattle.nef_space.specs.Local.{HasLabel, Germ, Flat}
-use Rattle.nef_space.specs.declared.label.Label.{Label}
-use Rattle.nef_space.specs.declared.label.Label.TheVariants.{Out, Not, In}
-use Rattle.law_near.specs.Cells.{sign_at, carriers, IsInAllAt}
-use Rattle.law_near.specs.Cones.{slide, NearGerm}
+use Rattle.nef_space.specs.Sets.{Holds}
 use Rattle.law_near.specs.Examples.{x_below, x_above, y_below, y_above, z_below, z_above, x_axis, y_axis, z_axis, two_halves, wall, wall_part, wedge, point, HalvesDisjoint, TwoHalves, Wall, WallPart, Edge, PointAlone}
 use Rattle.law_near.proofs.Near.{form-step}
-use Rattle.law_near.proofs.Flats.{Flat-from_cone, FlatCone-from_flat, FlatCone-from_carriers, vector-same}
+use Rattle.law_near.proofs.Flats.{Flat-from_cone, FlatCone-from_flat, FlatCone-from_carriers}
 use Rattle.law_near.proofs.Alike.{flat-germ}
 use Rattle.law_near.proofs.Rays.{Germ-zero}
 use Rattle.law_near.proofs.Decided.{germ_of}

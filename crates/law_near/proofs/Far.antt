@@ -1,14 +1,8 @@
 -- The signs of k d + e for large k: those at d, and where these are nought those at e.
-use Rattle.std.proofs.Common.{◌≡◌, ℕ, ◌+◌, ◌<◌, ◌≤◌, ℤ, pos, ◌+ℤ◌, ◌-ℤ◌, ◌*ℤ◌, nat_abs, arith, ap, sym, ◌∙◌, ◌⊎◌, inl, inr, ⊎_elim, List, [], ◌∷◌, subst}
-use Rattle.std.proofs.lemmas.Int.{ints}
-use Rattle.nef_space.proofs.Ring.{ring, at, num, ◌⊕◌, ◌⊖◌, ◌⊗◌}
-use Rattle.nef_space.proofs.Order.{sign, sign-plus, sign-minus, nought-is, by_order, mul_le_right, Lies}
-use Rattle.nef_space.specs.Place.{Form}
+use Rattle.law_near.proofs.Prelude.{◌≡◌, ℕ, ◌+◌, ◌<◌, ◌≤◌, ℤ, pos, ◌+ℤ◌, ◌-ℤ◌, ◌*ℤ◌, nat_abs, arith, ap, sym, ◌∙◌, inl, inr, ⊎_elim, List, ◌∷◌, subst, [], ints, ring, at, num, ◌⊕◌, ◌⊖◌, ◌⊗◌, sign, sign-plus, sign-minus, nought-is, by_order, mul_le_right, nought-or, Form}
+use Rattle.nef_space.proofs.Order.{Lies}
 pub use Rattle.law_near.specs.Homogeneous.{amount, Keeps}
 use Rattle.law_near.proofs.Sums.{Homogeneous, form_on, mix, SameSigns, form-mix}
-
-pub nought-or : (z : ℤ) → (z ≡ pos 0) ⊎ (z ≡ pos 0 → ⊥)
-nought-or z = by_order z (pos 0) (λ b. inr (λ e. omega (arith, ints))) (λ e. inl e) (λ b. inr (λ e. omega (arith, ints)))
 
 pub same-nought : (a b : ℤ) → sign b ≡ sign a → a ≡ pos 0 → b ≡ pos 0
 same-nought a b e h = nought-is b (e ∙ ap sign h)

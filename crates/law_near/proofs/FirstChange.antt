@@ -1,12 +1,8 @@
 -- Along a segment: what is settled is the same at both ends; the first change of a decided predicate, and the first point of a closed one.
-use Rattle.std.proofs.Common.{ℕ, ◌+◌, ◌*◌, ◌<◌, arith, refl, ◌⊎◌, inl, inr, ⊎_elim, List}
-use Rattle.nef_space.specs.Place.{Place, Form, Within, SamePlace, toward, IsBetween}
-use Rattle.law_near.specs.Homogeneous.{of_place, OnPlaces}
+use Rattle.law_near.proofs.Prelude.{ℕ, ◌+◌, ◌*◌, ◌<◌, arith, refl, ◌⊎◌, inl, inr, ⊎_elim, List, Place, Form, Within, SamePlace, toward, IsBetween, of_place, OnPlaces, IsSettled, FirstChange, FirstPoint, direction-left}
 use Rattle.law_near.proofs.Sums.{same-sym, mixed-mix, mixed-inner, on-past, on-after}
-use Rattle.law_near.proofs.Directions.{direction-left}
 use Rattle.law_near.proofs.Mixed.{between-is, between-same, factor-place, places-on, place-toward, end-zero}
 use Rattle.law_near.proofs.Places.{mix_place, mix-close, far, settled-segment_places, PlaceChange, first-change_or_places}
-use Rattle.law_near.specs.Laws.{IsSettled, FirstChange, FirstPoint}
 use Rattle.law_near.proofs.Cells.{Cells, same-sym as signs-sym}
 use Rattle.law_near.proofs.Rays.{signs-same, same-place_sym}
 use Rattle.law_near.proofs.Between.{between-mix, between-inner}

@@ -1,7 +1,6 @@
 -- The first vector of a segment at which a decided predicate changes.
-use Rattle.std.proofs.Common.{◌≡◌, ℕ, zero, suc, ◌+◌, ◌<◌, arith, ◌⊎◌, inl, inr, ⊎_elim, List, true}
+use Rattle.law_near.proofs.Prelude.{◌≡◌, ℕ, zero, suc, ◌+◌, ◌<◌, arith, ◌⊎◌, inl, inr, ⊎_elim, List, true, Form}
 use Rattle.nef_space.proofs.Order.{Lies}
-use Rattle.nef_space.specs.Place.{Form}
 use Rattle.law_near.proofs.Sums.{Homogeneous, mix, SameUpToFactor, IsMixed, OnSegment, same-sym, signs-same, mixed-mix, mixed-turned, mixed-itself, on-start, on-end, on-mixed, on-same, on-convex, past-mixed, past-on, past-nearer, before-at-after}
 use Rattle.law_near.proofs.Crossings.{crosses, crossings, IsClear, clear-same, find-crossing, split, Split}
 use Rattle.law_near.proofs.Segment.{Cells, cells-part, SettledToward}

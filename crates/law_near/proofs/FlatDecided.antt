@@ -1,29 +1,13 @@
 -- The flat directions of a point are decided, and so is how many independent ones there are.
-use Rattle.std.proofs.Common.{◌≡◌, ℕ, ◌+◌, ◌<◌, ◌≤◌, ℤ, pos, negsuc, ◌+ℤ◌, ◌-ℤ◌, ◌*ℤ◌, neg_ℤ, nat_abs, arith, refl, ap, sym, ◌∙◌, ◌⊎◌, inl, inr, ⊎_elim, ◌↔◌, List, [], ◌∷◌, ◌++◌, subst}
-use Rattle.std.proofs.lemmas.Int.{ints}
-use Rattle.std.proofs.lemmas.Bool.{cases_order}
-use Rattle.nef_space.specs.Signs.{nought, sign, sign_times, Lies}
-use Rattle.nef_space.proofs.Ring.{ring, at, num, neg, ◌⊕◌, ◌⊖◌, ◌⊗◌}
-use Rattle.nef_space.proofs.Combination.{given, none, follows, follows_times}
-use Rattle.nef_space.proofs.Order.{nought-is, sign-plus, sign_of_product}
-use Rattle.nef_space.specs.Place.{Place, Form, form, slope}
-use Rattle.nef_space.specs.Vectors.{Vector, blend, dot, cross, triple, IsZero, IsDirection}
-use Rattle.nef_space.specs.Sets.{Set}
-use Rattle.nef_space.specs.Local.{Germ, Flat, FlatDim}
-use Rattle.nef_space.specs.declared.label.Label.{Label}
-use Rattle.law_near.specs.Cells.{sign_at, carriers, SameSlopes, SameSlopesAt}
-use Rattle.law_near.specs.Cones.{slide, NearGerm, FlatCone}
+use Rattle.law_near.proofs.Prelude.{◌≡◌, ℕ, ◌+◌, ◌<◌, ◌≤◌, ℤ, pos, negsuc, ◌+ℤ◌, ◌*ℤ◌, neg_ℤ, nat_abs, arith, refl, ap, sym, ◌∙◌, ◌⊎◌, inl, inr, ⊎_elim, ◌↔◌, List, ◌∷◌, ◌++◌, subst, [], ints, cases_order, sign_times, Lies, ring, at, num, neg, ◌⊕◌, ◌⊖◌, ◌⊗◌, given, none, follows, nought-is, sign-plus, sign_of_product, nought-or, Place, Form, form, slope, Vector, blend, dot, cross, IsZero, IsDirection, Set, Germ, Flat, FlatDim, Label, sign_at, carriers, SameSlopes, SameSlopesAt, slide, NearGerm, FlatCone, lies-left, lies-right, vector-same, triple-dot, parallel-both, triple-in_plane}
+use Rattle.nef_space.specs.Signs.{nought, sign}
 use Rattle.law_near.proofs.Cells.{is_nought}
-use Rattle.nef_space.proofs.Lists.{lies-left, lies-right}
 use Rattle.law_near.proofs.Germs.{Germ-unique}
-use Rattle.law_near.proofs.Flats.{Flat-from_cone, FlatCone-from_flat, Germ-by_signs, slope-slide, vector-same}
+use Rattle.law_near.proofs.Flats.{Flat-from_cone, FlatCone-from_flat, Germ-by_signs, slope-slide}
 use Rattle.law_near.proofs.Decided.{Decided, germ_of, every, decided-both, decided-not}
-use Rattle.law_near.proofs.Directions.{self-pos}
-use Rattle.law_near.proofs.Far.{nought-or}
 use Rattle.law_near.proofs.Alike.{FlatDim-one}
 use Rattle.law_near.proofs.NearGerms.{steep, steep-one, sign-large}
 use Rattle.law_near.proofs.Decisions.{representatives, near-germ_of, near-germ_one, same-label_or}
-use Rattle.law_near.proofs.Between.{parallel-x, parallel-y, parallel-z, cross-of_multiples}
 
 -- ---- what decides the germs near a direction
 -- d and d' lead to the same sides, and e and e' do where d doesn't decide
@@ -205,37 +189,6 @@ crosses-zero d e = (
 normal-zero : (n e : Vector) → dot n e ≡ pos 0 → AllZero (normal_form n) e
 normal-zero n e z h (inl o) = subst (λ (x : Form). slope x e ≡ pos 0) o z
 normal-zero n e z h (inr o) = absurd o
-
--- [d e f] is (d x e).f
-pub triple-dot : (d e f : Vector) → triple d e f ≡ dot (cross d e) f
-triple-dot d e f = ring (d.x ∷ d.y ∷ d.z ∷ e.x ∷ e.y ∷ e.z ∷ f.x ∷ f.y ∷ f.z ∷ [])
-    (at 0 ⊗ (at 4 ⊗ at 8 ⊖ at 5 ⊗ at 7) ⊕ at 1 ⊗ (at 5 ⊗ at 6 ⊖ at 3 ⊗ at 8) ⊕ at 2 ⊗ (at 3 ⊗ at 7 ⊖ at 4 ⊗ at 6))
-    ((at 1 ⊗ at 5 ⊖ at 2 ⊗ at 4) ⊗ at 6 ⊕ (at 2 ⊗ at 3 ⊖ at 0 ⊗ at 5) ⊗ at 7 ⊕ (at 0 ⊗ at 4 ⊖ at 1 ⊗ at 3) ⊗ at 8) tt
-
-pub cross-turned : (d e : Vector) → IsZero (cross d e) → IsZero (cross e d)
-cross-turned d e z = (one d.y d.z e.y e.z z.0, one d.z d.x e.z e.x z.1, one d.x d.y e.x e.y z.2)
-  where
-    one : (a b c f : ℤ) → a *ℤ f -ℤ b *ℤ c ≡ pos 0 → c *ℤ b -ℤ f *ℤ a ≡ pos 0
-    one a b c f h = follows (a ∷ b ∷ c ∷ f ∷ []) (at 2 ⊗ at 1 ⊖ at 3 ⊗ at 0) (num (pos 0)) (given (num (negsuc 0)) (at 0 ⊗ at 3 ⊖ at 1 ⊗ at 2) (num (pos 0)) h none) tt
-
--- two vectors that are parallel to a direction are parallel
-pub parallel-both : (d a b : Vector) → IsDirection d → IsZero (cross d a) → IsZero (cross d b) → IsZero (cross a b)
-parallel-both d a b some h k =
-    let i = cross-turned d a h in
-    let j = cross-turned d b k in
-    cross-of_multiples (dot d d) (dot b d) (dot a d) a b d (self-pos d some)
-    (record { of_x = parallel-x a d i; of_y = parallel-y a d i; of_z = parallel-z a d i })
-    (record { of_x = parallel-x b d j; of_y = parallel-y b d j; of_z = parallel-z b d j })
-
--- three vectors at right angles to a direction lie in one plane
-pub triple-in_plane : (n a b c : Vector) → IsDirection n → dot n a ≡ pos 0 → dot n b ≡ pos 0 → dot n c ≡ pos 0 → triple a b c ≡ pos 0
-triple-in_plane n a b c some h k l =
-    follows_times (n.x ∷ n.y ∷ n.z ∷ a.x ∷ a.y ∷ a.z ∷ b.x ∷ b.y ∷ b.z ∷ c.x ∷ c.y ∷ c.z ∷ [])
-    (at 0 ⊗ at 0 ⊕ at 1 ⊗ at 1 ⊕ at 2 ⊗ at 2)
-    (at 3 ⊗ (at 7 ⊗ at 11 ⊖ at 8 ⊗ at 10) ⊕ at 4 ⊗ (at 8 ⊗ at 9 ⊖ at 6 ⊗ at 11) ⊕ at 5 ⊗ (at 6 ⊗ at 10 ⊖ at 7 ⊗ at 9)) (num (pos 0))
-    (given (at 0 ⊗ (at 7 ⊗ at 11 ⊖ at 8 ⊗ at 10) ⊕ at 1 ⊗ (at 8 ⊗ at 9 ⊖ at 6 ⊗ at 11) ⊕ at 2 ⊗ (at 6 ⊗ at 10 ⊖ at 7 ⊗ at 9)) (at 0 ⊗ at 3 ⊕ at 1 ⊗ at 4 ⊕ at 2 ⊗ at 5) (num (pos 0)) h
-    (given (at 0 ⊗ (at 10 ⊗ at 5 ⊖ at 11 ⊗ at 4) ⊕ at 1 ⊗ (at 11 ⊗ at 3 ⊖ at 9 ⊗ at 5) ⊕ at 2 ⊗ (at 9 ⊗ at 4 ⊖ at 10 ⊗ at 3)) (at 0 ⊗ at 6 ⊕ at 1 ⊗ at 7 ⊕ at 2 ⊗ at 8) (num (pos 0)) k
-    (given (at 0 ⊗ (at 4 ⊗ at 8 ⊖ at 5 ⊗ at 7) ⊕ at 1 ⊗ (at 5 ⊗ at 6 ⊖ at 3 ⊗ at 8) ⊕ at 2 ⊗ (at 3 ⊗ at 7 ⊖ at 4 ⊗ at 6)) (at 0 ⊗ at 9 ⊕ at 1 ⊗ at 10 ⊕ at 2 ⊗ at 11) (num (pos 0)) l none))) (self-pos n some) tt
 
 -- each point has a number of independent flat directions
 pub flat_dim-of : (s : Set) (p : Place) → (k : ℕ) × FlatDim s p k

@@ -1,16 +1,7 @@
 -- A direction that is flat for the operands is flat for what is made of them.
-use Rattle.std.proofs.Common.{◌≡◌, ℕ, ◌*◌, ◌<◌, ◌≤◌, ℤ, pos, ◌+ℤ◌, ◌*ℤ◌, arith, inl, inr, ⊎_elim, ◌↔◌, [], ◌∷◌, subst}
-use Rattle.std.proofs.Math.Nat.{le-mul_of_pos_right}
-use Rattle.nef_space.proofs.Ring.{ring, at, num, ◌⊕◌, ◌⊗◌}
-use Rattle.nef_space.specs.Place.{Place}
-use Rattle.nef_space.specs.Vectors.{Vector, blend}
-use Rattle.nef_space.specs.Sets.{Set}
-use Rattle.nef_space.specs.Local.{Germ, Flat}
-use Rattle.nef_space.specs.declared.label.Label.{Label}
-use Rattle.nef_space.specs.declared.label.Label.TheVariants.{Out, Not, In}
-use Rattle.law_near.specs.Cones.{slide, combination, NearGerm, FlatCone, label_not}
+use Rattle.law_near.proofs.Prelude.{◌≡◌, ℕ, ◌*◌, ◌<◌, ◌≤◌, ℤ, pos, ◌+ℤ◌, ◌*ℤ◌, arith, inl, inr, ⊎_elim, ◌↔◌, ◌∷◌, subst, [], le-mul_of_pos_right, ring, at, num, ◌⊕◌, ◌⊗◌, Place, Vector, blend, Set, Germ, Flat, Label, Out, Not, In, slide, combination, NearGerm, FlatCone, label_not, vector-same}
 use Rattle.law_near.proofs.Germs.{Germ-unique}
-use Rattle.law_near.proofs.Flats.{Flat-from_cone, FlatCone-from_flat, FlatCone-add, FlatCone-scale, scaled, vector-same}
+use Rattle.law_near.proofs.Flats.{Flat-from_cone, FlatCone-from_flat, FlatCone-add, FlatCone-scale, scaled}
 use Rattle.law_near.proofs.Decided.{germ_of}
 use Rattle.law_near.proofs.Combine.{not-label, ByLabels, flat-by}
 use Rattle.law_near.proofs.Decisions.{near-germ_of, near-germ_one}

@@ -1,17 +1,6 @@
 -- Near a point a set is a cone, and its flat directions are a space.
-use Rattle.std.proofs.Common.{◌≡◌, ℕ, ◌+◌, ◌*◌, ◌<◌, ℤ, pos, ◌+ℤ◌, ◌-ℤ◌, ◌*ℤ◌, ◌<ℤ◌, nat_abs, arith, ap, sym, ◌∙◌, [], ◌∷◌, subst}
-use Rattle.std.proofs.lemmas.Int.{ints, unsigned_abs-mul}
-use Rattle.std.proofs.Math.Nat.{mul-pos, mul-lt-mul_of_pos_left}
-use Rattle.nef_space.proofs.Ring.{ring, at, num, ◌⊕◌, ◌⊖◌, ◌⊗◌}
-use Rattle.nef_space.proofs.Order.{nought, sign, sign_times, sign-plus, nought-is, sign_of_product, mul_pos}
-use Rattle.nef_space.specs.Signs.{Lies}
-use Rattle.law_near.specs.Cones.{slide, FlatCone}
-use Rattle.law_near.specs.Cells.{sign_at, carriers}
-use Rattle.nef_space.specs.Place.{Place, Form, form_at, slope, Ratio, step, Within, toward}
-use Rattle.nef_space.specs.Vectors.{Vector, vector}
-use Rattle.nef_space.specs.Sets.{Set}
-use Rattle.nef_space.specs.Local.{IsShort, HasLabel, Germ, Flat}
-use Rattle.nef_space.specs.declared.label.Label.{Label}
+use Rattle.law_near.proofs.Prelude.{◌≡◌, ℕ, ◌+◌, ◌*◌, ◌<◌, ℤ, pos, ◌+ℤ◌, ◌-ℤ◌, ◌*ℤ◌, ◌<ℤ◌, nat_abs, arith, ap, sym, ◌∙◌, ◌∷◌, subst, [], ints, unsigned_abs-mul, mul-pos, mul-lt-mul_of_pos_left, ring, at, num, ◌⊕◌, ◌⊖◌, ◌⊗◌, nought, sign, sign-plus, nought-is, sign_of_product, mul_pos, Lies, slide, FlatCone, sign_at, carriers, Place, Form, form_at, slope, Ratio, step, Within, toward, Vector, Set, IsShort, HasLabel, Germ, Flat, Label, vector-same}
+use Rattle.nef_space.proofs.Order.{sign_times}
 use Rattle.law_near.proofs.Near.{form-step, slope-toward, weaken, stride, step-within, reach_all}
 use Rattle.law_near.proofs.Cells.{reach-some}
 use Rattle.law_near.proofs.Germs.{locality, sign-along, short_enough}
@@ -40,9 +29,6 @@ label-toward s m p q c (n, some, f) =
     let short : IsShort k t = (omega (arith, ints), omega (arith, ints)) in
     locality s m p (step p t (toward p q)) q (step-within (reach_all (carriers s) p) p (toward p q) t short) c
     (λ f l e. sign-along f p t (toward p q) e short.0 ∙ sym (sign-toward f p q e)) (f t (omega (arith, ints), omega (arith, ints)))
-
-pub vector-same : (d e : Vector) → d.x ≡ e.x → d.y ≡ e.y → d.z ≡ e.z → d ≡ e
-vector-same d e i j k = ap (λ u. vector u d.y d.z) i ∙ ap (λ u. vector e.x u d.z) j ∙ ap (λ u. vector e.x e.y u) k
 
 toward-one : (x : ℤ) (v : ℕ) (u : ℤ) (w : ℕ) (t : Ratio) (d : ℤ) → (x *ℤ pos t.b +ℤ t.a *ℤ pos v *ℤ d) *ℤ pos w -ℤ u *ℤ pos (v * t.b) ≡ pos t.b *ℤ (x *ℤ pos w -ℤ u *ℤ pos v) +ℤ t.a *ℤ pos v *ℤ pos w *ℤ d
 toward-one x v u w t d = ring (x ∷ pos v ∷ u ∷ pos w ∷ t.a ∷ pos t.b ∷ d ∷ [])

@@ -1,10 +1,5 @@
 -- Worked uses of this crate's lemmas.
-use Rattle.std.proofs.Common.{◌≡◌, pos, ◌<ℤ◌, arith, refl, sym, ◌∙◌, inl, inr, List, [], ◌∷◌}
-use Rattle.std.proofs.lemmas.Int.{ints}
-use Rattle.nef_space.proofs.Order.{nought-is, plus-is, sign-plus}
-use Rattle.nef_space.specs.Vectors.{Vector, vector, dot, blend}
-use Rattle.nef_space.specs.Place.{Place, Form, form_at}
-use Rattle.law_near.specs.Homogeneous.{OnPlaces}
+use Rattle.law_near.proofs.Prelude.{◌≡◌, pos, ◌<ℤ◌, arith, refl, sym, ◌∙◌, inl, inr, List, ◌∷◌, [], ints, nought-is, plus-is, sign-plus, Vector, vector, dot, blend, Place, Form, form_at, OnPlaces}
 use Rattle.law_near.proofs.Near.{sign_at, keeps, reach}
 use Rattle.law_near.proofs.Places.{settled-segment_places}
 use Rattle.law_near.proofs.Generic.{generic_direction, direction-avoids, direction_bound, direction-near}

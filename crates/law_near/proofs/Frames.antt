@@ -1,16 +1,6 @@
 -- The frame is open, and outside its closure nothing changes.
-use Rattle.std.proofs.Common.{◌≡◌, ◌+◌, ◌*◌, ℤ, pos, negsuc, neg_ℤ, ◌≤ℤ◌, ◌<ℤ◌, arith, refl, sym, inl, inr, ◌↔◌, subst}
-use Rattle.std.proofs.lemmas.Int.{ints, by_lt_z}
-use Rattle.nef_space.specs.Signs.{Sign, minus, nought, plus, Lies}
-use Rattle.nef_space.proofs.Order.{sign-plus}
-use Rattle.nef_space.specs.Limits.{half_side}
-use Rattle.nef_space.specs.Place.{Place, Form, form_at, Ratio, step, Within, InFrame, InClosedFrame}
-use Rattle.nef_space.specs.Vectors.{Vector, vector}
-use Rattle.nef_space.specs.Sets.{Set}
-use Rattle.nef_space.specs.Local.{HasLabel, Germ, Flat, FlatDim}
-use Rattle.nef_space.specs.declared.label.Label.{Label}
-use Rattle.nef_space.specs.declared.label.Label.TheVariants.{Out, Not, In}
-use Rattle.law_near.specs.Cells.{sign_at, side, frame}
+use Rattle.law_near.proofs.Prelude.{◌≡◌, ◌+◌, ◌*◌, ℤ, pos, negsuc, neg_ℤ, ◌≤ℤ◌, ◌<ℤ◌, arith, refl, sym, inl, inr, ◌↔◌, subst, ints, by_lt_z, Lies, sign-plus, half_side, Place, Form, form_at, Ratio, step, Within, InFrame, InClosedFrame, Vector, vector, Set, HasLabel, Germ, Flat, FlatDim, Label, Out, Not, In, sign_at, side, frame}
+use Rattle.nef_space.specs.Signs.{Sign, minus, nought, plus}
 use Rattle.law_near.proofs.Near.{stride, step-within, reach_all}
 use Rattle.law_near.proofs.Cells.{reach-some, keeps-all, coordinate-in, InFrame-cells}
 

@@ -1,17 +1,9 @@
 -- Vectors in general position: with the signs of a given vector, and with no form of a list nought.
-use Rattle.std.proofs.Common.{◌≡◌, ℕ, ◌+◌, ◌*◌, ◌<◌, ◌≤◌, ℤ, pos, ◌+ℤ◌, ◌-ℤ◌, ◌*ℤ◌, ◌<ℤ◌, nat_abs, arith, refl, ap, sym, ◌∙◌, ◌⊎◌, inl, inr, ⊎_elim, List, [], ◌∷◌, subst}
-use Rattle.std.proofs.lemmas.Int.{ints}
-use Rattle.std.proofs.Math.Nat.{le-mul_of_pos_right, mul-le-mul_left}
-use Rattle.nef_space.proofs.Ring.{ring, at, num, ◌⊕◌, ◌⊖◌, ◌⊗◌}
-use Rattle.nef_space.proofs.Combination.{follows, given, none}
-use Rattle.nef_space.proofs.Order.{sign, sign-plus, plus-is, square_nonneg, Lies}
+use Rattle.law_near.proofs.Prelude.{◌≡◌, ℕ, ◌+◌, ◌*◌, ◌<◌, ◌≤◌, ℤ, pos, ◌+ℤ◌, ◌-ℤ◌, ◌*ℤ◌, ◌<ℤ◌, nat_abs, arith, refl, ap, sym, ◌∙◌, ◌⊎◌, inl, inr, ⊎_elim, List, ◌∷◌, subst, [], ints, le-mul_of_pos_right, mul-le-mul_left, ring, at, num, ◌⊕◌, ◌⊖◌, ◌⊗◌, follows, given, none, sign, sign-plus, plus-is, square_nonneg, nought-or, square_pos, abs-pos, Vector, vector, dot, blend, IsDirection, Place, Form, form, form_at, Near, Within, of_place, of_direction, direction_form, IsZeroForm, Avoids, homogeneous}
+use Rattle.nef_space.proofs.Order.{Lies}
 use Rattle.nef_space.proofs.Samples.{each, lies-each}
-use Rattle.nef_space.specs.Vectors.{Vector, vector, dot, blend, IsDirection}
-use Rattle.nef_space.specs.Place.{Place, Form, form, form_at, Near, Within}
-use Rattle.law_near.specs.Homogeneous.{of_place, of_direction, direction_form, IsZeroForm, Avoids, homogeneous}
 use Rattle.law_near.proofs.Sums.{Homogeneous, form_on, mix}
-use Rattle.law_near.proofs.Directions.{square_pos}
-use Rattle.law_near.proofs.Far.{amount, Keeps, far-keeps, far-level, nought-or, same-off}
+use Rattle.law_near.proofs.Far.{amount, Keeps, far-keeps, far-level, same-off}
 
 -- the form's own numbers as a vector
 abbrev pub numbers_of : Form → Homogeneous
@@ -111,12 +103,9 @@ weight_form = form (pos 0) (pos 0) (pos 0) (pos 1)
 weight-form : (v : Homogeneous) → form_on weight_form v ≡ v.w
 weight-form v = ring (v.x ∷ v.y ∷ v.z ∷ v.w ∷ []) (num (pos 0) ⊗ at 0 ⊕ num (pos 0) ⊗ at 1 ⊕ num (pos 0) ⊗ at 2 ⊕ num (pos 1) ⊗ at 3) (at 3) tt
 
-pub positive : (z : ℤ) → pos 0 <ℤ z → 0 < nat_abs z
-positive z h = omega (arith, ints)
-
--- the point of a vector with positive weight
+-- the point of a vector with abs-pos weight
 abbrev pub place_of : (v : Homogeneous) → pos 0 <ℤ v.w → Place
-place_of v h = record { x = v.x; y = v.y; z = v.z; w = nat_abs v.w; proper = positive v.w h }
+place_of v h = record { x = v.x; y = v.y; z = v.z; w = nat_abs v.w; proper = abs-pos v.w h }
 
 pub place-of-form : (h : Form) (v : Homogeneous) (s : pos 0 <ℤ v.w) → form_at h (place_of v s) ≡ form_on h v
 place-of-form h v s = ap (λ r. h.a *ℤ v.x +ℤ h.b *ℤ v.y +ℤ h.c *ℤ v.z +ℤ h.d *ℤ r) (let e : pos (nat_abs v.w) ≡ v.w = omega (arith, ints) in e)

@@ -1,18 +1,7 @@
 -- Near a point only the carriers through it matter; along a ray the label settles at once.
-use Rattle.std.proofs.Common.{◌≡◌, ℕ, ◌+◌, pos, ◌<ℤ◌, arith, refl, sym, ◌∙◌, ⊎_elim, List}
-use Rattle.std.proofs.lemmas.Int.{ints}
-use Rattle.nef_space.proofs.Order.{nought, sign, nought-is}
-use Rattle.nef_space.specs.Signs.{Lies}
-use Rattle.law_near.specs.Cells.{sign_at, frame, carriers, SameSigns}
-use Rattle.nef_space.specs.Place.{Place, Form, form_at, slope, Ratio, step, Within, InFrame}
-use Rattle.nef_space.specs.Vectors.{Vector}
-use Rattle.nef_space.specs.Sets.{Set, Holds, halves}
-use Rattle.nef_space.specs.Local.{IsShort, HasLabel, Germ}
-use Rattle.nef_space.specs.declared.label.Label.{Label}
-use Rattle.nef_space.specs.declared.label.Label.TheVariants.{Out, Not, In}
+use Rattle.law_near.proofs.Prelude.{◌≡◌, ℕ, ◌+◌, pos, ◌<ℤ◌, arith, refl, sym, ◌∙◌, ⊎_elim, List, ints, nought, sign, nought-is, Lies, sign_at, frame, carriers, SameSigns, Place, Form, form_at, slope, Ratio, step, Within, InFrame, Vector, Set, Holds, halves, IsShort, HasLabel, Germ, Label, Out, Not, In, lies-left, lies-right}
 use Rattle.law_near.proofs.Near.{reach_all, ray-level, stride, step-within}
 use Rattle.law_near.proofs.Cells.{same-sym, keeps-all, Cells, InFrame-cells, Holds-cells, is_nought}
-use Rattle.nef_space.proofs.Lists.{lies-left, lies-right}
 
 -- q and r have the same signs at the forms through p
 abbrev pub SameThrough : List Form → Place → Place → Place → Type 0

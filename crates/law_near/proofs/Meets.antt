@@ -1,48 +1,17 @@
 -- A vertex is the common point of three carriers with independent normals.
-use Rattle.std.proofs.Common.{◌≡◌, ℤ, pos, ◌+ℤ◌, ◌-ℤ◌, ◌*ℤ◌, arith, refl, ap, ◌∙◌, ◌⊎◌, inl, inr, ⊎_elim, List, [], ◌∷◌, subst}
-use Rattle.std.proofs.lemmas.Int.{ints}
-use lib.IntN.{*ℤ-zero}
-use Rattle.nef_space.proofs.Ring.{ring, at, num, ◌⊕◌, ◌⊖◌, ◌⊗◌}
-use Rattle.nef_space.proofs.Order.{nought}
-use Rattle.nef_space.specs.Signs.{Lies}
-use Rattle.law_near.specs.Cones.{IsMeet}
-use Rattle.law_near.specs.Cells.{sign_at, carriers}
-use Rattle.nef_space.specs.Place.{Place, Form, slope, normal_of}
-use Rattle.nef_space.specs.Vectors.{Vector, IsDirection, IsZero, cross, triple}
-use Rattle.nef_space.specs.Sets.{Set}
-use Rattle.nef_space.specs.Local.{IsVertex}
-use Rattle.law_near.proofs.Directions.{zero-decided}
-use Rattle.law_near.proofs.Far.{nought-or}
+use Rattle.law_near.proofs.Prelude.{◌≡◌, pos, arith, refl, ◌∙◌, ◌⊎◌, inl, inr, ⊎_elim, List, ◌∷◌, subst, [], ints, nought, nought-or, Lies, IsMeet, sign_at, carriers, Place, Form, slope, normal_of, Vector, IsDirection, IsZero, cross, triple, Set, IsVertex, zero-decided, cross-none, cross-self, cross-turned, dot-zero, triple-cycle, triple-dot, triple-middle, zero-dot}
 use Rattle.law_near.proofs.Cells.{is_nought}
 use Rattle.law_near.proofs.Flats.{Flat-from_cone, FlatCone-from_carriers}
 
-abbrev six : Vector → Vector → Vector → List ℤ
-six a b c = a.x ∷ a.y ∷ a.z ∷ b.x ∷ b.y ∷ b.z ∷ c.x ∷ c.y ∷ c.z ∷ []
-
 -- b.(a x c) with a x b nought
 slope-first : (h : Form) (n e : Vector) → IsZero (cross n (normal_of h)) → slope h (cross n e) ≡ pos 0
-slope-first h n e z =
-    ring (six n (normal_of h) e)
-    (at 3 ⊗ (at 1 ⊗ at 8 ⊖ at 2 ⊗ at 7) ⊕ at 4 ⊗ (at 2 ⊗ at 6 ⊖ at 0 ⊗ at 8) ⊕ at 5 ⊗ (at 0 ⊗ at 7 ⊖ at 1 ⊗ at 6))
-    (num (pos 0) ⊖ at 6 ⊗ (at 1 ⊗ at 5 ⊖ at 2 ⊗ at 4) ⊖ at 7 ⊗ (at 2 ⊗ at 3 ⊖ at 0 ⊗ at 5) ⊖ at 8 ⊗ (at 0 ⊗ at 4 ⊖ at 1 ⊗ at 3)) tt
-    ∙ plain e.x e.y e.z (cross n (normal_of h)).x (cross n (normal_of h)).y (cross n (normal_of h)).z z.0 z.1 z.2
-  where
-    plain : (a b c x y z : ℤ) → x ≡ pos 0 → y ≡ pos 0 → z ≡ pos 0 → pos 0 -ℤ a *ℤ x -ℤ b *ℤ y -ℤ c *ℤ z ≡ pos 0
-    plain a b c x y z e f g =
-        let i = ap (λ r. a *ℤ r) e ∙ *ℤ-zero a in
-        let j = ap (λ r. b *ℤ r) f ∙ *ℤ-zero b in
-        let k = ap (λ r. c *ℤ r) g ∙ *ℤ-zero c in
-        omega (arith, ints)
+slope-first h n e z = triple-dot (normal_of h) n e ∙ zero-dot (cross (normal_of h) n) e (cross-turned n (normal_of h) z)
 
 slope-second : (h : Form) (n m : Vector) → triple n m (normal_of h) ≡ pos 0 → slope h (cross n m) ≡ pos 0
-slope-second h n m e = ring (six n m (normal_of h))
-    (at 6 ⊗ (at 1 ⊗ at 5 ⊖ at 2 ⊗ at 4) ⊕ at 7 ⊗ (at 2 ⊗ at 3 ⊖ at 0 ⊗ at 5) ⊕ at 8 ⊗ (at 0 ⊗ at 4 ⊖ at 1 ⊗ at 3))
-    (at 0 ⊗ (at 4 ⊗ at 8 ⊖ at 5 ⊗ at 7) ⊕ at 1 ⊗ (at 5 ⊗ at 6 ⊖ at 3 ⊗ at 8) ⊕ at 2 ⊗ (at 3 ⊗ at 7 ⊖ at 4 ⊗ at 6)) tt ∙ e
+slope-second h n m e = triple-cycle (normal_of h) n m ∙ e
 
 pub slope-none : (h : Form) (d : Vector) → IsZero (normal_of h) → slope h d ≡ pos 0
-slope-none h d z =
-    ap (λ r. r *ℤ d.x +ℤ h.b *ℤ d.y +ℤ h.c *ℤ d.z) z.0 ∙ ap (λ r. pos 0 *ℤ d.x +ℤ r *ℤ d.y +ℤ h.c *ℤ d.z) z.1 ∙ ap (λ r. pos 0 *ℤ d.x +ℤ pos 0 *ℤ d.y +ℤ r *ℤ d.z) z.2
-    ∙ ring (d.x ∷ d.y ∷ d.z ∷ []) (num (pos 0) ⊗ at 0 ⊕ num (pos 0) ⊗ at 1 ⊕ num (pos 0) ⊗ at 2) (num (pos 0)) tt
+slope-none h d z = zero-dot (normal_of h) d z
 
 -- how far the normals of the forms through p reach
 data Rank (hs ks : List Form) (p : Place) : Type 0 where
@@ -51,31 +20,11 @@ data Rank (hs ks : List Form) (p : Place) : Type 0 where
   rank_2 : (n m : Form) → Lies hs n → sign_at n p ≡ nought → Lies hs m → sign_at m p ≡ nought → IsDirection (cross (normal_of n) (normal_of m)) → ((h : Form) → Lies ks h → sign_at h p ≡ nought → triple (normal_of n) (normal_of m) (normal_of h) ≡ pos 0) → Rank hs ks p
   rank_3 : IsMeet hs p → Rank hs ks p
 
-pub cross-none : (n m : Vector) → IsZero m → IsZero (cross n m)
-cross-none n m z = (one n.y n.z m.z m.y z.2 z.1, one n.z n.x m.x m.z z.0 z.2, one n.x n.y m.y m.x z.1 z.0)
-  where
-    one : (a b x y : ℤ) → x ≡ pos 0 → y ≡ pos 0 → a *ℤ x -ℤ b *ℤ y ≡ pos 0
-    one a b x y e f = let i = ap (λ r. a *ℤ r) e ∙ *ℤ-zero a in let j = ap (λ r. b *ℤ r) f ∙ *ℤ-zero b in omega (arith, ints)
-
-pub cross-self : (n : Vector) → IsZero (cross n n)
-cross-self n = (ring (n.x ∷ n.y ∷ n.z ∷ []) (at 1 ⊗ at 2 ⊖ at 2 ⊗ at 1) (num (pos 0)) tt, ring (n.x ∷ n.y ∷ n.z ∷ []) (at 2 ⊗ at 0 ⊖ at 0 ⊗ at 2) (num (pos 0)) tt, ring (n.x ∷ n.y ∷ n.z ∷ []) (at 0 ⊗ at 1 ⊖ at 1 ⊗ at 0) (num (pos 0)) tt)
-
 triple-same : (n m : Vector) → triple n m m ≡ pos 0
-triple-same n m = ring (n.x ∷ n.y ∷ n.z ∷ m.x ∷ m.y ∷ m.z ∷ [])
-    (at 0 ⊗ (at 4 ⊗ at 5 ⊖ at 5 ⊗ at 4) ⊕ at 1 ⊗ (at 5 ⊗ at 3 ⊖ at 3 ⊗ at 5) ⊕ at 2 ⊗ (at 3 ⊗ at 4 ⊖ at 4 ⊗ at 3)) (num (pos 0)) tt
+triple-same n m = dot-zero n (cross m m) (cross-self m)
 
 triple-parallel : (n m k : Vector) → IsZero (cross n k) → triple n m k ≡ pos 0
-triple-parallel n m k z = ring (six n m k)
-    (at 0 ⊗ (at 4 ⊗ at 8 ⊖ at 5 ⊗ at 7) ⊕ at 1 ⊗ (at 5 ⊗ at 6 ⊖ at 3 ⊗ at 8) ⊕ at 2 ⊗ (at 3 ⊗ at 7 ⊖ at 4 ⊗ at 6))
-    (num (pos 0) ⊖ at 3 ⊗ (at 1 ⊗ at 8 ⊖ at 2 ⊗ at 7) ⊖ at 4 ⊗ (at 2 ⊗ at 6 ⊖ at 0 ⊗ at 8) ⊖ at 5 ⊗ (at 0 ⊗ at 7 ⊖ at 1 ⊗ at 6)) tt
-    ∙ plain m.x m.y m.z (cross n k).x (cross n k).y (cross n k).z z.0 z.1 z.2
-  where
-    plain : (a b c x y z : ℤ) → x ≡ pos 0 → y ≡ pos 0 → z ≡ pos 0 → pos 0 -ℤ a *ℤ x -ℤ b *ℤ y -ℤ c *ℤ z ≡ pos 0
-    plain a b c x y z e f g =
-        let i = ap (λ r. a *ℤ r) e ∙ *ℤ-zero a in
-        let j = ap (λ r. b *ℤ r) f ∙ *ℤ-zero b in
-        let k = ap (λ r. c *ℤ r) g ∙ *ℤ-zero c in
-        omega (arith, ints)
+triple-parallel n m k z = triple-middle n m k ∙ zero-dot (cross k n) m (cross-turned n k z)
 
 extend : (k : Form) (ks : List Form) (R : Form → Type 0) → R k → ((h : Form) → Lies ks h → R h) → (h : Form) → Lies (k ∷ ks) h → R h
 extend k ks R r f h l = ⊎_elim (λ e. subst R e r) (f h) l

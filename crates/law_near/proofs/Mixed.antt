@@ -1,14 +1,8 @@
 -- Points that are the same, and points strictly between two others, as sums of homogeneous vectors.
-use Rattle.std.proofs.Common.{◌≡◌, ◌+◌, ◌*◌, ℤ, pos, ◌+ℤ◌, ◌-ℤ◌, ◌*ℤ◌, arith, ◌⊎◌, inl, inr, ⊎_elim, List, [], ◌∷◌, ◌↔◌}
-use Rattle.std.proofs.lemmas.Int.{ints}
-use Rattle.std.proofs.Math.Nat.{mul-pos}
-use Rattle.nef_space.proofs.Ring.{ring, at, num, ◌⊕◌, ◌⊖◌, ◌⊗◌}
-use Rattle.nef_space.proofs.Combination.{follows, follows_times, given, none}
-use Rattle.nef_space.specs.Vectors.{IsZero}
-use Rattle.nef_space.specs.Place.{Place, SamePlace, toward, IsBetween}
+use Rattle.law_near.proofs.Prelude.{◌≡◌, ◌+◌, ◌*◌, ℤ, pos, ◌+ℤ◌, ◌-ℤ◌, ◌*ℤ◌, arith, ◌⊎◌, inl, inr, ⊎_elim, List, ◌∷◌, ◌↔◌, [], ints, mul-pos, ring, at, num, ◌⊕◌, ◌⊖◌, ◌⊗◌, follows, follows_times, given, none, IsZero, Place, SamePlace, toward, IsBetween, zero-decided, zero-dot}
 pub use Rattle.law_near.specs.Homogeneous.{of_place, of_direction, OnPlaces}
 use Rattle.law_near.proofs.Sums.{SameUpToFactor, IsMixed, OnSegment, some-pos, same-sym, same-refl, same-trans, mixed-same, mixed-itself, on-cases, on-same, on-start, on-end, on-mixed}
-use Rattle.law_near.proofs.Directions.{same-factor, factor-same, zero-dot, zero-decided}
+use Rattle.law_near.proofs.Directions.{same-factor, factor-same}
 
 -- ---- the same point
 pub place-factor : (p q : Place) → SamePlace p q → SameUpToFactor (of_place p) (of_place q)

@@ -1,15 +1,6 @@
 -- Close to a point the sign of a form that isn't nought there stays; short steps stay close; rays and differences of points.
-use Rattle.std.proofs.Common.{◌≡◌, ℕ, ◌+◌, ◌*◌, ◌<◌, ◌≤◌, ℤ, pos, negsuc, ◌+ℤ◌, ◌-ℤ◌, ◌*ℤ◌, ◌<ℤ◌, nat_abs, arith, refl, ap, sym, ◌∙◌, inl, inr, ⊎_elim, List, [], ◌∷◌, subst}
-use Rattle.std.proofs.lemmas.Int.{ints, unsigned_abs-mul}
-use Rattle.std.proofs.lemmas.Nat.{mul-le}
-use Rattle.std.proofs.lemmas.Bool.{cases_lt}
-use Rattle.std.proofs.Math.Nat.{mul-le-mul_left, mul-pos, mul-lt-mul_of_pos_right, lt_of_mul-lt-mul_right}
-use Rattle.nef_space.proofs.Ring.{ring, at, num, ◌⊕◌, ◌⊖◌, ◌⊗◌}
-use Rattle.nef_space.proofs.Combination.{follows, given, none}
-use Rattle.nef_space.proofs.Order.{Sign, minus, nought, plus, sign, sign-plus, sign-minus, sign-scaled, plus-is, minus-is, nought-is, abs_plus, abs_times, mul_nonneg, mul_pos, mul_le_right, cancel_lt, Lies}
-use Rattle.nef_space.specs.Vectors.{Vector}
-use Rattle.nef_space.specs.Place.{Place, Form, form_at, slope, Ratio, step, Near, Within, SamePlace, toward}
-use Rattle.nef_space.specs.Local.{IsShort}
+use Rattle.law_near.proofs.Prelude.{◌≡◌, ℕ, ◌+◌, ◌*◌, ◌<◌, ◌≤◌, ℤ, pos, negsuc, ◌+ℤ◌, ◌-ℤ◌, ◌*ℤ◌, ◌<ℤ◌, nat_abs, arith, refl, ap, sym, ◌∙◌, inl, inr, ⊎_elim, List, ◌∷◌, subst, [], ints, unsigned_abs-mul, mul-le, cases_lt, mul-le-mul_left, mul-pos, mul-lt-mul_of_pos_right, lt_of_mul-lt-mul_right, ring, at, num, ◌⊕◌, ◌⊖◌, ◌⊗◌, follows, given, none, Sign, minus, nought, plus, sign, sign-plus, sign-minus, sign-scaled, plus-is, minus-is, nought-is, abs_plus, abs_times, mul_nonneg, mul_pos, mul_le_right, cancel_lt, Vector, Place, Form, form_at, slope, Ratio, step, Near, Within, SamePlace, toward, IsShort}
+use Rattle.nef_space.proofs.Order.{Lies}
 pub use Rattle.law_near.specs.Near.{reach, reach_all, span, unit_ratio}
 use Rattle.law_near.proofs.Far.{sign-large}
 

@@ -1,18 +1,6 @@
 -- The germ at a point of a ray is the germ near the ray's direction.
-use Rattle.std.proofs.Common.{◌≡◌, ℕ, ◌+◌, ◌<◌, ◌≤◌, ℤ, pos, ◌+ℤ◌, ◌*ℤ◌, nat_abs, arith, ap, sym, ◌∙◌, ⊎_elim, List, [], ◌∷◌, subst}
-use Rattle.std.proofs.lemmas.Int.{ints}
-use Rattle.nef_space.proofs.Ring.{ring, at, num, ◌⊕◌, ◌⊗◌}
-use Rattle.nef_space.proofs.Order.{nought, sign, nought-is}
-use Rattle.nef_space.specs.Signs.{Lies}
-use Rattle.law_near.specs.Homogeneous.{form_on, of_direction, amount}
+use Rattle.law_near.proofs.Prelude.{◌≡◌, ℕ, ◌+◌, ◌<◌, ◌≤◌, ℤ, pos, ◌+ℤ◌, ◌*ℤ◌, nat_abs, arith, ap, sym, ◌∙◌, ⊎_elim, List, ◌∷◌, subst, [], ints, ring, at, num, ◌⊕◌, ◌⊗◌, nought, sign, nought-is, Lies, form_on, of_direction, amount, NearGerm, sign_at, carriers, SameSigns, Place, Form, slope, Ratio, step, Within, Vector, blend, Set, IsShort, Germ, Label}
 use Rattle.law_near.proofs.Far.{amount-above, sign-large as sign-far}
-use Rattle.law_near.specs.Cones.{NearGerm}
-use Rattle.law_near.specs.Cells.{sign_at, carriers, SameSigns}
-use Rattle.nef_space.specs.Place.{Place, Form, slope, Ratio, step, Within}
-use Rattle.nef_space.specs.Vectors.{Vector, blend}
-use Rattle.nef_space.specs.Sets.{Set}
-use Rattle.nef_space.specs.Local.{IsShort, Germ}
-use Rattle.nef_space.specs.declared.label.Label.{Label}
 use Rattle.law_near.proofs.Near.{step-within, reach_all}
 use Rattle.law_near.proofs.Cells.{same-sym, keeps-all, is_nought}
 use Rattle.law_near.proofs.Germs.{Label-cells, sign-along, short_enough}

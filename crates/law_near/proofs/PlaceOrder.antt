@@ -1,10 +1,6 @@
 -- The order of points by their coordinates: it goes on, no point is below an equal one, and equal points stand in the same order.
-use Rattle.std.proofs.Common.{◌≡◌, ℤ, pos, ◌*ℤ◌, ◌<ℤ◌, arith, ap, ◌∙◌, inl, inr, [], ◌∷◌}
-use Rattle.std.proofs.lemmas.Int.{ints}
+use Rattle.law_near.proofs.Prelude.{◌≡◌, ℤ, pos, ◌*ℤ◌, ◌<ℤ◌, arith, ap, ◌∙◌, inl, inr, ◌∷◌, [], ints, cancel_lt, mul_lt_right, ring, at, ◌⊗◌, Place, SamePlace, IsPlaceBelow}
 use Rattle.nef_space.proofs.Fractions.{fraction-trans, fraction-eq-trans}
-use Rattle.nef_space.proofs.Order.{cancel_lt, mul_lt_right}
-use Rattle.nef_space.proofs.Ring.{ring, at, ◌⊗◌}
-use Rattle.nef_space.specs.Place.{Place, SamePlace, IsPlaceBelow}
 
 weight : (p : Place) → pos 0 <ℤ pos p.w
 weight p = let h = p.proper in omega (arith, ints)

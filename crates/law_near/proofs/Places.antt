@@ -1,14 +1,6 @@
 -- Segments of points and of directions: what is settled along them, and the first change.
-use Rattle.std.proofs.Common.{◌≡◌, ℕ, zero, suc, ◌+◌, ◌*◌, ◌<◌, ◌≤◌, ℤ, pos, ◌+ℤ◌, ◌-ℤ◌, ◌*ℤ◌, ◌<ℤ◌, nat_abs, arith, refl, ap, sym, ◌∙◌, ◌⊎◌, inl, inr, ⊎_elim, ◌↔◌, List, [], ◌∷◌, subst}
-use Rattle.std.proofs.lemmas.Int.{ints}
-use Rattle.std.proofs.Math.Nat.{mul-pos, le-mul_of_pos_right}
-use Rattle.nef_space.proofs.Ring.{ring, at, num, ◌⊕◌, ◌⊖◌, ◌⊗◌}
-use Rattle.nef_space.proofs.Combination.{follows, given, none}
-use Rattle.nef_space.proofs.Order.{sign, cancel_lt, cancel_eq, Lies}
-use Rattle.nef_space.proofs.Lists.{each, lies-each}
-use Rattle.nef_space.specs.Vectors.{Vector, vector, dot, blend}
-use Rattle.nef_space.specs.Place.{Place, Form, Near, Within, SamePlace, IsBetween}
-use Rattle.law_near.specs.Homogeneous.{of_place, of_direction, direction_form, homogeneous, OnPlaces, OnWay, IsPassed}
+use Rattle.law_near.proofs.Prelude.{◌≡◌, ℕ, zero, suc, ◌+◌, ◌*◌, ◌<◌, ◌≤◌, ℤ, pos, ◌+ℤ◌, ◌-ℤ◌, ◌*ℤ◌, ◌<ℤ◌, nat_abs, arith, refl, ap, sym, ◌∙◌, ◌⊎◌, inl, inr, ⊎_elim, ◌↔◌, List, ◌∷◌, subst, [], ints, mul-pos, le-mul_of_pos_right, ring, at, num, ◌⊕◌, ◌⊖◌, ◌⊗◌, follows, given, none, sign, cancel_lt, cancel_eq, abs-pos, each, lies-each, Vector, vector, dot, blend, Place, Form, Near, Within, SamePlace, IsBetween, of_place, of_direction, direction_form, homogeneous, OnPlaces, OnWay, IsPassed}
+use Rattle.nef_space.proofs.Order.{Lies}
 use Rattle.law_near.proofs.Sums.{Homogeneous, form_on, SameUpToFactor, IsMixed, OnSegment, some-pos, same-refl, same-sym, sign-same, mixed-same, on-same, on-start, on-mixed, on-convex}
 use Rattle.law_near.proofs.Mixed.{between-is, place-factor, factor-place, on-places}
 use Rattle.law_near.proofs.Near.{sign_at}
@@ -34,13 +26,10 @@ pub homogeneous-same : (u v : Homogeneous) → u.x ≡ v.x → u.y ≡ v.y → u
 homogeneous-same u v a b c d =
     ap (λ r. homogeneous r u.y u.z u.w) a ∙ ap (λ r. homogeneous v.x r u.z u.w) b ∙ ap (λ r. homogeneous v.x v.y r u.w) c ∙ ap (λ r. homogeneous v.x v.y v.z r) d
 
-abs-proper : (z : ℤ) → pos 0 <ℤ z → 0 < nat_abs z
-abs-proper z h = omega (arith, ints)
-
 -- the point that a vector with positive weight is
 pub place-is : (x : Homogeneous) → pos 0 <ℤ x.w → (r : Place) × (of_place r ≡ x)
 place-is x h =
-    let r : Place = record { x = x.x; y = x.y; z = x.z; w = nat_abs x.w; proper = abs-proper x.w h } in
+    let r : Place = record { x = x.x; y = x.y; z = x.z; w = nat_abs x.w; proper = abs-pos x.w h } in
     (r, homogeneous-same (of_place r) x refl refl refl (omega (arith, ints)))
 
 -- ---- k r + t is near to r for large k

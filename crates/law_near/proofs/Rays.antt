@@ -1,22 +1,12 @@
 -- A cone does not tell apart equal points and equal directions; toward the zero vector the germ is the label.
-use Rattle.std.proofs.Common.{◌≡◌, ℕ, ◌+◌, ◌*◌, ◌<◌, ℤ, pos, ◌-ℤ◌, ◌*ℤ◌, nat_abs, arith, ap, sym, ◌∙◌, ⊎_elim, ◌↔◌, List}
-use Rattle.std.proofs.lemmas.Int.{ints}
-use Rattle.std.proofs.Math.Nat.{mul-pos}
-use Rattle.nef_space.specs.Signs.{sign, Lies}
-use Rattle.nef_space.specs.Place.{Place, Form, normal_of, slope, Ratio, step, Within, SamePlace}
-use Rattle.nef_space.specs.Vectors.{Vector, IsZero, SameDirection}
-use Rattle.nef_space.specs.Sets.{Set, Holds, halves}
-use Rattle.nef_space.specs.Local.{IsShort, HasLabel, Germ}
-use Rattle.nef_space.specs.declared.label.Label.{Label}
-use Rattle.law_near.specs.Homogeneous.{of_place, of_direction, direction_form}
+use Rattle.law_near.proofs.Prelude.{◌≡◌, ℕ, ◌+◌, ◌*◌, ◌<◌, ℤ, pos, ◌-ℤ◌, ◌*ℤ◌, nat_abs, arith, ap, sym, ◌∙◌, ⊎_elim, ◌↔◌, List, ints, mul-pos, Lies, Place, Form, normal_of, slope, Ratio, step, Within, SamePlace, Vector, IsZero, SameDirection, Set, Holds, halves, IsShort, HasLabel, Germ, Label, of_place, of_direction, direction_form, sign_at, frame, carriers, SameSigns, SameSlopesAt, lies-left, lies-right, dot-zero}
+use Rattle.nef_space.specs.Signs.{sign}
 use Rattle.law_near.proofs.Sums.{sign-same as sign-up_to_factor}
-use Rattle.law_near.proofs.Directions.{dot-zero, same-factor}
+use Rattle.law_near.proofs.Directions.{same-factor}
 use Rattle.law_near.proofs.Mixed.{place-factor}
 use Rattle.law_near.proofs.Places.{form-direction}
-use Rattle.law_near.specs.Cells.{sign_at, frame, carriers, SameSigns, SameSlopesAt}
 use Rattle.law_near.proofs.Near.{step-within, reach_all}
 use Rattle.law_near.proofs.Cells.{keeps-all, is_nought, Holds-cells}
-use Rattle.nef_space.proofs.Lists.{lies-left, lies-right}
 use Rattle.law_near.proofs.Germs.{Label-cells, locality, short_enough, sign-along}
 
 -- ---- the zero vector

@@ -1,13 +1,9 @@
 -- Finitely many vectors that have all signs that vectors have on finitely many forms.
-use Rattle.std.proofs.Common.{◌≡◌, zero, suc, ℤ, pos, negsuc, ◌+ℤ◌, ◌*ℤ◌, arith, refl, ap, sym, ◌∙◌, inl, inr, List, [], ◌∷◌, ◌++◌, subst}
-use Rattle.std.proofs.lemmas.Int.{ints}
+use Rattle.law_near.proofs.Prelude.{◌≡◌, zero, suc, ℤ, pos, negsuc, ◌+ℤ◌, ◌*ℤ◌, arith, refl, ap, sym, ◌∙◌, inl, inr, List, ◌∷◌, ◌++◌, subst, [], ints, ring, at, num, ◌⊕◌, ◌⊗◌, entry, sign, Vector, vector, dot, IsDirection, Place, Form, form_at}
 use Rattle.nef_space.specs.Linear.{IsPoint}
-use Rattle.nef_space.proofs.Ring.{ring, at, num, ◌⊕◌, ◌⊗◌, entry}
-use Rattle.nef_space.proofs.Order.{sign, Lies}
+use Rattle.nef_space.proofs.Order.{Lies}
 use Rattle.nef_space.proofs.Samples.{each, lies-each, lies-left, lies-right, samples, sample_of, vectors, vector_of}
 use Rattle.nef_space.specs.Linear.{dot as dot_lists}
-use Rattle.nef_space.specs.Vectors.{Vector, vector, dot, IsDirection}
-use Rattle.nef_space.specs.Place.{Place, Form, form_at}
 use Rattle.law_near.proofs.Far.{same-nought}
 
 -- ---- directions

@@ -1,7 +1,6 @@
 -- What is settled at each vector of a segment is the same at both ends: between two forms nothing happens, and there are finitely many.
-use Rattle.std.proofs.Common.{◌≡◌, ℕ, zero, suc, ◌+◌, ◌<◌, ◌≤◌, arith, ◌⊎◌, inl, inr, ◌↔◌, List, true}
+use Rattle.law_near.proofs.Prelude.{◌≡◌, ℕ, zero, suc, ◌+◌, ◌<◌, ◌≤◌, arith, ◌⊎◌, inl, inr, ◌↔◌, List, true, Form}
 use Rattle.nef_space.proofs.Order.{Lies}
-use Rattle.nef_space.specs.Place.{Form}
 use Rattle.law_near.proofs.Sums.{Homogeneous, mix, OnSegment, SameSigns, mixed-mix, mixed-turned, on-start, on-end, on-mixed, on-convex}
 use Rattle.law_near.proofs.Crossings.{crosses, crossings, IsClear, clear-same, find-crossing, split}
 

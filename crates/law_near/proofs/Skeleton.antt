@@ -1,11 +1,5 @@
 -- Close to a point no point has fewer flat directions, so a segment has a first point with fewer.
-use Rattle.std.proofs.Common.{◌≡◌, ℕ, suc, ◌+◌, ◌-◌, ◌<◌, ◌≤◌, arith, ◌⊎◌, inl, inr, ⊎_elim, subst}
-use Rattle.std.proofs.lemmas.Bool.{cases_lt}
-use Rattle.nef_space.specs.Place.{Place, Within, IsBetween}
-use Rattle.nef_space.specs.Sets.{Set}
-use Rattle.nef_space.specs.Local.{HasFlat, FlatDim}
-use Rattle.law_near.specs.Cells.{carriers}
-use Rattle.law_near.specs.Laws.{IsFlatBelow, FirstPoint}
+use Rattle.law_near.proofs.Prelude.{◌≡◌, ℕ, suc, ◌+◌, ◌-◌, ◌<◌, ◌≤◌, arith, ◌⊎◌, inl, inr, ⊎_elim, subst, cases_lt, Place, Within, IsBetween, Set, HasFlat, FlatDim, carriers, IsFlatBelow, FirstPoint}
 use Rattle.law_near.proofs.Cells.{reach-some, Cells}
 use Rattle.law_near.proofs.Near.{reach_all}
 use Rattle.law_near.proofs.Flats.{Flat-from_cone, FlatCone-from_flat}

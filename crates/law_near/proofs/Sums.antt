@@ -1,12 +1,5 @@
 -- Sums of homogeneous vectors, and vectors that are equal up to a positive factor.
-use Rattle.std.proofs.Common.{◌≡◌, ℕ, zero, suc, ◌+◌, ◌-◌, ◌*◌, ◌<◌, ℤ, pos, ◌+ℤ◌, ◌*ℤ◌, ◌<ℤ◌, arith, refl, ap, sym, ◌∙◌, ◌⊎◌, inl, inr, List, [], ◌∷◌}
-use Rattle.std.proofs.lemmas.Int.{ints}
-use Rattle.std.proofs.lemmas.Bool.{cases_order}
-use Rattle.std.proofs.Math.Nat.{mul-pos}
-use Rattle.nef_space.proofs.Ring.{ring, at, num, ◌⊕◌, ◌⊖◌, ◌⊗◌}
-use Rattle.nef_space.proofs.Combination.{follows, given, none}
-use Rattle.nef_space.proofs.Order.{sign, sign-scaled}
-use Rattle.nef_space.specs.Place.{Form}
+use Rattle.law_near.proofs.Prelude.{◌≡◌, ℕ, zero, suc, ◌+◌, ◌-◌, ◌*◌, ◌<◌, ℤ, pos, ◌+ℤ◌, ◌*ℤ◌, ◌<ℤ◌, arith, refl, ap, sym, ◌∙◌, ◌⊎◌, inl, inr, List, ◌∷◌, [], ints, cases_order, mul-pos, ring, at, num, ◌⊕◌, ◌⊖◌, ◌⊗◌, follows, given, none, sign, sign-scaled, Form}
 pub use Rattle.law_near.specs.Homogeneous.{Homogeneous, homogeneous, form_on, mix, IsSum, SameUpToFactor, IsMixed, OnSegment, SameSigns}
 
 pub some-pos : (k : ℕ) → 0 < k → pos 0 <ℤ pos k

@@ -1,28 +1,14 @@
 -- Facets lie in a carrier and edges in two: the flat directions are decided by the carriers that hold them.
-use Rattle.std.proofs.Common.{◌≡◌, ℕ, ◌<◌, ℤ, pos, ◌+ℤ◌, ◌*ℤ◌, ◌<ℤ◌, arith, refl, ap, sym, ◌∙◌, ◌⊎◌, inl, inr, ⊎_elim, ◌↔◌, List, [], ◌∷◌}
-use Rattle.std.proofs.lemmas.Int.{ints}
-use Rattle.nef_space.specs.Signs.{nought, sign, sign_times, Lies}
-use Rattle.nef_space.proofs.Ring.{ring, at, num, ◌⊕◌, ◌⊖◌, ◌⊗◌, Poly}
-use Rattle.nef_space.proofs.Combination.{given, none, follows, follows_times}
-use Rattle.nef_space.proofs.Order.{nought-is, sign-plus, sign_of_product}
-use Rattle.nef_space.specs.Place.{Place, Form, slope, normal_of}
-use Rattle.nef_space.specs.Vectors.{Vector, vector, blend, dot, cross, triple, IsZero, IsDirection, IsParallel}
-use Rattle.nef_space.specs.Sets.{Set}
-use Rattle.nef_space.specs.Local.{Flat, FlatDim}
-use Rattle.law_near.specs.Cells.{sign_at, carriers}
-use Rattle.law_near.specs.Cones.{slide}
-use Rattle.law_near.specs.Laws.{IsHeldBy, EdgeSupport, FacetSupport}
+use Rattle.law_near.proofs.Prelude.{◌≡◌, ℕ, ◌<◌, ℤ, pos, ◌+ℤ◌, ◌*ℤ◌, ◌<ℤ◌, arith, refl, ap, sym, ◌∙◌, ◌⊎◌, inl, inr, ⊎_elim, ◌↔◌, List, ◌∷◌, [], ints, sign_times, Lies, ring, at, num, ◌⊕◌, ◌⊖◌, ◌⊗◌, given, none, follows, nought-is, sign-plus, sign_of_product, nought-or, Place, Form, slope, normal_of, Vector, vector, blend, dot, cross, triple, IsZero, IsDirection, IsParallel, Set, Flat, FlatDim, sign_at, carriers, slide, IsHeldBy, EdgeSupport, FacetSupport, zero-decided, self-pos, triple-dot, cross-turned, parallel-both, cross-self, dot-comm, square-cross, in-span, level-both, level_cross_second, nought-if}
+use Rattle.nef_space.specs.Signs.{nought, sign}
 use Rattle.law_near.proofs.Cells.{is_nought}
 use Rattle.law_near.proofs.Flats.{Flat-from_cone, FlatCone-from_flat, slope-slide}
 use Rattle.law_near.proofs.Decided.{Decided, every, decided-both, decided-not}
-use Rattle.law_near.proofs.Directions.{zero-decided, self-pos}
-use Rattle.law_near.proofs.Far.{nought-or}
 use Rattle.law_near.proofs.NearGerms.{steep, steep-one, sign-large}
 use Rattle.law_near.proofs.FlatOperations.{flat-combination}
-use Rattle.law_near.proofs.FlatDecided.{near-of_flat, near-by_signs, parallel-both, triple-dot, cross-turned}
+use Rattle.law_near.proofs.FlatDecided.{near-of_flat, near-by_signs}
 use Rattle.law_near.proofs.Even.{span-1, span-2}
-use Rattle.law_near.proofs.Between.{parallel-x, parallel-y, parallel-z}
-use Rattle.law_near.proofs.Meets.{slope-none, cross-self}
+use Rattle.law_near.proofs.Meets.{slope-none}
 
 -- ---- what lies in all carriers that hold a flat direction is flat
 pub flat-held : (s : Set) (p : Place) (d e : Vector) → Flat s p d → IsHeldBy s p d e → Flat s p e
@@ -61,70 +47,17 @@ flat-plane s p ((d, e, i, f, g), n) = (
 )
 
 -- ---- planes and lines
--- the numbers of d and e, and of a third vector, and d x e
-abbrev nx : Poly
-nx = at 1 ⊗ at 5 ⊖ at 2 ⊗ at 4
-
-abbrev ny : Poly
-ny = at 2 ⊗ at 3 ⊖ at 0 ⊗ at 5
-
-abbrev nz : Poly
-nz = at 0 ⊗ at 4 ⊖ at 1 ⊗ at 3
-
-abbrev along_d : Poly
-along_d = at 6 ⊗ at 0 ⊕ at 7 ⊗ at 1 ⊕ at 8 ⊗ at 2
-
-abbrev along_e : Poly
-along_e = at 6 ⊗ at 3 ⊕ at 7 ⊗ at 4 ⊕ at 8 ⊗ at 5
-
 -- a vector at right angles to d and e is parallel to d x e
 in-cross : (c d e : Vector) → dot c d ≡ pos 0 → dot c e ≡ pos 0 → IsParallel (cross d e) c
-in-cross c d e i j = (
-  follows (d.x ∷ d.y ∷ d.z ∷ e.x ∷ e.y ∷ e.z ∷ c.x ∷ c.y ∷ c.z ∷ []) (ny ⊗ at 8 ⊖ nz ⊗ at 7) (num (pos 0)) (given (at 3) along_d (num (pos 0)) i (given (num (pos 0) ⊖ at 0) along_e (num (pos 0)) j none)) tt,
-  follows (d.x ∷ d.y ∷ d.z ∷ e.x ∷ e.y ∷ e.z ∷ c.x ∷ c.y ∷ c.z ∷ []) (nz ⊗ at 6 ⊖ nx ⊗ at 8) (num (pos 0)) (given (at 4) along_d (num (pos 0)) i (given (num (pos 0) ⊖ at 1) along_e (num (pos 0)) j none)) tt,
-  follows (d.x ∷ d.y ∷ d.z ∷ e.x ∷ e.y ∷ e.z ∷ c.x ∷ c.y ∷ c.z ∷ []) (nx ⊗ at 7 ⊖ ny ⊗ at 6) (num (pos 0)) (given (at 5) along_d (num (pos 0)) i (given (num (pos 0) ⊖ at 2) along_e (num (pos 0)) j none)) tt,
-)
-
-dot-turned : (a b : Vector) → dot a b ≡ dot b a
-dot-turned a b = ring (a.x ∷ a.y ∷ a.z ∷ b.x ∷ b.y ∷ b.z ∷ []) (at 0 ⊗ at 3 ⊕ at 1 ⊗ at 4 ⊕ at 2 ⊗ at 5) (at 3 ⊗ at 0 ⊕ at 4 ⊗ at 1 ⊕ at 5 ⊗ at 2) tt
+in-cross c d e i j = cross-turned c (cross d e) (level-both c d e i j)
 
 -- what is at right angles to b is at right angles to what is parallel to b
 square-to_parallel : (a b v : Vector) → IsDirection b → IsParallel a b → dot b v ≡ pos 0 → dot a v ≡ pos 0
-square-to_parallel a b v some z e =
-    follows_times (a.x ∷ a.y ∷ a.z ∷ b.x ∷ b.y ∷ b.z ∷ v.x ∷ v.y ∷ v.z ∷ []) (at 3 ⊗ at 3 ⊕ at 4 ⊗ at 4 ⊕ at 5 ⊗ at 5)
-    (at 0 ⊗ at 6 ⊕ at 1 ⊗ at 7 ⊕ at 2 ⊗ at 8) (num (pos 0))
-    (given (at 6) ((at 3 ⊗ at 3 ⊕ at 4 ⊗ at 4 ⊕ at 5 ⊗ at 5) ⊗ at 0) ((at 0 ⊗ at 3 ⊕ at 1 ⊗ at 4 ⊕ at 2 ⊗ at 5) ⊗ at 3) (parallel-x a b z)
-    (given (at 7) ((at 3 ⊗ at 3 ⊕ at 4 ⊗ at 4 ⊕ at 5 ⊗ at 5) ⊗ at 1) ((at 0 ⊗ at 3 ⊕ at 1 ⊗ at 4 ⊕ at 2 ⊗ at 5) ⊗ at 4) (parallel-y a b z)
-    (given (at 8) ((at 3 ⊗ at 3 ⊕ at 4 ⊗ at 4 ⊕ at 5 ⊗ at 5) ⊗ at 2) ((at 0 ⊗ at 3 ⊕ at 1 ⊗ at 4 ⊕ at 2 ⊗ at 5) ⊗ at 5) (parallel-z a b z)
-    (given (at 0 ⊗ at 3 ⊕ at 1 ⊗ at 4 ⊕ at 2 ⊗ at 5) (at 3 ⊗ at 6 ⊕ at 4 ⊗ at 7 ⊕ at 5 ⊗ at 8) (num (pos 0)) e none)))) (self-pos b some) tt
+square-to_parallel a b v some z e = dot-comm a v ∙ in-span v b a some (cross-turned a b z) (dot-comm v b ∙ e)
 
--- n x d is at right angles to n
-pub square-cross : (n d : Vector) → dot n (cross n d) ≡ pos 0
-square-cross n d = ring (n.x ∷ n.y ∷ n.z ∷ d.x ∷ d.y ∷ d.z ∷ [])
-    (at 0 ⊗ (at 1 ⊗ at 5 ⊖ at 2 ⊗ at 4) ⊕ at 1 ⊗ (at 2 ⊗ at 3 ⊖ at 0 ⊗ at 5) ⊕ at 2 ⊗ (at 0 ⊗ at 4 ⊖ at 1 ⊗ at 3)) (num (pos 0)) tt
-
-abbrev cx : Poly
-cx = at 1 ⊗ at 5 ⊖ at 2 ⊗ at 4
-
-abbrev cy : Poly
-cy = at 2 ⊗ at 3 ⊖ at 0 ⊗ at 5
-
-abbrev cz : Poly
-cz = at 0 ⊗ at 4 ⊖ at 1 ⊗ at 3
-
-abbrev square : Poly
-square = at 3 ⊗ at 3 ⊕ at 4 ⊗ at 4 ⊕ at 5 ⊗ at 5
-
-abbrev right : Poly
-right = at 0 ⊗ at 3 ⊕ at 1 ⊗ at 4 ⊕ at 2 ⊗ at 5
-
--- d x (n x d) is (d.d) n where n is at right angles to d
+-- d and n x d are parallel only where n is nought
 twice-cross : (n d : Vector) → IsDirection d → dot n d ≡ pos 0 → IsZero (cross d (cross n d)) → IsZero n
-twice-cross n d some e z = (
-  follows_times (n.x ∷ n.y ∷ n.z ∷ d.x ∷ d.y ∷ d.z ∷ []) square (at 0) (num (pos 0)) (given (num (pos 1)) (at 4 ⊗ cz ⊖ at 5 ⊗ cy) (num (pos 0)) z.0 (given (at 3) right (num (pos 0)) e none)) (self-pos d some) tt,
-  follows_times (n.x ∷ n.y ∷ n.z ∷ d.x ∷ d.y ∷ d.z ∷ []) square (at 1) (num (pos 0)) (given (num (pos 1)) (at 5 ⊗ cx ⊖ at 3 ⊗ cz) (num (pos 0)) z.1 (given (at 4) right (num (pos 0)) e none)) (self-pos d some) tt,
-  follows_times (n.x ∷ n.y ∷ n.z ∷ d.x ∷ d.y ∷ d.z ∷ []) square (at 2) (num (pos 0)) (given (num (pos 1)) (at 3 ⊗ cy ⊖ at 4 ⊗ cx) (num (pos 0)) z.2 (given (at 5) right (num (pos 0)) e none)) (self-pos d some) tt,
-)
+twice-cross n d some e z = nought-if d n some (cross-turned n d (nought-if d (cross n d) some z (level_cross_second n d))) (dot-comm d n ∙ e)
 
 -- ---- searching the carriers
 -- a form of the list that passes through p, is zero along d and satisfies Q
@@ -221,12 +154,12 @@ edge-support s p one = by (flat-line s p one)
           independent = b.more;
           flat_in = λ v. (
             λ k. let z = cross-turned d v ((line v).0 k) in (
-              dot-turned (normal_of a.plane) v ∙ square-to_parallel v d (normal_of a.plane) i z (dot-turned d (normal_of a.plane) ∙ a.holds),
-              dot-turned (normal_of b.plane) v ∙ square-to_parallel v d (normal_of b.plane) i z (dot-turned d (normal_of b.plane) ∙ b.holds),
+              dot-comm (normal_of a.plane) v ∙ square-to_parallel v d (normal_of a.plane) i z (dot-comm d (normal_of a.plane) ∙ a.holds),
+              dot-comm (normal_of b.plane) v ∙ square-to_parallel v d (normal_of b.plane) i z (dot-comm d (normal_of b.plane) ∙ b.holds),
             ),
             λ k. (line v).1 (parallel-both (cross (normal_of a.plane) (normal_of b.plane)) d v b.more
-                (in-cross d (normal_of a.plane) (normal_of b.plane) (dot-turned d (normal_of a.plane) ∙ a.holds) (dot-turned d (normal_of b.plane) ∙ b.holds))
-                (in-cross v (normal_of a.plane) (normal_of b.plane) (dot-turned v (normal_of a.plane) ∙ k.0) (dot-turned v (normal_of b.plane) ∙ k.1))),
+                (in-cross d (normal_of a.plane) (normal_of b.plane) (dot-comm d (normal_of a.plane) ∙ a.holds) (dot-comm d (normal_of b.plane) ∙ b.holds))
+                (in-cross v (normal_of a.plane) (normal_of b.plane) (dot-comm v (normal_of a.plane) ∙ k.0) (dot-comm v (normal_of b.plane) ∙ k.1))),
           );
         }
         second a (inr clear) =

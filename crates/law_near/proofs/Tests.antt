@@ -1,5 +1,5 @@
 -- The laws of segments for tests, from the lemmas for predicates.
-use Rattle.std.proofs.Common.{◌≡◌, refl, sym, ◌∙◌, ◌⊎◌, inl, inr, ⊎_elim, Bool, true, false}
+use Rattle.law_near.proofs.Prelude.{◌≡◌, refl, sym, ◌∙◌, ◌⊎◌, inl, inr, ⊎_elim, Bool, true, false, vector}
 use Rattle.law_near.specs.FormLaws.{SegmentLaw, SegmentOfPoints, SegmentOfDirections, FirstChangeLaw, FirstChangeAtPoints, FirstChangeAtDirections}
 use Rattle.law_near.proofs.Segment.{settled-segment}
 use Rattle.law_near.proofs.FirstVector.{first-change, change-unsettled}

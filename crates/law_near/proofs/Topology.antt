@@ -1,14 +1,6 @@
 -- Interior, closure, boundary and regularisation in terms of cones.
-use Rattle.std.proofs.Common.{◌+◌, pos, arith, refl, ◌⊎◌, inl, inr, ⊎_elim, ◌↔◌, subst}
-use Rattle.std.proofs.lemmas.Int.{ints}
-use Rattle.nef_space.specs.Place.{Place, Ratio, step, toward, InFrame}
-use Rattle.nef_space.specs.Vectors.{Vector, IsZero, zero_vector, blend}
-use Rattle.nef_space.specs.Sets.{Set, Holds, Interior, Closure}
-use Rattle.nef_space.specs.Local.{HasLabel, Germ}
-use Rattle.nef_space.specs.declared.label.Label.{Label}
-use Rattle.nef_space.specs.declared.label.Label.TheVariants.{Out, Not, In}
-use Rattle.law_near.specs.Cells.{frame, carriers}
-use Rattle.law_near.specs.Cones.{NearGerm}
+use Rattle.law_near.proofs.Prelude.{◌+◌, pos, arith, refl, ◌⊎◌, inl, inr, ⊎_elim, ◌↔◌, subst, ints, Place, Ratio, step, toward, InFrame, Vector, IsZero, zero_vector, blend, Set, Interior, Closure, HasLabel, Germ, Label, Out, Not, In, frame, carriers, NearGerm}
+use Rattle.nef_space.specs.Sets.{Holds}
 use Rattle.law_near.proofs.Near.{stride, step-within, reach_all}
 use Rattle.law_near.proofs.Cells.{reach-some}
 use Rattle.law_near.proofs.Germs.{Germ-unique, Germ-from_sample}

@@ -1,16 +1,5 @@
 -- A set has finitely many vertices: they are among the meets of three of its carriers.
-use Rattle.std.proofs.Common.{◌≡◌, ℕ, zero, suc, ◌+◌, ℤ, pos, negsuc, ◌+ℤ◌, ◌-ℤ◌, ◌*ℤ◌, neg_ℤ, arith, refl, ap, sym, ◌∙◌, ◌⊎◌, inl, inr, ⊎_elim, List, [], ◌∷◌, ◌++◌, subst}
-use Rattle.std.proofs.lemmas.Int.{ints}
-use Rattle.nef_space.specs.Signs.{Lies}
-use Rattle.nef_space.proofs.Ring.{at, num, neg, ◌⊕◌, ◌⊖◌, ◌⊗◌, Poly}
-use Rattle.nef_space.proofs.Combination.{given, none, follows}
-use Rattle.nef_space.proofs.Order.{nought-is}
-use Rattle.nef_space.specs.Place.{Place, Form, form_at, normal_of, SamePlace}
-use Rattle.nef_space.specs.Vectors.{Vector, vector, triple}
-use Rattle.nef_space.specs.Sets.{Set}
-use Rattle.nef_space.specs.Local.{FlatDim, IsVertex}
-use Rattle.law_near.specs.Cells.{carriers}
-use Rattle.law_near.specs.Cones.{IsMeet}
+use Rattle.law_near.proofs.Prelude.{◌≡◌, ℕ, zero, suc, ◌+◌, ℤ, pos, negsuc, ◌+ℤ◌, ◌-ℤ◌, ◌*ℤ◌, neg_ℤ, arith, refl, ap, sym, ◌∙◌, ◌⊎◌, inl, inr, ⊎_elim, List, ◌∷◌, ◌++◌, subst, [], ints, Lies, at, num, neg, ◌⊕◌, ◌⊖◌, ◌⊗◌, Poly, given, none, follows, nought-is, Place, Form, form_at, normal_of, SamePlace, Vector, vector, triple, Set, FlatDim, IsVertex, carriers, IsMeet}
 use Rattle.law_near.proofs.Rays.{signs-same, same-place_sym}
 use Rattle.law_near.proofs.Alike.{FlatDim-by_germs, germs-by_cell}
 use Rattle.law_near.proofs.FlatDecided.{flat_dim-decided}

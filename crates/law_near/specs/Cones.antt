@@ -1,40 +1,36 @@
--- The cone of a set at a point: its label there and its germs in all directions.
-use Rattle.std.specs.Prelude.{◌≡◌, ℕ, ◌<◌, ◌≤◌, ℤ, pos, ◌+ℤ◌, ◌*ℤ◌, List, ◌⊎◌, ◌↔◌}
-use Rattle.nef_space.specs.Signs.{nought, Lies}
-use Rattle.nef_space.specs.Local.{HasLabel, Germ}
-use Rattle.nef_space.specs.Place.{Place, Form, normal_of, Within, SamePlace, IsBetween}
-use Rattle.nef_space.specs.Sets.{Set}
-use Rattle.nef_space.specs.Vectors.{Vector, vector, blend, triple}
+-- The cone of a set at a point: its label there, and its germs in all directions.
+use Rattle.std.specs.Prelude.{◌≡◌, ◌<◌, ◌≤◌, ◌+ℤ◌, ◌*ℤ◌, ◌⊎◌, ◌↔◌}
+use Rattle.nef_space.specs.Prelude.{ℕ, ℤ, pos, List, nought, Lies, HasLabel, Germ, Place, Form, normal_of, Within, SamePlace, IsBetween, Set, Vector, vector, blend, triple}
 use Rattle.nef_space.specs.declared.label.Label.{Label}
 use Rattle.nef_space.specs.declared.label.Label.TheVariants.{Out, Not, In}
 use Rattle.law_near.specs.Cells.{sign_at}
 
--- b e + a d, whose direction is that of e + (a/b) d
+-- the vector b e + a d, which has the direction of e + (a/b) d
 abbrev pub slide : ℕ → Vector → ℤ → Vector → Vector
 slide b e a d = vector (pos b *ℤ e.x +ℤ a *ℤ d.x) (pos b *ℤ e.y +ℤ a *ℤ d.y) (pos b *ℤ e.z +ℤ a *ℤ d.z)
 
--- j d + k e
+-- the vector j d + k e
 abbrev pub combination : ℤ → Vector → ℤ → Vector → Vector
 combination j d k e = vector (j *ℤ d.x +ℤ k *ℤ e.x) (j *ℤ d.y +ℤ k *ℤ e.y) (j *ℤ d.z +ℤ k *ℤ e.z)
 
--- the germs in the directions n d + e have the label, for all large n
+-- the germs in the directions n d + e have the label l for all large n
 abbrev pub NearGerm : Set → Place → Vector → Vector → Label → Type 0
 NearGerm s p d e l = (n : ℕ) × ((k : ℕ) → n ≤ k → Germ s p (blend k d 1 e) l)
 
--- the germs in the directions v and v + (a/b) d agree, for each v and each a/b
+-- the germs in the directions v and v + (a/b) d agree for each v and each a/b
 abbrev pub FlatCone : Set → Place → Vector → Type 0
 FlatCone s p d = (v : Vector) (b : ℕ) (a : ℤ) → 0 < b → (l : Label) → Germ s p v l ↔ Germ s p (slide b v a d) l
 
--- the label and all germs agree
+-- the sets have one label at p, and one germ in each direction
 pub record SameCone (s t : Set) (p : Place) : Type 0 where
   pub label : (l : Label) → HasLabel s p l ↔ HasLabel t p l
   pub germs : (d : Vector) (l : Label) → Germ s p d l ↔ Germ t p d l
 
--- the labels agree at all points that are close enough
+-- the sets have one label at all points close enough to p
 abbrev pub SameNear : Set → Set → Place → Type 0
 SameNear s t p = (n : ℕ) × (0 < n) × ((q : Place) → Within n p q → (l : Label) → HasLabel s q l ↔ HasLabel t q l)
 
--- three planes of the list, with independent normals, meet at the point
+-- three planes of the list, with independent normals, meet at p
 pub record IsMeet (hs : List Form) (p : Place) : Type 0 where
   pub first : Form
   pub second : Form
@@ -51,7 +47,7 @@ pub record IsMeet (hs : List Form) (p : Place) : Type 0 where
 abbrev pub IsOnSegment : Place → Place → Place → Type 0
 IsOnSegment p r q = SamePlace r p ⊎ IsBetween p r q ⊎ SamePlace r q
 
--- ---- what the operations make of labels
+-- ---- the labels that the operations make of labels
 abbrev pub label_and : Label → Label → Label
 label_and Out m = Out
 label_and Not Out = Out

@@ -1,13 +1,10 @@
 -- Closed examples at the origin: two half-spaces, a wall, an edge and a point.
 use Rattle.std.specs.Prelude.{pos, negsuc, false, true}
 use Rattle.nef_space.specs.Laws.{origin}
-use Rattle.nef_space.specs.Local.{HasLabel, SameSet, Germ, Flat, FlatDim, IsVertex}
-use Rattle.nef_space.specs.Place.{Form, form}
-use Rattle.nef_space.specs.Sets.{Set}
-use Rattle.nef_space.specs.Vectors.{Vector, vector}
+use Rattle.nef_space.specs.Prelude.{HasLabel, SameSet, Germ, Flat, FlatDim, IsVertex, Form, form, Set, Vector, vector}
 use Rattle.nef_space.specs.declared.label.Label.TheVariants.{Not, In}
 
--- the forms whose half-spaces are x < 0 and x > 0, and so on
+-- the forms whose open half-spaces are x < 0, x > 0, and so on for y and z
 abbrev pub x_below : Form
 x_below = form (pos 1) (pos 0) (pos 0) (pos 0)
 
@@ -35,23 +32,23 @@ y_axis = vector (pos 0) (pos 1) (pos 0)
 abbrev pub z_axis : Vector
 z_axis = vector (pos 0) (pos 0) (pos 1)
 
--- x < 0 or x > 0
+-- the points with x < 0 or x > 0
 abbrev pub two_halves : Set
 two_halves = Set.either (Set.half x_below false) (Set.half x_above false)
 
--- x = 0
+-- the points with x = 0
 abbrev pub wall : Set
 wall = Set.both (Set.half x_below true) (Set.half x_above true)
 
--- x = 0 and y < 0
+-- the points with x = 0 and y < 0
 abbrev pub wall_part : Set
 wall_part = Set.both wall (Set.half y_below false)
 
--- x <= 0 and y <= 0
+-- the points with x <= 0 and y <= 0
 abbrev pub wedge : Set
 wedge = Set.both (Set.half x_below true) (Set.half y_below true)
 
--- x = 0, y = 0 and z = 0
+-- the point with x = 0, y = 0 and z = 0
 abbrev pub point : Set
 point = Set.both wall (Set.both (Set.both (Set.half y_below true) (Set.half y_above true)) (Set.both (Set.half z_below true) (Set.half z_above true)))
 
@@ -59,7 +56,7 @@ point = Set.both wall (Set.both (Set.both (Set.half y_below true) (Set.half y_ab
 abbrev pub HalvesDisjoint : Type 0
 HalvesDisjoint = SameSet (Set.both (Set.half x_below false) (Set.half x_above false)) Set.empty
 
--- their union leaves out the origin, which its closure has
+-- the union of two opposite open half-spaces leaves out the origin, which the union's closure has
 pub record TwoHalves : Type 0 where
   pub label : HasLabel two_halves origin Not
   pub of_closure : HasLabel (Set.closed two_halves) origin In
@@ -67,7 +64,7 @@ pub record TwoHalves : Type 0 where
   pub germ_in_plane : Germ two_halves origin y_axis Not
   pub dimension : FlatDim two_halves origin 2
 
--- a wall has no interior, and nothing is left of it when it's regularised
+-- a wall has no interior, and nothing is left of a regularised wall
 pub record Wall : Type 0 where
   pub label : HasLabel wall origin In
   pub of_interior : HasLabel (Set.inside wall) origin Not
@@ -85,7 +82,7 @@ pub record Edge : Type 0 where
   pub along_edge : Flat wedge origin z_axis
   pub dimension : FlatDim wedge origin 1
 
--- a point is a vertex, its own boundary, and nothing of it is left when it's regularised
+-- a point is a vertex and its own boundary, and nothing is left of a regularised point
 pub record PointAlone : Type 0 where
   pub label : HasLabel point origin In
   pub of_boundary : HasLabel (Set.border point) origin In

@@ -1,17 +1,15 @@
 -- The laws of homogeneous vectors, linear forms and signs. Each is a clause of a public function of this crate.
-use Rattle.std.specs.Prelude.{◌≡◌, ℕ, ◌<◌, ◌≤◌, pos, ◌+ℤ◌, ◌-ℤ◌, ◌*ℤ◌, ◌<ℤ◌, List, ◌⊎◌, ◌↔◌, Bool, true, false}
-use Rattle.nef_space.specs.Signs.{sign, Lies}
-use Rattle.nef_space.specs.Vectors.{Vector, dot, blend, IsDirection, SameDirection}
-use Rattle.nef_space.specs.Place.{Place, Form, form_at, slope, Ratio, step, Within, SamePlace, toward, IsBetween}
+use Rattle.std.specs.Prelude.{◌≡◌, ◌<◌, ◌≤◌, ◌+ℤ◌, ◌-ℤ◌, ◌*ℤ◌, ◌<ℤ◌, ◌⊎◌, ◌↔◌}
+use Rattle.nef_space.specs.Prelude.{ℕ, pos, List, Bool, true, false, sign, Lies, Vector, dot, blend, IsDirection, SameDirection, Place, Form, form_at, slope, Ratio, step, Within, SamePlace, toward, IsBetween}
 use Rattle.nef_space.specs.Local.{IsShort}
 use Rattle.law_near.specs.Homogeneous.{Homogeneous, of_place, of_direction, form_on, mix, SameUpToFactor, IsMixed, OnSegment, OnPlaces, IsPassed, OnWay, SameSigns, Keeps, IsZeroForm, Avoids, amount}
 use Rattle.law_near.specs.Near.{reach, reach_all, span, unit_ratio}
 
--- ---- the same point and the same direction are the same up to a positive factor
+-- ---- vectors of one point, and of one direction, are equal up to a positive factor
 abbrev pub SamePlaceIsFactor : Type 0
 SamePlaceIsFactor = (p q : Place) → SamePlace p q ↔ SameUpToFactor (of_place p) (of_place q)
 
--- the zero vector is the same as itself up to a factor, and isn't a direction
+-- equal up to a factor are also the zero vector and itself, which isn't a direction
 abbrev pub SameDirectionIsFactor : Type 0
 SameDirectionIsFactor = (d e : Vector) → SameDirection d e ↔ SameUpToFactor (of_direction d) (of_direction e) × IsDirection d
 
@@ -20,15 +18,15 @@ pub record FactorIsEquivalence : Type 0 where
   pub symmetric : (p q : Homogeneous) → SameUpToFactor p q → SameUpToFactor q p
   pub transitive : (p q r : Homogeneous) → SameUpToFactor p q → SameUpToFactor q r → SameUpToFactor p r
 
--- signs of forms don't see the factor
+-- a positive factor doesn't change signs of forms
 abbrev pub SignsRespectFactor : Type 0
 SignsRespectFactor = (h : Form) (p q : Homogeneous) → SameUpToFactor p q → sign (form_on h p) ≡ sign (form_on h q)
 
--- strictly between p and q are the points i p + j q with i, j > 0. With p and q the same this would be false: p is p + p up to a factor, and is not strictly between p and p
+-- strictly between different p and q lie the points i p + j q with i, j > 0; p is p + p up to a factor, but not between
 abbrev pub BetweenIsMixed : Type 0
 BetweenIsMixed = (p r q : Place) → IsBetween p r q ↔ IsMixed (of_place p) (of_place r) (of_place q) × (SamePlace p q → ⊥)
 
--- with the ends, p and q may be the same
+-- on the segment, ends included, lie the points i p + j q with i + j > 0, where p and q may be one
 abbrev pub ClosedIsOnSegment : Type 0
 ClosedIsOnSegment = (p r q : Place) → OnPlaces p r q ↔ OnSegment (of_place p) (of_place r) (of_place q)
 
@@ -42,14 +40,15 @@ abbrev pub WithinRespectsPlace : Type 0
 WithinRespectsPlace = (n : ℕ) (p p' q q' : Place) → SamePlace p p' → SamePlace q q' → Within n p q → Within n p' q'
 
 -- ---- a form keeps its sign
--- within 1/n of p, with n = (|a| + |b| + |c|) w + 1. Without the w this is false: x is positive at the point 1/100 of the x axis, and -1/2 is within 1 of it
+-- the form keeps its sign within 1/n of p, with n = (|a| + |b| + |c|) w + 1. The w is needed: x is positive at the
+-- point 1/100 of the x axis, and -1/2 is within 1 of it
 abbrev pub StableNear : Type 0
 StableNear = (h : Form) (p q : Place) → (form_at h p ≡ pos 0 → ⊥) → Within (reach h p) p q → sign (form_at h q) ≡ sign (form_at h p)
 
 abbrev pub StableListNear : Type 0
 StableListNear = (hs : List Form) (p q : Place) → Within (reach_all hs p) p q → (h : Form) → Lies hs h → (form_at h p ≡ pos 0 → ⊥) → sign (form_at h q) ≡ sign (form_at h p)
 
--- at k p + e from an explicit k on; where it is nought at p it has the sign that it has at e
+-- at k p + e, from a known k on, the form has the sign that it has at p, or at e where it is nought at p
 abbrev pub StableFar : Type 0
 StableFar = (hs : List Form) (p e : Homogeneous) (k : ℕ) → amount hs e ≤ k → Keeps hs p (mix k p 1 e) × ((h : Form) → form_on h p ≡ pos 0 → sign (form_on h (mix k p 1 e)) ≡ sign (form_on h e))
 
@@ -57,15 +56,15 @@ StableFar = (hs : List Form) (p e : Homogeneous) (k : ℕ) → amount hs e ≤ k
 abbrev pub RayForm : Type 0
 RayForm = (h : Form) (p : Place) (t : Ratio) (d : Vector) → form_at h (step p t d) ≡ pos t.b *ℤ form_at h p +ℤ t.a *ℤ pos p.w *ℤ slope h d
 
--- short steps keep the sign where it isn't nought
+-- where the form isn't nought at the start, short steps keep its sign
 abbrev pub RayKeeps : Type 0
 RayKeeps = (h : Form) (p : Place) (t : Ratio) (d : Vector) → (form_at h p ≡ pos 0 → ⊥) → IsShort (span h p d) t → sign (form_at h (step p t d)) ≡ sign (form_at h p)
 
--- and all steps forward have the sign of the slope where it is
+-- where the form is nought at the start, all steps forward have the sign of its slope
 abbrev pub RayTurns : Type 0
 RayTurns = (h : Form) (p : Place) (t : Ratio) (d : Vector) → form_at h p ≡ pos 0 → pos 0 <ℤ t.a → sign (form_at h (step p t d)) ≡ sign (slope h d)
 
--- ---- the difference of two points leads from the one to the other
+-- ---- the difference of two points leads from one to the other
 abbrev pub DifferenceLeads : Type 0
 DifferenceLeads = (p q : Place) → SamePlace q (step p (unit_ratio p q) (toward p q))
 
@@ -73,7 +72,8 @@ abbrev pub DifferenceSlope : Type 0
 DifferenceSlope = (h : Form) (p q : Place) → slope h (toward p q) ≡ pos p.w *ℤ form_at h q -ℤ pos q.w *ℤ form_at h p
 
 -- ---- general position
--- for each list of forms one e is nought at none of them, and so is k v + e from some k on, with the signs of v wherever these aren't nought. That it has all signs of v would be false: a form that is nought at v is not nought there
+-- for each list of forms there is an e at which none of them is nought; at k v + e, from some k on, none is nought
+-- either, and each that isn't nought at v has its sign at v
 abbrev pub GenericVector : Type 0
 GenericVector = (hs : List Form) → (e : Homogeneous) × Avoids hs e × ((v : Homogeneous) (k : ℕ) → amount hs e ≤ k → Keeps hs v (mix k v 1 e) × Avoids hs (mix k v 1 e))
 
@@ -85,42 +85,42 @@ pub record IsGenericAt (ns : List Vector) (d v : Vector) : Type 0 where
 abbrev pub GenericDirection : Type 0
 GenericDirection = (ns : List Vector) → (e : Vector) × (low : ℕ) × ((n : Vector) → Lies ns n → IsDirection n → dot n e ≡ pos 0 → ⊥) × ((d : Vector) (k : ℕ) → low ≤ k → IsGenericAt ns d (blend k d 1 e))
 
--- the same for points, as near to p as one likes
+-- for each list of forms and each n there is such a point within 1/n of p
 abbrev pub GenericPoint : Type 0
 GenericPoint = (hs : List Form) (p : Place) (n : ℕ) → (q : Place) × Within n p q
     × ((h : Form) → Lies hs h → (form_at h p ≡ pos 0 → ⊥) → sign (form_at h q) ≡ sign (form_at h p))
     × ((h : Form) → Lies hs h → ¬ IsZeroForm h → form_at h q ≡ pos 0 → ⊥)
 
--- ---- along a segment
--- A clause can't quantify over predicates, so these laws speak of tests. The lemmas that prove them, settled-segment and first-change in proofs/, are over predicates.
--- If vectors of the segment with the same signs on finitely many forms agree on P, and each x of the segment agrees with the vectors k x + y for large k, with y on the segment, then the ends agree.
--- Without the forms this is false: on the segment from 0 to 2 of the x axis each rational number has a neighbourhood on which "the square is below 2" doesn't change.
--- With x strictly inside only it is false: let P hold at p alone.
--- With the agreement asked at the ends only it is false: let P hold up to the middle.
+-- A clause can't quantify over predicates, so these laws speak of tests P. The lemmas that prove them, settled-segment
+-- and first-change in proofs/, are over predicates.
+-- If vectors of the segment with the same signs on finitely many forms agree on P, and each x of the segment agrees
+-- with the vectors k x + y for large k, with y on the segment, then the ends agree.
+-- The forms are needed: on the segment from 0 to 2 of the x axis each rational number has a neighbourhood on which "the
+-- square is below 2" doesn't change. So are x at the ends (let P hold at p alone) and x inside (let P hold up to the
+-- middle).
 abbrev pub SegmentLaw : Type 0
 SegmentLaw = (hs : List Form) (P : Homogeneous → Bool) (p q : Homogeneous)
     → ((r s : Homogeneous) → OnSegment p r q → OnSegment p s q → SameSigns hs r s → P r ≡ P s)
     → ((x y : Homogeneous) → OnSegment p x q → OnSegment p y q → (n : ℕ) × ((k : ℕ) → n ≤ k → P x ≡ P (mix k x 1 y)))
     → P p ≡ P q
 
--- the same for points, where each agrees with the points of the segment within 1/n of it
+-- the same law for points, where each point agrees with the points of the segment within 1/n of it
 abbrev pub SegmentOfPoints : Type 0
 SegmentOfPoints = (hs : List Form) (P : Place → Bool) (p q : Place)
     → ((r s : Place) → OnPlaces p r q → OnPlaces p s q → ((h : Form) → Lies hs h → sign (form_at h r) ≡ sign (form_at h s)) → P r ≡ P s)
     → ((r : Place) → OnPlaces p r q → (n : ℕ) × (0 < n) × ((s : Place) → OnPlaces p s q → Within n r s → P r ≡ P s))
     → P p ≡ P q
 
--- and for directions along a great circle. With opposite ends the zero vector is on the way
+-- the same law for directions along a great circle; with opposite ends the zero vector is on the way
 abbrev pub SegmentOfDirections : Type 0
 SegmentOfDirections = (ns : List Vector) (P : Vector → Bool) (d e : Vector)
     → ((r s : Vector) → OnWay d r e → OnWay d s e → ((n : Vector) → Lies ns n → sign (dot n r) ≡ sign (dot n s)) → P r ≡ P s)
     → ((r s : Vector) → OnWay d r e → OnWay d s e → (n : ℕ) × ((k : ℕ) → n ≤ k → P r ≡ P (blend k r 1 s)))
     → P d ≡ P e
 
--- ---- the first change
--- P holds at all vectors strictly between p and the vector. It fails there, or holds there and fails strictly between it and a later z: so the vector doesn't agree with those near it.
--- That there is a first vector at which P fails would be false: let P hold up to the middle, itself included.
--- That the vector lies strictly between p and q would be false: let P hold at p alone, or everywhere but at q.
+-- P holds at all vectors strictly between p and `vector`. P fails at `vector`, or holds there and fails strictly
+-- between it and a later z: so `vector` doesn't agree with the vectors near it. P need not fail at a first vector (let
+-- P hold up to the middle, itself included), nor `vector` lie strictly inside (let P hold at p alone, or but at q).
 pub record FirstChangeOf (P : Homogeneous → Bool) (p q : Homogeneous) : Type 0 where
   pub vector : Homogeneous
   pub on : OnSegment p vector q
@@ -133,7 +133,7 @@ FirstChangeLaw = (hs : List Form) (P : Homogeneous → Bool) (p q : Homogeneous)
     → ((r s : Homogeneous) → OnSegment p r q → OnSegment p s q → SameSigns hs r s → P r ≡ P s)
     → P p ≡ true → P q ≡ false → FirstChangeOf P p q
 
--- the same for points
+-- the first change of P at points of a segment
 pub record FirstChangeOfPoints (P : Place → Bool) (p q : Place) : Type 0 where
   pub place : Place
   pub on : OnPlaces p place q
@@ -145,7 +145,7 @@ FirstChangeAtPoints = (hs : List Form) (P : Place → Bool) (p q : Place)
     → ((r s : Place) → OnPlaces p r q → OnPlaces p s q → ((h : Form) → Lies hs h → sign (form_at h r) ≡ sign (form_at h s)) → P r ≡ P s)
     → P p ≡ true → P q ≡ false → FirstChangeOfPoints P p q
 
--- and for directions along a great circle
+-- the first change of P at directions along a great circle
 pub record FirstChangeOfDirections (P : Vector → Bool) (d e : Vector) : Type 0 where
   pub direction : Vector
   pub on : OnWay d direction e
@@ -157,7 +157,8 @@ FirstChangeAtDirections = (ns : List Vector) (P : Vector → Bool) (d e : Vector
     → ((r s : Vector) → OnWay d r e → OnWay d s e → ((n : Vector) → Lies ns n → sign (dot n r) ≡ sign (dot n s)) → P r ≡ P s)
     → P d ≡ true → P e ≡ false → FirstChangeOfDirections P d e
 
--- ---- finitely many directions, and points, have all signs that finitely many forms have. That no list of forms needs more than a fixed number of them would be false: n planes through one line need 2n directions at least
+-- ---- finitely many directions, and points, have all signs that finitely many forms have; their number isn't bounded
+-- by any fixed one: n planes through one line need 2 n directions
 abbrev pub RepresentativeDirections : Type 0
 RepresentativeDirections = (ns : List Vector) → (rs : List Vector) × ((d : Vector) → (r : Vector) × Lies rs r × (IsDirection d → IsDirection r) × ((n : Vector) → Lies ns n → sign (dot n d) ≡ sign (dot n r)))
 

@@ -1,10 +1,7 @@
--- The laws on what a set looks like near a point. Each is cited by a clause of a public function.
-use Rattle.std.specs.Prelude.{◌≡◌, ℕ, ◌<◌, ◌≤◌, ℤ, pos, List, ◌⊎◌, ◌↔◌}
-use Rattle.nef_space.specs.Signs.{nought, sign, Lies}
+-- The laws on what a set looks like near a point. Each is a clause of a public function.
+use Rattle.std.specs.Prelude.{◌≡◌, ◌<◌, ◌≤◌, ◌⊎◌, ◌↔◌}
+use Rattle.nef_space.specs.Prelude.{ℕ, ℤ, pos, List, nought, sign, Lies, Place, Form, normal_of, slope, Ratio, step, Within, SamePlace, InFrame, InClosedFrame, toward, IsAhead, IsBetween, Set, Holds, Vector, dot, cross, IsZero, IsDirection, IsParallel, SameDirection}
 use Rattle.nef_space.specs.Local.{HasLabel, SameSet, IsShort, Germ, Flat, FlatDim, IsVertex, IsEven, Joined}
-use Rattle.nef_space.specs.Place.{Place, Form, normal_of, slope, Ratio, step, Within, SamePlace, InFrame, InClosedFrame, toward, IsAhead, IsBetween}
-use Rattle.nef_space.specs.Sets.{Set, Holds}
-use Rattle.nef_space.specs.Vectors.{Vector, dot, cross, IsZero, IsDirection, IsParallel, SameDirection}
 use Rattle.nef_space.specs.declared.label.Label.{Label}
 use Rattle.nef_space.specs.declared.label.Label.TheVariants.{Out, Not, In}
 use Rattle.law_near.specs.Cells.{sign_at, carriers, SameSigns, SameSlopes, SameSlopesAt, IsInAllAt}
@@ -15,19 +12,19 @@ use Rattle.law_near.specs.Cones.{combination, NearGerm, FlatCone, SameCone, Same
 abbrev pub HoldsByCell : Type 0
 HoldsByCell = (s : Set) (p q : Place) → SameSigns (carriers s) p q → Holds s p → Holds s q
 
--- and they have the same label
+-- points on the same sides of all carriers have the same label
 abbrev pub LabelByCell : Type 0
 LabelByCell = (s : Set) (p q : Place) (l : Label) → SameSigns (carriers s) p q → HasLabel s p l → HasLabel s q l
 
--- and the same germs
+-- points on the same sides of all carriers have the same germs
 abbrev pub GermByCell : Type 0
 GermByCell = (s : Set) (p q : Place) (d : Vector) (l : Label) → SameSigns (carriers s) p q → Germ s p d l → Germ s q d l
 
--- and the same flat directions
+-- points on the same sides of all carriers have the same flat directions
 abbrev pub FlatByCell : Type 0
 FlatByCell = (s : Set) (p q : Place) (d : Vector) → SameSigns (carriers s) p q → Flat s p d → Flat s q d
 
--- and as many of them
+-- points on the same sides of all carriers have as many independent flat directions
 abbrev pub FlatDimByCell : Type 0
 FlatDimByCell = (s : Set) (p q : Place) (k : ℕ) → SameSigns (carriers s) p q → FlatDim s p k → FlatDim s q k
 
@@ -56,7 +53,7 @@ FlatDimAtSamePlace = (s : Set) (p q : Place) (k : ℕ) → SamePlace p q → Fla
 abbrev pub LabelExists : Type 0
 LabelExists = (s : Set) (p : Place) → (l : Label) × HasLabel s p l
 
--- and one only
+-- each point has one label only
 abbrev pub LabelIsUnique : Type 0
 LabelIsUnique = (s : Set) (p : Place) (l m : Label) → HasLabel s p l → HasLabel s p m → l ≡ m
 
@@ -64,7 +61,7 @@ LabelIsUnique = (s : Set) (p : Place) (l m : Label) → HasLabel s p l → HasLa
 abbrev pub GermExists : Type 0
 GermExists = (s : Set) (p : Place) (d : Vector) → (l : Label) × Germ s p d l
 
--- and one only
+-- each direction has one germ only
 abbrev pub GermIsUnique : Type 0
 GermIsUnique = (s : Set) (p : Place) (d : Vector) (l m : Label) → Germ s p d l → Germ s p d m → l ≡ m
 
@@ -101,15 +98,16 @@ GermOnRay = (s : Set) (p : Place) (d : Vector) → (n : ℕ) × (0 < n) × ((t :
 abbrev pub NearGermExists : Type 0
 NearGermExists = (s : Set) (p : Place) (d e : Vector) → (l : Label) × NearGerm s p d e l
 
--- and one only
+-- each direction near d has one germ only
 abbrev pub NearGermIsUnique : Type 0
 NearGermIsUnique = (s : Set) (p : Place) (d e : Vector) (l m : Label) → NearGerm s p d e l → NearGerm s p d e m → l ≡ m
 
--- near d toward the zero vector is d itself
+-- the germ near d toward the zero vector is that of d
 abbrev pub NearGermTowardZero : Type 0
 NearGermTowardZero = (s : Set) (p : Place) (d e : Vector) (l : Label) → IsZero e → NearGerm s p d e l ↔ Germ s p d l
 
--- the germ near d toward e is decided by the sides of the carriers through p to which d leads, and e where d lies in them
+-- the germ near d toward e is decided by the sides of the carriers through p to which d leads, or e where d lies in
+-- them
 abbrev pub NearGermBySlopes : Type 0
 NearGermBySlopes = (s : Set) (p : Place) (d d' e e' : Vector) (l : Label) → SameSlopesAt (carriers s) p d d'
     → ((h : Form) → Lies (carriers s) h → sign_at h p ≡ nought → sign (slope h d) ≡ nought → sign (slope h e) ≡ sign (slope h e')) → NearGerm s p d e l → NearGerm s p d' e' l
@@ -123,11 +121,11 @@ ConeNearby = (s : Set) (p : Place) → (n : ℕ) × (0 < n) × ((q : Place) → 
 abbrev pub HoldsIsDecided : Type 0
 HoldsIsDecided = (s : Set) (p : Place) → Holds s p ⊎ (Holds s p → ⊥)
 
--- a point has a label or hasn't
+-- a point has this label or hasn't
 abbrev pub LabelIsDecided : Type 0
 LabelIsDecided = (s : Set) (p : Place) (l : Label) → HasLabel s p l ⊎ (HasLabel s p l → ⊥)
 
--- a direction has a germ or hasn't
+-- a direction has this germ or hasn't
 abbrev pub GermIsDecided : Type 0
 GermIsDecided = (s : Set) (p : Place) (d : Vector) (l : Label) → Germ s p d l ⊎ (Germ s p d l → ⊥)
 
@@ -139,19 +137,19 @@ NearGermIsDecided = (s : Set) (p : Place) (d e : Vector) (l : Label) → NearGer
 abbrev pub Representatives : Type 0
 Representatives = (hs : List Form) → (vs : List Vector) × ((d : Vector) → (v : Vector) × Lies vs v × SameSlopes hs d v)
 
--- so finitely many vectors show all germs
+-- finitely many vectors show all germs at a point
 abbrev pub GermRepresentatives : Type 0
 GermRepresentatives = (s : Set) (p : Place) → (vs : List Vector) × ((d : Vector) → (v : Vector) × Lies vs v × ((l : Label) → Germ s p d l ↔ Germ s p v l))
 
--- either all germs are l or there is one that isn't
+-- all germs at p are l, or there is one that isn't
 abbrev pub AllGermsAreDecided : Type 0
 AllGermsAreDecided = (s : Set) (p : Place) (l : Label) → ((d : Vector) → Germ s p d l) ⊎ ((d : Vector) × (Germ s p d l → ⊥))
 
--- the same without the zero vector
+-- all germs at p but that toward the zero vector are l, or there is one that isn't
 abbrev pub AllDirectionsAreDecided : Type 0
 AllDirectionsAreDecided = (s : Set) (p : Place) (l : Label) → ((d : Vector) → IsDirection d → Germ s p d l) ⊎ ((d : Vector) × IsDirection d × (Germ s p d l → ⊥))
 
--- either all germs near d are l or there is one that isn't
+-- all germs near d are l, or there is one that isn't
 abbrev pub AllNearGermsAreDecided : Type 0
 AllNearGermsAreDecided = (s : Set) (p : Place) (d : Vector) (l : Label) → ((e : Vector) → NearGerm s p d e l) ⊎ ((e : Vector) × (NearGerm s p d e l → ⊥))
 
@@ -188,7 +186,7 @@ FlatIsNearCone = (s : Set) (p : Place) (d : Vector) → Flat s p d ↔ ((v : Vec
 abbrev pub FlatBySlopes : Type 0
 FlatBySlopes = (s : Set) (p : Place) (d e : Vector) → SameSlopesAt (carriers s) p d e → Flat s p d → Flat s p e
 
--- what is flat at p is flat close to p, and so is the way there
+-- directions that are flat at p are flat close to p, and there the way from p is flat too
 abbrev pub FlatNearby : Type 0
 FlatNearby = (s : Set) (p : Place) → (n : ℕ) × (0 < n) × ((q : Place) → Within n p q → Flat s q (toward p q) × ((d : Vector) → Flat s p d → Flat s q d))
 
@@ -200,7 +198,7 @@ AllFlat = (s : Set) (p : Place) (d : Vector) → FlatDim s p 3 → Flat s p d
 abbrev pub FlatOutside : Type 0
 FlatOutside = (s : Set) (p : Place) (d : Vector) → (InClosedFrame p → ⊥) → Flat s p d
 
--- so there are three independent ones
+-- outside the closed frame there are three independent flat directions
 abbrev pub FlatDimOutside : Type 0
 FlatDimOutside = (s : Set) (p : Place) → (InClosedFrame p → ⊥) → FlatDim s p 3
 
@@ -220,15 +218,15 @@ IsHeldBy s p d e = (h : Form) → Lies (carriers s) h → sign_at h p ≡ nought
 abbrev pub FlatWhereHeld : Type 0
 FlatWhereHeld = (s : Set) (p : Place) (d e : Vector) → Flat s p d → IsHeldBy s p d e → Flat s p e
 
--- where one direction is flat, its multiples are, and no other
+-- where one independent direction is flat, exactly its multiples are
 abbrev pub FlatLine : Type 0
 FlatLine = (s : Set) (p : Place) → FlatDim s p 1 → (d : Vector) × IsDirection d × ((v : Vector) → Flat s p v ↔ IsParallel d v)
 
--- where two are flat, those of their plane are, and no other
+-- where two independent directions are flat, exactly the directions of their plane are
 abbrev pub FlatPlane : Type 0
 FlatPlane = (s : Set) (p : Place) → FlatDim s p 2 → (n : Vector) × IsDirection n × ((v : Vector) → Flat s p v ↔ (dot n v ≡ pos 0))
 
--- two carriers through p in which the flat directions lie, and no other
+-- two carriers through p; the flat directions are those that lie in both
 pub record EdgeSupport (s : Set) (p : Place) : Type 0 where
   pub first : Form
   pub second : Form
@@ -239,11 +237,11 @@ pub record EdgeSupport (s : Set) (p : Place) : Type 0 where
   pub independent : IsDirection (cross (normal_of first) (normal_of second))
   pub flat_in : (v : Vector) → Flat s p v ↔ ((slope first v ≡ pos 0) × (slope second v ≡ pos 0))
 
--- an edge lies in two carriers
+-- a point with one flat direction has two such carriers
 abbrev pub EdgeInCarriers : Type 0
 EdgeInCarriers = (s : Set) (p : Place) → FlatDim s p 1 → EdgeSupport s p
 
--- a carrier through p in which the flat directions lie, and no other
+-- a carrier through p; the flat directions are those that lie in it
 pub record FacetSupport (s : Set) (p : Place) : Type 0 where
   pub plane : Form
   pub listed : Lies (carriers s) plane
@@ -251,12 +249,12 @@ pub record FacetSupport (s : Set) (p : Place) : Type 0 where
   pub has_normal : IsDirection (normal_of plane)
   pub flat_in : (v : Vector) → Flat s p v ↔ (slope plane v ≡ pos 0)
 
--- a facet lies in a carrier
+-- a point with two flat directions has such a carrier
 abbrev pub FacetInCarrier : Type 0
 FacetInCarrier = (s : Set) (p : Place) → FlatDim s p 2 → FacetSupport s p
 
 -- ---- combinations
--- labels, and germs likewise, combine as the sets do
+-- the labels of combinations are the combinations of the labels l and m, where Has gives labels or germs
 pub record LabelsCombine (a b : Set) (l m : Label) (Has : Set → Label → Type 0) : Type 0 where
   pub both : Has (Set.both a b) (label_and l m)
   pub either : Has (Set.either a b) (label_or l m)
@@ -272,18 +270,18 @@ LabelOfCombination = (a b : Set) (p : Place) (l m : Label) → HasLabel a p l �
 abbrev pub GermOfCombination : Type 0
 GermOfCombination = (a b : Set) (p : Place) (d : Vector) (l m : Label) → Germ a p d l → Germ b p d m → LabelsCombine a b l m (λ s. Germ s p d)
 
--- and so is the germ near a direction
+-- the germ of a combination near a direction is the combination of the germs there
 abbrev pub NearGermOfCombination : Type 0
 NearGermOfCombination = (a b : Set) (p : Place) (d e : Vector) (l m : Label) → NearGerm a p d e l → NearGerm b p d e m → LabelsCombine a b l m (λ s. NearGerm s p d e)
 
--- a direction that is flat for both operands is flat for what is made of them
+-- d is flat for what each operation on two sets makes of a and b
 pub record IsFlatForBoth (a b : Set) (p : Place) (d : Vector) : Type 0 where
   pub both : Flat (Set.both a b) p d
   pub either : Flat (Set.either a b) p d
   pub less : Flat (Set.less a b) p d
   pub one_of : Flat (Set.one_of a b) p d
 
--- what is flat for both operands is flat for intersection, union, difference and symmetric difference
+-- a direction that is flat for both operands is flat for union, intersection, difference and symmetric difference
 abbrev pub FlatOfTwo : Type 0
 FlatOfTwo = (a b : Set) (p : Place) (d : Vector) → Flat a p d → Flat b p d → IsFlatForBoth a b p d
 
@@ -294,40 +292,40 @@ pub record IsFlatForOne (a : Set) (p : Place) (d : Vector) : Type 0 where
   pub border : Flat (Set.border a) p d
   pub regular : Flat (Set.regular a) p d
 
--- what is flat for the operand is flat for complement, interior, closure, boundary and regularisation
+-- a direction that is flat for the operand is flat for complement, interior, closure, boundary and regularisation
 abbrev pub FlatOfOne : Type 0
 FlatOfOne = (a : Set) (p : Place) (d : Vector) → Flat a p d → IsFlatForOne a p d
 
 -- ---- interior, closure, boundary and regularisation in terms of cones
--- the interior holds at p where the cone is In throughout
+-- the interior holds at p exactly where the operand's label and all its germs are In
 abbrev pub InsideAt : Type 0
 InsideAt = (a : Set) (p : Place) → HasLabel (Set.inside a) p In ↔ (HasLabel a p In × ((d : Vector) → Germ a p d In))
 
--- the closure, where the cone is In somewhere
+-- the closure holds at p exactly where p is in the frame, and the operand's label or some germ is In
 abbrev pub ClosedAt : Type 0
 ClosedAt = (a : Set) (p : Place) → HasLabel (Set.closed a) p In ↔ (InFrame p × (HasLabel a p In ⊎ ((d : Vector) × Germ a p d In)))
 
--- the boundary, where it is In somewhere and Not somewhere
+-- the boundary holds at p exactly where the operand's label or some germ is In, and its label or some germ is Not
 abbrev pub BorderAt : Type 0
 BorderAt = (a : Set) (p : Place) → HasLabel (Set.border a) p In ↔ ((HasLabel a p In ⊎ ((d : Vector) × Germ a p d In)) × (HasLabel a p Not ⊎ ((d : Vector) × Germ a p d Not)) × InFrame p)
 
--- the regularisation, where it is In in all directions near some direction
+-- the regularisation holds at p exactly where the operand's germs are In in all directions near some direction
 abbrev pub RegularAt : Type 0
 RegularAt = (a : Set) (p : Place) → HasLabel (Set.regular a) p In ↔ (InFrame p × ((d : Vector) × ((e : Vector) → NearGerm a p d e In)))
 
--- the same toward a direction, by the directions near it
+-- the interior is In toward d exactly where the operand is In toward d and in all directions near d
 abbrev pub InsideToward : Type 0
 InsideToward = (a : Set) (p : Place) (d : Vector) → Germ (Set.inside a) p d In ↔ (Germ a p d In × ((e : Vector) → NearGerm a p d e In))
 
--- the closure is In toward d where the operand is In toward d or somewhere near it, and not Out toward d
+-- the closure is In toward d exactly where the operand is In toward d or somewhere near d, and not Out toward d
 abbrev pub ClosedToward : Type 0
 ClosedToward = (a : Set) (p : Place) (d : Vector) → Germ (Set.closed a) p d In ↔ ((Germ a p d Out → ⊥) × (Germ a p d In ⊎ ((e : Vector) × NearGerm a p d e In)))
 
--- the boundary, where the operand is In at or near d, and Not at or near d
+-- the boundary is In toward d exactly where the operand is In at or near d, and Not at or near d, and not Out toward d
 abbrev pub BorderToward : Type 0
 BorderToward = (a : Set) (p : Place) (d : Vector) → Germ (Set.border a) p d In ↔ ((Germ a p d In ⊎ ((e : Vector) × NearGerm a p d e In)) × (Germ a p d Not ⊎ ((e : Vector) × NearGerm a p d e Not)) × (Germ a p d Out → ⊥))
 
--- the regularisation, where the interior is In somewhere near d
+-- the regularisation is In toward d exactly where the interior is In somewhere near d, and the operand not Out toward d
 abbrev pub RegularToward : Type 0
 RegularToward = (a : Set) (p : Place) (d : Vector) → Germ (Set.regular a) p d In ↔ ((Germ a p d Out → ⊥) × ((e : Vector) × NearGerm (Set.inside a) p d e In))
 
@@ -340,15 +338,15 @@ SameSetBySameCones = (s t : Set) → SameSet s t ↔ ((p : Place) → SameCone s
 abbrev pub SameConeIsSameNear : Type 0
 SameConeIsSameNear = (s t : Set) (p : Place) → SameCone s t p ↔ SameNear s t p
 
--- a cone decides the flat directions
+-- sets with equal cones at p have the same flat directions
 abbrev pub FlatBySameCone : Type 0
 FlatBySameCone = (s t : Set) (p : Place) (d : Vector) → SameCone s t p → Flat s p d ↔ Flat t p d
 
--- and how many there are
+-- sets with equal cones at p have as many independent flat directions
 abbrev pub FlatDimBySameCone : Type 0
 FlatDimBySameCone = (s t : Set) (p : Place) (k : ℕ) → SameCone s t p → FlatDim s p k ↔ FlatDim t p k
 
--- and the germs near a direction
+-- sets with equal cones at p have the same germs near each direction
 abbrev pub NearGermBySameCone : Type 0
 NearGermBySameCone = (s t : Set) (p : Place) (d e : Vector) (l : Label) → SameCone s t p → NearGerm s p d e l ↔ NearGerm t p d e l
 
@@ -357,39 +355,40 @@ abbrev pub JoinedBySameSet : Type 0
 JoinedBySameSet = (s t : Set) (p q : Place) → SameSet s t → Joined s p q → Joined t p q
 
 -- ---- along a segment
--- at each point of the segment, what Has says is true or false alike at the points of the segment close to it
+-- each point of the segment agrees on Has with the points of the segment close to it
 abbrev pub IsSettled : (Place → Type 0) → Place → Place → Type 0
 IsSettled Has p q = (r : Place) → IsOnSegment p r q → (n : ℕ) × (0 < n) × ((s : Place) → IsOnSegment p s q → Within n r s → Has r ↔ Has s)
 
--- a label that nowhere on a segment changes nearby is the same at both ends
+-- a label that changes close to no point of a segment is the same at both ends
 abbrev pub LabelAlongSegment : Type 0
 LabelAlongSegment = (s : Set) (l : Label) (p q : Place) → IsSettled (λ r. HasLabel s r l) p q → HasLabel s p l → HasLabel s q l
 
--- the number of flat directions likewise
+-- a number of flat directions that changes close to no point of a segment is the same at both ends
 abbrev pub FlatDimAlongSegment : Type 0
 FlatDimAlongSegment = (s : Set) (k : ℕ) (p q : Place) → IsSettled (λ r. FlatDim s r k) p q → FlatDim s p k → FlatDim s q k
 
--- Has stands at p and up to a point before q, and there it changes: either it fails at that point, which isn't p, or it stands there and fails from there on as far as next
+-- Has holds at p and up to a point before q, where it changes: it fails at that point, which isn't p, or holds there
+-- and fails from there on up to `next`
 pub record FirstChange (Has : Place → Type 0) (p q : Place) : Type 0 where
   pub at_place : Place
   pub on_segment : SamePlace at_place p ⊎ IsBetween p at_place q
   pub stands_before : (r : Place) → IsBetween p r at_place → Has r
   pub change : ((Has at_place → ⊥) × IsBetween p at_place q) ⊎ (Has at_place × ((next : Place) × IsBetween at_place next q × ((r : Place) → IsBetween at_place r next → Has r → ⊥)))
 
--- either the label stays all the way from p to q, the end left out, or there is a first point where it changes
+-- the label stays all the way from p to q, the end left out, or there is a first point where it changes
 abbrev pub LabelChangesFirst : Type 0
 LabelChangesFirst = (s : Set) (l : Label) (p q : Place) → HasLabel s p l → ((r : Place) → IsBetween p r q → HasLabel s r l) ⊎ FirstChange (λ r. HasLabel s r l) p q
 
--- the number of flat directions likewise
+-- the number of flat directions stays all the way from p to q, the end left out, or there is a first change of it
 abbrev pub FlatDimChangesFirst : Type 0
 FlatDimChangesFirst = (s : Set) (k : ℕ) (p q : Place) → FlatDim s p k → ((r : Place) → IsBetween p r q → FlatDim s r k) ⊎ FirstChange (λ r. FlatDim s r k) p q
 
 -- ---- edges and the ends of flat ways
--- fewer than k independent directions are flat
+-- fewer than k independent directions are flat at p
 abbrev pub IsFlatBelow : Set → ℕ → Place → Type 0
 IsFlatBelow s k p = (j : ℕ) × (j < k) × FlatDim s p j
 
--- close to p no point has fewer
+-- close to p no point has fewer flat directions than p
 abbrev pub FlatDimNearby : Type 0
 FlatDimNearby = (s : Set) (p : Place) (k : ℕ) → FlatDim s p k → (n : ℕ) × (0 < n) × ((q : Place) → Within n p q → (j : ℕ) → FlatDim s q j → k ≤ j)
 
@@ -400,33 +399,33 @@ pub record FirstPoint (Has : Place → Type 0) (p q : Place) : Type 0 where
   pub holds : Has at_place
   pub none_before : (r : Place) → IsBetween p r at_place → Has r → ⊥
 
--- from a point with k flat directions or more, either all points up to q have as many or there is a first one with fewer
+-- from a point with at least k flat directions on, all points up to q have as many, or there is a first one with fewer
 abbrev pub FlatBelowFirst : Type 0
 FlatBelowFirst = (s : Set) (k : ℕ) (p q : Place) → (IsFlatBelow s k p → ⊥) → ((r : Place) → IsBetween p r q → IsFlatBelow s k r → ⊥) ⊎ FirstPoint (IsFlatBelow s k) p q
 
--- up to a point before q the number of flat directions is k, and there it is smaller
+-- a point before q up to which the number of flat directions is k, and at which it is smaller
 pub record Drop (s : Set) (k : ℕ) (p q : Place) : Type 0 where
   pub at_place : Place
   pub between : IsBetween p at_place q
   pub even_before : (r : Place) → IsBetween p r at_place → FlatDim s r k
   pub drops : IsFlatBelow s k at_place
 
--- along a flat way the number of flat directions stays until it drops: it never rises
+-- along a flat direction the number of flat directions stays until it drops: it never rises
 abbrev pub EvenUntilDrop : Type 0
 EvenUntilDrop = (s : Set) (k : ℕ) (p q : Place) → FlatDim s p k → Flat s p (toward p q) → ((r : Place) → IsBetween p r q → FlatDim s r k) ⊎ Drop s k p q
 
--- the point ahead of p in the direction d at which the number of flat directions drops below k, which it is before
+-- a point ahead of p along d up to which the number of flat directions is k, and at which it is smaller
 pub record WayEnd (s : Set) (k : ℕ) (p : Place) (d : Vector) : Type 0 where
   pub at_place : Place
   pub is_ahead : IsAhead p d at_place
   pub even_before : (r : Place) → IsBetween p r at_place → FlatDim s r k
   pub drops : IsFlatBelow s k at_place
 
--- where not all directions are flat, each flat way ends, since the frame does
+-- where not all directions are flat, the way along each flat direction ends, since the frame does
 abbrev pub FlatWayEnds : Type 0
 FlatWayEnds = (s : Set) (k : ℕ) (p : Place) (d : Vector) → k < 3 → FlatDim s p k → IsDirection d → Flat s p d → WayEnd s k p d
 
--- p lies strictly on an edge: between two vertices between which all points have one flat direction
+-- two vertices between which p lies, and between which all points have one flat direction
 pub record EdgeAround (s : Set) (p : Place) : Type 0 where
   pub source : Place
   pub target : Place
@@ -435,15 +434,15 @@ pub record EdgeAround (s : Set) (p : Place) : Type 0 where
   pub between : IsBetween source p target
   pub even : (r : Place) → IsBetween source r target → FlatDim s r 1
 
--- each point with one flat direction lies strictly on an edge
+-- each point with one flat direction lies strictly between two such vertices
 abbrev pub EdgeHasEnds : Type 0
 EdgeHasEnds = (s : Set) (p : Place) → FlatDim s p 1 → EdgeAround s p
 
--- a set has finitely many vertices, and each is equal to one of a list of them
+-- a set has finitely many vertices: each is equal to one of a list
 abbrev pub FiniteVertices : Type 0
 FiniteVertices = (s : Set) → (ps : List Place) × ((q : Place) → Lies ps q → IsVertex s q) × ((p : Place) → IsVertex s p → (q : Place) × Lies ps q × SamePlace q p)
 
--- sets with equal cones at the vertices of both are equal: the vertices and the cones there determine the set
+-- sets with equal cones at the vertices of both are equal
 abbrev pub SameSetByVertices : Type 0
 SameSetByVertices = (s t : Set) → ((p : Place) → IsVertex s p → SameCone s t p) → ((p : Place) → IsVertex t p → SameCone s t p) → SameSet s t
 
@@ -452,7 +451,7 @@ SameSetByVertices = (s t : Set) → ((p : Place) → IsVertex s p → SameCone s
 abbrev pub SameGerms : Set → Place → Place → Type 0
 SameGerms s p q = (v : Vector) (l : Label) → Germ s p v l ↔ Germ s q v l
 
--- along a segment whose points have equally many flat directions there is one cone
+-- along a segment whose points have as many flat directions there is one cone
 abbrev pub OneConeAlongEven : Type 0
 OneConeAlongEven = (s : Set) (k : ℕ) (p q : Place) → IsEven s k p q → SameGerms s p q
 
@@ -460,7 +459,7 @@ OneConeAlongEven = (s : Set) (k : ℕ) (p q : Place) → IsEven s k p q → Same
 abbrev pub OneConeOfJoined : Type 0
 OneConeOfJoined = (s : Set) (p q : Place) → Joined s p q → SameGerms s p q
 
--- and one label
+-- joined points have one label
 abbrev pub OneLabelOfJoined : Type 0
 OneLabelOfJoined = (s : Set) (p q : Place) (l : Label) → Joined s p q → HasLabel s p l → HasLabel s q l
 
@@ -468,10 +467,10 @@ OneLabelOfJoined = (s : Set) (p q : Place) (l : Label) → Joined s p q → HasL
 abbrev pub JoinedToItself : Type 0
 JoinedToItself = (s : Set) (p : Place) → Joined s p p
 
--- to be joined goes both ways
+-- to be joined is symmetric
 abbrev pub JoinedTurned : Type 0
 JoinedTurned = (s : Set) (p q : Place) → Joined s p q → Joined s q p
 
--- to be joined goes on through a third point
+-- to be joined is transitive
 abbrev pub JoinedThrough : Type 0
 JoinedThrough = (s : Set) (p q r : Place) → Joined s p q → Joined s q r → Joined s p r

@@ -31,8 +31,8 @@ ghost use Rattle.law_near.specs.FormLaws.{
   WithinRespectsPlace,
 };
 
-/// The same point and the same direction are equal up to a positive factor, which signs of forms,
-/// betweenness and nearness don't see.
+/// The vectors of one point, and of one direction, are equal up to a positive factor, which doesn't change signs of
+/// forms, betweenness and nearness.
 pub fn factor_laws()
     ensures same_place { SamePlaceIsFactor }
     ensures same_direction { SameDirectionIsFactor }
@@ -45,7 +45,7 @@ pub fn factor_laws()
     ensures within_respects { WithinRespectsPlace }
 {}
 
-/// A form that isn't nought at a point keeps its sign near it and along short steps; what forms are
+/// A form that isn't nought at a point keeps its sign near the point and along short steps from it; the values of forms
 /// along rays and at the difference of two points.
 pub fn near_form_laws()
     ensures stable { StableNear }
@@ -65,16 +65,15 @@ pub fn generic_laws()
     ensures points { GenericPoint }
 {}
 
-/// A test that looks at finitely many signs and agrees near each vector of a segment is the same at
-/// both ends.
+/// A test that looks at finitely many signs and agrees near each vector of a segment is the same at both ends.
 pub fn form_segment_laws()
     ensures vectors { SegmentLaw }
     ensures points { SegmentOfPoints }
     ensures directions { SegmentOfDirections }
 {}
 
-/// A test that looks at finitely many signs, holds at the one end of a segment and fails at the other
-/// has a first vector at which it changes.
+/// A test on finitely many signs that holds at one end of a segment and fails at the other changes at some first
+/// vector.
 pub fn first_change_laws()
     ensures vectors { FirstChangeLaw }
     ensures points { FirstChangeAtPoints }

@@ -3,9 +3,9 @@
 ghost use Rattle.law_near.specs.Examples.{HalvesDisjoint, TwoHalves, Wall, WallPart, Edge, PointAlone};
 ghost use Rattle.law_near.specs.Laws.{HoldsByCell, LabelByCell, GermByCell, FlatByCell, FlatDimByCell, SignsAtSamePlace, HoldsAtSamePlace, LabelAtSamePlace, GermAtSamePlace, FlatDimAtSamePlace, LabelExists, LabelIsUnique, GermExists, GermIsUnique, SetIsItsCone, LabelAlongRay, GermBySlopes, GermTowardZero, NoGermOutInFrame, GermOutForAll, GermOnRay, NearGermExists, NearGermIsUnique, NearGermTowardZero, NearGermBySlopes, ConeNearby, HoldsIsDecided, LabelIsDecided, GermIsDecided, NearGermIsDecided, Representatives, GermRepresentatives, AllGermsAreDecided, AllDirectionsAreDecided, AllNearGermsAreDecided, SameConeIsDecided, FlatIsDecided, FlatDimExists, FlatIsFlatCone, FlatInCarriers, FlatCombination, FlatIsNearCone, FlatBySlopes, FlatNearby, AllFlat, FlatOutside, FlatDimOutside, FlatDimIsUnique, FlatWhereHeld, FlatLine, FlatPlane, VertexIsMeet, EdgeInCarriers, FacetInCarrier, LabelOfCombination, GermOfCombination, NearGermOfCombination, FlatOfTwo, FlatOfOne, InsideAt, ClosedAt, BorderAt, RegularAt, InsideToward, ClosedToward, BorderToward, RegularToward, SameSetBySameCones, SameConeIsSameNear, FlatBySameCone, FlatDimBySameCone, NearGermBySameCone, JoinedBySameSet, SameSetByVertices, LabelAlongSegment, FlatDimAlongSegment, LabelChangesFirst, FlatDimChangesFirst, FlatDimNearby, FlatBelowFirst, EvenUntilDrop, FlatWayEnds, EdgeHasEnds, FiniteVertices, OneConeAlongEven, OneConeOfJoined, OneLabelOfJoined, JoinedToItself, JoinedTurned, JoinedThrough};
 
-/// A set is constant on the cells of its carriers, which are the planes of its halves at any depth and
-/// the sides of the frame: on which side of each carrier a point lies decides whether the set holds
-/// there, its label, its germs and its flat directions. Equal points have equal labels and germs.
+/// A set is constant on the cells of its carriers, which are the planes of its halves at any depth and the sides of the
+/// frame: on which side of each carrier a point lies decides whether the set holds there, its label, its germs and its
+/// flat directions. Equal points have equal labels and germs.
 pub fn cell_laws()
     ensures holds_by_cell { HoldsByCell }
     ensures label_by_cell { LabelByCell }
@@ -19,9 +19,9 @@ pub fn cell_laws()
     ensures flat_dim_at_same_place { FlatDimAtSamePlace }
 {}
 
-/// Each point has one label and each direction one germ. Close to a point the label doesn't change
-/// along a ray from it, so that close to the point the set is its cone; and the germ in a direction is
-/// decided by the side of each carrier through the point to which the direction leads.
+/// Each point has one label and each direction one germ. Close to a point the label doesn't change along a ray from the
+/// point, so that the set is its cone there; and the germ in a direction is decided by the side of each carrier through
+/// the point to which the direction leads.
 pub fn cone_laws()
     ensures label_exists { LabelExists }
     ensures label_is_unique { LabelIsUnique }
@@ -35,8 +35,8 @@ pub fn cone_laws()
     ensures germ_out_for_all { GermOutForAll }
 {}
 
-/// The cone at a point of a ray from p, close to p, is read off the cone at p near the ray's direction:
-/// it is the function from e to the germ at p in the direction n d + e for large n.
+/// The cone at a point of a ray from p, close to p, is read off the cone at p near the ray's direction: it is the
+/// function from e to the germ at p in the direction n d + e for large n.
 pub fn near_laws()
     ensures germ_on_ray { GermOnRay }
     ensures near_germ_exists { NearGermExists }
@@ -46,8 +46,8 @@ pub fn near_laws()
     ensures cone_nearby { ConeNearby }
 {}
 
-/// Whether a set holds, which label and germ it has, and what is said of all directions or of all
-/// directions near one is decided, since finitely many vectors represent all.
+/// It is decided whether a set holds, which label and germ it has, and what is said of all directions or of all
+/// directions near one, since finitely many vectors represent all.
 pub fn decision_laws()
     ensures holds_is_decided { HoldsIsDecided }
     ensures label_is_decided { LabelIsDecided }
@@ -63,9 +63,9 @@ pub fn decision_laws()
     ensures flat_dim_exists { FlatDimExists }
 {}
 
-/// A direction is flat exactly where the germs don't change along it. The flat directions are a space,
-/// with the directions that lie in all carriers through the point; so a vertex is a meet of three
-/// carriers, an edge lies in two and a facet in one. Outside the closed frame all directions are flat.
+/// A direction is flat exactly where the germs don't change along it. The flat directions are a space that has all
+/// directions which lie in all carriers through the point; so a vertex is a meet of three carriers, an edge lies in two
+/// and a facet in one. Outside the closed frame all directions are flat.
 pub fn flat_laws()
     ensures flat_is_flat_cone { FlatIsFlatCone }
     ensures flat_in_carriers { FlatInCarriers }
@@ -85,8 +85,8 @@ pub fn flat_laws()
     ensures facet_in_carrier { FacetInCarrier }
 {}
 
-/// The labels and germs of a combination are the combination of the operands' labels and germs. A
-/// direction that is flat for the operands is flat for what any operation makes of them.
+/// The labels and germs of a combination are the combination of the operands' labels and germs. A direction that is
+/// flat for the operands is flat for what any operation makes of them.
 pub fn combination_laws()
     ensures label_of_combination { LabelOfCombination }
     ensures germ_of_combination { GermOfCombination }
@@ -95,8 +95,8 @@ pub fn combination_laws()
     ensures flat_of_one { FlatOfOne }
 {}
 
-/// Interior, closure, boundary and regularisation in terms of cones, at a point and toward a direction.
-/// Their germs are Out where the operand's are, and elsewhere Not where they aren't In.
+/// Interior, closure, boundary and regularisation in terms of cones, at a point and toward a direction. Their germs are
+/// Out where the operand's are, and elsewhere In or Not.
 pub fn topology_laws()
     ensures inside_at { InsideAt }
     ensures closed_at { ClosedAt }
@@ -108,9 +108,9 @@ pub fn topology_laws()
     ensures regular_toward { RegularToward }
 {}
 
-/// Sets are equal exactly where their cones are equal at all points, and cones are equal exactly where
-/// the sets agree close by. Equal cones have the same flat directions, and equal sets join the same
-/// points. The vertices of a set and the cones there determine the set.
+/// Sets are equal exactly where their cones are equal at all points, and cones are equal exactly where the sets agree
+/// close by. Equal cones have the same flat directions, and equal sets join the same points. The vertices of a set and
+/// its cones at them determine the set.
 pub fn same_set_laws()
     ensures same_set_by_same_cones { SameSetBySameCones }
     ensures same_cone_is_same_near { SameConeIsSameNear }
@@ -121,9 +121,8 @@ pub fn same_set_laws()
     ensures same_set_by_vertices { SameSetByVertices }
 {}
 
-/// What doesn't change close to any point of a segment is the same at both ends; and a label that
-/// changes along a segment has a first point where it does. Between two points a segment crosses
-/// finitely many carriers.
+/// What changes close to no point of a segment is the same at both ends; and a label that changes along a segment has a
+/// first point where it does. Between two points a segment crosses finitely many carriers.
 pub fn segment_laws()
     ensures label_along_segment { LabelAlongSegment }
     ensures flat_dim_along_segment { FlatDimAlongSegment }
@@ -133,9 +132,9 @@ pub fn segment_laws()
     ensures flat_below_first { FlatBelowFirst }
 {}
 
-/// Along a flat direction the number of independent flat directions stays until it drops, and where it
-/// is below three it drops before the frame ends. So each point with one flat direction lies strictly
-/// on an edge between two vertices. A set has finitely many vertices.
+/// Along a flat direction the number of independent flat directions stays until it drops, and where the number is below
+/// three it drops before the frame ends. So each point with one flat direction lies strictly on an edge between two
+/// vertices. A set has finitely many vertices.
 pub fn edge_laws()
     ensures even_until_drop { EvenUntilDrop }
     ensures flat_way_ends { FlatWayEnds }
@@ -143,9 +142,8 @@ pub fn edge_laws()
     ensures finite_vertices { FiniteVertices }
 {}
 
-/// Along a segment whose points have equally many flat directions the cone doesn't change. So joined
-/// points, those of one edge, one facet or one volume, have one cone and one label. To be joined is an
-/// equivalence.
+/// Along a segment whose points have equally many flat directions the cone doesn't change. So joined points, those of
+/// one edge, one facet or one volume, have one cone and one label. To be joined is an equivalence.
 pub fn joined_laws()
     ensures one_cone_along_even { OneConeAlongEven }
     ensures one_cone_of_joined { OneConeOfJoined }
@@ -155,8 +153,7 @@ pub fn joined_laws()
     ensures joined_through { JoinedThrough }
 {}
 
-/// Closed examples at the origin: the union of two open half-spaces, a wall and a part of one, an edge
-/// where two planes meet, and a point.
+/// Closed examples at the origin: two open half-spaces, a wall and a part of it, an edge of two planes, and a point.
 pub fn cone_examples()
     ensures halves_disjoint { HalvesDisjoint }
     ensures two_halves { TwoHalves }

@@ -1,9 +1,8 @@
 //! What a set looks like near a point: laws on labels, germs, cones and flat directions.
 //!
-//! The cone of a set at a point is what is called its local pyramid in Granados, Hachenberger, Hert,
-//! Kettner, Mehlhorn and Seel, "Boolean operations on 3D selective Nef complexes" (ESA 2003).
-//! A law is a function with an empty body: its clauses are the law's statements, which stand in
-//! specs/Laws.antt.
+//! The cone of a set at a point is the local pyramid of Granados, Hachenberger, Hert, Kettner, Mehlhorn and Seel,
+//! "Boolean operations on 3D selective Nef complexes" (ESA 2003). A law is a function with an empty body: its clauses
+//! are the law's statements, which stand in specs/Laws.antt.
 #![tactic(auto)]
 
 mod forms;

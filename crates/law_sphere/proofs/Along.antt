@@ -1,24 +1,9 @@
 -- Along a circle, between directions that are neither plain nor straight, the labels beside the circle stay.
-use Rattle.std.proofs.Common.{◌≡◌, ℕ, zero, suc, ◌+◌, ◌*◌, ◌<◌, ◌≤◌, pos, negsuc, ◌+ℤ◌, ◌-ℤ◌, ◌*ℤ◌, arith, refl, ap, sym, ◌∙◌, ◌⊎◌, inl, inr, ⊎_elim, List, [], ◌∷◌, subst, true, false}
-use Rattle.std.proofs.lemmas.Int.{ints}
-use Rattle.std.proofs.Math.Nat.{mul-pos}
-use Rattle.nef_space.proofs.Ring.{ring, at, num, ◌⊕◌, ◌⊖◌, ◌⊗◌}
-use Rattle.nef_space.proofs.Order.{Sign, sign, sign-plus, sign-minus}
-use Rattle.nef_space.specs.Signs.{Lies}
-use Rattle.nef_space.specs.Vectors.{Vector, IsDirection, cross, dot, blend}
-use Rattle.nef_space.specs.declared.label.Label.{Label}
-use Rattle.law_sphere.specs.Vectors.{comb}
-use Rattle.law_sphere.specs.Forms.{SameSigns}
-use Rattle.law_sphere.specs.Least.{by_side}
-use Rattle.law_sphere.specs.Labelling.{Labelling, Near, StraightAt, IsSmooth, plain, straight}
+use Rattle.law_sphere.proofs.Prelude.{◌≡◌, ℕ, zero, suc, ◌+◌, ◌*◌, ◌<◌, ◌≤◌, pos, ◌+ℤ◌, ◌*ℤ◌, arith, refl, ap, sym, ◌∙◌, ◌⊎◌, inl, inr, ⊎_elim, List, ◌∷◌, subst, true, false, [], ints, mul-pos, ring, at, num, ◌⊕◌, ◌⊗◌, Sign, sign, sign-plus, sign-minus, nought-or, Lies, Vector, IsDirection, cross, dot, blend, opposite, Label, SameSigns, by_side, Labelling, Near, StraightAt, IsSmooth, plain, straight, Decided, same-off, same-nought, self-pos, blend-turned, left-of, right-of, dot-opposite}
 use Rattle.law_sphere.proofs.Vectors.{dot-comb}
-use Rattle.law_near.proofs.Decided.{Decided}
-use Rattle.law_near.proofs.Far.{nought-or, same-off, same-nought}
-use Rattle.law_near.proofs.Directions.{self-pos}
 use Rattle.law_sphere.proofs.Generic.{amount, far-keeps, far-level}
 use Rattle.law_sphere.proofs.Direct.{cross-between}
-use Rattle.law_sphere.proofs.StepOff.{blend-turned}
-use Rattle.law_sphere.proofs.Walk.{left-of, right-of, between-direction, cross-direction_left, cross-direction_right, crosses, crossings, find-crossing, uncrossed-same, cut, cross-onward}
+use Rattle.law_sphere.proofs.Walk.{between-direction, cross-direction_left, cross-direction_right, crosses, crossings, find-crossing, uncrossed-same, cut, cross-onward}
 
 -- z, then w, then e: the two ways to write it have the same signs
 far-far : (gs : List Vector) (z w e : Vector) (k j i l : ℕ) → amount gs w ≤ k → amount gs e ≤ j → amount gs e ≤ i → amount gs (blend i w 1 e) ≤ l
@@ -96,10 +81,7 @@ module _ (gs : List Vector) (F : Vector → Label → Type 0) (L : Labelling gs 
       same e j = ap sign (dot-comb n (pos j) w (pos 1) e ∙ ap (λ r. pos j *ℤ r +ℤ pos 1 *ℤ dot n e) q ∙ ring (pos j ∷ dot n e ∷ []) (at 0 ⊗ num (pos 0) ⊕ num (pos 1) ⊗ at 1) (at 1) tt)
 
   abbrev down : Vector
-  down = comb (negsuc 0) n (pos 0) n
-
-  down-is : dot n down ≡ pos 0 -ℤ dot n n
-  down-is = dot-comb n (negsuc 0) n (pos 0) n ∙ ring (dot n n ∷ []) (num (negsuc 0) ⊗ at 0 ⊕ num (pos 0) ⊗ at 0) (num (pos 0) ⊖ at 0) tt
+  down = opposite n
 
   pub near-one : (y e : Vector) (k l : Label) → IsDirection y → Near F y e k → Near F y e l → k ≡ l
   near-one y e k l hy (i, f) (j, g) = let t = i + j + amount gs e in one-of (blend t y 1 e) k l (far_directed y e t (omega arith) hy) (f t (omega arith)) (g t (omega arith))
@@ -109,7 +91,7 @@ module _ (gs : List Vector) (F : Vector → Label → Type 0) (L : Labelling gs 
   not-even hn y hy p l f g =
       let h = self-pos n hn in
       let o = one-of y m l hy p.at_d f in
-      let e = down-is in
+      let e = dot-opposite n n in
       proper (ap side (sym (sign-plus (dot n n) h)) ∙ near-one y n _ l hy (p.near n) (g n) ∙ sym o)
       (ap side (sym (sign-minus (dot n down) (omega (arith, ints)))) ∙ near-one y down _ l hy (p.near down) (g down) ∙ sym o)
 

@@ -1,13 +1,7 @@
 -- The labels beside an arc are the same from its source to its target.
-use Rattle.std.proofs.Common.{◌≡◌, ℕ, ◌+◌, ◌≤◌, pos, arith, List, [], ◌∷◌}
-use Rattle.nef_space.specs.Vectors.{Vector, IsDirection, cross, dot, blend}
-use Rattle.nef_space.specs.declared.label.Label.{Label}
-use Rattle.law_cyclic.specs.Arcs.{IsStrictlyOn}
-use Rattle.law_sphere.specs.Forms.{SameSigns}
-use Rattle.law_sphere.specs.Labelling.{Labelling, StraightAt, IsSmooth}
+use Rattle.law_sphere.proofs.Prelude.{◌≡◌, ℕ, ◌+◌, ◌≤◌, pos, arith, List, ◌∷◌, [], Vector, IsDirection, cross, dot, blend, Label, IsStrictlyOn, SameSigns, Labelling, StraightAt, IsSmooth, dir-signs}
 use Rattle.law_sphere.proofs.Generic.{amount}
 use Rattle.law_sphere.proofs.Parallel.{past_source}
-use Rattle.law_sphere.proofs.Labels.{dir-signs}
 use Rattle.law_sphere.proofs.Walk.{crossings}
 use Rattle.law_sphere.proofs.Along.{along, cells}
 use Rattle.law_sphere.proofs.ArcWays.{arc-all}

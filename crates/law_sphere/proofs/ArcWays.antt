@@ -1,23 +1,11 @@
 -- Directions on an arc, and that what short ways along an arc carry on holds all along it.
-use Rattle.std.proofs.Common.{◌≡◌, ℕ, ◌<◌, ◌≤◌, ℤ, pos, negsuc, ◌+ℤ◌, ◌-ℤ◌, ◌*ℤ◌, ◌<ℤ◌, arith, ap, sym, ◌∙◌, inl, inr, ⊎_elim, [], ◌∷◌, subst}
-use Rattle.std.proofs.lemmas.Int.{ints}
-use Rattle.nef_space.proofs.Ring.{ring, at, num, ◌⊕◌, ◌⊖◌, ◌⊗◌}
-use Rattle.nef_space.proofs.Order.{by_order, mul_pos}
-use Rattle.nef_space.specs.Vectors.{Vector, IsDirection, cross, triple, dot, IsZero, SameDirection, IsOpposite, blend}
-use Rattle.law_cyclic.specs.Arcs.{IsStrictlyOn}
-use Rattle.law_sphere.proofs.Vectors.{dot-comb, triple-middle, direction-by, same-plus, nought-if}
-use Rattle.law_near.proofs.Directions.{dot-comm, self-pos, dot-zero, zero-decided}
+use Rattle.law_sphere.proofs.Prelude.{◌≡◌, ℕ, ◌<◌, ◌≤◌, ℤ, pos, ◌+ℤ◌, ◌*ℤ◌, ◌<ℤ◌, arith, ap, sym, ◌∙◌, inl, inr, ⊎_elim, ◌∷◌, subst, neg_ℤ, [], ints, ring, at, num, ◌⊕◌, ◌⊖◌, ◌⊗◌, by_order, mul_pos, Vector, IsDirection, cross, triple, dot, SameDirection, IsOpposite, blend, opposite, IsStrictlyOn, dot-comm, zero-decided, dot-zero, self-pos, triple-dot, cross-turned, triple-middle, nought-if, triple-turned, opposites, SameDirection-trans, parallel-trans, parallel-in_plane, dot-opposite, opposite-itself, level-blend}
+use Rattle.law_sphere.proofs.Vectors.{dot-comb, direction-by, same-plus}
 use Rattle.law_sphere.proofs.Generic.{amount}
-use Rattle.law_sphere.proofs.Parallel.{past_source, arc-point, there-ahead, parallel-in_plane, parallel-trans}
-use Rattle.law_near.proofs.FlatDecided.{cross-turned, triple-dot}
+use Rattle.law_sphere.proofs.Parallel.{past_source, arc-point, there-ahead}
 use Rattle.law_sphere.proofs.Shot.{product-off}
-use Rattle.law_sphere.proofs.Around.{Beside, same_way, other_way, beside, opposites, triple-turned, opposite-triple, turn-plus}
-use Rattle.law_sphere.proofs.Compare.{SameDirection-trans}
+use Rattle.law_sphere.proofs.Around.{Beside, same_way, other_way, beside, opposite-triple, turn-plus}
 use Rattle.law_sphere.proofs.Turn.{turn-last}
-use Rattle.law_sphere.proofs.Kind.{away, away-dot}
-
-pub level-blend : (n d e : Vector) (i j : ℕ) → dot n d ≡ pos 0 → dot n e ≡ pos 0 → dot n (blend i d j e) ≡ pos 0
-level-blend n d e i j p q = dot-comb n (pos i) d (pos j) e ∙ ap (λ r. pos i *ℤ r +ℤ pos j *ℤ dot n e) p ∙ ap (λ r. pos i *ℤ pos 0 +ℤ pos j *ℤ r) q ∙ ring (pos i ∷ pos j ∷ []) (at 0 ⊗ num (pos 0) ⊕ at 1 ⊗ num (pos 0)) (num (pos 0)) tt
 
 pub triple-blend : (n s d e : Vector) (i j : ℕ) → triple n s (blend i d j e) ≡ pos i *ℤ triple n s d +ℤ pos j *ℤ triple n s e
 triple-blend n s d e i j = triple-dot n s (blend i d j e) ∙ dot-comb (cross n s) (pos i) d (pos j) e ∙ ap (λ r. pos i *ℤ r +ℤ pos j *ℤ dot (cross n s) e) (sym (triple-dot n s d)) ∙ ap (λ r. pos i *ℤ triple n s d +ℤ pos j *ℤ r) (sym (triple-dot n s e))
@@ -103,7 +91,7 @@ module _ (n s t : Vector) (hn : IsDirection n) (hs : IsDirection s) (ht : IsDire
   quarter = cross n s
 
   abbrev half : Vector
-  half = away s
+  half = opposite s
 
   module _ (d : Vector) (o : IsStrictlyOn n s t d) (h : pos 0 <ℤ triple n s d → ⊥) where
     not-less : pos 0 <ℤ triple n s t → ⊥
@@ -131,23 +119,16 @@ module _ (n s t : Vector) (hn : IsDirection n) (hs : IsDirection s) (ht : IsDire
     at-quarter = first-half quarter on-quarter quarter-ahead
 
     half-opposite : IsOpposite s half
-    half-opposite = record { parallel = par; backward = let e = away-dot s s in let p = self-pos s hs in omega (arith, ints) }
-      where
-        par : IsZero (cross s (away s))
-        par = let xs = s.x ∷ s.y ∷ s.z ∷ [] in (
-          ring xs (at 1 ⊗ (num (negsuc 0) ⊗ at 2 ⊕ num (pos 0) ⊗ at 2) ⊖ at 2 ⊗ (num (negsuc 0) ⊗ at 1 ⊕ num (pos 0) ⊗ at 1)) (num (pos 0)) tt,
-          ring xs (at 2 ⊗ (num (negsuc 0) ⊗ at 0 ⊕ num (pos 0) ⊗ at 0) ⊖ at 0 ⊗ (num (negsuc 0) ⊗ at 2 ⊕ num (pos 0) ⊗ at 2)) (num (pos 0)) tt,
-          ring xs (at 0 ⊗ (num (negsuc 0) ⊗ at 1 ⊕ num (pos 0) ⊗ at 1) ⊖ at 1 ⊗ (num (negsuc 0) ⊗ at 0 ⊕ num (pos 0) ⊗ at 0)) (num (pos 0)) tt,
-        )
+    half-opposite = opposite-itself s hs
 
     half-direction : IsDirection half
     half-direction z = let q = half-opposite in let e = dot-zero s half z in let k = q.backward in omega (arith, ints)
 
     half-level : dot n half ≡ pos 0
-    half-level = let e = away-dot n s in omega (arith, ints)
+    half-level = let e = dot-opposite n s in omega (arith, ints)
 
-    half-turn : triple n half t ≡ pos 0 -ℤ triple n s t
-    half-turn = triple-middle n half t ∙ away-dot (cross t n) s ∙ ap (λ r. pos 0 -ℤ r) (sym (triple-middle n s t))
+    half-turn : triple n half t ≡ neg_ℤ (triple n s t)
+    half-turn = triple-middle n half t ∙ dot-opposite (cross t n) s ∙ ap neg_ℤ (sym (triple-middle n s t))
 
     on-half : IsStrictlyOn n s t half
     on-half = on-behind n s t hn hs ht ls lt half half-direction half-level not-less not-half (λ w. let q = half-opposite in let k = q.backward in let j = w.forward in omega (arith, ints)) (λ p. let e = half-turn in omega (arith, ints))
@@ -162,7 +143,7 @@ module _ (n s t : Vector) (hn : IsDirection n) (hs : IsDirection s) (ht : IsDire
         square-not : IsOpposite quarter half → ⊥
         square-not q =
             let k = q.backward in
-            let e = away-dot quarter s in
+            let e = dot-opposite quarter s in
             let z : dot quarter s ≡ pos 0 = ring (n.x ∷ n.y ∷ n.z ∷ s.x ∷ s.y ∷ s.z ∷ []) ((at 1 ⊗ at 5 ⊖ at 2 ⊗ at 4) ⊗ at 3 ⊕ (at 2 ⊗ at 3 ⊖ at 0 ⊗ at 5) ⊗ at 4 ⊕ (at 0 ⊗ at 4 ⊖ at 1 ⊗ at 3) ⊗ at 5) (num (pos 0)) tt in
             omega (arith, ints)
 
@@ -182,7 +163,6 @@ module _ (n s t : Vector) (hn : IsDirection n) (hs : IsDirection s) (ht : IsDire
                 let e = triple-blend n s half d i j in
                 let q = half-opposite in
                 let u = ap (λ r. pos i *ℤ r) (dot-zero n (cross s half) q.parallel) in
-                let v = ring (pos i ∷ []) (at 0 ⊗ num (pos 0)) (num (pos 0)) tt in
                 product-off (pos j) (triple n s d) (omega (arith, ints)) (λ x. f (parallel-trans half s d hs (cross-turned s half q.parallel) (parallel-in_plane n s d hn ls o.on_circle.level x))) (omega (arith, ints))
 
   -- from just after the source everywhere on the arc

@@ -1,24 +1,14 @@
 -- Two least maps with the same labels have the same arcs and the same sloop.
-use Rattle.std.proofs.Common.{◌≡◌, ℕ, zero, suc, ◌+◌, pos, ◌<ℤ◌, arith, refl, ap, sym, ◌∙◌, inl, inr, List, [], ◌∷◌, subst, Option, Some, None}
-use Rattle.nef_space.proofs.Order.{sign}
-use Rattle.nef_space.specs.Vectors.{Vector, IsDirection, triple, cross, dot, SameDirection}
-use Rattle.law_sphere.specs.Maps.{At, MapVertex, Arc, MapSloop, Map, Item, arc_item, sloop_item, items, items_then, item_normal, item_pos, item_mark, item_neg, dir_of, OnItem, Shaped, Valid}
-use Rattle.law_cyclic.specs.Arcs.{IsStrictlyOn}
-use Rattle.law_sphere.specs.Forms.{Keeps, arc_forms, forms}
-use Rattle.law_sphere.specs.Least.{Least, SameLabels, MatchedArc, MatchedSloop}
+use Rattle.law_sphere.proofs.Prelude.{◌≡◌, ℕ, zero, suc, ◌+◌, pos, ◌<ℤ◌, arith, refl, ap, sym, ◌∙◌, inl, inr, List, ◌∷◌, subst, Option, Some, None, [], sign, Vector, IsDirection, triple, cross, dot, SameDirection, At, MapVertex, Arc, MapSloop, Map, Item, arc_item, sloop_item, items, items_then, item_normal, item_pos, item_mark, item_neg, dir_of, OnItem, Shaped, Valid, IsStrictlyOn, Keeps, arc_forms, forms, Least, SameLabels, MatchedArc, MatchedSloop, Decided, same-nought, same-off, dot-comm, SameDirection-turned, SameDirection-trans, dir-self, dir-signs, direction-left, neg}
 use Rattle.law_sphere.proofs.Vectors.{normal-is, same-plus}
-use Rattle.law_near.proofs.Decided.{Decided}
-use Rattle.law_near.proofs.Far.{same-nought, same-off}
-use Rattle.law_near.proofs.Directions.{dot-comm}
 use Rattle.law_sphere.proofs.Generic.{amount, far-keeps}
 use Rattle.law_sphere.proofs.Places.{SameDirection-decided}
 use Rattle.law_sphere.proofs.Forms.{item-forms}
 use Rattle.law_sphere.proofs.Parallel.{past_source, arc-point, there-ahead, circle-point}
 use Rattle.law_sphere.proofs.Shot.{dir-at, arc-at}
-use Rattle.law_sphere.proofs.Labels.{dir-signs}
 use Rattle.law_sphere.proofs.Around.{IsStrictlyOn-back, on_item-off_svertices}
-use Rattle.law_sphere.proofs.Compare.{SameDirection-turned, SameDirection-trans, dir-self, labels-turned, Matched, svertex-matched, MatchedItem, item-matched}
-use Rattle.law_sphere.proofs.Turn.{dir-directed, turn-same, IsStrictlyOn-same, after-target, ends-together}
+use Rattle.law_sphere.proofs.Compare.{labels-turned, Matched, svertex-matched, MatchedItem, item-matched}
+use Rattle.law_sphere.proofs.Turn.{turn-same, IsStrictlyOn-same, after-target, ends-together}
 
 -- ---- the ends of an arc
 pub record Ends (M : Map) (a : Arc) : Type 0 where
@@ -56,7 +46,7 @@ way-to u p q e w = subst (λ (r : Vector). SameDirection u r) (sym e) w
 
 -- levels go over to the same ways
 pub level-same : (n m d e : Vector) → SameDirection n m → SameDirection d e → dot n d ≡ pos 0 → dot m e ≡ pos 0
-level-same n m d e a w z = same-nought (dot n d) (dot m e) (ap sign (dot-comm m e) ∙ dir-signs n m e (dir-directed n m a) a ∙ ap sign (dot-comm e n) ∙ dir-signs d e n (dir-directed d e w) w) z
+level-same n m d e a w z = same-nought (dot n d) (dot m e) (ap sign (dot-comm m e) ∙ dir-signs n m e (direction-left n m a) a ∙ ap sign (dot-comm e n) ∙ dir-signs d e n (direction-left d e w) w) z
 
 -- ---- lists
 pub sloop-at : (as' : List Arc) (o : Option MapSloop) (k : ℕ) (l : MapSloop) → At (items_then as' o) k (sloop_item l) → o ≡ Some l

@@ -1,48 +1,15 @@
 -- Where a direction close to d lies: close to a free one all are free; close to one on an item, on the item or free.
-use Rattle.std.proofs.Common.{◌≡◌, ℕ, ℤ, pos, ◌-ℤ◌, ◌*ℤ◌, ◌<ℤ◌, arith, refl, ap, sym, ◌⊎◌, inl, inr, ⊎_elim, [], ◌∷◌, subst}
-use Rattle.std.proofs.lemmas.Int.{ints}
-use Rattle.nef_space.proofs.Ring.{ring, at, num, ◌⊕◌, ◌⊖◌, ◌⊗◌}
-use Rattle.nef_space.proofs.Combination.{follows, given, none}
-use Rattle.nef_space.proofs.Order.{by_order, mul_pos, sign-scaled}
-use Rattle.nef_space.specs.Vectors.{Vector, IsDirection, triple, cross, dot, IsZero, SameDirection, IsOpposite}
-use Rattle.law_sphere.specs.Maps.{At, MapVertex, Map, Item, arc_item, sloop_item, items, item_normal, dir_of, OnItem, IsFree, Shaped}
-use Rattle.law_cyclic.specs.Arcs.{IsStrictlyOn}
-use Rattle.law_sphere.specs.Forms.{Keeps, arc_forms, forms}
-use Rattle.law_sphere.proofs.Vectors.{normal-is, triple-middle, nought-if, same-plus, same-minus}
-use Rattle.law_near.proofs.Directions.{self-pos}
+use Rattle.law_sphere.proofs.Prelude.{◌≡◌, ℕ, ℤ, pos, ◌-ℤ◌, ◌*ℤ◌, ◌<ℤ◌, arith, refl, ap, sym, ◌⊎◌, inl, inr, ⊎_elim, ◌∷◌, subst, ◌∙◌, [], ints, ring, at, num, ◌⊖◌, ◌⊗◌, by_order, mul_pos, sign-scaled, Vector, IsDirection, triple, cross, dot, IsZero, SameDirection, IsOpposite, At, MapVertex, Map, Item, arc_item, sloop_item, items, item_normal, dir_of, OnItem, IsFree, Shaped, IsStrictlyOn, Keeps, arc_forms, forms, self-pos, triple-dot, triple-middle, nought-if, triple-turned, opposites, dir-signs, parallel-in_plane, dot-scaled}
+use Rattle.law_sphere.proofs.Vectors.{normal-is, same-plus, same-minus}
 use Rattle.law_sphere.proofs.Lists.{at-one}
 use Rattle.law_sphere.proofs.Places.{kept-nought, kept-minus, direction-stays, SameDirection-back}
 use Rattle.law_sphere.proofs.Forms.{axes-forms, svertex-forms, item-forms, on-direction, on-level, OnItem-stays, OnItem-by_signs}
-use Rattle.law_sphere.proofs.Parallel.{parallel-in_plane, parallel-trans}
-use Rattle.law_near.proofs.FlatDecided.{cross-turned, triple-dot}
 use Rattle.law_sphere.proofs.Shot.{dir-at, arc-at}
-use Rattle.law_sphere.proofs.Labels.{dir-signs}
 
 -- ---- opposite to an end
 -- where d is opposite to s, the turn from d to t is the other one than that from s to t
 pub opposite-triple : (n s t d : Vector) → IsDirection s → IsZero (cross s d) → dot s s *ℤ triple n d t ≡ dot s d *ℤ triple n s t
-opposite-triple n s t d h p =
-    let o = num (pos 0) in
-    let nx = at 0 in let ny = at 1 in let nz = at 2 in
-    let sx = at 3 in let sy = at 4 in let sz = at 5 in
-    let tx = at 6 in let ty = at 7 in let tz = at 8 in
-    let dx = at 9 in let dy = at 10 in let dz = at 11 in
-    -- (t x n).(s x (s x d)) = (t x n).(s (s.d) - d (s.s))
-    let wx = ty ⊗ nz ⊖ tz ⊗ ny in
-    let wy = tz ⊗ nx ⊖ tx ⊗ nz in
-    let wz = tx ⊗ ny ⊖ ty ⊗ nx in
-    follows (n.x ∷ n.y ∷ n.z ∷ s.x ∷ s.y ∷ s.z ∷ t.x ∷ t.y ∷ t.z ∷ d.x ∷ d.y ∷ d.z ∷ [])
-    ((sx ⊗ sx ⊕ sy ⊗ sy ⊕ sz ⊗ sz) ⊗ (nx ⊗ (dy ⊗ tz ⊖ dz ⊗ ty) ⊕ ny ⊗ (dz ⊗ tx ⊖ dx ⊗ tz) ⊕ nz ⊗ (dx ⊗ ty ⊖ dy ⊗ tx)))
-    ((sx ⊗ dx ⊕ sy ⊗ dy ⊕ sz ⊗ dz) ⊗ (nx ⊗ (sy ⊗ tz ⊖ sz ⊗ ty) ⊕ ny ⊗ (sz ⊗ tx ⊖ sx ⊗ tz) ⊕ nz ⊗ (sx ⊗ ty ⊖ sy ⊗ tx)))
-    (given (wz ⊗ sy ⊖ wy ⊗ sz) (sy ⊗ dz ⊖ sz ⊗ dy) o p.0
-    (given (wx ⊗ sz ⊖ wz ⊗ sx) (sz ⊗ dx ⊖ sx ⊗ dz) o p.1
-    (given (wy ⊗ sx ⊖ wx ⊗ sy) (sx ⊗ dy ⊖ sy ⊗ dx) o p.2 none))) tt
-
--- the two turns of the three
-pub triple-turned : (n a b : Vector) → triple n a b ≡ pos 0 -ℤ triple n b a
-triple-turned n a b = ring (n.x ∷ n.y ∷ n.z ∷ a.x ∷ a.y ∷ a.z ∷ b.x ∷ b.y ∷ b.z ∷ [])
-    (at 0 ⊗ (at 4 ⊗ at 8 ⊖ at 5 ⊗ at 7) ⊕ at 1 ⊗ (at 5 ⊗ at 6 ⊖ at 3 ⊗ at 8) ⊕ at 2 ⊗ (at 3 ⊗ at 7 ⊖ at 4 ⊗ at 6))
-    (num (pos 0) ⊖ (at 0 ⊗ (at 7 ⊗ at 5 ⊖ at 8 ⊗ at 4) ⊕ at 1 ⊗ (at 8 ⊗ at 3 ⊖ at 6 ⊗ at 5) ⊕ at 2 ⊗ (at 6 ⊗ at 4 ⊖ at 7 ⊗ at 3))) tt
+opposite-triple n s t d h p = ap (λ r. dot s s *ℤ r) (triple-middle n d t) ∙ dot-scaled (cross t n) s d p ∙ ap (λ r. dot s d *ℤ r) (sym (triple-middle n s t))
 
 pub data Beside (s d : Vector) : Type 0 where
   same_way : SameDirection s d → Beside s d
@@ -57,27 +24,17 @@ turn-plus a b x y h e l m = same-plus (a *ℤ x) x (sym (sign-scaled a x h)) (le
 pub turn-minus : (a b x y : ℤ) → pos 0 <ℤ a → a *ℤ x ≡ b *ℤ y → b <ℤ pos 0 → pos 0 <ℤ y → x <ℤ pos 0
 turn-minus a b x y h e l m = same-minus (a *ℤ x) x (sym (sign-scaled a x h)) (let p = mul_pos (pos 0 -ℤ b) y (omega (arith, ints)) m in let q = ring (b ∷ y ∷ []) ((num (pos 0) ⊖ at 0) ⊗ at 1) (num (pos 0) ⊖ at 0 ⊗ at 1) tt in omega (arith, ints))
 
--- opposite to both
-pub opposites : (s t d : Vector) → IsDirection s → IsOpposite s t → IsOpposite s d → SameDirection t d
-opposites s t d h w v = record {
-  parallel = parallel-trans t s d h (cross-turned s t w.parallel) v.parallel;
-  forward = by;
-}
-  where
-    eq : dot s s *ℤ dot t d ≡ dot s t *ℤ dot s d
-    eq =
-        let sx = at 0 in let sy = at 1 in let sz = at 2 in
-        let tx = at 3 in let ty = at 4 in let tz = at 5 in
-        let dx = at 6 in let dy = at 7 in let dz = at 8 in
-        let o = num (pos 0) in
-        follows (s.x ∷ s.y ∷ s.z ∷ t.x ∷ t.y ∷ t.z ∷ d.x ∷ d.y ∷ d.z ∷ [])
-        ((sx ⊗ sx ⊕ sy ⊗ sy ⊕ sz ⊗ sz) ⊗ (tx ⊗ dx ⊕ ty ⊗ dy ⊕ tz ⊗ dz)) ((sx ⊗ tx ⊕ sy ⊗ ty ⊕ sz ⊗ tz) ⊗ (sx ⊗ dx ⊕ sy ⊗ dy ⊕ sz ⊗ dz))
-        (given (sy ⊗ dz ⊖ sz ⊗ dy) (sy ⊗ tz ⊖ sz ⊗ ty) o w.parallel.0
-        (given (sz ⊗ dx ⊖ sx ⊗ dz) (sz ⊗ tx ⊖ sx ⊗ tz) o w.parallel.1
-        (given (sx ⊗ dy ⊖ sy ⊗ dx) (sx ⊗ ty ⊖ sy ⊗ tx) o w.parallel.2 none))) tt
+pub same-by : {s d : Vector} → Beside s d → (IsOpposite s d → ⊥) → SameDirection s d
+same-by (same_way w) f = w
+same-by (other_way o) f = absurd (f o)
 
-    by : pos 0 <ℤ dot t d
-    by = turn-plus (dot s s) (dot s t) (dot t d) (dot s d) (self-pos s h) eq w.backward v.backward
+pub opposite-by : {s d : Vector} → Beside s d → (SameDirection s d → ⊥) → IsOpposite s d
+opposite-by (same_way w) f = absurd (f w)
+opposite-by (other_way o) f = o
+
+-- directions of one plane that are parallel and not the same
+pub opposite-in_plane : (n s d : Vector) → IsDirection n → IsDirection s → IsDirection d → dot n s ≡ pos 0 → dot n d ≡ pos 0 → (SameDirection s d → ⊥) → triple n s d ≡ pos 0 → IsOpposite s d
+opposite-in_plane n s d hn hs hd ls ld f z = opposite-by (beside s d hs hd (parallel-in_plane n s d hn ls ld z)) f
 
 -- ---- an arc that is met close to d is met at d or has an end there
 module _ (n s t d e : Vector) (hn : IsDirection n) (hs : IsDirection s) (ht : IsDirection t) (ls : dot n s ≡ pos 0) (lt : dot n t ≡ pos 0)
@@ -93,18 +50,10 @@ module _ (n s t d e : Vector) (hn : IsDirection n) (hs : IsDirection s) (ht : Is
 
   -- at the opposite of s
   past_source : triple n s d ≡ pos 0 → IsOpposite s d
-  past_source z = by (beside s d hs hd (parallel-in_plane n s d hn ls arc-level z))
-    where
-      by : Beside s d → IsOpposite s d
-      by (same_way w) = absurd (off_s w)
-      by (other_way w) = w
+  past_source = opposite-in_plane n s d hn hs hd ls arc-level off_s
 
   past_target : triple n d t ≡ pos 0 → IsOpposite t d
-  past_target z = by (beside t d ht hd (cross-turned d t (parallel-in_plane n d t hn arc-level lt z)))
-    where
-      by : Beside t d → IsOpposite t d
-      by (same_way w) = absurd (off_t w)
-      by (other_way w) = w
+  past_target z = opposite-in_plane n t d hn ht hd lt arc-level off_t (let e = triple-turned n t d in omega (arith, ints))
 
   -- beyond s, the turn to t is the other one
   source-plus : IsOpposite s d → triple n s t <ℤ pos 0 → pos 0 <ℤ triple n d t

@@ -1,34 +1,22 @@
 -- A map that is built of a labelling is well shaped, and agrees with it; so it is valid and has its labels.
-use Rattle.std.proofs.Common.{◌≡◌, ℕ, zero, suc, ◌+◌, pos, arith, refl, ap, sym, ◌∙◌, ◌⊎◌, inl, inr, ⊎_elim, List, [], ◌∷◌, subst, Option, Some, None}
-use Rattle.std.proofs.lemmas.Int.{ints}
-use Rattle.nef_space.proofs.Order.{Sign, minus, nought, plus, sign, by_order}
-use Rattle.nef_space.specs.Vectors.{Vector, IsDirection, cross, dot, SameDirection, IsNormal}
-use Rattle.nef_space.specs.declared.label.Label.{Label}
-use Rattle.law_near.proofs.Supports.{square-cross}
-use Rattle.law_sphere.specs.Maps.{At, MapVertex, Arc, MapSloop, Map, Item, arc_item, sloop_item, items, items_then, item_normal, item_pos, item_mark, item_neg, dir_of, OnItem, IsFree, Shaped}
-use Rattle.law_cyclic.specs.Arcs.{IsStrictlyOn}
-use Rattle.law_sphere.specs.Least.{by_side}
-use Rattle.law_sphere.specs.Labelling.{Labelling, Near, Plain, Agrees, StraightAt, IsSmooth, plain, straight}
-use Rattle.law_sphere.specs.Builds.{StraightAfter, Proper, IsBuilt}
-use Rattle.law_sphere.proofs.Vectors.{normal-direction}
-use Rattle.law_near.proofs.Decided.{Decided}
-use Rattle.law_near.proofs.Far.{nought-or}
+use Rattle.law_sphere.proofs.Prelude.{◌≡◌, ℕ, zero, suc, ◌+◌, pos, arith, refl, ap, sym, ◌∙◌, ◌⊎◌, inl, inr, ⊎_elim, List, ◌∷◌, subst, Option, Some, None, [], ints, Sign, sign, by_order, nought-or, Vector, IsDirection, cross, dot, SameDirection, IsNormal, opposite, Label, At, MapVertex, Arc, MapSloop, Map, Item, arc_item, sloop_item, items, items_then, item_normal, item_pos, item_mark, item_neg, dir_of, OnItem, IsFree, Shaped, IsStrictlyOn, by_side, Labelling, Near, Plain, Agrees, StraightAt, IsSmooth, plain, straight, StraightAfter, Proper, IsBuilt, Decided, square-cross, SameDirection-turned, dir-self, dir-signs, direction-opposite, level-opposite, level-opposite-back, vector-same}
+use Rattle.law_sphere.proofs.Vectors.{normal-direction, even-side}
 use Rattle.law_sphere.proofs.Generic.{amount}
 use Rattle.law_sphere.proofs.Lists.{Found, search_list, at-one}
 use Rattle.law_sphere.proofs.Places.{IsStrictlyOn-decided}
 use Rattle.law_sphere.proofs.Forms.{on-direction, OnItem-by_signs}
 use Rattle.law_sphere.proofs.Parallel.{past_source, arc-point}
 use Rattle.law_sphere.proofs.Shot.{dir-at, arc-at}
-use Rattle.law_sphere.proofs.Labels.{dir-signs}
 use Rattle.law_sphere.proofs.Around.{Beside, same_way, other_way, beside}
-use Rattle.law_sphere.proofs.Compare.{SameDirection-turned, dir-self, normals-not_opposite}
+use Rattle.law_sphere.proofs.Compare.{normals-not_opposite}
 use Rattle.law_sphere.proofs.Turn.{IsStrictlyOn-same, whole-passes, ends-together}
 use Rattle.law_sphere.proofs.Arcs.{Ends, at-arc, at-sloop, sloop-at, level-same}
-use Rattle.law_sphere.proofs.Kind.{away}
 use Rattle.law_sphere.proofs.Along.{onward}
 use Rattle.law_sphere.proofs.ArcLabels.{arc-along}
 use Rattle.law_sphere.proofs.Firsts.{First, first-after, begin-together}
-use Rattle.law_sphere.proofs.Flips.{label-eq, dot-away, away-direction, reversed, flipped, unflipped, Axial, directed-by, far_directed-by, planes-parallel, sloop-along}
+use Rattle.law_sphere.proofs.Flips.{reversed, flipped, unflipped, Axial, directed-by, far_directed-by, planes-parallel, sloop-along}
+use Rattle.law_sphere.proofs.Kind.{away}
+use Rattle.law_near.proofs.Decisions.{same-label_or}
 
 -- ---- lists
 abbrev pub dirs : List MapVertex → List Vector
@@ -55,8 +43,8 @@ sloops-one (x ∷ as') o (suc i) zero l c a b = cc
 sloops-one (x ∷ as') o (suc i) (suc k) l c a b = ap suc (sloops-one as' o i k l c a b)
 
 -- one of the two normals of a plane is in normal form
-pub normal-or : (n : Vector) → IsDirection n → IsNormal n ⊎ IsNormal (away n)
-normal-or n h = by_order n.x (pos 0)
+pub normal-either : (n : Vector) → IsDirection n → IsNormal n ⊎ IsNormal (opposite n)
+normal-either n h = by_order n.x (pos 0)
     (λ l. inr (record { first = omega (arith, ints); second = λ z. absurd (omega (arith, ints)); third = λ z y. absurd (omega (arith, ints)) }))
     (λ x. by_order n.y (pos 0)
     (λ l. inr (record { first = omega (arith, ints); second = λ z. omega (arith, ints); third = λ z y. absurd (omega (arith, ints)) }))
@@ -66,6 +54,9 @@ normal-or n h = by_order n.x (pos 0)
     (λ l. inl (record { first = omega (arith, ints); second = λ z. omega (arith, ints); third = λ u v. l })))
     (λ l. inl (record { first = omega (arith, ints); second = λ z. omega (arith, ints); third = λ u v. absurd (omega (arith, ints)) })))
     (λ l. inl (record { first = omega (arith, ints); second = λ z. absurd (omega (arith, ints)); third = λ u v. absurd (omega (arith, ints)) }))
+
+pub normal-or : (n : Vector) → IsDirection n → IsNormal n ⊎ IsNormal (away n)
+normal-or n h = ⊎_elim inl (λ m. inr (subst IsNormal (vector-same _ _ (omega (arith, ints)) (omega (arith, ints)) (omega (arith, ints))) m)) (normal-either n h)
 
 module _ (gs : List Vector) (F : Vector → Label → Type 0) (L : Labelling gs F) (axial : Axial gs) (M : Map) (B : IsBuilt M F) where
   b-ends : (k : ℕ) (a : Arc) → At M.arcs k a → Ends M a
@@ -178,34 +169,28 @@ module _ (gs : List Vector) (F : Vector → Label → Type 0) (L : Labelling gs 
     proper_turned : Proper b m a
     proper_turned x y = proper y x
 
-    ha : IsDirection (away n)
-    ha = away-direction n hn
-
-    level-away : (w : Vector) → dot n w ≡ pos 0 → dot (away n) w ≡ pos 0
-    level-away w z = let e = dot-away n w in omega (arith, ints)
-
-    level-back : (w : Vector) → dot (away n) w ≡ pos 0 → dot n w ≡ pos 0
-    level-back w z = let e = dot-away n w in omega (arith, ints)
+    ha : IsDirection (opposite n)
+    ha = direction-opposite n hn
 
     -- s is the last svertex before d
-    module _ (k : ℕ) (v : MapVertex) (h : At M.svertices k v) (ls : dot n v.dir ≡ pos 0) (clear : (j : ℕ) (x : Vector) → At (dirs M.svertices) j x → IsStrictlyOn (away n) d v.dir x → ⊥) where
+    module _ (k : ℕ) (v : MapVertex) (h : At M.svertices k v) (ls : dot n v.dir ≡ pos 0) (clear : (j : ℕ) (x : Vector) → At (dirs M.svertices) j x → IsStrictlyOn (opposite n) d v.dir x → ⊥) where
       abbrev s : Vector
       s = v.dir
 
       hs : IsDirection s
       hs = B.svertex_dirs k v h
 
-      back-smooth : (w : Vector) → IsStrictlyOn (away n) d s w → IsSmooth F w
+      back-smooth : (w : Vector) → IsStrictlyOn (opposite n) d s w → IsSmooth F w
       back-smooth w o = B.smooth w o.on_circle.direction (λ j u c q. clear j u.dir (at-dirs M.svertices j u c)
-          (IsStrictlyOn-same (away n) (away n) d d s s w u.dir (dir-self (away n) ha) (dir-self d G.direction) (dir-self s hs) (SameDirection-turned u.dir w q) o))
+          (IsStrictlyOn-same (opposite n) (opposite n) d d s s w u.dir (dir-self (opposite n) ha) (dir-self d G.direction) (dir-self s hs) (SameDirection-turned u.dir w q) o))
 
-      back-labels : (w : Vector) → IsStrictlyOn (away n) d s w → StraightAt F (away n) b m a w
+      back-labels : (w : Vector) → IsStrictlyOn (opposite n) d s w → StraightAt F (opposite n) b m a w
       back-labels w o =
-          let c = cross (away n) d in
-          let q : dot (away n) c ≡ pos 0 = square-cross (away n) d in
-          let r = onward gs F L (directed-by gs axial) (far_directed-by gs axial) (away n) b m a proper_turned d c G.direction q (flipped F n a m b d p) in
-          let K = amount (cross s (away n) ∷ []) c + r.0 in
-          arc-along gs F L (directed-by gs axial) (far_directed-by gs axial) (away n) b m a proper_turned ha d s G.direction hs (level-away d p.level) (level-away s ls) back-smooth K (omega arith) (r.1 K (omega arith)) w o
+          let c = cross (opposite n) d in
+          let q : dot (opposite n) c ≡ pos 0 = square-cross (opposite n) d in
+          let r = onward gs F L (directed-by gs axial) (far_directed-by gs axial) (opposite n) b m a proper_turned d c G.direction q (flipped F n a m b d p) in
+          let K = amount (cross s (opposite n) ∷ []) c + r.0 in
+          arc-along gs F L (directed-by gs axial) (far_directed-by gs axial) (opposite n) b m a proper_turned ha d s G.direction hs (level-opposite n d p.level) (level-opposite n s ls) back-smooth K (omega arith) (r.1 K (omega arith)) w o
 
       after : StraightAfter F n a m b s
       after = (
@@ -242,20 +227,20 @@ module _ (gs : List Vector) (F : Vector → Label → Type 0) (L : Labelling gs 
     straight-free : ⊥
     straight-free = by (search_list M.svertices (λ k v. dot n v.dir ≡ pos 0) (λ k v. nought-or (dot n v.dir)))
       where
-        at-listed : (s : Vector) → dot (away n) s ≡ pos 0 → ((j : ℕ) (x : Vector) → At (dirs M.svertices) j x → IsStrictlyOn (away n) d s x → ⊥) → (k : ℕ) → (v : MapVertex) × At M.svertices k v × (v.dir ≡ s) → ⊥
-        at-listed s l none k (v, h, e) = caught k v h (level-back v.dir (subst (λ (r : Vector). dot (away n) r ≡ pos 0) (sym e) l)) (λ j x c o. none j x c (subst (λ (r : Vector). IsStrictlyOn (away n) d r x) e o))
+        at-listed : (s : Vector) → dot (opposite n) s ≡ pos 0 → ((j : ℕ) (x : Vector) → At (dirs M.svertices) j x → IsStrictlyOn (opposite n) d s x → ⊥) → (k : ℕ) → (v : MapVertex) × At M.svertices k v × (v.dir ≡ s) → ⊥
+        at-listed s l none k (v, h, e) = caught k v h (level-opposite-back n v.dir (subst (λ (r : Vector). dot (opposite n) r ≡ pos 0) (sym e) l)) (λ j x c o. none j x c (subst (λ (r : Vector). IsStrictlyOn (opposite n) d r x) e o))
 
         by : Found M.svertices (λ k v. dot n v.dir ≡ pos 0) ⊎ ((k : ℕ) (v : MapVertex) → At M.svertices k v → dot n v.dir ≡ pos 0 → ⊥) → ⊥
         by (inr none) = sloop (B.sloop_all n d a m b normal G.direction none proper p)
           where
             sloop : (l : MapSloop) × (M.sloop ≡ Some l) × SameDirection n l.normal → ⊥
             sloop (l, q, w) = let i = at-sloop M.arcs M.sloop l q in G.off_items i.0 (sloop_item l) i.1 (record { direction = G.direction; level = level-same n l.normal d d w (dir-self d G.direction) p.level })
-        by (inl f) = first (first-after (away n) d ha G.direction (level-away d p.level) (dirs M.svertices))
+        by (inl f) = first (first-after (opposite n) d ha G.direction (level-opposite n d p.level) (dirs M.svertices))
           where
-            first : First (away n) d (dirs M.svertices) → ⊥
+            first : First (opposite n) d (dirs M.svertices) → ⊥
             first r = ⊎_elim
-                (λ e. r.none_before f.number f.element.dir (at-dirs M.svertices f.number f.element f.listed) (subst (λ (q : Vector). IsStrictlyOn (away n) d q f.element.dir) e
-                (whole-passes (away n) d d f.element.dir ha G.direction G.direction (B.svertex_dirs f.number f.element f.listed) (level-away d p.level) (level-away d p.level) (level-away f.element.dir f.holds) (dir-self d G.direction)
+                (λ e. r.none_before f.number f.element.dir (at-dirs M.svertices f.number f.element f.listed) (subst (λ (q : Vector). IsStrictlyOn (opposite n) d q f.element.dir) e
+                (whole-passes (opposite n) d d f.element.dir ha G.direction G.direction (B.svertex_dirs f.number f.element f.listed) (level-opposite n d p.level) (level-opposite n d p.level) (level-opposite n f.element.dir f.holds) (dir-self d G.direction)
                 (λ w. G.off_svertices f.number f.element f.listed (SameDirection-turned d f.element.dir w)))))
                 (λ k. at-listed r.target r.level r.none_before k.0 (dirs-at M.svertices k.0 r.target k.1)) r.listed
 
@@ -263,22 +248,17 @@ module _ (gs : List Vector) (F : Vector → Label → Type 0) (L : Labelling gs 
   free-plain : (d : Vector) → IsFree M d → Plain F d
   free-plain d G m f e h = by (B.smooth d G.direction G.off_svertices)
     where
-      even : (c : Label) (s : Sign) → by_side c c c s ≡ c
-      even c minus = refl
-      even c nought = refl
-      even c plus = refl
-
       by : IsSmooth F d → Near F d e m
       by (plain l p) = subst (Near F d e) (L.one d l m G.direction p.at_d f) (p.near e)
-      by (straight n a c b hn p) = cases (label-eq a c) (label-eq b c)
+      by (straight n a c b hn p) = cases (same-label_or a c) (same-label_or b c)
         where
           caught-by : Proper a c b → ⊥
           caught-by q = ⊎_elim
               (λ x. straight-free d G n a c b x q p)
-              (λ x. straight-free d G (away n) b c a x (λ u v. q v u) (flipped F n a c b d p)) (normal-or n hn)
+              (λ x. straight-free d G (opposite n) b c a x (λ u v. q v u) (flipped F n a c b d p)) (normal-either n hn)
 
           flat : a ≡ c → b ≡ c → (s : Sign) → by_side a c b s ≡ c
-          flat x y s = ap (λ r. by_side r c b s) x ∙ ap (λ r. by_side c c r s) y ∙ even c s
+          flat x y s = ap (λ r. by_side r c b s) x ∙ ap (λ r. by_side c c r s) y ∙ even-side c s
 
           cases : Decided (a ≡ c) → Decided (b ≡ c) → Near F d e m
           cases (inl x) (inl y) = subst (Near F d e) (flat x y (sign (dot n e)) ∙ L.one d c m G.direction p.at_d f) (p.near e)

@@ -1,34 +1,13 @@
 -- A well shaped map that agrees with a labelling piece by piece is valid, and its labels are those of the labelling.
-use Rattle.std.proofs.Common.{◌≡◌, ◌+◌, ◌*◌, arith, ap, sym, ◌∙◌, inl, inr, List, subst, Option, Some, None}
-use Rattle.std.proofs.lemmas.Int.{ints}
-use Rattle.std.proofs.Math.Nat.{mul-pos}
-use Rattle.nef_space.proofs.Order.{sign-plus, sign-minus}
-use Rattle.nef_space.specs.Vectors.{Vector, IsDirection, cross, dot, IsZero, SameDirection, blend}
-use Rattle.nef_space.specs.declared.label.Label.{Label}
-use Rattle.law_sphere.specs.Maps.{MapVertex, Map, items, item_normal, item_pos, item_mark, item_neg, IsFree, Side, around_svertex, pos_item, neg_item, whole, HasSide, IsClear, Reaches, Sees, directly, by_way_of, MapLabel, at_svertex, on_item, seen, InOneSface, here, link, Shaped, Valid}
-use Rattle.law_sphere.specs.Least.{by_side}
-use Rattle.law_sphere.specs.Labelling.{Labelling, Near, Agrees}
-use Rattle.law_near.proofs.Decided.{Decided}
-use Rattle.law_near.proofs.Directions.{dot-comm, zero-decided}
+use Rattle.law_sphere.proofs.Prelude.{◌≡◌, ◌+◌, ◌*◌, arith, ap, sym, ◌∙◌, inl, inr, List, subst, ints, mul-pos, sign-plus, sign-minus, Vector, IsDirection, cross, dot, IsZero, SameDirection, blend, Label, MapVertex, Map, items, item_normal, item_pos, item_mark, item_neg, IsFree, Side, around_svertex, pos_item, neg_item, whole, HasSide, IsClear, Reaches, Sees, directly, by_way_of, MapLabel, at_svertex, on_item, seen, InOneSface, here, link, Shaped, Valid, by_side, Labelling, Near, Agrees, Decided, dot-comm, zero-decided, cross-turned, SameDirection-turned, SameDirection-trans, dir-signs, direction-right, apart, parallel-trans, blend-turned, left-of}
 use Rattle.law_sphere.proofs.Generic.{amount}
-use Rattle.law_sphere.proofs.Lists.{at-one}
+use Rattle.law_sphere.proofs.Lists.{at-one, some-some}
 use Rattle.law_sphere.proofs.Forms.{on-level}
-use Rattle.law_sphere.proofs.Parallel.{apart, parallel-trans}
-use Rattle.law_near.proofs.FlatDecided.{cross-turned}
 use Rattle.law_sphere.proofs.Direct.{cross-between}
-use Rattle.law_sphere.proofs.StepOff.{blend-turned}
-use Rattle.law_sphere.proofs.Labels.{dir-signs, dir-direction, label-exists}
+use Rattle.law_sphere.proofs.Labels.{label-exists}
 use Rattle.law_sphere.proofs.Around.{Beside, same_way, other_way, beside}
-use Rattle.law_sphere.proofs.Compare.{SameDirection-turned, SameDirection-trans}
 use Rattle.law_sphere.proofs.Lone.{near-same_signs}
-use Rattle.law_sphere.proofs.Walk.{carried, left-of, between-direction, cross-direction_turned}
-
-some-some : {A : Type 0} (x y : A) → ◌≡◌ {A = Option A} (Some x) (Some y) → x ≡ y
-some-some {A} x y e = ap (get x) e
-  where
-    get : A → Option A → A
-    get d None = d
-    get d (Some z) = z
+use Rattle.law_sphere.proofs.Walk.{carried, between-direction, cross-direction_turned}
 
 -- a side of a map has one label
 pub side-one : (M : Map) (o : Side) (k l : Label) → HasSide M o k → HasSide M o l → k ≡ l
@@ -70,7 +49,7 @@ module _ (gs : List Vector) (F : Vector → Label → Type 0) (L : Labelling gs 
   near-way y v e w f m (n, g) = (
     n + amount gs e,
     λ k h. L.cells (blend k v 1 e) (blend k y 1 e) m
-        (between-direction v e k 1 (omega arith) (λ z. f (parallel-trans y v e (dir-direction y v (SameDirection-turned v y w)) (cross-turned v y w.parallel) z)))
+        (between-direction v e k 1 (omega arith) (λ z. f (parallel-trans y v e (direction-right y v (SameDirection-turned v y w)) (cross-turned v y w.parallel) z)))
         (between-direction y e k 1 (omega arith) f) (near-same_signs gs v y e k (omega arith) w) (g k (omega arith)),
   )
 
@@ -94,7 +73,7 @@ module _ (gs : List Vector) (F : Vector → Label → Type 0) (L : Labelling gs 
       by (inr f) =
           let q = at-one M.svertices k v u h b in
           let g = cross-direction_turned a y f in
-          let n = A.lone k u m a b (sym (ap (λ (r : MapVertex). r.around) q) ∙ e) (λ z. g (parallel-trans y u.dir a (dir-direction y u.dir (SameDirection-turned u.dir y w)) (cross-turned u.dir y w.parallel) z)) in
+          let n = A.lone k u m a b (sym (ap (λ (r : MapVertex). r.around) q) ∙ e) (λ z. g (parallel-trans y u.dir a (direction-right y u.dir (SameDirection-turned u.dir y w)) (cross-turned u.dir y w.parallel) z)) in
           from_near a y c f m (near-way y u.dir a w g m n)
   reached a y c whole m h t = A.ground m a h c.start.direction
 
@@ -115,7 +94,7 @@ module _ (gs : List Vector) (F : Vector → Label → Type 0) (L : Labelling gs 
   agrees-valid = record { shaped = S; one_label = sface-label }
 
   pub agrees-label : (d : Vector) (m : Label) → MapLabel M d m → F d m
-  agrees-label d m (at_svertex k v a w e) = subst (λ (r : Label). F d r) e (L.cells v.dir d v.mark (S.svertex_dirs k v a) (dir-direction v.dir d w) (λ g l. dir-signs v.dir d g (S.svertex_dirs k v a) w) (A.svertices k v a))
+  agrees-label d m (at_svertex k v a w e) = subst (λ (r : Label). F d r) e (L.cells v.dir d v.mark (S.svertex_dirs k v a) (direction-right v.dir d w) (λ g l. dir-signs v.dir d g (S.svertex_dirs k v a) w) (A.svertices k v a))
   agrees-label d m (on_item k x a o e) = subst (λ (r : Label). F d r) e (A.marks k x d a o)
   agrees-label d m (seen s) = side-label d s.side m s.has s.sees
 

@@ -1,24 +1,7 @@
 -- A built map is valid, has the labels that it was built of, and is least where its svertices are needed.
-use Rattle.std.proofs.Common.{arith, ℕ, ◌+◌, ◌≤◌, ap, sym, ◌∙◌, ⊎_elim, ◌↔◌, List, ◌++◌, subst}
-use Rattle.nef_space.proofs.Order.{sign}
-use Rattle.nef_space.specs.Signs.{Lies}
-use Rattle.nef_space.specs.Place.{Place}
-use Rattle.nef_space.specs.Vectors.{Vector, IsDirection, cross, dot, IsZero, blend}
-use Rattle.nef_space.specs.Sets.{Set}
-use Rattle.nef_space.specs.declared.label.Label.{Label}
-use Rattle.nef_space.specs.Local.{HasLabel, Germ}
-use Rattle.law_near.specs.Cells.{carriers}
-use Rattle.law_sphere.specs.Maps.{At, MapVertex, Map, MapLabel, NearLabel, Valid}
-use Rattle.law_sphere.specs.Forms.{SameSigns, axes, forms}
-use Rattle.law_sphere.specs.Least.{by_side, NearPlain, NearStraight, Least, Cone}
-use Rattle.law_sphere.specs.Labelling.{Labelling, Near, IsSmooth, plain, straight, ByOp}
-use Rattle.law_sphere.specs.Builds.{IsBuilt, Kept}
-use Rattle.law_near.proofs.Far.{nought-or}
-use Rattle.law_near.proofs.Directions.{zero-decided}
+use Rattle.law_sphere.proofs.Prelude.{arith, ℕ, ◌+◌, ◌≤◌, ap, sym, ◌∙◌, ⊎_elim, ◌↔◌, List, ◌++◌, subst, sign, nought-or, Lies, Place, Vector, IsDirection, cross, dot, IsZero, blend, Set, Label, HasLabel, Germ, carriers, At, MapVertex, Map, MapLabel, NearLabel, Valid, SameSigns, axes, forms, by_side, NearPlain, NearStraight, Least, Cone, Labelling, Near, IsSmooth, plain, straight, ByOp, IsBuilt, Kept, lies-left, lies-right, zero-decided, in-span}
 use Rattle.law_sphere.proofs.Generic.{amount, far-keeps, far-level}
-use Rattle.nef_space.proofs.Lists.{lies-left, lies-right}
 use Rattle.law_sphere.proofs.Forms.{axes-forms}
-use Rattle.law_sphere.proofs.KindFlats.{in-span}
 use Rattle.law_sphere.proofs.Built.{agrees-valid, agrees-label, label-agrees}
 use Rattle.law_sphere.proofs.Labellings.{normals_of, germ-labelling, op-labelling, cone-from_agrees}
 use Rattle.law_sphere.proofs.Flips.{Axial, far_directed-by}

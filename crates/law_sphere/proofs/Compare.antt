@@ -1,56 +1,13 @@
 -- Two least maps with the same labels have the same svertices, and items in the same places.
-use Rattle.std.proofs.Common.{◌≡◌, ℕ, ℤ, pos, negsuc, ◌+ℤ◌, ◌-ℤ◌, ◌*ℤ◌, ◌<ℤ◌, arith, refl, ap, sym, ◌∙◌, ⊎_elim, [], ◌∷◌, subst}
-use Rattle.std.proofs.lemmas.Int.{ints}
-use Rattle.nef_space.proofs.Ring.{ring, at, num, ◌⊕◌, ◌⊖◌, ◌⊗◌}
-use Rattle.nef_space.proofs.Combination.{follows, given, none}
-use Rattle.nef_space.proofs.Order.{Sign, minus, nought, plus, sign, sign-plus, sign-minus, by_order}
-use Rattle.nef_space.specs.Vectors.{Vector, IsDirection, cross, dot, IsZero, SameDirection, IsOpposite, IsNormal, blend}
-use Rattle.nef_space.specs.declared.label.Label.{Label}
-use Rattle.law_sphere.specs.Vectors.{comb}
-use Rattle.law_sphere.specs.Maps.{At, MapVertex, Map, Item, items, item_normal, item_pos, item_mark, item_neg, OnItem, IsFree, MapLabel, at_svertex, on_item, NearLabel, Valid}
-use Rattle.law_sphere.specs.Least.{by_side, NearPlain, NearStraight, Least, SameLabels}
-use Rattle.law_near.proofs.FlatDecided.{cross-turned}
+use Rattle.law_sphere.proofs.Prelude.{◌≡◌, ℕ, ℤ, pos, ◌+ℤ◌, ◌-ℤ◌, ◌*ℤ◌, ◌<ℤ◌, arith, refl, ap, sym, ◌∙◌, ⊎_elim, ◌∷◌, subst, [], ints, ring, at, num, ◌⊕◌, ◌⊖◌, ◌⊗◌, neg, Sign, minus, nought, plus, sign, sign-plus, sign-minus, by_order, nought-or, Vector, IsDirection, cross, dot, IsZero, SameDirection, IsOpposite, IsNormal, blend, opposite, Label, comb, At, MapVertex, Map, Item, items, item_normal, item_pos, item_mark, item_neg, OnItem, IsFree, MapLabel, at_svertex, on_item, NearLabel, Valid, by_side, NearPlain, NearStraight, Least, SameLabels, dot-comm, zero-decided, self-pos, SameDirection-trans, scaled-coordinates, cross_of, dot-opposite, dot_of, dot_poly, numbers, vec}
 use Rattle.law_sphere.proofs.Shot.{product-off}
 use Rattle.law_sphere.proofs.Vectors.{normal-is, normal-direction, dot-comb}
-use Rattle.law_near.proofs.Far.{nought-or}
-use Rattle.law_near.proofs.Directions.{dot-comm, zero-decided, self-pos}
 use Rattle.law_sphere.proofs.Forms.{on-direction, PlaceOf, svertex_place, item_place, free_place, place_of}
-use Rattle.law_sphere.proofs.Labels.{label-direction, dir-joined, label-exists, label-unique, near-unique}
-use Rattle.law_sphere.proofs.Around.{turn-minus, Beside, same_way, other_way, beside, on_item-off_svertices}
+use Rattle.law_sphere.proofs.Labels.{label-direction, label-exists, label-unique, near-unique}
+use Rattle.law_sphere.proofs.Around.{turn-minus, beside, on_item-off_svertices, same-by}
 use Rattle.law_sphere.proofs.NearItems.{near-free, near-item, free-plain, item-straight}
 
 -- ---- vectors
-pub SameDirection-turned : (d e : Vector) → SameDirection d e → SameDirection e d
-SameDirection-turned d e w = record { parallel = cross-turned d e w.parallel; forward = let c = dot-comm e d in let h = w.forward in omega (arith, ints) }
-
-pub SameDirection-trans : (c d e : Vector) → SameDirection c d → SameDirection d e → SameDirection c e
-SameDirection-trans c d e a b = dir-joined c e d a (SameDirection-turned d e b)
-
-pub dir-self : (v : Vector) → IsDirection v → SameDirection v v
-dir-self v h = record { parallel = by; forward = self-pos v h }
-  where
-    by : IsZero (cross v v)
-    by = let xs = v.x ∷ v.y ∷ v.z ∷ [] in (
-      ring xs (at 1 ⊗ at 2 ⊖ at 2 ⊗ at 1) (num (pos 0)) tt,
-      ring xs (at 2 ⊗ at 0 ⊖ at 0 ⊗ at 2) (num (pos 0)) tt,
-      ring xs (at 0 ⊗ at 1 ⊖ at 1 ⊗ at 0) (num (pos 0)) tt,
-    )
-
--- two normals are the same way, or not parallel
-pub scaled-coordinates : (n m : Vector) → IsZero (cross n m) → (dot n n *ℤ m.x ≡ dot n m *ℤ n.x) × (dot n n *ℤ m.y ≡ dot n m *ℤ n.y) × (dot n n *ℤ m.z ≡ dot n m *ℤ n.z)
-scaled-coordinates n m p =
-    let xs = n.x ∷ n.y ∷ n.z ∷ m.x ∷ m.y ∷ m.z ∷ [] in
-    let o = num (pos 0) in
-    let nn = at 0 ⊗ at 0 ⊕ at 1 ⊗ at 1 ⊕ at 2 ⊗ at 2 in
-    let nm = at 0 ⊗ at 3 ⊕ at 1 ⊗ at 4 ⊕ at 2 ⊗ at 5 in
-    let ex = at 1 ⊗ at 5 ⊖ at 2 ⊗ at 4 in
-    let ey = at 2 ⊗ at 3 ⊖ at 0 ⊗ at 5 in
-    let ez = at 0 ⊗ at 4 ⊖ at 1 ⊗ at 3 in (
-      follows xs (nn ⊗ at 3) (nm ⊗ at 0) (given (o ⊖ at 1) ez o p.2 (given (at 2) ey o p.1 none)) tt,
-      follows xs (nn ⊗ at 4) (nm ⊗ at 1) (given (o ⊖ at 2) ex o p.0 (given (at 0) ez o p.2 none)) tt,
-      follows xs (nn ⊗ at 5) (nm ⊗ at 2) (given (o ⊖ at 0) ey o p.1 (given (at 1) ex o p.0 none)) tt,
-    )
-
 pub normals-not_opposite : (n m : Vector) → IsNormal n → IsNormal m → IsOpposite n m → ⊥
 normals-not_opposite n m h k o =
     let e = scaled-coordinates n m o.parallel in
@@ -70,11 +27,7 @@ normals-not_opposite n m h k o =
 
 -- parallel normals go the same way
 pub normals-same : (n m : Vector) → IsNormal n → IsNormal m → IsZero (cross n m) → SameDirection n m
-normals-same n m h k z = by (beside n m (normal-direction n h) (normal-direction m k) z)
-  where
-    by : Beside n m → SameDirection n m
-    by (same_way w) = w
-    by (other_way w) = absurd (normals-not_opposite n m h k w)
+normals-same n m h k z = same-by (beside n m (normal-direction n h) (normal-direction m k) z) (normals-not_opposite n m h k)
 
 -- ---- labels
 pub labels-turned : (M N : Map) → Valid M → Valid N → SameLabels M N → SameLabels N M
@@ -144,20 +97,17 @@ module _ (M N : Map) (V : Valid M) (W : Valid N) (L : Least M) (K : Least N) (s 
   there-neg e m h b = ap sides (sym (sign-minus (dot n e) h)) ∙ near-unique N W d e _ m (there e) b
 
   abbrev down : Vector
-  down = comb (negsuc 0) n (pos 0) n
+  down = opposite n
 
   n-up : pos 0 <ℤ dot n n
   n-up = self-pos n (normal-is V.shaped i x a)
-
-  down-is : (g m : Vector) → dot g (comb (negsuc 0) m (pos 0) m) ≡ pos 0 -ℤ dot g m
-  down-is g m = dot-comb g (negsuc 0) m (pos 0) m ∙ ring (dot g m ∷ []) (num (negsuc 0) ⊗ at 0 ⊕ num (pos 0) ⊗ at 0) (num (pos 0) ⊖ at 0) tt
 
   not_free : IsFree N d → ⊥
   not_free F =
       let b = label-exists N W d F.direction in
       let m = label-unique N W d (item_mark x) b.0 at_there b.1 in
       let u = there-pos n b.0 n-up (near-free N W d F b.0 b.1 n) in
-      let e = down-is n n in
+      let e = dot-opposite n n in
       let p = n-up in
       let v = there-neg down b.0 (omega (arith, ints)) (near-free N W d F b.0 b.1 down) in
       L.items_differ i x a (u ∙ sym m) (v ∙ sym m)
@@ -180,7 +130,7 @@ module _ (M N : Map) (V : Valid M) (W : Valid N) (L : Least M) (K : Least N) (s 
     across = comb (dot m m) n (pos 0 -ℤ dot n m) m
 
     abbrev back : Vector
-    back = comb (negsuc 0) across (pos 0) across
+    back = opposite across
 
     across-level : dot m across ≡ pos 0
     across-level = dot-comb m (dot m m) n (pos 0 -ℤ dot n m) m ∙ ap (λ r. dot m m *ℤ r +ℤ (pos 0 -ℤ dot n m) *ℤ dot m m) (dot-comm m n) ∙ ring (dot m m ∷ dot n m ∷ []) (at 0 ⊗ at 1 ⊕ (num (pos 0) ⊖ at 1) ⊗ at 0) (num (pos 0)) tt
@@ -189,10 +139,7 @@ module _ (M N : Map) (V : Valid M) (W : Valid N) (L : Least M) (K : Least N) (s 
     across-above f = subst (λ (r : ℤ). pos 0 <ℤ r) eq (self-pos (cross n m) f)
       where
         eq : dot (cross n m) (cross n m) ≡ dot n across
-        eq = let nx = at 0 in let ny = at 1 in let nz = at 2 in let mx = at 3 in let my = at 4 in let mz = at 5 in
-            ring (n.x ∷ n.y ∷ n.z ∷ m.x ∷ m.y ∷ m.z ∷ [])
-            ((ny ⊗ mz ⊖ nz ⊗ my) ⊗ (ny ⊗ mz ⊖ nz ⊗ my) ⊕ (nz ⊗ mx ⊖ nx ⊗ mz) ⊗ (nz ⊗ mx ⊖ nx ⊗ mz) ⊕ (nx ⊗ my ⊖ ny ⊗ mx) ⊗ (nx ⊗ my ⊖ ny ⊗ mx))
-            ((mx ⊗ mx ⊕ my ⊗ my ⊕ mz ⊗ mz) ⊗ (nx ⊗ nx ⊕ ny ⊗ ny ⊕ nz ⊗ nz) ⊕ (num (pos 0) ⊖ (nx ⊗ mx ⊕ ny ⊗ my ⊕ nz ⊗ mz)) ⊗ (nx ⊗ mx ⊕ ny ⊗ my ⊕ nz ⊗ mz)) tt
+        eq = let k = cross_of (vec 0) (vec 3) in ring (numbers n m m m) (dot_of k k) (dot_poly 3 3 ⊗ dot_poly 0 0 ⊕ (num (pos 0) ⊖ dot_poly 0 3) ⊗ dot_poly 0 3) tt
             ∙ sym (dot-comb n (dot m m) n (pos 0 -ℤ dot n m) m)
 
     parallel : IsZero (cross n m)
@@ -200,18 +147,14 @@ module _ (M N : Map) (V : Valid M) (W : Valid N) (L : Least M) (K : Least N) (s 
         let h = across-above f in
         let l = across-level in
         let u = there-pos across (item_mark y) h (near_there across nought (ap sign l)) in
-        let c = down-is m across in
-        let e = down-is n across in
+        let c = dot-opposite m across in
+        let e = dot-opposite n across in
         let z : dot m back ≡ pos 0 = omega (arith, ints) in
         let v = there-neg back (item_mark y) (omega (arith, ints)) (near_there back nought (ap sign z)) in
         L.items_differ i x a (u ∙ sym marks) (v ∙ sym marks))) (zero-decided (cross n m))
 
     same-way : SameDirection n m
-    same-way = by (beside n m (normal-is V.shaped i x a) (normal-is W.shaped j y b) parallel)
-      where
-        by : Beside n m → SameDirection n m
-        by (same_way w) = w
-        by (other_way w) = absurd (normals-not_opposite n m (V.shaped.normals i x a) (W.shaped.normals j y b) w)
+    same-way = normals-same n m (V.shaped.normals i x a) (W.shaped.normals j y b) parallel
 
     matched-item : MatchedItem N x d
     matched-item =
@@ -219,8 +162,8 @@ module _ (M N : Map) (V : Valid M) (W : Valid N) (L : Least M) (K : Least N) (s 
         let p = n-up in
         let h = w.forward in
         let c = dot-comm m n in
-        let e = down-is m n in
-        let g = down-is n n in
+        let e = dot-opposite m n in
+        let g = dot-opposite n n in
         record {
           number = j;
           item = y;

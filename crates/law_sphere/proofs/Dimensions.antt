@@ -1,25 +1,9 @@
 -- The kind of the least map of a set at a point is the dimension of the set's flat directions there.
-use Rattle.std.proofs.Common.{◌≡◌, pos, arith, sym, ◌∙◌, inl, inr, ⊎_elim, [], ◌∷◌, subst}
-use Rattle.std.proofs.lemmas.Int.{ints}
+use Rattle.law_sphere.proofs.Prelude.{◌≡◌, pos, arith, sym, ◌∙◌, inl, inr, ⊎_elim, subst, ints, Place, Vector, IsDirection, cross, vector, dot, IsZero, Set, Label, Germ, Flat, FlatDim, HasFlat, Germ-unique, label-one, germ_of, FlatCone-from_flat, Flat-from_cone, comb, Map, MapLabel, Least, Cone, Full, FlatMap, IsInVolume, IsInFacet, IsOnEdge, dot-comm, zero-decided, dot-zero, self-pos, cross-turned, apart, parallel-trans, level_cross_second}
 use Rattle.nef_space.proofs.ArithmeticExamples.{in_plane}
-use Rattle.nef_space.proofs.Ring.{ring, at, num, ◌⊕◌, ◌⊖◌, ◌⊗◌}
-use Rattle.nef_space.specs.Place.{Place}
-use Rattle.nef_space.specs.Vectors.{Vector, IsDirection, cross, vector, dot, IsZero}
-use Rattle.nef_space.specs.Sets.{Set}
-use Rattle.nef_space.specs.declared.label.Label.{Label}
-use Rattle.nef_space.specs.Local.{Germ, Flat, FlatDim, HasFlat}
-use Rattle.law_near.proofs.Germs.{Germ-unique, label-one}
-use Rattle.law_near.proofs.Decided.{germ_of}
-use Rattle.law_near.proofs.Flats.{FlatCone-from_flat, Flat-from_cone}
 use Rattle.law_near.proofs.Rays.{Germ-zero}
-use Rattle.law_sphere.specs.Vectors.{comb}
-use Rattle.law_sphere.specs.Maps.{Map, MapLabel}
-use Rattle.law_sphere.specs.Least.{Least, Cone}
-use Rattle.law_sphere.specs.Kinds.{Full, FlatMap, IsInVolume, IsInFacet, IsOnEdge}
 use Rattle.law_sphere.proofs.Vectors.{normal-is}
-use Rattle.law_near.proofs.Directions.{zero-decided, self-pos, dot-comm, dot-zero}
-use Rattle.law_sphere.proofs.Parallel.{apart, parallel-trans, circle-point}
-use Rattle.law_near.proofs.FlatDecided.{cross-turned}
+use Rattle.law_sphere.proofs.Parallel.{circle-point}
 use Rattle.law_sphere.proofs.Direct.{cross-self}
 use Rattle.law_sphere.proofs.Labels.{label-direction, label-unique}
 use Rattle.law_sphere.proofs.Arcs.{at-sloop}
@@ -72,13 +56,10 @@ module _ (M : Map) (s : Set) (p : Place) (C : Cone M s p) where
           let o = y.1 in
           let off = apart n n y.0 (some n hn) o.level o.direction in
           let r = apart y.0 y.0 (cross y.0 n) (some y.0 o.direction) (dot-comm y.0 (cross y.0 n) ∙ cross-self y.0 n) (λ z. off (cross-turned y.0 n z)) in
-          (y.0, cross y.0 n, r, flat-map y.0 (facet-flat M C.valid n K y.0 o.level), flat-map (cross y.0 n) (facet-flat M C.valid n K (cross y.0 n) (square n y.0)))
+          (y.0, cross y.0 n, r, flat-map y.0 (facet-flat M C.valid n K y.0 o.level), flat-map (cross y.0 n) (facet-flat M C.valid n K (cross y.0 n) (level_cross_second y.0 n)))
         where
           some : (v : Vector) → IsDirection v → dot v v ≡ pos 0 → ⊥
           some v f z = let h = self-pos v f in omega (arith, ints)
-
-          square : (n y : Vector) → dot n (cross y n) ≡ pos 0
-          square n y = ring (n.x ∷ n.y ∷ n.z ∷ y.x ∷ y.y ∷ y.z ∷ []) (at 0 ⊗ (at 4 ⊗ at 2 ⊖ at 5 ⊗ at 1) ⊕ at 1 ⊗ (at 5 ⊗ at 0 ⊖ at 3 ⊗ at 2) ⊕ at 2 ⊗ (at 3 ⊗ at 1 ⊖ at 4 ⊗ at 0)) (num (pos 0)) tt
 
       none : HasFlat s p 3 → ⊥
       none (d, e, f, t, x, y, z) =

@@ -1,21 +1,10 @@
 -- A free direction that isn't in the plane of some item is seen directly by a side.
-use Rattle.std.proofs.Common.{◌≡◌, ℕ, ◌<◌, ℤ, pos, ◌+ℤ◌, ◌-ℤ◌, ◌*ℤ◌, ◌<ℤ◌, arith, refl, ap, sym, ◌∙◌, inl, inr, ⊎_elim, List, [], ◌∷◌, ◌++◌}
-use Rattle.std.proofs.lemmas.Int.{ints}
-use Rattle.nef_space.proofs.Ring.{ring, at, num, ◌⊕◌, ◌⊖◌, ◌⊗◌}
-use Rattle.nef_space.proofs.Order.{sign, by_order, sign-scaled}
-use Rattle.nef_space.specs.Signs.{Lies}
-use Rattle.nef_space.specs.Vectors.{Vector, IsDirection, cross, dot, IsZero, SameDirection, blend}
-use Rattle.nef_space.specs.declared.label.Label.{Label}
-use Rattle.law_sphere.specs.Vectors.{comb}
-use Rattle.law_sphere.specs.Maps.{At, MapVertex, Map, Item, items, item_normal, item_pos, item_neg, OnItem, IsFree, Side, pos_item, neg_item, HasSide, IsClear, Reaches, Shaped}
+use Rattle.law_sphere.proofs.Prelude.{◌≡◌, ℕ, ◌<◌, ℤ, pos, ◌+ℤ◌, ◌-ℤ◌, ◌*ℤ◌, ◌<ℤ◌, arith, refl, ap, sym, ◌∙◌, inl, inr, ⊎_elim, List, ◌∷◌, ◌++◌, [], ints, ring, at, num, ◌⊕◌, ◌⊖◌, ◌⊗◌, sign, by_order, sign-scaled, nought-or, square_pos, Lies, Vector, IsDirection, cross, dot, IsZero, SameDirection, blend, Label, comb, At, MapVertex, Map, Item, items, item_normal, item_pos, item_neg, OnItem, IsFree, Side, pos_item, neg_item, HasSide, IsClear, Reaches, Shaped, lies-left, lies-right, apart, blend_of, cross_of, dot-comm, numbers, square-cross, vec}
 use Rattle.law_sphere.proofs.Vectors.{normal-is, dot-comb, comb-dot, direction-by}
-use Rattle.law_near.proofs.Far.{nought-or}
-use Rattle.law_near.proofs.Directions.{square_pos}
 use Rattle.law_sphere.proofs.Generic.{Keeps, Generic, generic}
 use Rattle.law_sphere.proofs.Lists.{gather, gather-has}
-use Rattle.nef_space.proofs.Lists.{lies-left, lies-right}
 use Rattle.law_sphere.proofs.Forms.{item_forms, on-direction, on-level, OnItem-stays}
-use Rattle.law_sphere.proofs.Parallel.{apart, miss}
+use Rattle.law_sphere.proofs.Parallel.{miss}
 use Rattle.law_sphere.proofs.Shot.{product-off, item-point, Target, Shot, shoot}
 
 -- ---- between d and c
@@ -28,31 +17,23 @@ IsZero-times k d h a b c = (one d.x a, one d.y b, one d.z c)
 -- d x (i d + j c) = j (d x c)
 pub cross-between : (d c : Vector) (i j : ℕ) → 0 < j → IsDirection (cross d c) → IsDirection (cross d (blend i d j c))
 cross-between d c i j sj f z =
-    let xs = d.x ∷ d.y ∷ d.z ∷ c.x ∷ c.y ∷ c.z ∷ pos i ∷ pos j ∷ [] in
-    let x = at 6 ⊗ at 0 ⊕ at 7 ⊗ at 3 in
-    let y = at 6 ⊗ at 1 ⊕ at 7 ⊗ at 4 in
-    let w = at 6 ⊗ at 2 ⊕ at 7 ⊗ at 5 in
-    f (IsZero-times (pos j) (cross d c) (omega (arith, ints))
-    (ring xs (at 7 ⊗ (at 1 ⊗ at 5 ⊖ at 2 ⊗ at 4)) (at 1 ⊗ w ⊖ at 2 ⊗ y) tt ∙ z.0)
-    (ring xs (at 7 ⊗ (at 2 ⊗ at 3 ⊖ at 0 ⊗ at 5)) (at 2 ⊗ x ⊖ at 0 ⊗ w) tt ∙ z.1)
-    (ring xs (at 7 ⊗ (at 0 ⊗ at 4 ⊖ at 1 ⊗ at 3)) (at 0 ⊗ y ⊖ at 1 ⊗ x) tt ∙ z.2))
+    let xs = pos i ∷ pos j ∷ numbers d c c c in let k = cross_of (vec 2) (vec 5) in let b = cross_of (vec 2) (blend_of (at 0) (vec 2) (at 1) (vec 5)) in
+    f (IsZero-times (pos j) (cross d c) (omega (arith, ints)) (ring xs (at 1 ⊗ k.0) b.0 tt ∙ z.0) (ring xs (at 1 ⊗ k.1) b.1 tt ∙ z.1) (ring xs (at 1 ⊗ k.2) b.2 tt ∙ z.2))
 
 pub cross-self : (u v : Vector) → dot (cross u v) u ≡ pos 0
-cross-self u v = ring (u.x ∷ u.y ∷ u.z ∷ v.x ∷ v.y ∷ v.z ∷ []) ((at 1 ⊗ at 5 ⊖ at 2 ⊗ at 4) ⊗ at 0 ⊕ (at 2 ⊗ at 3 ⊖ at 0 ⊗ at 5) ⊗ at 1 ⊕ (at 0 ⊗ at 4 ⊖ at 1 ⊗ at 3) ⊗ at 2) (num (pos 0)) tt
+cross-self u v = dot-comm (cross u v) u ∙ square-cross u v
 
 -- a form that is nought at d is nought between only where it is at c
 pub between-off : (g d c : Vector) (i j : ℕ) → 0 < j → dot g d ≡ pos 0 → (dot g c ≡ pos 0 → ⊥) → dot g (blend i d j c) ≡ pos 0 → ⊥
 between-off g d c i j sj z f e =
     let a = dot-comb g (pos i) d (pos j) c in
     let b = ap (λ r. pos i *ℤ r) z in
-    let u = ring (pos i ∷ []) (at 0 ⊗ num (pos 0)) (num (pos 0)) tt in
     product-off (pos j) (dot g c) (omega (arith, ints)) f (omega (arith, ints))
 
 pub between-off_target : (g d c : Vector) (i j : ℕ) → 0 < i → dot g c ≡ pos 0 → (dot g d ≡ pos 0 → ⊥) → dot g (blend i d j c) ≡ pos 0 → ⊥
 between-off_target g d c i j si z f e =
     let a = dot-comb g (pos i) d (pos j) c in
     let b = ap (λ r. pos j *ℤ r) z in
-    let u = ring (pos j ∷ []) (at 0 ⊗ num (pos 0)) (num (pos 0)) tt in
     product-off (pos i) (dot g d) (omega (arith, ints)) f (omega (arith, ints))
 
 -- the way from d to c misses v

@@ -1,22 +1,8 @@
 -- Two least maps with one mark and one label in every direction are equal; so a set has at most one least map at a point.
-use Rattle.std.proofs.Common.{◌≡◌, ℕ, zero, suc, ℤ, pos, ◌+ℤ◌, ◌-ℤ◌, ◌*ℤ◌, ◌<ℤ◌, arith, refl, ap, sym, ◌∙◌, inl, inr, ⊎_elim, List, [], ◌∷◌, subst, Option, Some, None}
-use Rattle.std.proofs.lemmas.Int.{ints}
-use Rattle.nef_space.proofs.Ring.{ring, at, num, ◌⊕◌, ◌⊖◌, ◌⊗◌}
-use Rattle.nef_space.proofs.Order.{by_order, mul_pos, mul_le_right, cancel_eq}
-use Rattle.nef_space.specs.Place.{Place}
-use Rattle.nef_space.specs.Vectors.{Vector, IsDirection, cross, dot, IsZero, SameDirection}
-use Rattle.nef_space.specs.Sets.{Set}
-use Rattle.nef_space.specs.declared.label.Label.{Label}
-use Rattle.law_near.proofs.Germs.{Germ-unique, label-one}
-use Rattle.law_sphere.specs.Vectors.{IsPrimitive, VectorBelow}
-use Rattle.law_sphere.specs.Maps.{At, MapVertex, Arc, MapSloop, Map, arc_item, sloop_item, dir_of, MapLabel, Valid}
-use Rattle.law_sphere.specs.Least.{Least, SameLabels, MatchedArc, Within, ArcBelow, InOrder, Ordered, Cone}
-use Rattle.law_near.proofs.Directions.{self-pos}
-use Rattle.law_near.proofs.Flats.{vector-same}
-use Rattle.law_sphere.proofs.Labels.{label-direction, label-unique, dir-direction}
-use Rattle.law_sphere.proofs.Compare.{scaled-coordinates, labels-turned, SameDirection-turned}
+use Rattle.law_sphere.proofs.Prelude.{◌≡◌, ℕ, zero, suc, ℤ, pos, ◌+ℤ◌, ◌-ℤ◌, ◌*ℤ◌, ◌<ℤ◌, arith, refl, ap, sym, ◌∙◌, inl, inr, ⊎_elim, List, ◌∷◌, subst, Option, Some, None, [], ints, ring, at, num, ◌⊕◌, ◌⊖◌, ◌⊗◌, neg, by_order, mul_pos, mul_le_right, cancel_eq, Place, Vector, IsDirection, cross, dot, IsZero, SameDirection, Set, Label, Germ-unique, label-one, IsPrimitive, VectorBelow, At, MapVertex, Arc, MapSloop, Map, arc_item, sloop_item, dir_of, MapLabel, Valid, Least, SameLabels, MatchedArc, Within, ArcBelow, InOrder, Ordered, Cone, self-pos, vector-same, SameDirection-turned, direction-right, direction-left, scaled-coordinates}
+use Rattle.law_sphere.proofs.Labels.{label-direction, label-unique}
+use Rattle.law_sphere.proofs.Compare.{labels-turned}
 use Rattle.law_sphere.proofs.Arcs.{Ends, ends-of, at-arc, at-sloop}
-use Rattle.law_sphere.proofs.Turn.{dir-directed}
 use Rattle.law_sphere.proofs.Unique.{within}
 
 -- ---- lowest terms
@@ -49,8 +35,8 @@ unit-factor k l e h i = by_order k (pos 1) (λ m. absurd (omega (arith, ints))) 
 
 pub lowest-same : (u v : Vector) → SameDirection u v → IsPrimitive u → IsPrimitive v → u ≡ v
 lowest-same u v w l m =
-    let hu = dir-directed u v w in
-    let hv = dir-direction u v w in
+    let hu = direction-left u v w in
+    let hv = direction-right u v w in
     let p = multiple u v w.parallel hu l in
     let q = multiple v u (SameDirection-turned u v w).parallel hv m in
     let k = dot l.by v in

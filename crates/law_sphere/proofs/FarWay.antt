@@ -1,18 +1,5 @@
 -- The way from a direction that sees a svertex to one close to the svertex, where no ray of the svertex lies between.
-use Rattle.std.proofs.Common.{◌≡◌, ℕ, zero, suc, ◌+◌, ◌<◌, ◌≤◌, ℤ, pos, nat_abs, ◌+ℤ◌, ◌*ℤ◌, ◌-ℤ◌, ◌<ℤ◌, arith, refl, ap, sym, ◌∙◌, inl, ⊎_elim, List, [], ◌∷◌, subst}
-use Rattle.std.proofs.lemmas.Int.{ints}
-use Rattle.nef_space.proofs.Ring.{ring, at, num, ◌⊕◌, ◌⊖◌, ◌⊗◌}
-use Rattle.nef_space.proofs.Order.{sign, nought-is, by_order, mul_pos, mul_neg, sign-scaled}
-use Rattle.nef_space.proofs.Combination.{follows, given, none as none_given}
-use Rattle.nef_space.specs.Vectors.{Vector, IsDirection, triple, cross, dot, SameDirection, blend}
-use Rattle.law_near.proofs.Flats.{vector-same}
-use Rattle.law_near.proofs.FlatDecided.{triple-in_plane}
-use Rattle.law_near.proofs.Meets.{cross-none}
-use Rattle.law_near.proofs.Directions.{dot-zero, square_pos}
-use Rattle.law_near.proofs.Far.{nought-or, same-off}
-use Rattle.law_sphere.specs.Maps.{At, MapVertex, Map, Item, items, item_normal, OnItem, IsClear, Shaped}
-use Rattle.law_sphere.specs.Sectors.{ArcRay, ray_left}
-use Rattle.law_sphere.specs.Forms.{Keeps, forms, gather}
+use Rattle.law_sphere.proofs.Prelude.{◌≡◌, ℕ, zero, suc, ◌+◌, ◌<◌, ◌≤◌, ℤ, pos, nat_abs, ◌+ℤ◌, ◌*ℤ◌, ◌-ℤ◌, ◌<ℤ◌, arith, refl, ap, sym, ◌∙◌, inl, ⊎_elim, List, ◌∷◌, subst, [], ints, ring, at, num, ◌⊕◌, ◌⊖◌, ◌⊗◌, sign, nought-is, by_order, mul_pos, mul_neg, sign-scaled, nought-or, square_pos, follows, given, none as none_given, Vector, IsDirection, triple, cross, dot, SameDirection, blend, same-off, At, MapVertex, Map, Item, items, item_normal, OnItem, IsClear, Shaped, ArcRay, ray_left, Keeps, forms, gather, dot-zero, vector-same, triple-in_plane, cross-none, blend_of, cross_of, numbers, triple_of, triple_poly, vec}
 use Rattle.law_sphere.proofs.Vectors.{dot-comb, normal-is, direction-by, same-plus, same-minus}
 use Rattle.law_sphere.proofs.Generic.{amount, far-keeps, far-level}
 use Rattle.law_sphere.proofs.Lists.{gather-has}
@@ -55,10 +42,7 @@ module _ (M : Map) (V : Shaped M) (k : ℕ) (v : MapVertex) (a : At M.svertices 
 
     -- p.(d x c) = p.(d x f)
     turn : triple p d c ≡ triple p d f
-    turn = ring (p.x ∷ p.y ∷ p.z ∷ d.x ∷ d.y ∷ d.z ∷ f.x ∷ f.y ∷ f.z ∷ pos number ∷ [])
-        (let x = at 9 ⊗ at 0 ⊕ num (pos 1) ⊗ at 6 in let y = at 9 ⊗ at 1 ⊕ num (pos 1) ⊗ at 7 in let z = at 9 ⊗ at 2 ⊕ num (pos 1) ⊗ at 8 in
-        at 0 ⊗ (at 4 ⊗ z ⊖ at 5 ⊗ y) ⊕ at 1 ⊗ (at 5 ⊗ x ⊖ at 3 ⊗ z) ⊕ at 2 ⊗ (at 3 ⊗ y ⊖ at 4 ⊗ x))
-        (at 0 ⊗ (at 4 ⊗ at 8 ⊖ at 5 ⊗ at 7) ⊕ at 1 ⊗ (at 5 ⊗ at 6 ⊖ at 3 ⊗ at 8) ⊕ at 2 ⊗ (at 3 ⊗ at 7 ⊖ at 4 ⊗ at 6)) tt
+    turn = ring (pos number ∷ numbers p d f f) (triple_of (vec 1) (vec 4) (blend_of (at 0) (vec 1) (num (pos 1)) (vec 7))) (triple_poly 1 4 7) tt
 
     apart : IsDirection (cross d c)
     apart z = wide (sym turn ∙ dot-zero p (cross d c) z)
@@ -81,22 +65,16 @@ module _ (M : Map) (V : Shaped M) (k : ℕ) (v : MapVertex) (a : At M.svertices 
 
       -- f.(p x w) = i p.(d x f), and p x w = p x (i d + j f)
       beside : dot f (cross p w) ≡ pos i *ℤ triple p d f
-      beside = ring (p.x ∷ p.y ∷ p.z ∷ d.x ∷ d.y ∷ d.z ∷ f.x ∷ f.y ∷ f.z ∷ pos number ∷ pos i ∷ pos j ∷ [])
-          (let x = at 10 ⊗ at 3 ⊕ at 11 ⊗ (at 9 ⊗ at 0 ⊕ num (pos 1) ⊗ at 6) in let y = at 10 ⊗ at 4 ⊕ at 11 ⊗ (at 9 ⊗ at 1 ⊕ num (pos 1) ⊗ at 7) in let z = at 10 ⊗ at 5 ⊕ at 11 ⊗ (at 9 ⊗ at 2 ⊕ num (pos 1) ⊗ at 8) in
-          at 6 ⊗ (at 1 ⊗ z ⊖ at 2 ⊗ y) ⊕ at 7 ⊗ (at 2 ⊗ x ⊖ at 0 ⊗ z) ⊕ at 8 ⊗ (at 0 ⊗ y ⊖ at 1 ⊗ x))
-          (at 10 ⊗ (at 0 ⊗ (at 4 ⊗ at 8 ⊖ at 5 ⊗ at 7) ⊕ at 1 ⊗ (at 5 ⊗ at 6 ⊖ at 3 ⊗ at 8) ⊕ at 2 ⊗ (at 3 ⊗ at 7 ⊖ at 4 ⊗ at 6))) tt
+      beside = ring (pos number ∷ pos i ∷ pos j ∷ numbers p d f f) (triple_of (vec 9) (vec 3) (blend_of (at 1) (vec 6) (at 2) (blend_of (at 0) (vec 3) (num (pos 1)) (vec 9)))) (at 1 ⊗ triple_poly 3 6 9) tt
 
       off_svertex_way : IsDirection (cross p w)
       off_svertex_way = direction-by f (cross p w) (λ z. product-off (pos i) (triple p d f) (omega (arith, ints)) wide (sym beside ∙ z))
 
       across : cross p w ≡ cross p (blend i d j f)
-      across = vector-same (cross p w) (cross p (blend i d j f)) (one p.y p.z d.y d.z f.y f.z) (one p.z p.x d.z d.x f.z f.x) (one p.x p.y d.x d.y f.x f.y)
-        where
-          one : (y z y' z' y'' z'' : ℤ) → y *ℤ (pos i *ℤ z' +ℤ pos j *ℤ (pos number *ℤ z +ℤ pos 1 *ℤ z'')) -ℤ z *ℤ (pos i *ℤ y' +ℤ pos j *ℤ (pos number *ℤ y +ℤ pos 1 *ℤ y''))
-              ≡ y *ℤ (pos i *ℤ z' +ℤ pos j *ℤ z'') -ℤ z *ℤ (pos i *ℤ y' +ℤ pos j *ℤ y'')
-          one y z y' z' y'' z'' = ring (y ∷ z ∷ y' ∷ z' ∷ y'' ∷ z'' ∷ pos number ∷ pos i ∷ pos j ∷ [])
-              (at 0 ⊗ (at 7 ⊗ at 3 ⊕ at 8 ⊗ (at 6 ⊗ at 1 ⊕ num (pos 1) ⊗ at 5)) ⊖ at 1 ⊗ (at 7 ⊗ at 2 ⊕ at 8 ⊗ (at 6 ⊗ at 0 ⊕ num (pos 1) ⊗ at 4)))
-              (at 0 ⊗ (at 7 ⊗ at 3 ⊕ at 8 ⊗ at 5) ⊖ at 1 ⊗ (at 7 ⊗ at 2 ⊕ at 8 ⊗ at 4)) tt
+      across =
+          let xs = pos number ∷ pos i ∷ pos j ∷ numbers p d f f in
+          let k = cross_of (vec 3) (blend_of (at 1) (vec 6) (at 2) (blend_of (at 0) (vec 3) (num (pos 1)) (vec 9))) in let m = cross_of (vec 3) (blend_of (at 1) (vec 6) (at 2) (vec 9)) in
+          vector-same _ _ (ring xs k.0 m.0 tt) (ring xs k.1 m.1 tt) (ring xs k.2 m.2 tt)
 
       module _ (l : ℕ) (x : Item) (h : At (items M) l x) (o : OnItem M x w) where
         abbrev n : Vector

@@ -1,20 +1,9 @@
 -- Arcs of one circle from one source lie in each other; the first of a list after a direction; arcs that meet begin together.
-use Rattle.std.proofs.Common.{◌≡◌, ℕ, zero, suc, ℤ, pos, ◌+ℤ◌, ◌-ℤ◌, ◌*ℤ◌, ◌≤ℤ◌, ◌<ℤ◌, arith, refl, ap, sym, ◌⊎◌, inl, inr, ⊎_elim, List, [], ◌∷◌, subst}
-use Rattle.std.proofs.lemmas.Int.{ints}
-use Rattle.nef_space.proofs.Ring.{ring, at, num, ◌⊖◌, ◌⊗◌}
-use Rattle.nef_space.proofs.Order.{by_order, mul_pos, mul_nonneg}
-use Rattle.nef_space.specs.Vectors.{Vector, IsDirection, cross, triple, dot, SameDirection, IsOpposite}
+use Rattle.law_sphere.proofs.Prelude.{◌≡◌, ℕ, zero, suc, ℤ, pos, ◌+ℤ◌, ◌-ℤ◌, ◌*ℤ◌, ◌≤ℤ◌, ◌<ℤ◌, arith, refl, ap, sym, ◌⊎◌, inl, inr, ⊎_elim, List, ◌∷◌, subst, [], ints, ring, at, num, ◌⊖◌, ◌⊗◌, by_order, mul_pos, mul_nonneg, Vector, IsDirection, cross, triple, dot, SameDirection, IsOpposite, At, IsStrictlyOn, Decided, dot-comm, dot-zero, self-pos, cross-turned, triple-turned, opposites, SameDirection-turned, SameDirection-trans, dir-self, parallel-in_plane}
 use Rattle.law_sphere.proofs.Turning.{turns}
-use Rattle.law_sphere.specs.Maps.{At}
-use Rattle.law_cyclic.specs.Arcs.{IsStrictlyOn}
 use Rattle.law_sphere.proofs.Vectors.{same-plus, same-minus}
-use Rattle.law_near.proofs.Decided.{Decided}
-use Rattle.law_near.proofs.Directions.{dot-comm, self-pos, dot-zero}
 use Rattle.law_sphere.proofs.Places.{IsStrictlyOn-decided, SameDirection-decided}
-use Rattle.law_sphere.proofs.Parallel.{parallel-in_plane}
-use Rattle.law_near.proofs.FlatDecided.{cross-turned}
-use Rattle.law_sphere.proofs.Around.{Beside, same_way, other_way, beside, opposites, triple-turned, opposite-triple, turn-minus}
-use Rattle.law_sphere.proofs.Compare.{SameDirection-turned, SameDirection-trans, dir-self}
+use Rattle.law_sphere.proofs.Around.{Beside, same_way, other_way, beside, opposite-triple, turn-minus, opposite-in_plane}
 use Rattle.law_sphere.proofs.Turn.{turn-last, ends-together}
 
 -- signs in c g = e b + a d
@@ -138,11 +127,7 @@ module _ (n s u : Vector) (hn : IsDirection n) (hs : IsDirection s) (hu : IsDire
   }
     where
       opp : triple n s u ≡ pos 0 → IsOpposite s u
-      opp z = by (beside s u hs hu (parallel-in_plane n s u hn ls lu z))
-        where
-          by : Beside s u → IsOpposite s u
-          by (same_way w) = absurd (off w)
-          by (other_way w) = w
+      opp = opposite-in_plane n s u hn hs hu ls lu off
 
       less : pos 0 <ℤ triple n u d → (pos 0 <ℤ triple n u s) × (pos 0 <ℤ triple n s d)
       less h =

@@ -1,23 +1,8 @@
 -- Where a least map stays the same along d, each svertex is parallel to d and each sloop holds d.
-use Rattle.std.proofs.Common.{◌≡◌, ℕ, ◌+◌, ◌*◌, ◌<◌, ◌≤◌, ℤ, pos, negsuc, ◌+ℤ◌, ◌-ℤ◌, ◌*ℤ◌, ◌≤ℤ◌, nat_abs, arith, ap, sym, ◌∙◌, inl, inr, ⊎_elim, List, [], ◌∷◌, subst}
-use Rattle.std.proofs.lemmas.Int.{ints, unsigned_abs-mul}
-use Rattle.std.proofs.lemmas.Nat.{mul-le}
-use Rattle.nef_space.proofs.Ring.{ring, at, num, ◌⊕◌, ◌⊖◌, ◌⊗◌}
-use Rattle.nef_space.proofs.Order.{sign, sign-plus, sign-minus, by_order, mul_le_right, sign-scaled}
-use Rattle.nef_space.specs.Vectors.{Vector, IsDirection, cross, dot, IsZero, blend}
-use Rattle.nef_space.specs.declared.label.Label.{Label}
-use Rattle.law_sphere.specs.Vectors.{comb}
-use Rattle.law_sphere.specs.Maps.{At, MapVertex, Map, MapLabel, NearLabel, Valid}
-use Rattle.law_sphere.specs.Forms.{SameSigns, forms}
-use Rattle.law_sphere.specs.Least.{by_side, NearStraight, Least}
-use Rattle.law_sphere.specs.Kinds.{Full, FlatMap}
+use Rattle.law_sphere.proofs.Prelude.{◌≡◌, ℕ, ◌+◌, ◌*◌, ◌<◌, ◌≤◌, ℤ, pos, ◌+ℤ◌, ◌-ℤ◌, ◌*ℤ◌, ◌≤ℤ◌, nat_abs, arith, ap, sym, ◌∙◌, inl, inr, ⊎_elim, List, ◌∷◌, subst, neg_ℤ, [], ints, unsigned_abs-mul, mul-le, ring, at, num, ◌⊕◌, ◌⊖◌, ◌⊗◌, neg, sign, sign-plus, sign-minus, by_order, mul_le_right, sign-scaled, nought-or, Vector, IsDirection, cross, dot, IsZero, blend, opposite, Label, comb, At, MapVertex, Map, MapLabel, NearLabel, Valid, SameSigns, forms, by_side, NearStraight, Least, Full, FlatMap, dot-comm, zero-decided, self-pos, vector-same, apart, direction-opposite, dot-opposite}
 use Rattle.law_sphere.proofs.Vectors.{dot-comb}
-use Rattle.law_near.proofs.Far.{nought-or}
-use Rattle.law_near.proofs.Directions.{dot-comm, self-pos, zero-decided}
 use Rattle.law_sphere.proofs.Generic.{amount, amount-above, far-keeps, far-level}
 use Rattle.law_sphere.proofs.Forms.{direction-by_signs}
-use Rattle.law_sphere.proofs.Parallel.{apart}
-use Rattle.law_near.proofs.Flats.{vector-same}
 use Rattle.law_sphere.proofs.Direct.{cross-self}
 use Rattle.law_sphere.proofs.Labels.{label-exists, label-unique, label-by_signs, near-from_far, far-from_near, near-exists, near-unique}
 use Rattle.law_sphere.proofs.Walk.{cross-direction_left, between-direction}
@@ -177,22 +162,13 @@ module _ (M : Map) (V : Valid M) (d : Vector) (F : FlatMap M d) (v : Vector) (of
       split = (zero-split n.x e.x, zero-split n.y e.y, zero-split n.z e.z)
 
   abbrev down : Vector
-  down = comb (negsuc 0) n (pos 0) n
+  down = opposite n
 
   off-n : IsDirection (cross v n)
   off-n = apart v v n (λ z. let h = self-pos v hv in omega (arith, ints)) (dot-comm v n ∙ cross-self v d) off
 
-  down-is : (g : Vector) → dot g down ≡ pos 0 -ℤ dot g n
-  down-is g = dot-comb g (negsuc 0) n (pos 0) n ∙ ring (dot g n ∷ []) (num (negsuc 0) ⊗ at 0 ⊕ num (pos 0) ⊗ at 0) (num (pos 0) ⊖ at 0) tt
-
   off-down : IsDirection (cross v down)
-  off-down = apart v v down (λ z. let h = self-pos v hv in omega (arith, ints)) (let e = down-is v in let f = dot-comm v n ∙ cross-self v d in omega (arith, ints)) (λ z. off (negated z))
-    where
-      negated : IsZero down → IsZero n
-      negated z = (one n.x z.0, one n.y z.1, one n.z z.2)
-        where
-          one : (x : ℤ) → negsuc 0 *ℤ x +ℤ pos 0 *ℤ x ≡ pos 0 → x ≡ pos 0
-          one x e = let r = ring (x ∷ []) (num (negsuc 0) ⊗ at 0 ⊕ num (pos 0) ⊗ at 0) (num (pos 0) ⊖ at 0) tt in omega (arith, ints)
+  off-down = apart v v down (λ z. let h = self-pos v hv in omega (arith, ints)) (let e = dot-opposite v n in let f = dot-comm v n ∙ cross-self v d in omega (arith, ints)) (direction-opposite n off)
 
   -- a direction off d is straight along the plane of d
   pub flat-straight : NearStraight M v
@@ -207,7 +183,7 @@ module _ (M : Map) (V : Valid M) (d : Vector) (F : FlatMap M d) (v : Vector) (of
               at_e : (k : Label) × NearLabel M v e k → NearLabel M v e (by_side a m b (sign (dot n e)))
               at_e (k, r) = subst (NearLabel M v e) (by_order (dot n e) (pos 0)
                   (λ l. let c = nat_abs (dot n e) in
-                  let one = λ (x : ℤ). (let w : pos c ≡ pos 0 -ℤ dot n e = omega (arith, ints) in ring (dot n e ∷ x ∷ []) (at 0 ⊗ at 1) ((num (pos 0) ⊖ at 0) ⊗ (num (negsuc 0) ⊗ at 1 ⊕ num (pos 0) ⊗ at 1)) tt ∙ ap (λ y. y *ℤ (negsuc 0 *ℤ x +ℤ pos 0 *ℤ x)) (sym w)) in
+                  let one = λ (x : ℤ). (let w : pos c ≡ pos 0 -ℤ dot n e = omega (arith, ints) in ring (dot n e ∷ x ∷ []) (at 0 ⊗ at 1) ((num (pos 0) ⊖ at 0) ⊗ neg (at 1)) tt ∙ ap (λ y. y *ℤ neg_ℤ x) (sym w)) in
                   near-unique M V v down k b (near-shifted e down c (one n.x, one n.y, one n.z) (omega (arith, ints)) off-down k r) q ∙ ap (by_side a m b) (sym (sign-minus (dot n e) l)))
                   (λ z. label-unique M V v k m (near-level e z k r) l ∙ ap (by_side a m b) (sym (ap sign z)))
                   (λ l. let c = nat_abs (dot n e) in

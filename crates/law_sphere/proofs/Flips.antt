@@ -1,85 +1,47 @@
 -- The other side of a plane: arcs the other way round, and labels with above and below exchanged; loops.
-use Rattle.std.proofs.Common.{◌≡◌, ℕ, ◌+◌, ◌≤◌, ℤ, pos, negsuc, ◌+ℤ◌, ◌-ℤ◌, ◌*ℤ◌, ◌<ℤ◌, arith, refl, ap, sym, ◌∙◌, inl, inr, ⊎_elim, List, [], ◌∷◌, subst}
-use Rattle.std.proofs.lemmas.Int.{ints}
-use Rattle.nef_space.proofs.Ring.{ring, at, num, ◌⊕◌, ◌⊖◌, ◌⊗◌}
-use Rattle.nef_space.proofs.Order.{sign, sign-plus, sign-minus, by_order}
-use Rattle.nef_space.specs.Signs.{Lies}
-use Rattle.nef_space.specs.Vectors.{Vector, IsDirection, cross, triple, dot, IsZero, SameDirection, IsOpposite, blend}
-use Rattle.nef_space.specs.declared.label.Label.{Label}
-use Rattle.law_sphere.specs.Vectors.{comb}
-use Rattle.law_cyclic.specs.Arcs.{IsOnCircle, IsStrictlyOn}
-use Rattle.law_sphere.specs.Forms.{SameSigns, axes}
-use Rattle.law_sphere.specs.Least.{by_side}
-use Rattle.law_sphere.specs.Labelling.{Labelling, Near, StraightAt, IsSmooth}
-use Rattle.law_sphere.proofs.Vectors.{dot-comb, comb-dot, nought-if}
-use Rattle.law_near.proofs.Decided.{Decided}
-use Rattle.law_near.proofs.Far.{same-nought}
-use Rattle.law_near.proofs.Directions.{dot-comm, self-pos, zero-decided, zero-dot}
-use Rattle.law_sphere.proofs.Parallel.{apart, parallel-trans}
-use Rattle.law_near.proofs.FlatDecided.{cross-turned}
+use Rattle.law_sphere.proofs.Prelude.{◌≡◌, ℕ, ◌+◌, ◌≤◌, ℤ, pos, ◌+ℤ◌, ◌-ℤ◌, ◌*ℤ◌, ◌<ℤ◌, arith, ap, sym, ◌∙◌, inl, inr, ⊎_elim, List, ◌∷◌, subst, neg_ℤ, [], ints, ring, at, num, ◌⊕◌, ◌⊖◌, ◌⊗◌, sign, sign-plus, sign-minus, by_order, Lies, Vector, IsDirection, cross, triple, dot, IsZero, SameDirection, IsOpposite, blend, opposite, Label, comb, IsOnCircle, IsStrictlyOn, SameSigns, axes, by_side, Labelling, Near, StraightAt, IsSmooth, same-nought, dot-comm, zero-decided, self-pos, cross-turned, nought-if, triple-turned, dir-signs, apart, parallel-trans, dot-opposite, opposite-dot, triple-opposite, level-blend}
+use Rattle.law_sphere.proofs.Vectors.{dot-comb}
 use Rattle.law_sphere.proofs.Generic.{amount, far-keeps}
 use Rattle.law_sphere.proofs.Places.{direction-stays}
-use Rattle.law_sphere.proofs.Labels.{dir-signs}
-use Rattle.law_sphere.proofs.Around.{Beside, same_way, other_way, beside, triple-turned, opposite-triple, turn-minus}
-use Rattle.law_sphere.proofs.Kind.{away, away-dot}
+use Rattle.law_sphere.proofs.Around.{Beside, same_way, other_way, beside, opposite-triple, turn-minus}
 use Rattle.law_sphere.proofs.Walk.{crossings, between-direction}
 use Rattle.law_sphere.proofs.Along.{along, cells, near-one}
 
-pub label-eq : (k l : Label) → Decided (k ≡ l)
-label-eq Label.Out Label.Out = inl refl
-label-eq Label.Out Label.Not = inr (λ e. cc)
-label-eq Label.Out Label.In = inr (λ e. cc)
-label-eq Label.Not Label.Out = inr (λ e. cc)
-label-eq Label.Not Label.Not = inl refl
-label-eq Label.Not Label.In = inr (λ e. cc)
-label-eq Label.In Label.Out = inr (λ e. cc)
-label-eq Label.In Label.Not = inr (λ e. cc)
-label-eq Label.In Label.In = inl refl
-
 -- ---- the other way round
-pub dot-away : (n d : Vector) → dot (away n) d ≡ pos 0 -ℤ dot n d
-dot-away n d = comb-dot (negsuc 0) n (pos 0) n d ∙ ring (dot n d ∷ []) (num (negsuc 0) ⊗ at 0 ⊕ num (pos 0) ⊗ at 0) (num (pos 0) ⊖ at 0) tt
-
-triple-away : (n a b : Vector) → triple (away n) a b ≡ triple n b a
-triple-away n a b = dot-away n (cross a b) ∙ sym (triple-turned n b a)
-
-pub away-direction : (n : Vector) → IsDirection n → IsDirection (away n)
-away-direction n h z = let e = dot-away n n in let p = self-pos n h in let q = zero-dot (away n) n z in omega (arith, ints)
-
-pub reversed : (n s t w : Vector) → IsDirection s → IsStrictlyOn n s t w → IsStrictlyOn (away n) t s w
+pub reversed : (n s t w : Vector) → IsDirection s → IsStrictlyOn n s t w → IsStrictlyOn (opposite n) t s w
 reversed n s t w hs o = record {
-  on_circle = record { direction = o.on_circle.direction; level = let e = dot-away n w in let l = o.on_circle.level in omega (arith, ints) };
+  on_circle = record { direction = o.on_circle.direction; level = let e = opposite-dot n w in let l = o.on_circle.level in omega (arith, ints) };
   not_source = o.not_target;
   not_target = o.not_source;
-  less_than_half = λ h. let r = o.less_than_half (subst (λ (x : ℤ). pos 0 <ℤ x) (triple-away n t s) h) in
-      (subst (λ (x : ℤ). pos 0 <ℤ x) (sym (triple-away n t w)) r.1, subst (λ (x : ℤ). pos 0 <ℤ x) (sym (triple-away n w s)) r.0);
-  more_than_half = λ h. ⊎_elim (λ x. inr (subst (λ (x : ℤ). pos 0 <ℤ x) (sym (triple-away n w s)) x)) (λ x. inl (subst (λ (x : ℤ). pos 0 <ℤ x) (sym (triple-away n t w)) x))
-      (o.more_than_half (subst (λ (x : ℤ). x <ℤ pos 0) (triple-away n t s) h));
+  less_than_half = λ h. let r = o.less_than_half (subst (λ (x : ℤ). pos 0 <ℤ x) (triple-opposite n t s) h) in
+      (subst (λ (x : ℤ). pos 0 <ℤ x) (sym (triple-opposite n t w)) r.1, subst (λ (x : ℤ). pos 0 <ℤ x) (sym (triple-opposite n w s)) r.0);
+  more_than_half = λ h. ⊎_elim (λ x. inr (subst (λ (x : ℤ). pos 0 <ℤ x) (sym (triple-opposite n w s)) x)) (λ x. inl (subst (λ (x : ℤ). pos 0 <ℤ x) (sym (triple-opposite n t w)) x))
+      (o.more_than_half (subst (λ (x : ℤ). x <ℤ pos 0) (triple-opposite n t s) h));
   just_half = λ q.
       let p : IsOpposite s t = record { parallel = cross-turned t s q.parallel; backward = let e = dot-comm s t in let b = q.backward in omega (arith, ints) } in
       let x = o.just_half p in
       let y = turn-minus (dot s s) (dot s t) (triple n t w) (triple n s w) (self-pos s hs) (opposite-triple n s w t hs p.parallel) p.backward x in
-      let e = triple-away n t w in let f = triple-turned n w t in omega (arith, ints);
+      let e = triple-opposite n t w in let f = triple-turned n w t in omega (arith, ints);
 }
 
-side-flip : (a m b : Label) (x y : ℤ) → y ≡ pos 0 -ℤ x → by_side b m a (sign y) ≡ by_side a m b (sign x)
+side-flip : (a m b : Label) (x y : ℤ) → y ≡ neg_ℤ x → by_side b m a (sign y) ≡ by_side a m b (sign x)
 side-flip a m b x y e = by_order x (pos 0)
     (λ l. ap (by_side b m a) (sign-plus y (omega (arith, ints))) ∙ ap (by_side a m b) (sym (sign-minus x l)))
     (λ z. let w : y ≡ pos 0 = omega (arith, ints) in ap (by_side b m a) (ap sign w) ∙ ap (by_side a m b) (sym (ap sign z)))
     (λ l. ap (by_side b m a) (sign-minus y (omega (arith, ints))) ∙ ap (by_side a m b) (sym (sign-plus x l)))
 
-pub flipped : (F : Vector → Label → Type 0) (n : Vector) (a m b : Label) (d : Vector) → StraightAt F n a m b d → StraightAt F (away n) b m a d
+pub flipped : (F : Vector → Label → Type 0) (n : Vector) (a m b : Label) (d : Vector) → StraightAt F n a m b d → StraightAt F (opposite n) b m a d
 flipped F n a m b d p = record {
-  level = let e = dot-away n d in let l = p.level in omega (arith, ints);
+  level = let e = opposite-dot n d in let l = p.level in omega (arith, ints);
   at_d = p.at_d;
-  near = λ e. subst (Near F d e) (sym (side-flip a m b (dot n e) (dot (away n) e) (dot-away n e))) (p.near e);
+  near = λ e. subst (Near F d e) (sym (side-flip a m b (dot n e) (dot (opposite n) e) (opposite-dot n e))) (p.near e);
 }
 
-pub unflipped : (F : Vector → Label → Type 0) (n : Vector) (a m b : Label) (d : Vector) → StraightAt F (away n) b m a d → StraightAt F n a m b d
+pub unflipped : (F : Vector → Label → Type 0) (n : Vector) (a m b : Label) (d : Vector) → StraightAt F (opposite n) b m a d → StraightAt F n a m b d
 unflipped F n a m b d p = record {
-  level = let e = dot-away n d in let l = p.level in omega (arith, ints);
+  level = let e = opposite-dot n d in let l = p.level in omega (arith, ints);
   at_d = p.at_d;
-  near = λ e. subst (Near F d e) (side-flip a m b (dot n e) (dot (away n) e) (dot-away n e)) (p.near e);
+  near = λ e. subst (Near F d e) (side-flip a m b (dot n e) (dot (opposite n) e) (opposite-dot n e)) (p.near e);
 }
 
 -- the same plane
@@ -128,12 +90,12 @@ module _ (gs : List Vector) (F : Vector → Label → Type 0) (L : Labelling gs 
           let h = self-pos (cross n u) f in
           let e = eq in
           let z = level in
-          let x = away-dot n w in
-          let y = away-dot u w in
-          let y' : dot u (away w) ≡ pos 0 = omega (arith, ints) in
+          let x = dot-opposite n w in
+          let y = dot-opposite u w in
+          let y' : dot u (opposite w) ≡ pos 0 = omega (arith, ints) in
           let ml = L.one d m l hd p.at_d q.at_d in
           let al = one w a l (subst (Near F d w) (ap (by_side a m b) (sign-plus (dot n w) (omega (arith, ints)))) (p.near w)) (subst (Near F d w) (ap (by_side c l g) (ap sign z)) (q.near w)) in
-          let bl = one (away w) b l (subst (Near F d (away w)) (ap (by_side a m b) (sign-minus (dot n (away w)) (omega (arith, ints)))) (p.near (away w))) (subst (Near F d (away w)) (ap (by_side c l g) (ap sign y')) (q.near (away w))) in
+          let bl = one (opposite w) b l (subst (Near F d (opposite w)) (ap (by_side a m b) (sign-minus (dot n (opposite w)) (omega (arith, ints)))) (p.near (opposite w))) (subst (Near F d (opposite w)) (ap (by_side c l g) (ap sign y')) (q.near (opposite w))) in
           proper (al ∙ sym ml) (bl ∙ sym ml)
 
   -- round a circle that is plain or straight everywhere
@@ -142,12 +104,9 @@ module _ (gs : List Vector) (F : Vector → Label → Type 0) (L : Labelling gs 
       (λ z. by (beside y d hy o.direction z))
       (λ f. go y d f o p) (zero-decided (cross y d))
     where
-      level-blend : (d e : Vector) (i j : ℕ) → dot n d ≡ pos 0 → dot n e ≡ pos 0 → dot n (blend i d j e) ≡ pos 0
-      level-blend d e i j p q = dot-comb n (pos i) d (pos j) e ∙ ap (λ r. pos i *ℤ r +ℤ pos j *ℤ dot n e) p ∙ ap (λ r. pos i *ℤ pos 0 +ℤ pos j *ℤ r) q ∙ ring (pos i ∷ pos j ∷ []) (at 0 ⊗ num (pos 0) ⊕ at 1 ⊗ num (pos 0)) (num (pos 0)) tt
-
       go : (d e : Vector) → IsDirection (cross d e) → IsOnCircle n e → StraightAt F n a m b d → StraightAt F n a m b e
       go d e f o p = along gs F L (directed-by gs axial) (far_directed-by gs axial) n a m b proper hn (crossings gs d e + 1) d e (omega arith) f o.level (smooth e o)
-          (λ i j si sj. smooth (blend i d j e) (record { direction = between-direction d e i j sj f; level = level-blend d e i j p.level o.level })) p
+          (λ i j si sj. smooth (blend i d j e) (record { direction = between-direction d e i j sj f; level = level-blend n d e i j p.level o.level })) p
 
       by : Beside y d → StraightAt F n a m b d
       by (same_way w) = cells gs F L (directed-by gs axial) (far_directed-by gs axial) n a m b proper y d hy o.direction (λ g l. dir-signs y d g hy w) o.level p

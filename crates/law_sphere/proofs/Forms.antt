@@ -1,13 +1,7 @@
 -- The forms of a map. Its places are decided, and determined by the signs of its forms.
-use Rattle.std.proofs.Common.{◌≡◌, ℕ, pos, refl, sym, ◌⊎◌, inl, inr, List, ◌++◌}
-use Rattle.nef_space.specs.Signs.{Lies}
-use Rattle.nef_space.specs.Vectors.{Vector, IsDirection, dot, SameDirection}
+use Rattle.law_sphere.proofs.Prelude.{◌≡◌, ℕ, pos, refl, sym, ◌⊎◌, inl, inr, List, ◌++◌, Lies, Vector, IsDirection, dot, SameDirection, lies-left, lies-right, At, MapVertex, Map, Item, arc_item, sloop_item, items, item_normal, dir_of, OnItem, IsFree, Decided, same-nought}
 use Rattle.law_sphere.proofs.Lists.{Found, search_list, gather, gather-has}
-use Rattle.nef_space.proofs.Lists.{lies-left, lies-right}
-use Rattle.law_sphere.specs.Maps.{At, MapVertex, Map, Item, arc_item, sloop_item, items, item_normal, dir_of, OnItem, IsFree}
 pub use Rattle.law_sphere.specs.Forms.{item_forms, forms}
-use Rattle.law_near.proofs.Decided.{Decided}
-use Rattle.law_near.proofs.Far.{same-nought}
 use Rattle.law_sphere.proofs.Generic.{SameSigns, Keeps}
 use Rattle.law_sphere.proofs.Places.{direction-decided, SameDirection-decided, IsOnCircle-decided, IsStrictlyOn-decided, axes, point_forms, same-keeps, direction-stays, SameDirection-back, IsStrictlyOn-stays, IsOnCircle-stays}
 

@@ -1,25 +1,11 @@
 -- The kind of a least map says along which directions it stays the same.
-use Rattle.std.proofs.Common.{◌≡◌, ℕ, ◌*◌, ◌<◌, ℤ, pos, negsuc, ◌+ℤ◌, ◌-ℤ◌, ◌*ℤ◌, nat_abs, arith, refl, ap, sym, ◌∙◌, inl, inr, ⊎_elim, [], ◌∷◌, subst, Some}
-use Rattle.std.proofs.lemmas.Int.{ints}
-use Rattle.std.proofs.Math.Nat.{mul-pos}
-use Rattle.nef_space.proofs.Ring.{ring, at, num, ◌⊕◌, ◌⊖◌, ◌⊗◌}
-use Rattle.nef_space.proofs.Order.{sign, sign-plus, sign-minus, by_order}
-use Rattle.nef_space.specs.Vectors.{Vector, IsDirection, cross, vector, dot, IsZero, blend}
-use Rattle.law_sphere.specs.Vectors.{comb}
-use Rattle.law_sphere.specs.Maps.{At, MapSloop, Map, Item, sloop_item, items, item_normal, item_pos, item_mark, item_neg, OnItem, MapLabel, on_item, NearLabel, Valid}
-use Rattle.law_sphere.specs.Forms.{SameSigns, forms}
-use Rattle.law_sphere.specs.Least.{by_side, Least}
-use Rattle.law_sphere.specs.Kinds.{Full, FlatMap}
+use Rattle.law_sphere.proofs.Prelude.{◌≡◌, ℕ, ◌*◌, ◌<◌, ℤ, pos, negsuc, ◌+ℤ◌, ◌*ℤ◌, nat_abs, arith, refl, ap, sym, ◌∙◌, inl, inr, ⊎_elim, ◌∷◌, subst, Some, neg_ℤ, [], ints, mul-pos, ring, at, num, ◌⊕◌, ◌⊗◌, sign, sign-plus, sign-minus, by_order, nought-or, Vector, IsDirection, cross, vector, dot, IsZero, blend, opposite, comb, At, MapSloop, Map, Item, sloop_item, items, item_normal, item_pos, item_mark, item_neg, OnItem, MapLabel, on_item, NearLabel, Valid, SameSigns, forms, by_side, Least, Full, FlatMap, dot-zero, self-pos, vector-same, apart, scaled-coordinates, dot-opposite}
 use Rattle.law_sphere.proofs.Vectors.{normal-is, dot-comb}
-use Rattle.law_near.proofs.Far.{nought-or}
-use Rattle.law_near.proofs.Directions.{self-pos, dot-zero}
 use Rattle.law_sphere.proofs.Forms.{direction-by_signs, on-direction, on-level}
-use Rattle.law_sphere.proofs.Parallel.{apart, circle-point}
-use Rattle.law_near.proofs.Flats.{vector-same}
+use Rattle.law_sphere.proofs.Parallel.{circle-point}
 use Rattle.law_sphere.proofs.Shot.{product-off}
 use Rattle.law_sphere.proofs.Labels.{label-by_signs, near-unique}
 use Rattle.law_sphere.proofs.NearItems.{near-item}
-use Rattle.law_sphere.proofs.Compare.{scaled-coordinates}
 use Rattle.law_sphere.proofs.Walk.{cross-direction_turned, between-direction}
 use Rattle.law_sphere.proofs.Arcs.{at-sloop}
 use Rattle.law_sphere.proofs.FlatMaps.{scaled-signs, full-label, flat-onward}
@@ -28,14 +14,11 @@ use Rattle.law_sphere.proofs.FlatMaps.{scaled-signs, full-label, flat-onward}
 abbrev pub away : Vector → Vector
 away d = comb (negsuc 0) d (pos 0) d
 
-pub away-dot : (g d : Vector) → dot g (away d) ≡ pos 0 -ℤ dot g d
-away-dot g d = dot-comb g (negsuc 0) d (pos 0) d ∙ ring (dot g d ∷ []) (num (negsuc 0) ⊗ at 0 ⊕ num (pos 0) ⊗ at 0) (num (pos 0) ⊖ at 0) tt
-
-away-blend : (k : ℕ) (y d : Vector) → comb (pos k) y (negsuc 0) d ≡ blend k y 1 (away d)
-away-blend k y d = vector-same (comb (pos k) y (negsuc 0) d) (blend k y 1 (away d)) (one y.x d.x) (one y.y d.y) (one y.z d.z)
+away-blend : (k : ℕ) (y d : Vector) → comb (pos k) y (negsuc 0) d ≡ blend k y 1 (opposite d)
+away-blend k y d = vector-same _ _ (one y.x d.x) (one y.y d.y) (one y.z d.z)
   where
-    one : (a b : ℤ) → pos k *ℤ a +ℤ negsuc 0 *ℤ b ≡ pos k *ℤ a +ℤ pos 1 *ℤ (negsuc 0 *ℤ b +ℤ pos 0 *ℤ b)
-    one a b = ring (pos k ∷ a ∷ b ∷ []) (at 0 ⊗ at 1 ⊕ num (negsuc 0) ⊗ at 2) (at 0 ⊗ at 1 ⊕ num (pos 1) ⊗ (num (negsuc 0) ⊗ at 2 ⊕ num (pos 0) ⊗ at 2)) tt
+    one : (a b : ℤ) → pos k *ℤ a +ℤ negsuc 0 *ℤ b ≡ pos k *ℤ a +ℤ pos 1 *ℤ neg_ℤ b
+    one a b = omega (arith, ints)
 
 module _ (M : Map) (V : Valid M) (L : Least M) (d : Vector) (F : FlatMap M d) where
   pub flat-item : (i : ℕ) (x : Item) → At (items M) i x → (y : Vector) → OnItem M x y → dot (item_normal x) d ≡ pos 0
@@ -46,22 +29,22 @@ module _ (M : Map) (V : Valid M) (L : Least M) (d : Vector) (F : FlatMap M d) wh
           let l = on-level M x y o in
           let h = on-direction M x y o in
           let c = cross-direction_turned d y (apart (item_normal x) d y f l h) in
-          let e = away-dot (item_normal x) d in
-          let c' = cross-direction_turned (away d) y (apart (item_normal x) (away d) y (λ z. f (omega (arith, ints))) l h) in
+          let e = dot-opposite (item_normal x) d in
+          let c' = cross-direction_turned (opposite d) y (apart (item_normal x) (opposite d) y (λ z. f (omega (arith, ints))) l h) in
           let m = on_item i x a o refl in
           let p : NearLabel M y d (item_mark x) = (1, λ k s. flat-onward M d F y k (pos 1) (omega arith) (item_mark x) (between-direction y d k 1 (omega arith) c) m) in
-          let q : NearLabel M y (away d) (item_mark x) = (
+          let q : NearLabel M y (opposite d) (item_mark x) = (
             1,
             λ k s. let b = away-blend k y d in
-                subst (λ (r : Vector). MapLabel M r (item_mark x)) b (flat-onward M d F y k (negsuc 0) (omega arith) (item_mark x) (subst IsDirection (sym b) (between-direction y (away d) k 1 (omega arith) c')) m),
+                subst (λ (r : Vector). MapLabel M r (item_mark x)) b (flat-onward M d F y k (negsuc 0) (omega arith) (item_mark x) (subst IsDirection (sym b) (between-direction y (opposite d) k 1 (omega arith) c')) m),
           ) in
           let u = near-unique M V y d _ _ (near-item M V y i x a o d) p in
-          let w = near-unique M V y (away d) _ _ (near-item M V y i x a o (away d)) q in
+          let w = near-unique M V y (opposite d) _ _ (near-item M V y i x a o (opposite d)) q in
           let side = by_side (item_pos x) (item_mark x) (item_neg x) in
           by_order (dot (item_normal x) d) (pos 0)
-          (λ g. L.items_differ i x a (ap side (sym (sign-plus (dot (item_normal x) (away d)) (omega (arith, ints)))) ∙ w) (ap side (sym (sign-minus (dot (item_normal x) d) g)) ∙ u))
+          (λ g. L.items_differ i x a (ap side (sym (sign-plus (dot (item_normal x) (opposite d)) (omega (arith, ints)))) ∙ w) (ap side (sym (sign-minus (dot (item_normal x) d) g)) ∙ u))
           f
-          (λ g. L.items_differ i x a (ap side (sym (sign-plus (dot (item_normal x) d) g)) ∙ u) (ap side (sym (sign-minus (dot (item_normal x) (away d)) (omega (arith, ints)))) ∙ w))
+          (λ g. L.items_differ i x a (ap side (sym (sign-plus (dot (item_normal x) d) g)) ∙ u) (ap side (sym (sign-minus (dot (item_normal x) (opposite d)) (omega (arith, ints)))) ∙ w))
 
   pub flat-sloop : (l : MapSloop) → M.sloop ≡ Some l → dot l.normal d ≡ pos 0
   flat-sloop l e = let i = at-sloop M.arcs M.sloop l e in let p = circle-point l.normal (normal-is V.shaped i.0 (sloop_item l) i.1) in flat-item i.0 (sloop_item l) i.1 p.0 p.1

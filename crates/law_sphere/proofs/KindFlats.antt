@@ -1,46 +1,18 @@
 -- Maps of volume, facet and edge points stay the same along the directions that their kind names.
-use Rattle.std.proofs.Common.{◌≡◌, ℕ, zero, suc, ◌<◌, ℤ, pos, ◌+ℤ◌, ◌-ℤ◌, ◌*ℤ◌, ◌<ℤ◌, arith, refl, ap, sym, ◌∙◌, ◌⊎◌, inl, inr, ⊎_elim, List, [], ◌∷◌, subst, Option, Some, None}
-use Rattle.std.proofs.lemmas.Int.{ints}
-use Rattle.nef_space.proofs.Ring.{ring, at, num, ◌⊕◌, ◌⊖◌, ◌⊗◌}
-use Rattle.nef_space.proofs.Order.{Sign, sign, sign-plus, sign-minus, by_order, mul_pos, sign-scaled}
-use Rattle.nef_space.specs.Vectors.{Vector, IsDirection, cross, triple, dot, IsZero, SameDirection, IsOpposite, blend}
-use Rattle.nef_space.specs.declared.label.Label.{Label}
-use Rattle.law_sphere.specs.Vectors.{comb}
-use Rattle.law_sphere.specs.Maps.{At, MapVertex, Arc, MapSloop, Map, Item, arc_item, sloop_item, items, item_normal, dir_of, OnItem, IsFree, pos_item, neg_item, IsClear, directly, MapLabel, at_svertex, on_item, seen, Valid}
-use Rattle.law_cyclic.specs.Arcs.{IsOnCircle}
-use Rattle.law_sphere.specs.Least.{by_side, Least}
-use Rattle.law_sphere.specs.Kinds.{Full, FlatMap, IsInVolume, IsInFacet, IsOnEdge}
+use Rattle.law_sphere.proofs.Prelude.{◌≡◌, ℕ, zero, suc, ◌<◌, ℤ, pos, ◌+ℤ◌, ◌-ℤ◌, ◌*ℤ◌, ◌<ℤ◌, arith, refl, ap, sym, ◌∙◌, ◌⊎◌, inl, inr, ⊎_elim, List, ◌∷◌, subst, Some, [], ints, ring, at, num, ◌⊕◌, ◌⊖◌, ◌⊗◌, Sign, sign, sign-plus, sign-minus, by_order, mul_pos, sign-scaled, Vector, IsDirection, cross, triple, dot, IsZero, SameDirection, IsOpposite, blend, Label, comb, At, MapVertex, Arc, MapSloop, Map, Item, arc_item, sloop_item, items, item_normal, dir_of, OnItem, IsFree, pos_item, neg_item, IsClear, directly, MapLabel, at_svertex, on_item, seen, Valid, IsOnCircle, by_side, Least, Full, FlatMap, IsInVolume, IsInFacet, IsOnEdge, zero-decided, dot-zero, triple-dot, cross-turned, opposites, SameDirection-turned, dir-self, in-span, apart, parallel-trans}
 use Rattle.law_sphere.proofs.Vectors.{normal-is, dot-comb, direction-by}
-use Rattle.law_near.proofs.Decided.{Decided}
-use Rattle.law_near.proofs.Far.{nought-or}
-use Rattle.law_near.proofs.Directions.{dot-zero, zero-decided}
 use Rattle.law_sphere.proofs.Forms.{on-level}
-use Rattle.law_sphere.proofs.Parallel.{apart, circle-point, parallel-trans}
-use Rattle.law_near.proofs.FlatDecided.{cross-turned, triple-dot}
+use Rattle.law_sphere.proofs.Parallel.{circle-point}
 use Rattle.law_sphere.proofs.Shot.{arc-at}
 use Rattle.law_sphere.proofs.Direct.{between-off_target, IsZero-times}
 use Rattle.law_sphere.proofs.Labels.{label-direction, label-unique, dir-joined}
-use Rattle.law_sphere.proofs.Around.{Beside, same_way, other_way, beside, opposites}
-use Rattle.law_sphere.proofs.Compare.{SameDirection-turned, dir-self}
+use Rattle.law_sphere.proofs.Around.{Beside, same_way, other_way, beside}
 use Rattle.law_sphere.proofs.Arcs.{Ends, ends-of, sloop-at, at-sloop}
 use Rattle.law_sphere.proofs.Unique.{ground-label}
 use Rattle.law_sphere.proofs.Kind.{flat-sloop}
 use Rattle.law_sphere.proofs.Turn.{whole-passes}
 use Rattle.law_sphere.proofs.Walk.{cross-direction_right}
-
-none-at : {A : Type 0} (xs : List A) → xs ≡ [] → (k : ℕ) (x : A) → At xs k x → ⊥
-none-at {A} xs e k x a = subst (λ (r : List A). At r k x) e a
-
--- what is parallel to a direction of a plane lies in the plane
-pub in-span : (n s q : Vector) → IsDirection s → IsZero (cross s q) → dot n s ≡ pos 0 → dot n q ≡ pos 0
-in-span n s q h p z = ⊎_elim (λ y. y) (λ f. absurd (h (level-out f))) (nought-or (dot n q))
-  where
-    level-out : (dot n q ≡ pos 0 → ⊥) → IsZero s
-    level-out f = by (zero-decided s)
-      where
-        by : Decided (IsZero s) → IsZero s
-        by (inl y) = y
-        by (inr g) = absurd (apart n q s f z g (cross-turned s q p))
+use Rattle.law_sphere.proofs.Lists.{some-some, none-at}
 
 -- ---- volumes
 pub volume-flat : (M : Map) → Valid M → IsInVolume M → (d : Vector) → FlatMap M d
@@ -59,20 +31,13 @@ module _ (M : Map) (V : Valid M) (l : MapSloop) (bare : M.svertices ≡ []) (has
   sloop-number = at-sloop M.arcs M.sloop l has
 
   only-sloop : (k : ℕ) (x : Item) → At (items M) k x → x ≡ sloop_item l
-  only-sloop k (arc_item a) h = let r = ends-of M V.shaped k a (arc-at M.arcs M.sloop k a h) in absurd (none-at M.svertices bare a.source r.source r.has_source)
+  only-sloop k (arc_item a) h = let r = ends-of M V.shaped k a (arc-at M.arcs M.sloop k a h) in absurd (none-at M.svertices a.source r.source bare r.has_source)
   only-sloop k (sloop_item c) h = ap sloop_item (some-some c l (sym (sloop-at M.arcs M.sloop k c h) ∙ has))
-    where
-      some-some : (x y : MapSloop) → ◌≡◌ {A = Option MapSloop} (Some x) (Some y) → x ≡ y
-      some-some x y e = ap (get x) e
-        where
-          get : MapSloop → Option MapSloop → MapSloop
-          get d None = d
-          get d (Some z) = z
 
   off-sloop_free : (w : Vector) → (dot l.normal w ≡ pos 0 → ⊥) → IsFree M w
   off-sloop_free w f = record {
     direction = direction-by l.normal w f;
-    off_svertices = λ k v a s. none-at M.svertices bare k v a;
+    off_svertices = λ k v a s. none-at M.svertices k v bare a;
     off_items = λ k x a o. f (subst (λ (r : Item). dot (item_normal r) w ≡ pos 0) (only-sloop k x a) (on-level M x w o));
   }
 

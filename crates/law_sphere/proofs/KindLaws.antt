@@ -1,31 +1,16 @@
 -- The map of an edge point stays the same along the edge; a least map that stays the same along a direction is of one of three kinds.
-use Rattle.std.proofs.Common.{◌≡◌, ℕ, zero, suc, ◌+◌, ◌*◌, ◌<◌, ℤ, pos, negsuc, ◌+ℤ◌, ◌-ℤ◌, ◌*ℤ◌, arith, refl, ap, sym, ◌∙◌, ◌⊎◌, inl, inr, ⊎_elim, List, [], ◌∷◌, subst, Option, Some, None}
-use Rattle.std.proofs.lemmas.Int.{ints}
-use Rattle.nef_space.proofs.Ring.{ring, at, num, ◌⊕◌, ◌⊖◌, ◌⊗◌}
-use Rattle.nef_space.proofs.Combination.{follows, given, none}
-use Rattle.nef_space.proofs.Order.{sign, mul_neg, sign-scaled}
-use Rattle.nef_space.specs.Vectors.{Vector, IsDirection, cross, triple, dot, IsZero, SameDirection, IsOpposite, blend}
-use Rattle.nef_space.specs.declared.label.Label.{Label}
-use Rattle.law_sphere.specs.Vectors.{comb}
-use Rattle.law_sphere.specs.Maps.{At, MapVertex, MapSloop, Map, sloop_item, item_mark, IsFree, IsClear, MapLabel, at_svertex, on_item, NearLabel, Valid}
-use Rattle.law_sphere.specs.Least.{by_side, NearPlain, NearStraight, Least}
-use Rattle.law_sphere.specs.Kinds.{Full, FlatMap, IsInVolume, IsInFacet, IsOnEdge}
-use Rattle.law_sphere.proofs.Vectors.{dot-comb, triple-middle, same-minus}
-use Rattle.law_near.proofs.Directions.{dot-comm, self-pos, dot-zero, zero-decided}
+use Rattle.law_sphere.proofs.Prelude.{◌≡◌, ℕ, zero, suc, ◌+◌, ◌*◌, ◌<◌, ℤ, pos, ◌+ℤ◌, ◌-ℤ◌, ◌*ℤ◌, arith, refl, ap, sym, ◌∙◌, ◌⊎◌, inl, inr, ⊎_elim, List, ◌∷◌, subst, Option, Some, None, neg_ℤ, [], ints, ring, at, num, ◌⊕◌, ◌⊖◌, ◌⊗◌, neg, follows, given, none, sign, mul_neg, sign-scaled, Vector, IsDirection, cross, triple, dot, IsZero, SameDirection, IsOpposite, blend, opposite, Label, comb, At, MapVertex, MapSloop, Map, sloop_item, item_mark, IsFree, IsClear, MapLabel, at_svertex, on_item, NearLabel, Valid, by_side, NearPlain, NearStraight, Least, Full, FlatMap, IsInVolume, IsInFacet, IsOnEdge, dot-comm, zero-decided, self-pos, vector-same, cross-turned, triple-middle, opposites, SameDirection-turned, dir-self, dir-signs, parallel-trans, direction-opposite, dot-opposite, opposite-itself}
+use Rattle.law_sphere.proofs.Vectors.{dot-comb, same-minus}
 use Rattle.law_sphere.proofs.Lists.{search_list, at-one}
 use Rattle.law_sphere.proofs.Forms.{PlaceOf, svertex_place, item_place, free_place, place_of, OnItem-by_signs}
-use Rattle.law_sphere.proofs.Parallel.{parallel-trans}
-use Rattle.law_near.proofs.FlatDecided.{cross-turned}
-use Rattle.law_near.proofs.Flats.{vector-same}
-use Rattle.law_sphere.proofs.Labels.{label-direction, label-exists, label-unique, dir-signs, clear-label}
-use Rattle.law_sphere.proofs.Around.{Beside, same_way, other_way, beside, opposites, opposite-triple, turn-plus}
+use Rattle.law_sphere.proofs.Labels.{label-direction, label-exists, label-unique, clear-label}
+use Rattle.law_sphere.proofs.Around.{Beside, same_way, other_way, beside, opposite-triple, turn-plus}
 use Rattle.law_sphere.proofs.NearItems.{free-plain, item-straight}
-use Rattle.law_sphere.proofs.Compare.{SameDirection-turned, dir-self}
 use Rattle.law_sphere.proofs.Walk.{between-direction, cross-direction_right}
 use Rattle.law_sphere.proofs.Arcs.{at-sloop}
 use Rattle.law_sphere.proofs.Unique.{ground-label}
 use Rattle.law_sphere.proofs.FlatMaps.{full-label, flat-onward, flat-svertex}
-use Rattle.law_sphere.proofs.Kind.{away, away-dot, flat-sloop, flat-mark, flat-parallel}
+use Rattle.law_sphere.proofs.Kind.{flat-sloop, flat-mark, flat-parallel}
 use Rattle.law_sphere.proofs.KindFlats.{svertex-parallel, at-second, axis-label, arc-moved, off-moved, off-svertices, hu}
 use Rattle.law_sphere.proofs.Direct.{cross-self}
 
@@ -179,66 +164,59 @@ module _ (M : Map) (V : Valid M) (L : Least M) (d : Vector) (h : IsDirection d) 
     Fv = flat-parallel M V d v.dir h (cross-turned v.dir d (flat-svertex M V L d F k v a)) F
 
     -- what is near the opposite of v is near v
-    near-over : (e : Vector) → IsDirection (cross v.dir e) → (m : Label) → NearLabel M (away v.dir) e m → NearLabel M v.dir e m
-    near-over e f m (n, g) = (n, λ i l. subst (λ (r : Vector). MapLabel M r m) (eq i) (flat-onward M v.dir Fv (blend i (away v.dir) 1 e) 1 (pos (2 * i)) (omega arith) m (subst IsDirection (sym (eq i)) (between-direction v.dir e i 1 (omega arith) f)) (g i l)))
+    near-over : (e : Vector) → IsDirection (cross v.dir e) → (m : Label) → NearLabel M (opposite v.dir) e m → NearLabel M v.dir e m
+    near-over e f m (n, g) = (n, λ i l. subst (λ (r : Vector). MapLabel M r m) (eq i) (flat-onward M v.dir Fv (blend i (opposite v.dir) 1 e) 1 (pos (2 * i)) (omega arith) m (subst IsDirection (sym (eq i)) (between-direction v.dir e i 1 (omega arith) f)) (g i l)))
       where
-        eq : (i : ℕ) → comb (pos 1) (blend i (away v.dir) 1 e) (pos (2 * i)) v.dir ≡ blend i v.dir 1 e
-        eq i = let w = v.dir in vector-same (comb (pos 1) (blend i (away w) 1 e) (pos (2 * i)) w) (blend i w 1 e) (one w.x e.x) (one w.y e.y) (one w.z e.z)
+        eq : (i : ℕ) → comb (pos 1) (blend i (opposite v.dir) 1 e) (pos (2 * i)) v.dir ≡ blend i v.dir 1 e
+        eq i = let w = v.dir in vector-same (comb (pos 1) (blend i (opposite w) 1 e) (pos (2 * i)) w) (blend i w 1 e) (one w.x e.x) (one w.y e.y) (one w.z e.z)
           where
-            one : (x y : ℤ) → pos 1 *ℤ (pos i *ℤ (negsuc 0 *ℤ x +ℤ pos 0 *ℤ x) +ℤ pos 1 *ℤ y) +ℤ pos (2 * i) *ℤ x ≡ pos i *ℤ x +ℤ pos 1 *ℤ y
-            one x y = ring (pos i ∷ x ∷ y ∷ []) (num (pos 1) ⊗ (at 0 ⊗ (num (negsuc 0) ⊗ at 1 ⊕ num (pos 0) ⊗ at 1) ⊕ num (pos 1) ⊗ at 2) ⊕ num (pos 2) ⊗ at 0 ⊗ at 1) (at 0 ⊗ at 1 ⊕ num (pos 1) ⊗ at 2) tt
+            one : (x y : ℤ) → pos 1 *ℤ (pos i *ℤ neg_ℤ x +ℤ pos 1 *ℤ y) +ℤ pos (2 * i) *ℤ x ≡ pos i *ℤ x +ℤ pos 1 *ℤ y
+            one x y = ring (pos i ∷ x ∷ y ∷ []) (num (pos 1) ⊗ (at 0 ⊗ neg (at 1) ⊕ num (pos 1) ⊗ at 2) ⊕ num (pos 2) ⊗ at 0 ⊗ at 1) (at 0 ⊗ at 1 ⊕ num (pos 1) ⊗ at 2) tt
 
-    away-opposite : IsOpposite v.dir (away v.dir)
-    away-opposite = record { parallel = par; backward = let e = away-dot v.dir v.dir in let p = self-pos v.dir hv in omega (arith, ints) }
-      where
-        par : IsZero (cross v.dir (away v.dir))
-        par = let w = v.dir in let xs = w.x ∷ w.y ∷ w.z ∷ [] in (
-          ring xs (at 1 ⊗ (num (negsuc 0) ⊗ at 2 ⊕ num (pos 0) ⊗ at 2) ⊖ at 2 ⊗ (num (negsuc 0) ⊗ at 1 ⊕ num (pos 0) ⊗ at 1)) (num (pos 0)) tt,
-          ring xs (at 2 ⊗ (num (negsuc 0) ⊗ at 0 ⊕ num (pos 0) ⊗ at 0) ⊖ at 0 ⊗ (num (negsuc 0) ⊗ at 2 ⊕ num (pos 0) ⊗ at 2)) (num (pos 0)) tt,
-          ring xs (at 0 ⊗ (num (negsuc 0) ⊗ at 1 ⊕ num (pos 0) ⊗ at 1) ⊖ at 1 ⊗ (num (negsuc 0) ⊗ at 0 ⊕ num (pos 0) ⊗ at 0)) (num (pos 0)) tt,
-        )
+    away-opposite : IsOpposite v.dir (opposite v.dir)
+    away-opposite = opposite-itself v.dir hv
 
-    away-direction : IsDirection (away v.dir)
-    away-direction z = let o = away-opposite in let e = dot-zero v.dir (away v.dir) z in let b = o.backward in omega (arith, ints)
+    away-direction : IsDirection (opposite v.dir)
+    away-direction = direction-opposite v.dir hv
 
-    away-off : (e : Vector) → IsDirection (cross v.dir e) → IsDirection (cross (away v.dir) e)
-    away-off e f z = f (parallel-trans v.dir (away v.dir) e away-direction (let o = away-opposite in o.parallel) z)
+    away-off : (e : Vector) → IsDirection (cross v.dir e) → IsDirection (cross (opposite v.dir) e)
+    away-off e f z = f (parallel-trans v.dir (opposite v.dir) e away-direction (let o = away-opposite in o.parallel) z)
 
     v-mark : MapLabel M v.dir M.mark
     v-mark = flat-mark M V L v.dir Fv hv
 
-    away-mark : MapLabel M (away v.dir) M.mark
-    away-mark = flat-mark M V L (away v.dir) (flat-parallel M V v.dir (away v.dir) hv (let o = away-opposite in o.parallel) Fv) away-direction
+    away-mark : MapLabel M (opposite v.dir) M.mark
+    away-mark = flat-mark M V L (opposite v.dir) (flat-parallel M V v.dir (opposite v.dir) hv (let o = away-opposite in o.parallel) Fv) away-direction
 
     -- the opposite is a svertex too
     record Partner : Type 0 where
       number : ℕ
       svertex : MapVertex
       listed : At M.svertices number svertex
-      same : SameDirection svertex.dir (away v.dir)
+      same : SameDirection svertex.dir (opposite v.dir)
 
     partner : Partner
-    partner = by (place_of M (away v.dir) away-direction)
+    partner = by (place_of M (opposite v.dir) away-direction)
       where
-        plain : NearPlain M (away v.dir) → NearPlain M v.dir
-        plain p = record { label = p.label; at_d = subst (λ (r : Label). MapLabel M v.dir r) (label-unique M V (away v.dir) M.mark p.label away-mark p.at_d) v-mark; near = λ e f. near-over e f p.label (p.near e (away-off e f)) }
+        plain : NearPlain M (opposite v.dir) → NearPlain M v.dir
+        plain p = record { label = p.label; at_d = subst (λ (r : Label). MapLabel M v.dir r) (label-unique M V (opposite v.dir) M.mark p.label away-mark p.at_d) v-mark; near = λ e f. near-over e f p.label (p.near e (away-off e f)) }
 
-        straight : NearStraight M (away v.dir) → NearStraight M v.dir
+        straight : NearStraight M (opposite v.dir) → NearStraight M v.dir
         straight p = record {
           normal = p.normal;
           direction = p.direction;
-          level = let e = away-dot p.normal v.dir in let l = p.level in omega (arith, ints);
+          level = let e = dot-opposite p.normal v.dir in let l = p.level in omega (arith, ints);
           pos = p.pos;
           label = p.label;
           neg = p.neg;
-          at_d = subst (λ (r : Label). MapLabel M v.dir r) (label-unique M V (away v.dir) M.mark p.label away-mark p.at_d) v-mark;
+          at_d = subst (λ (r : Label). MapLabel M v.dir r) (label-unique M V (opposite v.dir) M.mark p.label away-mark p.at_d) v-mark;
           near = λ e f. near-over e f (by_side p.pos p.label p.neg (sign (dot p.normal e))) (p.near e (away-off e f));
         }
 
-        by : PlaceOf M (away v.dir) → Partner
+        by : PlaceOf M (opposite v.dir) → Partner
         by (svertex_place l u b w) = record { number = l; svertex = u; listed = b; same = w }
-        by (item_place l x b o) = absurd (L.no_straight k v a (straight (item-straight M V (away v.dir) l x b o)))
-        by (free_place G) = absurd (L.no_plain k v a (plain (free-plain M V (away v.dir) G)))
+        by (item_place l x b o) = absurd (L.no_straight k v a (straight (item-straight M V (opposite v.dir) l x b o)))
+        by (free_place G) = absurd (L.no_plain k v a (plain (free-plain M V (opposite v.dir) G)))
 
     no-sloop : M.sloop ≡ None
     no-sloop = by M.sloop refl
@@ -255,8 +233,8 @@ module _ (M : Map) (V : Valid M) (L : Least M) (d : Vector) (h : IsDirection d) 
           where
             opp : IsOpposite v.dir p.svertex.dir
             opp = record {
-              parallel = parallel-trans v.dir (away v.dir) p.svertex.dir away-direction (let o = away-opposite in o.parallel) (cross-turned p.svertex.dir (away v.dir) (let s = p.same in s.parallel));
-              backward = let o = away-opposite in same-minus (dot v.dir (away v.dir)) (dot v.dir p.svertex.dir) (sym (dir-signs p.svertex.dir (away v.dir) v.dir (V.shaped.svertex_dirs p.number p.svertex p.listed) p.same)) o.backward;
+              parallel = parallel-trans v.dir (opposite v.dir) p.svertex.dir away-direction (let o = away-opposite in o.parallel) (cross-turned p.svertex.dir (opposite v.dir) (let s = p.same in s.parallel));
+              backward = let o = away-opposite in same-minus (dot v.dir (opposite v.dir)) (dot v.dir p.svertex.dir) (sym (dir-signs p.svertex.dir (opposite v.dir) v.dir (V.shaped.svertex_dirs p.number p.svertex p.listed) p.same)) o.backward;
             }
 
             apart-numbers : k ≡ p.number → ⊥
@@ -276,7 +254,7 @@ module _ (M : Map) (V : Valid M) (L : Least M) (d : Vector) (h : IsDirection d) 
             mark-v = label-unique M V v.dir v.mark M.mark (at_svertex k v a (dir-self v.dir hv) refl) v-mark
 
             mark-p : p.svertex.mark ≡ M.mark
-            mark-p = label-unique M V (away v.dir) p.svertex.mark M.mark (at_svertex p.number p.svertex p.listed p.same refl) away-mark
+            mark-p = label-unique M V (opposite v.dir) p.svertex.mark M.mark (at_svertex p.number p.svertex p.listed p.same refl) away-mark
 
             at_two : (M.svertices ≡ v ∷ p.svertex ∷ []) ⊎ (M.svertices ≡ p.svertex ∷ v ∷ []) → KindOf M
             at_two (inl e) = of_edge p.svertex.dir (record { first = v; second = p.svertex; two_svertices = e; opposite = opp; first_mark = mark-v; second_mark = mark-p; no_sloop = no-sloop; named = refl })

@@ -1,20 +1,5 @@
 -- The germs of a set at a point, and an operation on the labels of two maps, are labellings.
-use Rattle.std.proofs.Common.{refl, ap, sym, ◌∙◌, inl, inr, ◌↔◌, List, [], ◌∷◌, ◌++◌}
-use Rattle.nef_space.specs.Signs.{Lies}
-use Rattle.nef_space.specs.Place.{Place, Form, normal_of}
-use Rattle.nef_space.specs.Vectors.{Vector, IsDirection}
-use Rattle.nef_space.specs.Sets.{Set}
-use Rattle.nef_space.specs.declared.label.Label.{Label}
-use Rattle.nef_space.specs.Local.{HasLabel, Germ}
-use Rattle.law_near.proofs.Germs.{Germ-unique}
-use Rattle.law_near.specs.Cells.{carriers}
-use Rattle.law_near.proofs.Decided.{germ_of}
-use Rattle.law_near.proofs.Flats.{Germ-by_signs}
-use Rattle.law_sphere.specs.Maps.{Map, MapLabel, Shaped, Valid}
-use Rattle.law_sphere.specs.Forms.{forms}
-use Rattle.law_sphere.specs.Least.{Cone}
-use Rattle.law_sphere.specs.Labelling.{Labelling, Agrees, ByOp}
-use Rattle.nef_space.proofs.Lists.{lies-left, lies-right}
+use Rattle.law_sphere.proofs.Prelude.{refl, ap, sym, ◌∙◌, inl, inr, ◌↔◌, List, ◌∷◌, ◌++◌, [], Lies, Place, Form, normal_of, Vector, IsDirection, Set, Label, HasLabel, Germ, Germ-unique, carriers, germ_of, Germ-by_signs, Map, MapLabel, Shaped, Valid, forms, Cone, Labelling, Agrees, ByOp, lies-left, lies-right}
 use Rattle.law_sphere.proofs.Labels.{label-exists, label-unique, label-by_signs}
 use Rattle.law_sphere.proofs.Built.{agrees-valid, agrees-label, label-agrees}
 

@@ -1,63 +1,16 @@
 -- Each direction has one label, which the signs of the map's forms determine; so has each direction near a direction.
-use Rattle.std.proofs.Common.{◌≡◌, ℕ, ◌+◌, ◌<◌, ◌≤◌, ℤ, pos, ◌+ℤ◌, ◌-ℤ◌, ◌*ℤ◌, ◌≤ℤ◌, ◌<ℤ◌, arith, refl, ap, sym, ◌∙◌, inl, inr, List, [], ◌∷◌, subst}
-use Rattle.std.proofs.lemmas.Int.{ints}
-use Rattle.nef_space.proofs.Ring.{ring, at, num, ◌⊕◌, ◌⊖◌, ◌⊗◌}
-use Rattle.nef_space.proofs.Combination.{follows, given, none}
-use Rattle.nef_space.proofs.Order.{sign, sign-plus, sign-minus, by_order, mul_pos, mul_neg, cancel_lt, sign-scaled}
-use Rattle.nef_space.specs.Signs.{Lies}
-use Rattle.nef_space.specs.Vectors.{Vector, IsDirection, dot, SameDirection, IsOpposite, blend}
-use Rattle.nef_space.specs.declared.label.Label.{Label}
-use Rattle.law_sphere.specs.Maps.{At, MapVertex, Map, Item, items, item_mark, OnItem, IsFree, IsClear, Sees, directly, by_way_of, SeenAs, MapLabel, at_svertex, on_item, seen, NearLabel, Valid}
+use Rattle.law_sphere.proofs.Prelude.{◌≡◌, ℕ, ◌+◌, ◌<◌, ◌≤◌, ℤ, pos, ◌+ℤ◌, ◌-ℤ◌, ◌*ℤ◌, ◌≤ℤ◌, arith, refl, ap, sym, ◌∙◌, inl, inr, List, ◌∷◌, subst, [], ints, ring, at, num, ◌⊕◌, ◌⊖◌, ◌⊗◌, sign, sign-plus, sign-minus, by_order, mul_pos, mul_neg, Lies, Vector, IsDirection, dot, SameDirection, IsOpposite, blend, Label, At, MapVertex, Map, Item, items, item_mark, OnItem, IsFree, IsClear, Sees, directly, by_way_of, SeenAs, MapLabel, at_svertex, on_item, seen, NearLabel, Valid, same-nought, dir-signs, direction-right, SameDirection-trans, SameDirection-turned}
 use Rattle.law_sphere.proofs.Vectors.{dot-comb, same-plus, same-minus}
-use Rattle.law_near.proofs.Far.{same-nought}
-use Rattle.law_near.proofs.Directions.{self-pos, dot-zero}
 use Rattle.law_sphere.proofs.Generic.{SameSigns, amount, far-keeps, far-same}
 use Rattle.law_sphere.proofs.Lists.{at-one}
 use Rattle.law_sphere.proofs.Places.{axes, axis_x, axis_y, axis_z, axis_x-is, axis_y-is, axis_z-is, direction-stays}
 use Rattle.law_sphere.proofs.Forms.{forms, axes-forms, on-direction, direction-by_signs, at_svertex-by_signs, on_item-by_signs, free-by_signs, OnItem-by_signs, PlaceOf, svertex_place, item_place, free_place, place_of}
-use Rattle.law_sphere.proofs.Parallel.{parallel-trans}
-use Rattle.law_near.proofs.FlatDecided.{cross-turned}
 use Rattle.law_sphere.proofs.Sight.{free-seen, clear-one_label, free-one_label}
 
 -- ---- the same way
-pub dir-signs : (v d g : Vector) → IsDirection v → SameDirection v d → sign (dot g d) ≡ sign (dot g v)
-dir-signs v d g h w =
-    let o = num (pos 0) in
-    let gx = at 0 in let gy = at 1 in let gz = at 2 in
-    let vx = at 3 in let vy = at 4 in let vz = at 5 in
-    let dx = at 6 in let dy = at 7 in let dz = at 8 in
-    let e = follows (g.x ∷ g.y ∷ g.z ∷ v.x ∷ v.y ∷ v.z ∷ d.x ∷ d.y ∷ d.z ∷ [])
-    ((vx ⊗ vx ⊕ vy ⊗ vy ⊕ vz ⊗ vz) ⊗ (gx ⊗ dx ⊕ gy ⊗ dy ⊕ gz ⊗ dz)) ((vx ⊗ dx ⊕ vy ⊗ dy ⊕ vz ⊗ dz) ⊗ (gx ⊗ vx ⊕ gy ⊗ vy ⊕ gz ⊗ vz))
-    (given (gz ⊗ vy ⊖ gy ⊗ vz) (vy ⊗ dz ⊖ vz ⊗ dy) o w.parallel.0
-    (given (gx ⊗ vz ⊖ gz ⊗ vx) (vz ⊗ dx ⊖ vx ⊗ dz) o w.parallel.1
-    (given (gy ⊗ vx ⊖ gx ⊗ vy) (vx ⊗ dy ⊖ vy ⊗ dx) o w.parallel.2 none))) tt in
-    sym (sign-scaled (dot v v) (dot g d) (self-pos v h)) ∙ ap sign e ∙ sign-scaled (dot v d) (dot g v) w.forward
-
-pub dir-direction : (v d : Vector) → SameDirection v d → IsDirection d
-dir-direction v d w z = let e = dot-zero v d z in let h = w.forward in omega (arith, ints)
-
 -- two that go the way of d
 pub dir-joined : (v u d : Vector) → SameDirection v d → SameDirection u d → SameDirection v u
-dir-joined v u d a b = record {
-  parallel = parallel-trans v d u (dir-direction v d a) a.parallel (cross-turned u d b.parallel);
-  forward = plus-by (self-pos d (dir-direction v d a)) (mul_pos (dot v d) (dot u d) a.forward b.forward);
-}
-  where
-    -- (v.u)(d.d) - (v.d)(u.d) = (v x d).(u x d)
-    eq : dot v u *ℤ dot d d ≡ dot v d *ℤ dot u d
-    eq =
-        let vx = at 0 in let vy = at 1 in let vz = at 2 in
-        let ux = at 3 in let uy = at 4 in let uz = at 5 in
-        let dx = at 6 in let dy = at 7 in let dz = at 8 in
-        let o = num (pos 0) in
-        follows (v.x ∷ v.y ∷ v.z ∷ u.x ∷ u.y ∷ u.z ∷ d.x ∷ d.y ∷ d.z ∷ [])
-        ((vx ⊗ ux ⊕ vy ⊗ uy ⊕ vz ⊗ uz) ⊗ (dx ⊗ dx ⊕ dy ⊗ dy ⊕ dz ⊗ dz)) ((vx ⊗ dx ⊕ vy ⊗ dy ⊕ vz ⊗ dz) ⊗ (ux ⊗ dx ⊕ uy ⊗ dy ⊕ uz ⊗ dz))
-        (given (uy ⊗ dz ⊖ uz ⊗ dy) (vy ⊗ dz ⊖ vz ⊗ dy) o a.parallel.0
-        (given (uz ⊗ dx ⊖ ux ⊗ dz) (vz ⊗ dx ⊖ vx ⊗ dz) o a.parallel.1
-        (given (ux ⊗ dy ⊖ uy ⊗ dx) (vx ⊗ dy ⊖ vy ⊗ dx) o a.parallel.2 none))) tt
-
-    plus-by : pos 0 <ℤ dot d d → pos 0 <ℤ (dot v d *ℤ dot u d) → pos 0 <ℤ dot v u
-    plus-by h k = let z = ring (dot d d ∷ []) (num (pos 0) ⊗ at 0) (num (pos 0)) tt in cancel_lt (pos 0) (dot v u) (dot d d) h (let e = eq in omega (arith, ints))
+dir-joined v u d a b = SameDirection-trans v d u a (SameDirection-turned u d b)
 
 -- ---- same signs
 pub mixed-sign : (a b : ℤ) (i j : ℕ) → 0 < i → 0 < j → sign b ≡ sign a → sign (pos i *ℤ a +ℤ pos j *ℤ b) ≡ sign a
@@ -100,7 +53,7 @@ sees-free M d m s = by s.sees
     by (by_way_of c y a b r) = a.start
 
 pub label-direction : (M : Map) (d : Vector) (m : Label) → MapLabel M d m → IsDirection d
-label-direction M d m (at_svertex k v a w e) = dir-direction v.dir d w
+label-direction M d m (at_svertex k v a w e) = direction-right v.dir d w
 label-direction M d m (on_item k x a o e) = on-direction M x d o
 label-direction M d m (seen s) = (sees-free M d m s).direction
 
@@ -133,7 +86,7 @@ module _ (M : Map) (V : Valid M) where
 
   -- the signs of the forms determine the label
   pub label-by_signs : (d e : Vector) → SameSigns (forms M) d e → (m : Label) → MapLabel M d m → MapLabel M e m
-  label-by_signs d e s m (at_svertex k v a w q) = at_svertex k v a (at_svertex-by_signs M d e s k v a (direction-by_signs M d e s (dir-direction v.dir d w)) w) q
+  label-by_signs d e s m (at_svertex k v a w q) = at_svertex k v a (at_svertex-by_signs M d e s k v a (direction-by_signs M d e s (direction-right v.dir d w)) w) q
   label-by_signs d e s m (on_item k x a o q) = on_item k x a (on_item-by_signs M d e s k x a o) q
   label-by_signs d e s m (seen t) =
       let F = sees-free M d m t in

@@ -1,10 +1,6 @@
 -- Elements of lists: searching, joining, gathering.
-use Rattle.std.proofs.Common.{◌≡◌, ℕ, zero, suc, refl, sym, ◌∙◌, ◌⊎◌, inl, inr, List, [], ◌∷◌, subst}
-use Rattle.nef_space.specs.Signs.{Lies}
-use Rattle.nef_space.proofs.Lists.{lies-left, lies-right}
-use Rattle.law_sphere.specs.Maps.{At}
+use Rattle.law_sphere.proofs.Prelude.{◌≡◌, ℕ, zero, suc, refl, sym, ◌∙◌, ◌⊎◌, inl, inr, List, ◌∷◌, subst, Option, Some, [], Lies, lies-left, lies-right, At, Decided}
 pub use Rattle.law_sphere.specs.Forms.{gather}
-use Rattle.law_near.proofs.Decided.{Decided}
 
 pub record Found {A : Type 0} (xs : List A) (P : ℕ → A → Type 0) : Type 0 where
   pub number : ℕ
@@ -25,6 +21,12 @@ search_list {A} (y ∷ ys) P D = by (D zero y) (search_list ys (λ k x. P (suc k
     by (inr n) (inl f) = inl (record { number = suc f.number; element = f.element; listed = f.listed; holds = f.holds })
     by (inr n) (inr f) = inr (none_here n f)
 
+pub some-some : {A : Type 0} (x y : A) → ◌≡◌ {A = Option A} (Some x) (Some y) → x ≡ y
+some-some x y e = cc
+
+pub none-at : {A : Type 0} (xs : List A) (k : ℕ) (x : A) → xs ≡ [] → At xs k x → ⊥
+none-at {A} xs k x e a = subst (λ (r : List A). At r k x) e a
+
 pub at-one : {A : Type 0} (xs : List A) (k : ℕ) (x y : A) → At xs k x → At xs k y → x ≡ y
 at-one [] k x y a b = absurd a
 at-one (z ∷ zs) zero x y a b = sym a ∙ b
@@ -34,3 +36,17 @@ pub gather-has : {A B : Type 0} (f : A → List B) (xs : List A) (k : ℕ) (x : 
 gather-has f [] k x g a l = absurd a
 gather-has {A} f (y ∷ ys) zero x g e l = lies-left (f y) (gather f ys) g (subst (λ (r : A). Lies (f r) g) (sym e) l)
 gather-has f (y ∷ ys) (suc k) x g a l = lies-right (f y) (gather f ys) g (gather-has f ys k x g a l)
+
+pub lies-at : {A : Type 0} (xs : List A) (x : A) → Lies xs x → (k : ℕ) × At xs k x
+lies-at [] x l = absurd l
+lies-at (y ∷ ys) x (inl e) = (zero, e)
+lies-at (y ∷ ys) x (inr l) = let r = lies-at ys x l in (suc r.0, r.1)
+
+pub at-lies : {A : Type 0} (xs : List A) (k : ℕ) (x : A) → At xs k x → Lies xs x
+at-lies [] k x a = absurd a
+at-lies (y ∷ ys) zero x e = inl e
+at-lies (y ∷ ys) (suc k) x a = inr (at-lies ys k x a)
+
+pub none-empty : {A : Type 0} (xs : List A) → ((k : ℕ) (x : A) → At xs k x → ⊥) → xs ≡ []
+none-empty [] f = refl
+none-empty (y ∷ ys) f = absurd (f zero y refl)

@@ -1,22 +1,15 @@
 -- Near a svertex without arcs there is the label round it; near labels go over to the same ways.
-use Rattle.std.proofs.Common.{◌≡◌, ℕ, ◌≤◌, arith, sym, ◌∙◌, ⊎_elim, List, Some}
-use Rattle.nef_space.specs.Vectors.{Vector, IsDirection, cross, dot, SameDirection, blend}
-use Rattle.nef_space.specs.declared.label.Label.{Label}
-use Rattle.law_sphere.specs.Maps.{At, MapVertex, Map, IsFree, around_svertex, IsClear, Sees, directly, seen, NearLabel, HasArc, Shaped, Valid}
-use Rattle.law_sphere.specs.Forms.{SameSigns, forms}
-use Rattle.law_near.proofs.Far.{nought-or, same-nought, same-off}
+use Rattle.law_sphere.proofs.Prelude.{◌≡◌, ℕ, ◌≤◌, arith, sym, ◌∙◌, ⊎_elim, List, Some, Vector, IsDirection, cross, dot, SameDirection, blend, Label, At, MapVertex, Map, IsFree, around_svertex, IsClear, Sees, directly, seen, NearLabel, HasArc, Shaped, Valid, SameSigns, forms, same-nought, same-off, nought-or, dir-self, dir-signs, direction-left}
 use Rattle.law_sphere.proofs.Generic.{amount, far-keeps, far-level}
 use Rattle.law_sphere.proofs.Direct.{cross-between}
-use Rattle.law_sphere.proofs.Labels.{dir-signs, label-by_signs, near-from_far, far-from_near}
-use Rattle.law_sphere.proofs.Compare.{dir-self}
+use Rattle.law_sphere.proofs.Labels.{label-by_signs, near-from_far, far-from_near}
 use Rattle.law_sphere.proofs.NearSvertex.{near-clear}
-use Rattle.law_sphere.proofs.Turn.{dir-directed}
 
 -- ---- near labels of the same way
 pub near-same_signs : (gs : List Vector) (d c e : Vector) (k : ℕ) → amount gs e ≤ k → SameDirection d c → SameSigns gs (blend k d 1 e) (blend k c 1 e)
 near-same_signs gs d c e k l w g m = ⊎_elim
-    (λ z. far-level gs c e k l g (same-nought (dot g d) (dot g c) (dir-signs d c g (dir-directed d c w) w) z) ∙ sym (far-level gs d e k l g z))
-    (λ f. let s = dir-signs d c g (dir-directed d c w) w in far-keeps gs c e k l g m (same-off (dot g d) (dot g c) s f) ∙ s ∙ sym (far-keeps gs d e k l g m f))
+    (λ z. far-level gs c e k l g (same-nought (dot g d) (dot g c) (dir-signs d c g (direction-left d c w) w) z) ∙ sym (far-level gs d e k l g z))
+    (λ f. let s = dir-signs d c g (direction-left d c w) w in far-keeps gs c e k l g m (same-off (dot g d) (dot g c) s f) ∙ s ∙ sym (far-keeps gs d e k l g m f))
     (nought-or (dot g d))
 
 pub near-same_way : (M : Map) → Valid M → (d c e : Vector) → SameDirection d c → (m : Label) → NearLabel M d e m → NearLabel M c e m

@@ -1,22 +1,10 @@
 -- The labels near a free direction and near a direction on an item.
-use Rattle.std.proofs.Common.{◌≡◌, ℕ, ◌<◌, pos, ◌*ℤ◌, ◌≤ℤ◌, arith, refl, ap, sym, ◌∙◌, inl, inr, ⊎_elim, List, [], ◌∷◌, subst}
-use Rattle.std.proofs.lemmas.Int.{ints}
-use Rattle.nef_space.proofs.Ring.{ring, at, num, ◌⊗◌}
-use Rattle.nef_space.proofs.Order.{Sign, sign, sign-plus, sign-minus, by_order}
-use Rattle.nef_space.specs.Vectors.{Vector, dot, IsOpposite, blend}
-use Rattle.nef_space.specs.declared.label.Label.{Label}
-use Rattle.law_sphere.specs.Maps.{At, Map, Item, items, item_normal, item_pos, item_mark, item_neg, OnItem, IsFree, pos_item, neg_item, IsClear, directly, MapLabel, on_item, seen, NearLabel, Shaped, Valid}
-use Rattle.law_sphere.specs.Forms.{Keeps, axes, forms}
-use Rattle.law_sphere.specs.Least.{by_side, NearPlain, NearStraight}
-use Rattle.law_near.proofs.FlatDecided.{cross-turned}
+use Rattle.law_sphere.proofs.Prelude.{◌≡◌, ℕ, ◌<◌, pos, ◌*ℤ◌, ◌≤ℤ◌, arith, refl, ap, sym, ◌∙◌, inl, inr, ⊎_elim, List, ◌∷◌, subst, [], ints, ring, at, num, ◌⊗◌, neg, Sign, sign, sign-plus, sign-minus, by_order, nought-or, Vector, dot, IsOpposite, blend, Label, At, Map, Item, items, item_normal, item_pos, item_mark, item_neg, OnItem, IsFree, pos_item, neg_item, IsClear, directly, MapLabel, on_item, seen, NearLabel, Shaped, Valid, Keeps, axes, forms, by_side, NearPlain, NearStraight, opposite-turned, blend-turned}
 use Rattle.law_sphere.proofs.Vectors.{normal-is, dot-comb}
-use Rattle.law_near.proofs.Far.{nought-or}
-use Rattle.law_near.proofs.Directions.{dot-comm}
 use Rattle.law_sphere.proofs.Generic.{amount, far-keeps, far-level}
 use Rattle.law_sphere.proofs.Places.{axis_x, axis_y, axis_z, axis_x-is, axis_y-is, axis_z-is}
 use Rattle.law_sphere.proofs.Forms.{axes-forms, on-direction, on-level}
 use Rattle.law_sphere.proofs.Direct.{between-off_target}
-use Rattle.law_sphere.proofs.StepOff.{blend-turned}
 use Rattle.law_sphere.proofs.Labels.{mixed-sign, same-product, label-exists, clear-label, near-from_far}
 use Rattle.law_sphere.proofs.Around.{direction-around, free-around, item-stays, free-beside}
 
@@ -36,9 +24,6 @@ kept-not_opposite d w k o =
     let b = ap (λ r. r *ℤ dot axis_y w) (axis_y-is d) ∙ ap (λ r. d.y *ℤ r) (axis_y-is w) in
     let c = ap (λ r. r *ℤ dot axis_z w) (axis_z-is d) ∙ ap (λ r. d.z *ℤ r) (axis_z-is w) in
     let h = o.backward in omega (arith, ints)
-
-pub opposite-turned : (d w : Vector) → IsOpposite d w → IsOpposite w d
-opposite-turned d w o = record { parallel = cross-turned d w o.parallel; backward = let e = dot-comm w d in let h = o.backward in omega (arith, ints) }
 
 module _ (M : Map) (V : Shaped M) (d w : Vector) (k : Keeps (forms M) d w) where
   axes-kept : Keeps axes d w

@@ -1,52 +1,18 @@
 -- Close to a svertex: on a ray of an arc that begins or ends there, or free.
-use Rattle.std.proofs.Common.{◌≡◌, ℕ, ◌<◌, ℤ, pos, ◌*ℤ◌, ◌<ℤ◌, arith, refl, sym, inl, inr, ⊎_elim, [], ◌∷◌, subst}
-use Rattle.std.proofs.lemmas.Int.{ints}
-use Rattle.nef_space.proofs.Ring.{ring, at, num, ◌⊕◌, ◌⊖◌, ◌⊗◌}
-use Rattle.nef_space.proofs.Combination.{follows, given, none}
-use Rattle.nef_space.proofs.Order.{by_order, mul_pos, mul_neg}
-use Rattle.nef_space.specs.Vectors.{Vector, IsDirection, triple, cross, dot, opposite, IsZero, SameDirection, blend}
-use Rattle.law_cyclic.specs.Arcs.{IsStrictlyOn}
-use Rattle.law_cyclic.proofs.Directions.{dot-opposite, level-same, same-first}
-use Rattle.law_near.proofs.Decided.{Decided}
-use Rattle.law_near.proofs.FlatDecided.{triple-dot, cross-turned}
-use Rattle.law_near.proofs.Directions.{dot-comm, self-pos}
-use Rattle.law_sphere.specs.Maps.{At, MapVertex, Arc, Map, Item, arc_item, sloop_item, items, dir_of, OnItem, IsFree, IsClear, Shaped}
-use Rattle.law_sphere.specs.Sectors.{ArcRay, ray_left, Unrayed}
-use Rattle.law_sphere.specs.Forms.{Keeps, arc_forms, forms}
-use Rattle.law_sphere.proofs.Vectors.{triple-middle, normal-is, same-plus, same-minus}
+use Rattle.law_sphere.proofs.Prelude.{◌≡◌, ℕ, ◌<◌, ℤ, pos, ◌*ℤ◌, ◌<ℤ◌, arith, refl, sym, inl, inr, ⊎_elim, ◌∷◌, subst, ints, ring, at, num, ◌⊗◌, by_order, mul_pos, mul_neg, Vector, IsDirection, triple, cross, dot, opposite, IsZero, SameDirection, blend, IsStrictlyOn, Decided, At, MapVertex, Arc, Map, Item, arc_item, sloop_item, items, dir_of, OnItem, IsFree, IsClear, Shaped, ArcRay, ray_left, Unrayed, Keeps, arc_forms, forms, dot-comm, self-pos, triple-dot, cross-turned, direction-left, level-way, opposite-dot, triple-middle, triple-turned, SameDirection-turned, SameDirection-trans, level-opposite, opposite-turned, parallel-in_plane, blend-turned, blend_of, cross_of, dot_of, level-both, numbers, vec}
+use Rattle.law_sphere.proofs.Vectors.{normal-is, same-plus, same-minus}
 use Rattle.law_sphere.proofs.Places.{kept-nought, kept-minus, SameDirection-decided}
 use Rattle.law_sphere.proofs.Forms.{axes-forms, item-forms}
-use Rattle.law_sphere.proofs.Parallel.{parallel-in_plane}
 use Rattle.law_sphere.proofs.Lists.{at-one}
 use Rattle.law_sphere.proofs.Shot.{arc-at}
-use Rattle.law_sphere.proofs.Around.{opposite-triple, triple-turned, Beside, same_way, other_way, beside, IsStrictlyOn-back, direction-around, svertex-around}
-use Rattle.law_sphere.proofs.Compare.{SameDirection-turned, SameDirection-trans}
-use Rattle.law_sphere.proofs.StepOff.{blend-turned}
-use Rattle.law_sphere.proofs.NearItems.{keeps-between, kept-not_opposite, opposite-turned}
+use Rattle.law_sphere.proofs.Around.{opposite-triple, Beside, same_way, other_way, beside, IsStrictlyOn-back, direction-around, svertex-around}
+use Rattle.law_sphere.proofs.NearItems.{keeps-between, kept-not_opposite}
 use Rattle.law_sphere.proofs.Turn.{turn-last}
 use Rattle.law_sphere.proofs.Arcs.{Ends, ends-of}
 
 -- what lies in the plane of n through d, ahead, has n to its left
 pub left-ahead : (n d w : Vector) → dot n d ≡ pos 0 → dot n w ≡ pos 0 → pos 0 <ℤ triple n d w → SameDirection n (cross d w)
-left-ahead n d w a b h = record { parallel = by; forward = h }
-  where
-    -- n x (d x w) = d (n.w) - w (n.d)
-    by : IsZero (cross n (cross d w))
-    by =
-        let xs = n.x ∷ n.y ∷ n.z ∷ d.x ∷ d.y ∷ d.z ∷ w.x ∷ w.y ∷ w.z ∷ [] in
-        let o = num (pos 0) in
-        let nd = at 0 ⊗ at 3 ⊕ at 1 ⊗ at 4 ⊕ at 2 ⊗ at 5 in
-        let nw = at 0 ⊗ at 6 ⊕ at 1 ⊗ at 7 ⊕ at 2 ⊗ at 8 in
-        let x = at 4 ⊗ at 8 ⊖ at 5 ⊗ at 7 in
-        let y = at 5 ⊗ at 6 ⊖ at 3 ⊗ at 8 in
-        let z = at 3 ⊗ at 7 ⊖ at 4 ⊗ at 6 in (
-          follows xs (at 1 ⊗ z ⊖ at 2 ⊗ y) o (given (at 3) nw o b (given (o ⊖ at 6) nd o a none)) tt,
-          follows xs (at 2 ⊗ x ⊖ at 0 ⊗ z) o (given (at 4) nw o b (given (o ⊖ at 7) nd o a none)) tt,
-          follows xs (at 0 ⊗ y ⊖ at 1 ⊗ x) o (given (at 5) nw o b (given (o ⊖ at 8) nd o a none)) tt,
-        )
-
-opposite-level : (n d : Vector) → dot n d ≡ pos 0 → dot (opposite n) d ≡ pos 0
-opposite-level n d e = let f = dot-opposite n d in omega (arith, ints)
+left-ahead n d w a b h = record { parallel = level-both n d w a b; forward = h }
 
 -- ---- an arc close to one of its ends
 module _ (n s t d w : Vector) (hn : IsDirection n) (hs : IsDirection s) (ht : IsDirection t) (ls : dot n s ≡ pos 0) (lt : dot n t ≡ pos 0)
@@ -148,11 +114,11 @@ module _ (M : Map) (V : Shaped M) (k : ℕ) (v : MapVertex) (a : At M.svertices 
     ends : SameDirection t d → dot n d ≡ pos 0 → triple n d w <ℤ pos 0 → AlongRay
     ends q ld p = record {
       ray = record { number = i; arc = r; listed = j; end = inr (V.svertices_apart r.target k b.target v b.has_target a (subst (λ (x : Vector). SameDirection x d) b.target_is q)) };
-      along = left-ahead (opposite n) d w (opposite-level n d ld) (opposite-level n w o.on_circle.level) (let e = dot-opposite n (cross d w) in omega (arith, ints));
+      along = left-ahead (opposite n) d w (level-opposite n d ld) (level-opposite n w o.on_circle.level) (let e = opposite-dot n (cross d w) in omega (arith, ints));
     }
 
     level_at : (x : Vector) → SameDirection x d → dot n x ≡ pos 0 → dot n d ≡ pos 0
-    level_at x q z = level-same n x d q z
+    level_at x q z = level-way n x d q z
 
     by : Decided (SameDirection s d) → Decided (SameDirection t d) → AlongRay
     by (inl q) e = let ld = level_at s q b.source_level in by_order (triple n d w) (pos 0)
@@ -191,23 +157,10 @@ module _ (M : Map) (V : Shaped M) (k : ℕ) (v : MapVertex) (a : At M.svertices 
 -- v x (i w + j v) = i (v x w)
 pub same-cross : (v w : Vector) (i j : ℕ) → 0 < i → IsDirection (cross v w) → SameDirection (cross v (blend i w j v)) (cross v w)
 same-cross v w i j si h =
-    let xs = v.x ∷ v.y ∷ v.z ∷ w.x ∷ w.y ∷ w.z ∷ pos i ∷ pos j ∷ [] in
-    let bx = at 6 ⊗ at 3 ⊕ at 7 ⊗ at 0 in
-    let by = at 6 ⊗ at 4 ⊕ at 7 ⊗ at 1 in
-    let bz = at 6 ⊗ at 5 ⊕ at 7 ⊗ at 2 in
-    let ax = at 1 ⊗ bz ⊖ at 2 ⊗ by in
-    let ay = at 2 ⊗ bx ⊖ at 0 ⊗ bz in
-    let az = at 0 ⊗ by ⊖ at 1 ⊗ bx in
-    let cx = at 1 ⊗ at 5 ⊖ at 2 ⊗ at 4 in
-    let cy = at 2 ⊗ at 3 ⊖ at 0 ⊗ at 5 in
-    let cz = at 0 ⊗ at 4 ⊖ at 1 ⊗ at 3 in
-    let o = num (pos 0) in
-    let e : dot (cross v (blend i w j v)) (cross v w) ≡ pos i *ℤ dot (cross v w) (cross v w) = ring xs (ax ⊗ cx ⊕ ay ⊗ cy ⊕ az ⊗ cz) (at 6 ⊗ (cx ⊗ cx ⊕ cy ⊗ cy ⊕ cz ⊗ cz)) tt in
+    let xs = pos i ∷ pos j ∷ numbers v w w w in let b = cross_of (vec 2) (blend_of (at 0) (vec 5) (at 1) (vec 2)) in let k = cross_of (vec 2) (vec 5) in let p = cross_of b k in let o = num (pos 0) in
+    let e : dot (cross v (blend i w j v)) (cross v w) ≡ pos i *ℤ dot (cross v w) (cross v w) = ring xs (dot_of b k) (at 0 ⊗ dot_of k k) tt in
     let m = mul_pos (pos i) (dot (cross v w) (cross v w)) (omega (arith, ints)) (self-pos (cross v w) h) in
-    record {
-      parallel = (ring xs (ay ⊗ cz ⊖ az ⊗ cy) o tt, ring xs (az ⊗ cx ⊖ ax ⊗ cz) o tt, ring xs (ax ⊗ cy ⊖ ay ⊗ cx) o tt);
-      forward = omega (arith, ints);
-    }
+    record { parallel = (ring xs p.0 o tt, ring xs p.1 o tt, ring xs p.2 o tt); forward = omega (arith, ints) }
 
 -- from close to the svertex the way to it is clear, off the rays
 pub near-clear : (M : Map) (V : Shaped M) (k : ℕ) (v : MapVertex) (a : At M.svertices k v) (w : Vector) → Keeps (forms M) v.dir w → IsDirection (cross v.dir w) → Unrayed M k v.dir w → IsClear M w v.dir
@@ -219,6 +172,6 @@ near-clear M V k v a w kept off free = record {
       let q = same-cross v.dir w i j si off in
       near-free M V k v a (blend i w j v.dir)
       (subst (Keeps (forms M) v.dir) (blend-turned j i v.dir w) (keeps-between (forms M) v.dir w j i sj si kept))
-      (same-first (cross v.dir (blend i w j v.dir)) (cross v.dir w) q)
+      (direction-left (cross v.dir (blend i w j v.dir)) (cross v.dir w) q)
       (λ r. free r.ray (SameDirection-trans (ray_left r.ray) (cross v.dir (blend i w j v.dir)) (cross v.dir w) r.along q));
 }

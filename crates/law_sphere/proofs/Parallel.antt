@@ -1,73 +1,8 @@
 -- Parallel vectors, points of circles and arcs.
-use Rattle.std.proofs.Common.{◌≡◌, ℕ, ◌≤◌, ℤ, pos, negsuc, ◌+ℤ◌, ◌*ℤ◌, ◌<ℤ◌, arith, refl, ap, sym, ◌∙◌, inl, inr, ⊎_elim, [], ◌∷◌, subst}
-use Rattle.std.proofs.lemmas.Int.{ints}
-use Rattle.nef_space.proofs.Ring.{ring, at, num, ◌⊕◌, ◌⊖◌, ◌⊗◌}
-use Rattle.nef_space.proofs.Combination.{follows, follows_times, given, none}
-use Rattle.nef_space.proofs.Order.{sign, nought-is}
-use Rattle.nef_space.specs.Vectors.{Vector, IsDirection, triple, cross, dot, IsZero, SameDirection, blend}
-use Rattle.law_cyclic.specs.Arcs.{IsOnCircle, IsStrictlyOn}
-use Rattle.law_sphere.proofs.Vectors.{dot-comb, triple-middle, same-plus, nought-if}
-use Rattle.law_near.proofs.Decided.{Decided}
-use Rattle.law_near.proofs.FlatDecided.{cross-turned, triple-dot}
-use Rattle.law_near.proofs.Far.{nought-or, same-off}
-use Rattle.law_near.proofs.Directions.{dot-comm, square_pos, zero-decided, dot-zero, self-pos}
+use Rattle.law_sphere.proofs.Prelude.{◌≡◌, ℕ, ◌≤◌, ℤ, pos, negsuc, ◌+ℤ◌, ◌*ℤ◌, ◌<ℤ◌, arith, refl, ap, sym, ◌∙◌, inl, inr, ⊎_elim, ◌∷◌, subst, [], ints, ring, at, num, ◌⊕◌, ◌⊖◌, ◌⊗◌, follows_times, given, none, sign, nought-is, nought-or, Vector, IsDirection, triple, cross, dot, IsZero, SameDirection, blend, IsOnCircle, IsStrictlyOn, Decided, same-off, dot-comm, zero-decided, dot-zero, self-pos, triple-dot, cross-turned, triple-middle, nought-if, parallel-trans, parallel-in_plane, cross-self, cross_of, dot_of, dot_poly, numbers, square-cross, vec}
+use Rattle.law_sphere.proofs.Vectors.{dot-comb, same-plus}
 use Rattle.law_sphere.proofs.Generic.{amount, far-keeps, far-level}
 use Rattle.law_sphere.proofs.Places.{row_x, row_y, row_z}
-
--- n.d isn't nought and n.c is: d and c aren't parallel
-pub apart : (n d c : Vector) → (dot n d ≡ pos 0 → ⊥) → dot n c ≡ pos 0 → IsDirection c → IsDirection (cross d c)
-apart n d c f z h p =
-    let k = square_pos (dot n d) f in
-    let xs = n.x ∷ n.y ∷ n.z ∷ d.x ∷ d.y ∷ d.z ∷ c.x ∷ c.y ∷ c.z ∷ [] in
-    let o = num (pos 0) in
-    let nd = at 0 ⊗ at 3 ⊕ at 1 ⊗ at 4 ⊕ at 2 ⊗ at 5 in
-    let nc = at 0 ⊗ at 6 ⊕ at 1 ⊗ at 7 ⊕ at 2 ⊗ at 8 in
-    let ex = at 4 ⊗ at 8 ⊖ at 5 ⊗ at 7 in
-    let ey = at 5 ⊗ at 6 ⊖ at 3 ⊗ at 8 in
-    let ez = at 3 ⊗ at 7 ⊖ at 4 ⊗ at 6 in
-    h (
-      follows_times xs (nd ⊗ nd) (at 6) o (given (nd ⊗ at 3) nc o z (given (nd ⊗ (o ⊖ at 1)) ez o p.2 (given (nd ⊗ at 2) ey o p.1 none))) k tt,
-      follows_times xs (nd ⊗ nd) (at 7) o (given (nd ⊗ at 4) nc o z (given (nd ⊗ (o ⊖ at 2)) ex o p.0 (given (nd ⊗ at 0) ez o p.2 none))) k tt,
-      follows_times xs (nd ⊗ nd) (at 8) o (given (nd ⊗ at 5) nc o z (given (nd ⊗ (o ⊖ at 0)) ey o p.1 (given (nd ⊗ at 1) ex o p.0 none))) k tt,
-    )
-
-pub parallel-trans : (d v w : Vector) → IsDirection v → IsZero (cross d v) → IsZero (cross v w) → IsZero (cross d w)
-parallel-trans d v w h a b =
-    let k = self-pos v h in
-    let xs = d.x ∷ d.y ∷ d.z ∷ v.x ∷ v.y ∷ v.z ∷ w.x ∷ w.y ∷ w.z ∷ [] in
-    let o = num (pos 0) in
-    let vv = at 3 ⊗ at 3 ⊕ at 4 ⊗ at 4 ⊕ at 5 ⊗ at 5 in
-    let dv = at 0 ⊗ at 3 ⊕ at 1 ⊗ at 4 ⊕ at 2 ⊗ at 5 in
-    -- d x v
-    let ex = at 1 ⊗ at 5 ⊖ at 2 ⊗ at 4 in
-    let ey = at 2 ⊗ at 3 ⊖ at 0 ⊗ at 5 in
-    let ez = at 0 ⊗ at 4 ⊖ at 1 ⊗ at 3 in
-    -- v x w
-    let fx = at 4 ⊗ at 8 ⊖ at 5 ⊗ at 7 in
-    let fy = at 5 ⊗ at 6 ⊖ at 3 ⊗ at 8 in
-    let fz = at 3 ⊗ at 7 ⊖ at 4 ⊗ at 6 in
-    -- (v.v) d x w = (d.v) v x w + (v x (d x v)) x w
-    (
-      follows_times xs vv (at 1 ⊗ at 8 ⊖ at 2 ⊗ at 7) o (given dv fx o b.0 (given (at 5 ⊗ at 8 ⊕ at 4 ⊗ at 7) ex o a.0 (given (o ⊖ at 3 ⊗ at 7) ey o a.1 (given (o ⊖ at 3 ⊗ at 8) ez o a.2 none)))) k tt,
-      follows_times xs vv (at 2 ⊗ at 6 ⊖ at 0 ⊗ at 8) o (given dv fy o b.1 (given (at 3 ⊗ at 6 ⊕ at 5 ⊗ at 8) ey o a.1 (given (o ⊖ at 4 ⊗ at 8) ez o a.2 (given (o ⊖ at 4 ⊗ at 6) ex o a.0 none)))) k tt,
-      follows_times xs vv (at 0 ⊗ at 7 ⊖ at 1 ⊗ at 6) o (given dv fz o b.2 (given (at 4 ⊗ at 7 ⊕ at 3 ⊗ at 6) ez o a.2 (given (o ⊖ at 5 ⊗ at 6) ex o a.0 (given (o ⊖ at 5 ⊗ at 7) ey o a.1 none)))) k tt,
-    )
-
--- parallel directions in one plane
-pub parallel-in_plane : (n s t : Vector) → IsDirection n → dot n s ≡ pos 0 → dot n t ≡ pos 0 → triple n s t ≡ pos 0 → IsZero (cross s t)
-parallel-in_plane n s t h a b z =
-    let xs = n.x ∷ n.y ∷ n.z ∷ s.x ∷ s.y ∷ s.z ∷ t.x ∷ t.y ∷ t.z ∷ [] in
-    let o = num (pos 0) in
-    let ns = at 0 ⊗ at 3 ⊕ at 1 ⊗ at 4 ⊕ at 2 ⊗ at 5 in
-    let nt = at 0 ⊗ at 6 ⊕ at 1 ⊗ at 7 ⊕ at 2 ⊗ at 8 in
-    let ex = at 4 ⊗ at 8 ⊖ at 5 ⊗ at 7 in
-    let ey = at 5 ⊗ at 6 ⊖ at 3 ⊗ at 8 in
-    let ez = at 3 ⊗ at 7 ⊖ at 4 ⊗ at 6 in
-    nought-if n (cross s t) h (
-      follows xs (at 1 ⊗ ez ⊖ at 2 ⊗ ey) o (given (at 3) nt o b (given (o ⊖ at 6) ns o a none)) tt,
-      follows xs (at 2 ⊗ ex ⊖ at 0 ⊗ ez) o (given (at 4) nt o b (given (o ⊖ at 7) ns o a none)) tt,
-      follows xs (at 0 ⊗ ey ⊖ at 1 ⊗ ex) o (given (at 5) nt o b (given (o ⊖ at 8) ns o a none)) tt,
-    ) z
 
 -- ---- points
 pub row-level : (n : Vector) → (dot n (row_x n) ≡ pos 0) × (dot n (row_y n) ≡ pos 0) × (dot n (row_z n) ≡ pos 0)
@@ -107,13 +42,12 @@ module _ (n s t : Vector) (hn : IsDirection n) (hs : IsDirection s) (ht : IsDire
   pub there-ahead : pos 0 <ℤ triple n s there
   there-ahead =
       let e = triple-dot n s there ∙ dot-comb beside (pos number) s (pos 1) beside in
-      let o : dot beside s ≡ pos 0 = ring (n.x ∷ n.y ∷ n.z ∷ s.x ∷ s.y ∷ s.z ∷ []) ((at 1 ⊗ at 5 ⊖ at 2 ⊗ at 4) ⊗ at 3 ⊕ (at 2 ⊗ at 3 ⊖ at 0 ⊗ at 5) ⊗ at 4 ⊕ (at 0 ⊗ at 4 ⊖ at 1 ⊗ at 3) ⊗ at 5) (num (pos 0)) tt in
+      let o : dot beside s ≡ pos 0 = sym (triple-dot n s s) ∙ dot-zero n (cross s s) (cross-self s) in
       let f = e ∙ ap (λ r. pos number *ℤ r +ℤ pos 1 *ℤ dot beside beside) o ∙ ring (pos number ∷ dot beside beside ∷ []) (at 0 ⊗ num (pos 0) ⊕ num (pos 1) ⊗ at 1) (at 1) tt in
       subst (λ (r : ℤ). pos 0 <ℤ r) (sym f) (self-pos beside beside-some)
 
   pub there-level : dot n there ≡ pos 0
-  there-level = dot-comb n (pos number) s (pos 1) beside ∙ ap (λ r. pos number *ℤ r +ℤ pos 1 *ℤ dot n beside) a
-      ∙ ring (n.x ∷ n.y ∷ n.z ∷ s.x ∷ s.y ∷ s.z ∷ pos number ∷ []) (at 6 ⊗ num (pos 0) ⊕ num (pos 1) ⊗ (at 0 ⊗ (at 1 ⊗ at 5 ⊖ at 2 ⊗ at 4) ⊕ at 1 ⊗ (at 2 ⊗ at 3 ⊖ at 0 ⊗ at 5) ⊕ at 2 ⊗ (at 0 ⊗ at 4 ⊖ at 1 ⊗ at 3))) (num (pos 0)) tt
+  there-level = dot-comb n (pos number) s (pos 1) beside ∙ ap (λ r. pos number *ℤ r +ℤ pos 1 *ℤ dot n beside) a ∙ ap (λ r. pos number *ℤ pos 0 +ℤ pos 1 *ℤ r) (square-cross n s) ∙ omega (arith, ints)
 
   there-behind : pos 0 <ℤ triple n s t → pos 0 <ℤ triple n there t
   there-behind h =
@@ -128,9 +62,8 @@ module _ (n s t : Vector) (hn : IsDirection n) (hs : IsDirection s) (ht : IsDire
       let f = far-level (back ∷ []) s beside number large back y in
       let u : dot back beside ≡ pos 0 = nought-is (dot back beside) (sym f ∙ ap sign z) in
       -- (t x n).(n x s) = (t.n)(n.s) - (n.n)(t.s)
-      let q : dot t s ≡ pos 0 = follows_times (n.x ∷ n.y ∷ n.z ∷ s.x ∷ s.y ∷ s.z ∷ t.x ∷ t.y ∷ t.z ∷ []) (at 0 ⊗ at 0 ⊕ at 1 ⊗ at 1 ⊕ at 2 ⊗ at 2) (at 6 ⊗ at 3 ⊕ at 7 ⊗ at 4 ⊕ at 8 ⊗ at 5) (num (pos 0))
-      (given (num (negsuc 0)) ((at 7 ⊗ at 2 ⊖ at 8 ⊗ at 1) ⊗ (at 1 ⊗ at 5 ⊖ at 2 ⊗ at 4) ⊕ (at 8 ⊗ at 0 ⊖ at 6 ⊗ at 2) ⊗ (at 2 ⊗ at 3 ⊖ at 0 ⊗ at 5) ⊕ (at 6 ⊗ at 1 ⊖ at 7 ⊗ at 0) ⊗ (at 0 ⊗ at 4 ⊖ at 1 ⊗ at 3)) (num (pos 0)) u
-      (given (at 0 ⊗ at 6 ⊕ at 1 ⊗ at 7 ⊕ at 2 ⊗ at 8) (at 0 ⊗ at 3 ⊕ at 1 ⊗ at 4 ⊕ at 2 ⊗ at 5) (num (pos 0)) a none)) (self-pos n hn) tt in
+      let q : dot t s ≡ pos 0 = follows_times (numbers n s t t) (dot_poly 0 0) (dot_poly 6 3) (num (pos 0))
+      (given (num (negsuc 0)) (dot_of (cross_of (vec 6) (vec 0)) (cross_of (vec 0) (vec 3))) (num (pos 0)) u (given (dot_poly 0 6) (dot_poly 0 3) (num (pos 0)) a none)) (self-pos n hn) tt in
       let p = parallel-in_plane n s t hn a b (triple-middle n s t ∙ y) in
       ht (nought-if s t hs p (dot-comm s t ∙ q)))
       (λ f. same-off (dot back s) (dot back there) (far-keeps (back ∷ []) s beside number large back (inl refl) f) f z)

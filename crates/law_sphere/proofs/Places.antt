@@ -1,18 +1,7 @@
 -- Where a direction lies, on a svertex or strictly on an arc, is decided, and stays where the signs of finitely many forms stay.
-use Rattle.std.proofs.Common.{◌≡◌, ℤ, pos, ◌<ℤ◌, arith, refl, sym, ◌∙◌, ◌⊎◌, inl, inr, ⊎_elim, List, [], ◌∷◌, ◌++◌, subst}
-use Rattle.std.proofs.lemmas.Int.{ints}
-use Rattle.nef_space.proofs.Ring.{ring, at, num, ◌⊕◌, ◌⊖◌, ◌⊗◌}
-use Rattle.nef_space.proofs.Order.{sign, by_order}
-use Rattle.nef_space.specs.Signs.{Lies}
-use Rattle.nef_space.specs.Vectors.{Vector, IsDirection, triple, cross, vector, dot, IsZero, SameDirection, IsOpposite}
-use Rattle.nef_space.proofs.Lists.{lies-left, lies-right}
-use Rattle.law_cyclic.specs.Arcs.{IsOnCircle, IsStrictlyOn}
+use Rattle.law_sphere.proofs.Prelude.{◌≡◌, ℤ, pos, ◌<ℤ◌, arith, refl, sym, ◌∙◌, ◌⊎◌, inl, inr, ⊎_elim, List, ◌∷◌, ◌++◌, subst, [], ints, ring, at, num, ◌⊕◌, ◌⊖◌, ◌⊗◌, sign, by_order, nought-or, Lies, Vector, IsDirection, triple, cross, vector, dot, IsZero, SameDirection, IsOpposite, lies-left, lies-right, IsOnCircle, IsStrictlyOn, decided-not, decided-to, decided-both, decided-or, Decided, same-off, zero-decided, zero-dot, triple-dot, triple-middle, nought-if}
 pub use Rattle.law_sphere.specs.Forms.{axis_x, axis_y, axis_z, axes, row_x, row_y, row_z, point_forms, arc_forms}
-use Rattle.law_sphere.proofs.Vectors.{triple-middle, positive-or, negative-or, same-plus, same-minus, nought-if}
-use Rattle.law_near.proofs.Decided.{decided-not, decided-to, decided-both, decided-or, Decided}
-use Rattle.law_near.proofs.FlatDecided.{triple-dot}
-use Rattle.law_near.proofs.Far.{nought-or, same-off}
-use Rattle.law_near.proofs.Directions.{zero-decided, zero-dot}
+use Rattle.law_sphere.proofs.Vectors.{positive-or, negative-or, same-plus, same-minus}
 use Rattle.law_sphere.proofs.Generic.{SameSigns, Keeps}
 
 pub direction-decided : (d : Vector) → Decided (IsDirection d)

@@ -1,26 +1,12 @@
 -- The side of a ray of a svertex sees each free direction that has a clear way to the svertex in the sector after the ray.
-use Rattle.std.proofs.Common.{◌≡◌, ℕ, ◌+◌, ◌<◌, ◌≤◌, pos, negsuc, ◌*ℤ◌, ◌-ℤ◌, ◌<ℤ◌, arith, ap, sym, ◌∙◌, ◌⊎◌, inl, inr, [], ◌∷◌, subst}
-use Rattle.std.proofs.lemmas.Int.{ints}
-use Rattle.nef_space.proofs.Ring.{ring, at, num, ◌⊕◌, ◌⊖◌, ◌⊗◌}
-use Rattle.nef_space.proofs.Combination.{follows, given, none}
-use Rattle.nef_space.proofs.Order.{sign, by_order, mul_pos, mul_neg, sign-scaled}
-use Rattle.nef_space.specs.Vectors.{Vector, IsDirection, triple, cross, dot, opposite, SameDirection, blend}
-use Rattle.law_cyclic.specs.Arcs.{IsOnCircle, IsStrictlyOn}
-use Rattle.law_cyclic.proofs.Directions.{dot-opposite, direction-opposite, level-opposite, level_cross_first, way_back_passes_the_same, arcs_are_of_directions}
-use Rattle.law_near.proofs.FlatDecided.{triple-dot, cross-turned}
-use Rattle.law_near.proofs.Meets.{cross-none}
-use Rattle.law_near.proofs.Directions.{dot-comm, dot-zero, zero-dot, self-pos}
-use Rattle.law_sphere.specs.Maps.{At, MapVertex, Map, arc_item, items, dir_of, OnItem, IsClear, Reaches, Sees, directly, by_way_of, Shaped}
-use Rattle.law_sphere.specs.Sectors.{ArcRay, end_left, end_side, ray_left, ray_side, Unrayed}
-use Rattle.law_sphere.specs.Forms.{forms}
+use Rattle.law_sphere.proofs.Prelude.{◌≡◌, ℕ, ◌+◌, ◌<◌, ◌≤◌, pos, negsuc, ◌*ℤ◌, ◌-ℤ◌, ◌<ℤ◌, arith, ap, sym, ◌∙◌, ◌⊎◌, inl, inr, ◌∷◌, subst, [], ints, ring, at, num, ◌⊕◌, ◌⊖◌, ◌⊗◌, neg, follows, given, none, sign, by_order, mul_pos, mul_neg, sign-scaled, Vector, IsDirection, triple, cross, dot, opposite, SameDirection, blend, IsOnCircle, IsStrictlyOn, At, MapVertex, Map, arc_item, items, dir_of, OnItem, IsClear, Reaches, Sees, directly, by_way_of, Shaped, ArcRay, end_left, end_side, ray_left, ray_side, Unrayed, forms, comb, dot-comm, dot-zero, zero-dot, self-pos, triple-dot, cross-turned, cross-none, opposite-dot, direction-opposite, level-opposite, square-cross, triple-turned, SameDirection-turned, dir-self, parallel-in_plane, blend_of, cross_of, dot_poly, numbers, triple_of, triple_poly, vec}
+use Rattle.law_cyclic.proofs.Directions.{way_back_passes_the_same, arcs_are_of_directions}
 use Rattle.law_sphere.proofs.Vectors.{dot-comb, normal-is, same-plus}
 use Rattle.law_sphere.proofs.Generic.{amount, far-keeps}
-use Rattle.law_sphere.proofs.Parallel.{past_source, arc-point, parallel-in_plane}
+use Rattle.law_sphere.proofs.Parallel.{past_source, arc-point}
 use Rattle.law_sphere.proofs.Shot.{product-off, dir-at}
-use Rattle.law_sphere.proofs.Around.{triple-turned, Beside, same_way, other_way, beside}
-use Rattle.law_sphere.specs.Vectors.{comb}
+use Rattle.law_sphere.proofs.Around.{Beside, same_way, other_way, beside}
 use Rattle.law_sphere.proofs.Arcs.{Ends, ends-of, at-arc}
-use Rattle.law_sphere.proofs.Compare.{SameDirection-turned, dir-self}
 use Rattle.law_sphere.proofs.Turn.{turn-last, turn-same}
 use Rattle.law_sphere.proofs.NearSvertex.{near-clear}
 use Rattle.law_sphere.proofs.FarWay.{far-way}
@@ -28,42 +14,15 @@ use Rattle.law_sphere.proofs.FarWay.{far-way}
 -- ---- products
 -- v.(m x (v x w)) = (v.v) (m.w)
 pub turn-from_left : (v m w : Vector) → dot m v ≡ pos 0 → triple v m (cross v w) ≡ dot v v *ℤ dot m w
-turn-from_left v m w z =
-    let xs = v.x ∷ v.y ∷ v.z ∷ m.x ∷ m.y ∷ m.z ∷ w.x ∷ w.y ∷ w.z ∷ [] in
-    let cx = at 1 ⊗ at 8 ⊖ at 2 ⊗ at 7 in
-    let cy = at 2 ⊗ at 6 ⊖ at 0 ⊗ at 8 in
-    let cz = at 0 ⊗ at 7 ⊖ at 1 ⊗ at 6 in
-    let vv = at 0 ⊗ at 0 ⊕ at 1 ⊗ at 1 ⊕ at 2 ⊗ at 2 in
-    let vw = at 0 ⊗ at 6 ⊕ at 1 ⊗ at 7 ⊕ at 2 ⊗ at 8 in
-    let mv = at 3 ⊗ at 0 ⊕ at 4 ⊗ at 1 ⊕ at 5 ⊗ at 2 in
-    let mw = at 3 ⊗ at 6 ⊕ at 4 ⊗ at 7 ⊕ at 5 ⊗ at 8 in
-    follows xs (at 0 ⊗ (at 4 ⊗ cz ⊖ at 5 ⊗ cy) ⊕ at 1 ⊗ (at 5 ⊗ cx ⊖ at 3 ⊗ cz) ⊕ at 2 ⊗ (at 3 ⊗ cy ⊖ at 4 ⊗ cx)) (vv ⊗ mw) (given (num (pos 0) ⊖ vw) mv (num (pos 0)) z none) tt
+turn-from_left v m w z = follows (numbers v m w w) (triple_of (vec 0) (vec 3) (cross_of (vec 0) (vec 6))) (dot_poly 0 0 ⊗ dot_poly 3 6) (given (neg (dot_poly 0 6)) (dot_poly 3 0) (num (pos 0)) z none) tt
 
 -- v.((v x w) x (v x e)) = (v.v) v.(w x e)
 pub turn-of_crosses : (v w e : Vector) → triple v (cross v w) (cross v e) ≡ dot v v *ℤ triple v w e
-turn-of_crosses v w e =
-    let xs = v.x ∷ v.y ∷ v.z ∷ w.x ∷ w.y ∷ w.z ∷ e.x ∷ e.y ∷ e.z ∷ [] in
-    let ax = at 1 ⊗ at 5 ⊖ at 2 ⊗ at 4 in
-    let ay = at 2 ⊗ at 3 ⊖ at 0 ⊗ at 5 in
-    let az = at 0 ⊗ at 4 ⊖ at 1 ⊗ at 3 in
-    let bx = at 1 ⊗ at 8 ⊖ at 2 ⊗ at 7 in
-    let by = at 2 ⊗ at 6 ⊖ at 0 ⊗ at 8 in
-    let bz = at 0 ⊗ at 7 ⊖ at 1 ⊗ at 6 in
-    ring xs (at 0 ⊗ (ay ⊗ bz ⊖ az ⊗ by) ⊕ at 1 ⊗ (az ⊗ bx ⊖ ax ⊗ bz) ⊕ at 2 ⊗ (ax ⊗ by ⊖ ay ⊗ bx))
-    ((at 0 ⊗ at 0 ⊕ at 1 ⊗ at 1 ⊕ at 2 ⊗ at 2) ⊗ (at 0 ⊗ (at 4 ⊗ at 8 ⊖ at 5 ⊗ at 7) ⊕ at 1 ⊗ (at 5 ⊗ at 6 ⊖ at 3 ⊗ at 8) ⊕ at 2 ⊗ (at 3 ⊗ at 7 ⊖ at 4 ⊗ at 6))) tt
+turn-of_crosses v w e = ring (numbers v w e e) (triple_of (vec 0) (cross_of (vec 0) (vec 3)) (cross_of (vec 0) (vec 6))) (dot_poly 0 0 ⊗ triple_poly 0 3 6) tt
 
 -- v.(w x (m x v)) = - (v.v) (m.w)
 pub turn-to_ray : (v m w : Vector) → dot m v ≡ pos 0 → triple v w (cross m v) ≡ pos 0 -ℤ dot v v *ℤ dot m w
-turn-to_ray v m w z =
-    let xs = v.x ∷ v.y ∷ v.z ∷ m.x ∷ m.y ∷ m.z ∷ w.x ∷ w.y ∷ w.z ∷ [] in
-    let cx = at 4 ⊗ at 2 ⊖ at 5 ⊗ at 1 in
-    let cy = at 5 ⊗ at 0 ⊖ at 3 ⊗ at 2 in
-    let cz = at 3 ⊗ at 1 ⊖ at 4 ⊗ at 0 in
-    let vv = at 0 ⊗ at 0 ⊕ at 1 ⊗ at 1 ⊕ at 2 ⊗ at 2 in
-    let vw = at 0 ⊗ at 6 ⊕ at 1 ⊗ at 7 ⊕ at 2 ⊗ at 8 in
-    let mv = at 3 ⊗ at 0 ⊕ at 4 ⊗ at 1 ⊕ at 5 ⊗ at 2 in
-    let mw = at 3 ⊗ at 6 ⊕ at 4 ⊗ at 7 ⊕ at 5 ⊗ at 8 in
-    follows xs (at 0 ⊗ (at 7 ⊗ cz ⊖ at 8 ⊗ cy) ⊕ at 1 ⊗ (at 8 ⊗ cx ⊖ at 6 ⊗ cz) ⊕ at 2 ⊗ (at 6 ⊗ cy ⊖ at 7 ⊗ cx)) (num (pos 0) ⊖ vv ⊗ mw) (given vw mv (num (pos 0)) z none) tt
+turn-to_ray v m w z = follows (numbers v m w w) (triple_of (vec 0) (vec 6) (cross_of (vec 3) (vec 0))) (num (pos 0) ⊖ dot_poly 0 0 ⊗ dot_poly 3 6) (given (dot_poly 0 6) (dot_poly 3 0) (num (pos 0)) z none) tt
 
 -- ---- a sector, by left directions
 module _ (v m e : Vector) (hv : IsDirection v) (level : dot m v ≡ pos 0) where
@@ -82,7 +41,7 @@ module _ (v m e : Vector) (hv : IsDirection v) (level : dot m v ≡ pos 0) where
   -- w lies less than half a turn past m, and before e where e lies so too
   pub past-left : (w : Vector) → IsDirection (cross v w) → pos 0 <ℤ dot m w → (pos 0 <ℤ dot m e → pos 0 <ℤ triple v w e) → IsStrictlyOn v m (cross v e) (cross v w)
   past-left w h p q = record {
-    on_circle = record { direction = h; level = level_cross_first v w };
+    on_circle = record { direction = h; level = square-cross v w };
     not_source = λ s. let z = dot-zero v (cross m (cross v w)) s.parallel in let b = ahead-of w p in omega (arith, ints);
     not_target = λ s.
         let z = dot-zero v (cross (cross v w) (cross v e)) (cross-turned (cross v e) (cross v w) s.parallel) in
@@ -96,7 +55,7 @@ module _ (v m e : Vector) (hv : IsDirection v) (level : dot m v ≡ pos 0) where
   -- w lies less than half a turn before e, which lies more than half a turn past m
   pub before-past : (w : Vector) → IsDirection (cross v w) → dot m e <ℤ pos 0 → pos 0 <ℤ triple v w e → IsStrictlyOn v m (cross v e) (cross v w)
   before-past w h n p = record {
-    on_circle = record { direction = h; level = level_cross_first v w };
+    on_circle = record { direction = h; level = square-cross v w };
     not_source = λ s. let b = turn-plus w p in let c : pos 0 <ℤ triple v m (cross v e) = same-plus (triple v (cross v w) (cross v e)) (triple v m (cross v e)) (sym (turn-first s)) b in let d = behind in omega (arith, ints);
     not_target = λ s. let z = dot-zero v (cross (cross v w) (cross v e)) (cross-turned (cross v e) (cross v w) s.parallel) in let b = turn-plus w p in omega (arith, ints);
     less_than_half = λ l. let d = behind in absurd (omega (arith, ints));
@@ -115,16 +74,10 @@ module _ (v m e : Vector) (hv : IsDirection v) (level : dot m v ≡ pos 0) where
 
 -- v.((i e + j f) x e) = j v.(f x e), and v.(e x (k v + f)) = v.(e x f)
 turn-between : (v e f : Vector) (i j : ℕ) → triple v (blend i e j f) e ≡ pos j *ℤ triple v f e
-turn-between v e f i j = ring (v.x ∷ v.y ∷ v.z ∷ e.x ∷ e.y ∷ e.z ∷ f.x ∷ f.y ∷ f.z ∷ pos i ∷ pos j ∷ [])
-    (let x = at 9 ⊗ at 3 ⊕ at 10 ⊗ at 6 in let y = at 9 ⊗ at 4 ⊕ at 10 ⊗ at 7 in let z = at 9 ⊗ at 5 ⊕ at 10 ⊗ at 8 in
-    at 0 ⊗ (y ⊗ at 5 ⊖ z ⊗ at 4) ⊕ at 1 ⊗ (z ⊗ at 3 ⊖ x ⊗ at 5) ⊕ at 2 ⊗ (x ⊗ at 4 ⊖ y ⊗ at 3))
-    (at 10 ⊗ (at 0 ⊗ (at 7 ⊗ at 5 ⊖ at 8 ⊗ at 4) ⊕ at 1 ⊗ (at 8 ⊗ at 3 ⊖ at 6 ⊗ at 5) ⊕ at 2 ⊗ (at 6 ⊗ at 4 ⊖ at 7 ⊗ at 3))) tt
+turn-between v e f i j = ring (pos i ∷ pos j ∷ numbers v e f f) (triple_of (vec 2) (blend_of (at 0) (vec 5) (at 1) (vec 8)) (vec 5)) (at 1 ⊗ triple_poly 2 8 5) tt
 
 turn-near : (v e f : Vector) (k : ℕ) → triple v (blend k v 1 f) e ≡ triple v f e
-turn-near v e f k = ring (v.x ∷ v.y ∷ v.z ∷ e.x ∷ e.y ∷ e.z ∷ f.x ∷ f.y ∷ f.z ∷ pos k ∷ [])
-    (let x = at 9 ⊗ at 0 ⊕ num (pos 1) ⊗ at 6 in let y = at 9 ⊗ at 1 ⊕ num (pos 1) ⊗ at 7 in let z = at 9 ⊗ at 2 ⊕ num (pos 1) ⊗ at 8 in
-    at 0 ⊗ (y ⊗ at 5 ⊖ z ⊗ at 4) ⊕ at 1 ⊗ (z ⊗ at 3 ⊖ x ⊗ at 5) ⊕ at 2 ⊗ (x ⊗ at 4 ⊖ y ⊗ at 3))
-    (at 0 ⊗ (at 7 ⊗ at 5 ⊖ at 8 ⊗ at 4) ⊕ at 1 ⊗ (at 8 ⊗ at 3 ⊖ at 6 ⊗ at 5) ⊕ at 2 ⊗ (at 6 ⊗ at 4 ⊖ at 7 ⊗ at 3)) tt
+turn-near v e f k = ring (pos k ∷ numbers v e f f) (triple_of (vec 1) (blend_of (at 0) (vec 1) (num (pos 1)) (vec 7)) (vec 4)) (triple_poly 1 7 4) tt
 
 turned-off : (v w e : Vector) → (triple v w e ≡ pos 0 → ⊥) → IsDirection (cross v w)
 turned-off v w e n z = n (triple-dot v w e ∙ zero-dot (cross v w) e z)
@@ -205,7 +158,7 @@ module _ (M : Map) (V : Shaped M) (k : ℕ) (v : MapVertex) (a : At M.svertices 
 
       by : (q : (r.arc.source ≡ k) ⊎ (r.arc.target ≡ k)) → pos 0 <ℤ dot (end_left r.arc q) d → (y : Vector) → OnItem M (arc_item r.arc) y → Reaches M (end_side r.number q) d y
       by (inl e) l y o = (arc_item r.arc, listed, o, l)
-      by (inr e) l y o = (arc_item r.arc, listed, o, let f = dot-opposite r.arc.normal d in omega (arith, ints))
+      by (inr e) l y o = (arc_item r.arc, listed, o, let f = opposite-dot r.arc.normal d in omega (arith, ints))
 
   module _ (r : ArcRay M k) where
     abbrev m : Vector
@@ -242,7 +195,7 @@ module _ (M : Map) (V : Shaped M) (k : ℕ) (v : MapVertex) (a : At M.svertices 
             let q = mul_pos (pos j) (triple p ray e) (omega (arith, ints)) (omega (arith, ints)) in
             let after : pos 0 <ℤ triple p w e = omega (arith, ints) in
             let l = dot-comb m (pos i) e (pos j) ray in
-            let z : pos j *ℤ dot m ray ≡ pos 0 = ap (λ x. pos j *ℤ x) (level_cross_first m p) ∙ ring (pos j ∷ []) (at 0 ⊗ num (pos 0)) (num (pos 0)) tt in
+            let z : pos j *ℤ dot m ray ≡ pos 0 = ap (λ x. pos j *ℤ x) (square-cross m p) ∙ ring (pos j ∷ []) (at 0 ⊗ num (pos 0)) (num (pos 0)) tt in
             let g = mul_pos (pos i) (dot m e) (omega (arith, ints)) h in
             free w (turned-off p w e (λ z. omega (arith, ints))) (omega (arith, ints)) after
 
@@ -255,7 +208,7 @@ module _ (M : Map) (V : Shaped M) (k : ℕ) (v : MapVertex) (a : At M.svertices 
           by (other_way w) = way.short (record { parallel = cross-turned p e w.parallel; backward = let c = dot-comm e p in let b = w.backward in omega (arith, ints) })
 
       in_sector : (w : Vector) → IsStrictlyOn p m (cross p e) (cross p w) → Unrayed M k p w
-      in_sector w o q s = none-between q (arcs_are_of_directions p m (cross p e) (cross p w) (ray_left q) hp (left-on r) (record { direction = apart; level = level_cross_first p e }) (SameDirection-turned (ray_left q) (cross p w) s) o)
+      in_sector w o q s = none-between q (arcs_are_of_directions p m (cross p e) (cross p w) (ray_left q) hp (left-on r) (record { direction = apart; level = square-cross p e }) (SameDirection-turned (ray_left q) (cross p w) s) o)
 
       -- by a turn at a direction close to the svertex
       turning : (f : Vector) → (pos 0 <ℤ dot m e → ⊥) → pos 0 <ℤ dot m f → (triple p e f ≡ pos 0 → ⊥) → ((i j : ℕ) → 0 < i → 0 < j → Unrayed M k p (blend i e j f)) → Sees M (ray_side r) e
@@ -308,7 +261,7 @@ module _ (M : Map) (V : Shaped M) (k : ℕ) (v : MapVertex) (a : At M.svertices 
           back = comb (negsuc 0) e (negsuc 0) ray
 
           ahead : pos 0 <ℤ dot m back
-          ahead = let l = dot-comb m (negsuc 0) e (negsuc 0) ray in let z = level_cross_first m p in omega (arith, ints)
+          ahead = let l = dot-comb m (negsuc 0) e (negsuc 0) ray in let z = square-cross m p in omega (arith, ints)
 
           turn-back : triple p back e ≡ triple p e ray
           turn-back = ring (p.x ∷ p.y ∷ p.z ∷ e.x ∷ e.y ∷ e.z ∷ ray.x ∷ ray.y ∷ ray.z ∷ [])

@@ -1,22 +1,10 @@
 -- What bounds the sector of a svertex in which a direction lies sees all that is close to the svertex toward it; and something bounds it.
-use Rattle.std.proofs.Common.{◌≡◌, ℕ, zero, suc, ◌≤◌, pos, ◌<ℤ◌, arith, refl, sym, ◌∙◌, ◌⊎◌, inl, inr, ⊎_elim, List, [], ◌∷◌, subst}
-use Rattle.std.proofs.lemmas.Int.{ints}
-use Rattle.nef_space.specs.Vectors.{Vector, IsDirection, dot, cross, opposite, SameDirection, blend}
-use Rattle.nef_space.specs.declared.label.Label.{Label}
-use Rattle.law_cyclic.specs.Arcs.{Passes, IsOnCircle}
+use Rattle.law_sphere.proofs.Prelude.{◌≡◌, ℕ, zero, suc, ◌≤◌, pos, ◌<ℤ◌, arith, refl, sym, ◌∙◌, ◌⊎◌, inl, inr, ⊎_elim, List, ◌∷◌, subst, [], ints, Vector, IsDirection, dot, cross, opposite, SameDirection, blend, Label, Passes, IsOnCircle, Decided, At, MapVertex, Arc, Map, arc_item, IsClear, Side, around_svertex, HasSide, dir_of, Sees, HasArc, Shaped, ArcRay, end_left, end_side, ray_left, ray_side, Unrayed, IsLastRay, IsLastSide, BoundsSector, forms, dot-comm, level-way, opposite-dot, square-cross, level_cross_second, SameDirection-turned, SameDirection-trans, dir-self, direction-left, blend-turned}
 use Rattle.law_cyclic.proofs.Cyclic.{ways_glue}
-use Rattle.law_cyclic.proofs.Directions.{dot-opposite, level-same, level_cross_first, level_cross_second}
-use Rattle.law_near.proofs.Decided.{Decided}
-use Rattle.law_near.proofs.Directions.{dot-comm}
-use Rattle.law_sphere.specs.Maps.{At, MapVertex, Arc, Map, arc_item, IsClear, Side, around_svertex, HasSide, dir_of, Sees, HasArc, Shaped}
-use Rattle.law_sphere.specs.Sectors.{ArcRay, end_left, end_side, ray_left, ray_side, Unrayed, IsLastRay, IsLastSide, BoundsSector}
-use Rattle.law_sphere.specs.Forms.{forms}
 use Rattle.law_sphere.proofs.Generic.{amount, far-keeps}
 use Rattle.law_sphere.proofs.Places.{IsStrictlyOn-decided}
 use Rattle.law_sphere.proofs.Shot.{dir-at}
-use Rattle.law_sphere.proofs.StepOff.{blend-turned}
-use Rattle.law_sphere.proofs.Compare.{SameDirection-turned, SameDirection-trans, dir-self}
-use Rattle.law_sphere.proofs.Turn.{dir-directed, IsStrictlyOn-same}
+use Rattle.law_sphere.proofs.Turn.{IsStrictlyOn-same}
 use Rattle.law_sphere.proofs.Arcs.{at-arc}
 use Rattle.law_sphere.proofs.Lone.{sees-around}
 use Rattle.law_sphere.proofs.Unique.{eq-decided, HasArc-decided}
@@ -47,7 +35,7 @@ module _ (M : Map) (V : Shaped M) (k : ℕ) (v : MapVertex) (a : At M.svertices 
   near-way : Unrayed M k p e → (n : ℕ) → amount (forms M) e ≤ n → IsClear M (blend n p 1 e) p
   near-way free n large =
       let w = blend n p 1 e in
-      near-clear M V k v a w (far-keeps (forms M) p e n large) (dir-directed (cross p w) (cross p e) (same-near n)) (λ r z. free r (SameDirection-trans (ray_left r) (cross p w) (cross p e) z (same-near n)))
+      near-clear M V k v a w (far-keeps (forms M) p e n large) (direction-left (cross p w) (cross p e) (same-near n)) (λ r z. free r (SameDirection-trans (ray_left r) (cross p w) (cross p e) z (same-near n)))
 
   -- where no ray lies between a ray and the direction, the ray's side sees what is close toward it
   pub ray-sees : (q : ArcRay M k) → Unrayed M k p e → IsLastRay M k p e q → SeesNear M (ray_side q) p e
@@ -67,7 +55,7 @@ module _ (M : Map) (V : Shaped M) (k : ℕ) (v : MapVertex) (a : At M.svertices 
   later q r = ⊎_elim
       (λ o. (
         r,
-        (λ x n b. n (ways_glue p (ray_left q) (ray_left r) (ray_left x) (cross p e) (record { axis = hp; first = circle q; second = circle r; third = circle x; fourth = record { direction = off; level = level_cross_first p e } }) o b)),
+        (λ x n b. n (ways_glue p (ray_left q) (ray_left r) (ray_left x) (cross p e) (record { axis = hp; first = circle q; second = circle r; third = circle x; fourth = record { direction = off; level = square-cross p e } }) o b)),
         (λ b. b.not_source (itself r)),
       ))
       (λ n. (q, (λ x m. m), n))
@@ -132,11 +120,11 @@ module _ (M : Map) (V : Shaped M) (k : ℕ) (v : MapVertex) (a : At M.svertices 
     unrayed-ahead r w = by r.arc r.number r.listed r.end w
       where
         level : (n : Vector) → SameDirection n (cross p e) → dot n e ≡ pos 0
-        level n w = dot-comm n e ∙ level-same e (cross p e) n (SameDirection-turned n (cross p e) w) (level_cross_second p e)
+        level n w = dot-comm n e ∙ level-way e (cross p e) n (SameDirection-turned n (cross p e) w) (level_cross_second p e)
 
         by : (b : Arc) (j : ℕ) → At M.arcs j b → (q : (b.source ≡ k) ⊎ (b.target ≡ k)) → SameDirection (end_left b q) (cross p e) → ⊥
         by b j l (inl x) w = let z = level b.normal w in let h = ahead j b l in omega (arith, ints)
-        by b j l (inr x) w = let z = level (opposite b.normal) w in let h = ahead j b l in let r = dot-opposite b.normal e in omega (arith, ints)
+        by b j l (inr x) w = let z = level (opposite b.normal) w in let h = ahead j b l in let r = opposite-dot b.normal e in omega (arith, ints)
 
 -- WHAT BOUNDS THE SECTOR IN WHICH A DIRECTION LIES SEES WHAT IS CLOSE TO THE SVERTEX TOWARD IT
 pub bounds-sees : (M : Map) → Shaped M → (k : ℕ) (e : Vector) (o : Side) → BoundsSector M k e o → SeesNear M o (dir_of M.svertices k) e

@@ -1,18 +1,9 @@
 -- The first thing that is met on the way from a free direction to a well chosen point of an item, from a definite side.
-use Rattle.std.proofs.Common.{◌≡◌, ℕ, zero, suc, ◌+◌, ◌*◌, ◌<◌, ℤ, pos, ◌+ℤ◌, ◌*ℤ◌, ◌<ℤ◌, nat_abs, arith, refl, ap, sym, ◌∙◌, ⊎_elim, List, [], ◌∷◌, subst, Option, Some, None}
-use Rattle.std.proofs.lemmas.Int.{ints, unsigned_abs-mul}
-use Rattle.std.proofs.Math.Nat.{mul-pos}
-use Rattle.nef_space.proofs.Ring.{ring, at, num, ◌⊕◌, ◌⊖◌, ◌⊗◌}
-use Rattle.nef_space.proofs.Order.{sign, nought-is, by_order}
-use Rattle.nef_space.specs.Vectors.{Vector, IsDirection, cross, dot, blend}
-use Rattle.nef_space.proofs.Order.{sign-scaled}
-use Rattle.law_sphere.specs.Maps.{At, MapVertex, Arc, MapSloop, Map, Item, arc_item, sloop_item, items, items_then, item_normal, dir_of, OnItem, Shaped}
+use Rattle.law_sphere.proofs.Prelude.{◌≡◌, ℕ, zero, suc, ◌+◌, ◌*◌, ◌<◌, ℤ, pos, ◌+ℤ◌, ◌*ℤ◌, ◌<ℤ◌, nat_abs, arith, refl, ap, sym, ◌∙◌, ⊎_elim, List, ◌∷◌, subst, Option, Some, None, [], ints, unsigned_abs-mul, mul-pos, ring, at, num, ◌⊕◌, ◌⊗◌, sign, nought-is, by_order, nought-or, Vector, IsDirection, cross, dot, blend, sign-scaled, At, MapVertex, Arc, MapSloop, Map, Item, arc_item, sloop_item, items, items_then, item_normal, dir_of, OnItem, Shaped, dot-comm, left-of, square-cross}
 use Rattle.law_sphere.proofs.Vectors.{normal-is, dot-comb}
-use Rattle.law_near.proofs.Far.{nought-or}
 use Rattle.law_sphere.proofs.Generic.{SameSigns, amount}
 use Rattle.law_sphere.proofs.Forms.{item_forms, on-level, OnItem-decided, OnItem-by_signs}
 use Rattle.law_sphere.proofs.Parallel.{circle-point, past_source, arc-point}
-use Rattle.law_near.proofs.Flats.{vector-same}
 
 pub product-off : (k x : ℤ) → pos 0 <ℤ k → (x ≡ pos 0 → ⊥) → k *ℤ x ≡ pos 0 → ⊥
 product-off k x h f z = f (nought-is x (sym (sign-scaled k x h) ∙ ap sign z))
@@ -65,13 +56,6 @@ module _ (M : Map) (d : Vector) where
 
   abbrev pub Unmet : Vector → Item → Type 0
   Unmet c x = (i j : ℕ) → 0 < i → 0 < j → OnItem M x (blend i d j c) → ⊥
-
-  -- a target between: nearer ones meet no more
-  pub nearer-is : (i j a b : ℕ) (c : Vector) → blend (i + j * a) d (j * b) c ≡ blend i d j (blend a d b c)
-  nearer-is i j a b c = vector-same (blend (i + j * a) d (j * b) c) (blend i d j (blend a d b c)) (one d.x c.x) (one d.y c.y) (one d.z c.z)
-    where
-      one : (x y : ℤ) → pos (i + j * a) *ℤ x +ℤ pos (j * b) *ℤ y ≡ pos i *ℤ x +ℤ pos j *ℤ (pos a *ℤ x +ℤ pos b *ℤ y)
-      one x y = ring (pos i ∷ pos j ∷ pos a ∷ pos b ∷ x ∷ y ∷ []) ((at 0 ⊕ at 1 ⊗ at 2) ⊗ at 4 ⊕ at 1 ⊗ at 3 ⊗ at 5) (at 0 ⊗ at 4 ⊕ at 1 ⊗ (at 2 ⊗ at 4 ⊕ at 3 ⊗ at 5)) tt
 
   module _ (k : ℕ) (x : Item) (here : At (items M) k x) (c : Vector) (t : Target c) where
     abbrev n : Vector
@@ -128,25 +112,21 @@ module _ (M : Map) (d : Vector) where
       on = o;
       across = f;
       flat = λ l y h z e. let a = some-p f in product-off (pos p) (dot (item_normal y) c) (omega (arith, ints)) (t.flat l y h z) (less (item_normal y) z e);
-      off = λ l v h g e. let a = some-p f in product-off (pos p) (dot (cross d v.dir) c) (omega (arith, ints)) (t.off l v h g) (less (cross d v.dir) (square d v.dir) e);
+      off = λ l v h g e. let a = some-p f in product-off (pos p) (dot (cross d v.dir) c) (omega (arith, ints)) (t.off l v h g) (less (cross d v.dir) (dot-comm (cross d v.dir) d ∙ square-cross d v.dir) e);
     }
       where
         less : (g : Vector) → dot g d ≡ pos 0 → dot g meet ≡ pos 0 → pos p *ℤ dot g c ≡ pos 0
         less g z e = let a = dot-comb g (pos q) d (pos p) c in let b = ap (λ r. pos q *ℤ r) z in let u = ring (pos q ∷ []) (at 0 ⊗ num (pos 0)) (num (pos 0)) tt in omega (arith, ints)
 
-        square : (u v : Vector) → dot (cross u v) u ≡ pos 0
-        square u v = ring (u.x ∷ u.y ∷ u.z ∷ v.x ∷ v.y ∷ v.z ∷ []) ((at 1 ⊗ at 5 ⊖ at 2 ⊗ at 4) ⊗ at 0 ⊕ (at 2 ⊗ at 3 ⊖ at 0 ⊗ at 5) ⊗ at 1 ⊕ (at 0 ⊗ at 4 ⊖ at 1 ⊗ at 3) ⊗ at 2) (num (pos 0)) tt
-
     unmet-here : (dot n d ≡ pos 0 → ⊥) → OnItem M x meet → Unmet meet x
     unmet-here f o i j si sj y =
         let e = sym (dot-comb n (pos i) d (pos j) meet) ∙ on-level M x (blend i d j meet) y in
         let a = ap (λ r. pos j *ℤ r) (on-level M x meet o) in
-        let b = ring (pos j ∷ []) (at 0 ⊗ num (pos 0)) (num (pos 0)) tt in
         product-off (pos i) (dot n d) (omega (arith, ints)) f (omega (arith, ints))
 
     unmet-before : (dot n d ≡ pos 0 → ⊥) → (y : Item) → Unmet c y → Unmet meet y
     unmet-before f y u i j si sj o = let a = some-p f in
-        u (i + j * q) (j * p) (omega arith) (mul-pos sj a) (subst (OnItem M y) (sym (nearer-is i j q p c)) o)
+        u (i + j * q) (j * p) (omega arith) (mul-pos sj a) (subst (OnItem M y) (sym (left-of i j q p d c)) o)
 
   pub record Shot (xs : List Item) : Type 0 where
     pub at_vector : Vector

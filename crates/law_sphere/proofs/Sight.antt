@@ -1,21 +1,11 @@
 -- Every free direction is seen, and one side sees both ends of a clear way.
-use Rattle.std.proofs.Common.{◌≡◌, ℕ, zero, suc, ◌+◌, ◌<◌, pos, ◌<ℤ◌, arith, refl, ap, ◌∙◌, ◌⊎◌, inl, inr, ⊎_elim, List, [], ◌∷◌, subst, Option, Some, None}
-use Rattle.std.proofs.lemmas.Int.{ints}
-use Rattle.nef_space.proofs.Ring.{ring, at, num, ◌⊕◌, ◌⊖◌, ◌⊗◌}
-use Rattle.nef_space.proofs.Order.{sign, sign-scaled}
-use Rattle.nef_space.specs.Vectors.{Vector, cross, dot, IsZero, SameDirection, blend}
-use Rattle.nef_space.specs.declared.label.Label.{Label}
-use Rattle.law_sphere.specs.Maps.{At, MapVertex, Arc, MapSloop, Map, Item, arc_item, sloop_item, items, items_then, item_normal, IsFree, Side, around_svertex, whole, HasSide, IsClear, Sees, directly, by_way_of, SeenAs, Shaped, Valid, here, link}
+use Rattle.law_sphere.proofs.Prelude.{◌≡◌, ℕ, zero, suc, ◌+◌, ◌<◌, pos, ◌<ℤ◌, arith, refl, ap, ◌∙◌, ◌⊎◌, inl, inr, ⊎_elim, List, ◌∷◌, subst, Option, Some, None, [], ints, ring, at, ◌⊕◌, ◌⊗◌, sign, sign-scaled, nought-or, Vector, dot, SameDirection, blend, Label, At, MapVertex, Arc, MapSloop, Map, Item, arc_item, sloop_item, items, items_then, item_normal, IsFree, Side, around_svertex, whole, HasSide, IsClear, Sees, directly, by_way_of, SeenAs, Shaped, Valid, here, link, decided-not, self-pos, cross-turned, cross-self, blend-turned}
 use Rattle.law_sphere.proofs.Vectors.{normal-is, dot-comb}
-use Rattle.law_near.proofs.Far.{nought-or}
-use Rattle.law_near.proofs.Directions.{self-pos}
 use Rattle.law_sphere.proofs.Generic.{SameSigns}
 use Rattle.law_sphere.proofs.Lists.{Found, search_list}
-use Rattle.law_near.proofs.Decided.{decided-not}
 use Rattle.law_sphere.proofs.Forms.{forms, free-by_signs}
-use Rattle.law_near.proofs.FlatDecided.{cross-turned}
 use Rattle.law_sphere.proofs.Direct.{direct}
-use Rattle.law_sphere.proofs.StepOff.{outlook, outlook-free, outlook-clear, outlook-svertex, blend-turned}
+use Rattle.law_sphere.proofs.StepOff.{outlook, outlook-free, outlook-clear, outlook-svertex}
 
 -- ---- clear ways
 pub clear-turned : (M : Map) (a b : Vector) → IsClear M a b → IsFree M b → IsClear M b a
@@ -101,7 +91,7 @@ module _ (M : Map) (V : Shaped M) where
       let H = outlook-free M ds V o 0 d refl F.direction in
       let h = V.svertex_dirs k v a in
       let c = outlook-svertex M ds V o H n (suc (suc zero)) v.dir refl h in
-      let w : SameDirection v.dir v.dir = record { parallel = self-parallel v.dir; forward = self-pos v.dir h } in
+      let w : SameDirection v.dir v.dir = record { parallel = cross-self v.dir; forward = self-pos v.dir h } in
       let r = V.around_lone k v a (λ t. empty-arcs M.arcs M.sloop n t.0 t.1 t.2) in
       record {
         side = around_svertex k;
@@ -110,13 +100,6 @@ module _ (M : Map) (V : Shaped M) where
         left = by_way_of o.vector v.dir (outlook-clear M ds V o 0 d refl F.direction F (λ l y b. absurd (n l y b))) c (v, a, w);
         right = by_way_of o.vector v.dir (outlook-clear M ds V o (suc zero) e refl G.direction G (λ l y b. absurd (n l y b))) c (v, a, w);
       }
-    where
-      self-parallel : (v : Vector) → IsZero (cross v v)
-      self-parallel v = let xs = v.x ∷ v.y ∷ v.z ∷ [] in (
-        ring xs (at 1 ⊗ at 2 ⊖ at 2 ⊗ at 1) (num (pos 0)) tt,
-        ring xs (at 2 ⊗ at 0 ⊖ at 0 ⊗ at 2) (num (pos 0)) tt,
-        ring xs (at 0 ⊗ at 1 ⊖ at 1 ⊗ at 0) (num (pos 0)) tt,
-      )
 
   by_ground : (d e : Vector) → IsFree M d → IsFree M e → ((k : ℕ) (x : Item) → At (items M) k x → ⊥) → ((k : ℕ) (v : MapVertex) → At M.svertices k v → ⊥) → SeesBoth M d e
   by_ground d e F G n s =

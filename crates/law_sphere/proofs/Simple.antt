@@ -1,14 +1,9 @@
 -- The maps of one label and of one plane: they are well shaped, and agree with what has their labels.
-use Rattle.std.proofs.Common.{◌≡◌, ℕ, zero, suc, arith, refl, ap, sym, ◌∙◌, inl, [], ◌∷◌, subst, Option, Some, None}
-use Rattle.nef_space.proofs.Order.{sign}
-use Rattle.nef_space.specs.Vectors.{Vector, IsDirection, cross, dot, IsNormal, blend}
-use Rattle.nef_space.specs.declared.label.Label.{Label}
-use Rattle.law_sphere.specs.Maps.{At, MapSloop, Map, Item, sloop_item, items, item_normal, item_pos, item_mark, item_neg, OnItem, IsFree, Shaped, Valid}
-use Rattle.law_sphere.specs.Least.{by_side, Least}
-use Rattle.law_sphere.specs.Labelling.{Labelling, Near, Plain, Agrees}
+use Rattle.law_sphere.proofs.Prelude.{◌≡◌, ℕ, zero, suc, arith, refl, ap, sym, ◌∙◌, inl, ◌∷◌, subst, Some, None, [], sign, Vector, IsDirection, cross, dot, IsNormal, blend, Label, At, MapSloop, Map, Item, sloop_item, items, item_normal, item_pos, item_mark, item_neg, OnItem, IsFree, Shaped, Valid, by_side, Least, Labelling, Near, Plain, Agrees}
 use Rattle.law_sphere.proofs.Generic.{amount, far-keeps, far-level}
 use Rattle.law_sphere.proofs.Walk.{between-direction}
 use Rattle.law_sphere.proofs.Built.{agrees-valid}
+use Rattle.law_sphere.proofs.Lists.{some-some}
 
 -- ---- one label
 abbrev pub ground_map : Label → Label → Map
@@ -37,13 +32,6 @@ ground-agrees k g F all one = record {
   free = λ d G m f e h. (1, λ i l. subst (F (blend i d 1 e)) (one d g m G.direction (all d G.direction) f) (all (blend i d 1 e) (between-direction d e i 1 (omega arith) h)));
   ground = λ m d e h. subst (F d) (some-some g m e) (all d h);
 }
-  where
-    some-some : (x y : Label) → ◌≡◌ {A = Option Label} (Some x) (Some y) → x ≡ y
-    some-some x y e = ap (get x) e
-      where
-        get : Label → Option Label → Label
-        get d None = d
-        get d (Some z) = z
 
 -- ---- one plane
 abbrev pub sloop_map : Label → MapSloop → Map

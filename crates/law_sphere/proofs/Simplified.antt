@@ -1,26 +1,11 @@
 -- A simplified star at a plain direction has no ray; at a straight direction all its rays lie in the plane.
-use Rattle.std.proofs.Common.{◌≡◌, ℕ, zero, suc, ◌+◌, ℤ, pos, negsuc, ◌+ℤ◌, ◌*ℤ◌, ◌<ℤ◌, arith, refl, ap, sym, ◌∙◌, ◌⊎◌, inl, inr, ⊎_elim, List, [], ◌∷◌, subst, length, Bool, true, false, cond}
-use Rattle.std.proofs.lemmas.Int.{ints}
-use Rattle.nef_space.proofs.Ring.{ring, at, num, ◌⊕◌, ◌⊖◌, ◌⊗◌}
-use Rattle.nef_space.proofs.Combination.{follows, given, none}
-use Rattle.nef_space.proofs.Order.{sign, mul_pos}
-use Rattle.nef_space.specs.Vectors.{Vector, IsDirection, cross, dot, IsZero, SameDirection}
-use Rattle.nef_space.specs.declared.label.Label.{Label}
-use Rattle.law_sphere.specs.Maps.{At, Map, NearLabel, Valid}
-use Rattle.law_cyclic.specs.Arcs.{IsStrictlyOn}
-use Rattle.law_sphere.specs.Least.{by_side, NearPlain, NearStraight}
-use Rattle.law_sphere.specs.Stars.{Ray, Star, ray_dir, across, NextRay, on_ray, in_sector, IsRay, StarShows, Follows, IsSimplified}
-use Rattle.law_sphere.proofs.Vectors.{normal-direction, nought-if}
-use Rattle.law_near.proofs.Far.{nought-or}
-use Rattle.law_near.proofs.Directions.{self-pos, dot-comm}
+use Rattle.law_sphere.proofs.Prelude.{◌≡◌, ℕ, zero, suc, ◌+◌, ℤ, pos, ◌*ℤ◌, ◌<ℤ◌, arith, refl, ap, sym, ◌∙◌, ◌⊎◌, inl, inr, ⊎_elim, List, ◌∷◌, subst, length, Bool, true, false, cond, [], ints, ring, at, num, ◌⊕◌, ◌⊖◌, ◌⊗◌, follows, given, none, sign, mul_pos, nought-or, Vector, IsDirection, cross, dot, IsZero, SameDirection, opposite, Label, At, Map, NearLabel, Valid, IsStrictlyOn, by_side, NearPlain, NearStraight, Ray, Star, ray_dir, across, NextRay, on_ray, in_sector, IsRay, StarShows, Follows, IsSimplified, dot-comm, self-pos, nought-if, dir-self, apart, direction-opposite, opposite-dot, opposite-twice}
+use Rattle.law_sphere.proofs.Vectors.{normal-direction}
 use Rattle.law_sphere.proofs.Generic.{amount, far-keeps}
-use Rattle.law_sphere.proofs.Parallel.{past_source, arc-point, apart}
-use Rattle.law_near.proofs.Flats.{vector-same}
+use Rattle.law_sphere.proofs.Parallel.{past_source, arc-point}
 use Rattle.law_sphere.proofs.Labels.{near-unique}
-use Rattle.law_sphere.proofs.Compare.{dir-self}
 use Rattle.law_sphere.proofs.Turn.{IsStrictlyOn-same}
-use Rattle.law_sphere.proofs.Kind.{away}
-use Rattle.law_sphere.proofs.Flips.{away-direction, dot-away, reversed}
+use Rattle.law_sphere.proofs.Flips.{reversed}
 
 -- what is at right angles to the axis goes the way of its part across
 pub across-same : (d e : Vector) → IsDirection d → IsDirection e → dot d e ≡ pos 0 → SameDirection e (across d e)
@@ -88,13 +73,6 @@ ray-level t axis r = by r.ahead
       λ z. normal-direction r.normal q.normal (nought-if t.axis r.normal axis z (dot-comm t.axis r.normal ∙ q.level)),
     )
 
--- the other way round twice
-pub away-twice : (d : Vector) → away (away d) ≡ d
-away-twice d = vector-same (away (away d)) d (one d.x) (one d.y) (one d.z)
-  where
-    one : (x : ℤ) → negsuc 0 *ℤ (negsuc 0 *ℤ x +ℤ pos 0 *ℤ x) +ℤ pos 0 *ℤ (negsuc 0 *ℤ x +ℤ pos 0 *ℤ x) ≡ x
-    one x = ring (x ∷ []) (num (negsuc 0) ⊗ (num (negsuc 0) ⊗ at 0 ⊕ num (pos 0) ⊗ at 0) ⊕ num (pos 0) ⊗ (num (negsuc 0) ⊗ at 0 ⊕ num (pos 0) ⊗ at 0)) (at 0) tt
-
 module _ (t : Star) (M : Map) (V : Valid M) (S : StarShows t M) (simple : IsSimplified t) where
   abbrev d : Vector
   d = t.axis
@@ -140,19 +118,19 @@ module _ (t : Star) (M : Map) (V : Valid M) (S : StarShows t M) (simple : IsSimp
     before-ray q j b =
         let x = way-level k r a in
         let y = way-level j q b in
-        let m = away d in
-        let hm = away-direction d S.axis in
+        let m = opposite d in
+        let hm = direction-opposite d S.axis in
         let c = cross m w in
         let K = amount (cross (ray_dir t q) m ∷ []) c + amount (u ∷ []) c in
-        let lx : dot m w ≡ pos 0 = (let e = dot-away d w in let z = x.0 in omega (arith, ints)) in
-        let ly : dot m (ray_dir t q) ≡ pos 0 = (let e = dot-away d (ray_dir t q) in let z = y.0 in omega (arith, ints)) in
+        let lx : dot m w ≡ pos 0 = (let e = opposite-dot d w in let z = x.0 in omega (arith, ints)) in
+        let ly : dot m (ray_dir t q) ≡ pos 0 = (let e = opposite-dot d (ray_dir t q) in let z = y.0 in omega (arith, ints)) in
         let e = past_source m w K in
         let o = arc-point m w (ray_dir t q) hm x.1 y.1 lx ly K (omega arith) in
         let p = reversed m w (ray_dir t q) e x.1 o in
-        (e, IsStrictlyOn-same (away m) d (ray_dir t q) (ray_dir t q) w w e e (twice d S.axis) (dir-self (ray_dir t q) y.1) (dir-self w x.1) (dir-self e o.on_circle.direction) p, far-keeps (u ∷ []) w c K (omega arith) u (inl refl) f)
+        (e, IsStrictlyOn-same (opposite m) d (ray_dir t q) (ray_dir t q) w w e e (twice d S.axis) (dir-self (ray_dir t q) y.1) (dir-self w x.1) (dir-self e o.on_circle.direction) p, far-keeps (u ∷ []) w c K (omega arith) u (inl refl) f)
       where
-        twice : (d : Vector) → IsDirection d → SameDirection (away (away d)) d
-        twice d h = subst (λ (v : Vector). SameDirection v d) (sym (away-twice d)) (dir-self d h)
+        twice : (d : Vector) → IsDirection d → SameDirection (opposite (opposite d)) d
+        twice d h = subst (λ (v : Vector). SameDirection v d) (sym (opposite-twice d)) (dir-self d h)
 
   -- one label on a ray and close to it on both sides: not in a simplified star
   pub not-even : (k : ℕ) (r : Ray) (a : At t.rays k r) (u : Vector) → (dot u (ray_dir t r) ≡ pos 0 → ⊥) → (m : Label) → NearLabel M d (ray_dir t r) m

@@ -1,19 +1,11 @@
 -- Where neither of two maps has a svertex and no items cross, an operation on them is plain or straight.
-use Rattle.std.proofs.Common.{◌≡◌, ℕ, ◌+◌, arith, refl, ap, sym, ◌∙◌, subst}
-use Rattle.nef_space.proofs.Order.{Sign, minus, nought, plus, sign}
-use Rattle.nef_space.specs.Vectors.{Vector, IsDirection, cross, dot, IsZero, SameDirection}
-use Rattle.nef_space.specs.declared.label.Label.{Label}
-use Rattle.law_sphere.specs.Maps.{At, MapVertex, Map, Item, items, item_normal, item_pos, item_mark, item_neg, OnItem, IsFree, on_item, NearLabel, Valid}
-use Rattle.law_sphere.specs.Least.{by_side}
-use Rattle.law_sphere.specs.Labelling.{Near, ByOp, IsSmooth, plain, straight}
-use Rattle.law_sphere.proofs.Vectors.{normal-is}
-use Rattle.law_near.proofs.Directions.{dot-comm}
+use Rattle.law_sphere.proofs.Prelude.{ℕ, ◌+◌, arith, refl, ap, sym, ◌∙◌, subst, sign, Vector, IsDirection, cross, dot, IsZero, SameDirection, Label, At, MapVertex, Map, Item, items, item_normal, item_pos, item_mark, item_neg, OnItem, IsFree, on_item, NearLabel, Valid, by_side, Near, ByOp, IsSmooth, plain, straight, dot-comm, dir-signs, direction-left}
+use Rattle.law_sphere.proofs.Vectors.{normal-is, even-side, op-side}
 use Rattle.law_sphere.proofs.Forms.{on-level, PlaceOf, svertex_place, item_place, free_place, place_of}
-use Rattle.law_sphere.proofs.Labels.{label-exists, dir-signs}
+use Rattle.law_sphere.proofs.Labels.{label-exists}
 use Rattle.law_sphere.proofs.Around.{Beside, same_way, other_way, beside}
 use Rattle.law_sphere.proofs.NearItems.{near-free, near-item}
 use Rattle.law_sphere.proofs.Compare.{normals-not_opposite}
-use Rattle.law_sphere.proofs.Turn.{dir-directed}
 
 module _ (A B : Map) (op : Label → Label → Label) (V : Valid A) (W : Valid B) (d : Vector) (h : IsDirection d) where
   abbrev F : Vector → Label → Type 0
@@ -21,16 +13,6 @@ module _ (A B : Map) (op : Label → Label → Label) (V : Valid A) (W : Valid B
 
   near-op : (e : Vector) (k l : Label) → NearLabel A d e k → NearLabel B d e l → Near F d e (op k l)
   near-op e k l (i, f) (j, g) = (i + j, λ n s. (k, l, f n (omega arith), g n (omega arith), refl))
-
-  op-side : (a m b c o g : Label) (s : Sign) → op (by_side a m b s) (by_side c o g s) ≡ by_side (op a c) (op m o) (op b g) s
-  op-side a m b c o g minus = refl
-  op-side a m b c o g nought = refl
-  op-side a m b c o g plus = refl
-
-  flat-side : (m : Label) (s : Sign) → by_side m m m s ≡ m
-  flat-side m minus = refl
-  flat-side m nought = refl
-  flat-side m plus = refl
 
   free-free : IsFree A d → IsFree B d → IsSmooth F d
   free-free f g =
@@ -44,7 +26,7 @@ module _ (A B : Map) (op : Label → Label → Label) (V : Valid A) (W : Valid B
         level = on-level A x d o;
         at_d = (item_mark x, b.0, on_item i x q o refl, b.1, refl);
         near = λ e. let s = sign (dot (item_normal x) e) in
-            subst (Near F d e) (ap (op (by_side (item_pos x) (item_mark x) (item_neg x) s)) (sym (flat-side b.0 s)) ∙ op-side (item_pos x) (item_mark x) (item_neg x) b.0 b.0 b.0 s)
+            subst (Near F d e) (ap (op (by_side (item_pos x) (item_mark x) (item_neg x) s)) (sym (even-side b.0 s)) ∙ op-side op (item_pos x) (item_mark x) (item_neg x) b.0 b.0 b.0 s)
             (near-op e _ b.0 (near-item A V d i x q o e) (near-free B W d g b.0 b.1 e));
       })
 
@@ -55,7 +37,7 @@ module _ (A B : Map) (op : Label → Label → Label) (V : Valid A) (W : Valid B
         level = on-level B y d o;
         at_d = (a.0, item_mark y, a.1, on_item j y r o refl, refl);
         near = λ e. let s = sign (dot (item_normal y) e) in
-            subst (Near F d e) (ap (λ u. op u (by_side (item_pos y) (item_mark y) (item_neg y) s)) (sym (flat-side a.0 s)) ∙ op-side a.0 a.0 a.0 (item_pos y) (item_mark y) (item_neg y) s)
+            subst (Near F d e) (ap (λ u. op u (by_side (item_pos y) (item_mark y) (item_neg y) s)) (sym (even-side a.0 s)) ∙ op-side op a.0 a.0 a.0 (item_pos y) (item_mark y) (item_neg y) s)
             (near-op e a.0 _ (near-free A V d f a.0 a.1 e) (near-item B W d j y r o e));
       })
 
@@ -68,8 +50,8 @@ module _ (A B : Map) (op : Label → Label → Label) (V : Valid A) (W : Valid B
         level = on-level A x d o;
         at_d = (item_mark x, item_mark y, on_item i x q o refl, on_item j y r p refl, refl);
         near = λ e. let s = sign (dot (item_normal x) e) in
-            let t = ap sign (dot-comm (item_normal y) e) ∙ dir-signs (item_normal x) (item_normal y) e (dir-directed (item_normal x) (item_normal y) w) w ∙ ap sign (dot-comm e (item_normal x)) in
-            subst (Near F d e) (ap (λ u. op (by_side (item_pos x) (item_mark x) (item_neg x) s) (by_side (item_pos y) (item_mark y) (item_neg y) u)) t ∙ op-side (item_pos x) (item_mark x) (item_neg x) (item_pos y) (item_mark y) (item_neg y) s)
+            let t = ap sign (dot-comm (item_normal y) e) ∙ dir-signs (item_normal x) (item_normal y) e (direction-left (item_normal x) (item_normal y) w) w ∙ ap sign (dot-comm e (item_normal x)) in
+            subst (Near F d e) (ap (λ u. op (by_side (item_pos x) (item_mark x) (item_neg x) s) (by_side (item_pos y) (item_mark y) (item_neg y) u)) t ∙ op-side op (item_pos x) (item_mark x) (item_neg x) (item_pos y) (item_mark y) (item_neg y) s)
             (near-op e _ _ (near-item A V d i x q o e) (near-item B W d j y r p e));
       })
 

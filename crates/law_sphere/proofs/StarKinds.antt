@@ -1,23 +1,7 @@
 -- A plain star says that the direction is plain, a straight star that it is straight.
-use Rattle.std.proofs.Common.{◌≡◌, ℕ, zero, suc, pos, ◌-ℤ◌, ◌*ℤ◌, ◌<ℤ◌, arith, refl, ap, sym, ◌∙◌, ◌⊎◌, inl, inr, ⊎_elim, List, [], ◌∷◌, subst, length, cond}
-use Rattle.std.proofs.lemmas.Int.{ints}
-use Rattle.nef_space.proofs.Ring.{ring, at, num, ◌⊕◌, ◌⊖◌, ◌⊗◌}
-use Rattle.nef_space.proofs.Combination.{follows, given, none}
-use Rattle.nef_space.proofs.Order.{minus, nought, plus, sign, sign-plus, sign-minus, mul_pos, sign-scaled}
-use Rattle.nef_space.specs.Vectors.{Vector, IsDirection, cross, triple, dot, IsZero, SameDirection, IsOpposite, IsNormal}
-use Rattle.nef_space.specs.declared.label.Label.{Label}
-use Rattle.law_sphere.specs.Maps.{At, Map, NearLabel}
-use Rattle.law_cyclic.specs.Arcs.{IsStrictlyOn}
-use Rattle.law_sphere.specs.Least.{by_side, NearPlain, NearStraight}
-use Rattle.law_sphere.specs.Stars.{Ray, Star, ray_dir, across, OnRay, NextRay, StarLabel, on_ray, in_sector, in_only_sector, IsRay, StarOf, IsPlain, IsStraight}
-use Rattle.law_near.proofs.FlatDecided.{cross-turned}
+use Rattle.law_sphere.proofs.Prelude.{◌≡◌, ℕ, zero, suc, pos, ◌-ℤ◌, ◌*ℤ◌, ◌<ℤ◌, arith, refl, ap, sym, ◌∙◌, ◌⊎◌, inl, inr, ⊎_elim, List, ◌∷◌, subst, length, cond, [], ints, num, ◌⊖◌, ◌⊗◌, neg, follows, given, none, minus, nought, plus, sign, sign-plus, sign-minus, sign-scaled, Vector, IsDirection, cross, triple, dot, SameDirection, IsOpposite, IsNormal, Label, At, Map, NearLabel, IsStrictlyOn, by_side, NearPlain, NearStraight, Ray, Star, ray_dir, across, OnRay, NextRay, StarLabel, on_ray, in_sector, in_only_sector, IsRay, StarOf, IsPlain, IsStraight, dot-comm, self-pos, cross-turned, dir-signs, direction-left, cross_of, dir-self, dot_poly, from-opposite, level_cross_second, nought-if, numbers, opposite-cross, square-cross, triple_of, vec}
 use Rattle.law_sphere.proofs.Vectors.{normal-direction}
-use Rattle.law_near.proofs.Directions.{dot-comm, self-pos}
-use Rattle.law_sphere.proofs.Labels.{dir-signs}
-use Rattle.law_sphere.proofs.Turn.{dir-directed}
-
-pub none-at : {A : Type 0} (xs : List A) (k : ℕ) (x : A) → xs ≡ [] → At xs k x → ⊥
-none-at {A} xs k x e a = subst (λ (r : List A). At r k x) e a
+use Rattle.law_sphere.proofs.Lists.{none-at}
 
 pub plain-star : (t : Star) (M : Map) (d : Vector) → StarOf t M d → IsPlain t → NearPlain M d
 plain-star t M d S P = record { label = t.mark; at_d = S.mark; near = λ e f. by e (S.labels e f) }
@@ -43,31 +27,14 @@ star-plain M d P = (
 -- ---- the sides of a straight star
 -- where n is at right angles to d: n.across(d, e) = (d.d)(n.e)
 pub across-side : (n d e : Vector) → dot n d ≡ pos 0 → dot n (across d e) ≡ dot d d *ℤ dot n e
-across-side n d e z =
-    let nx = at 0 in let ny = at 1 in let nz = at 2 in let dx = at 3 in let dy = at 4 in let dz = at 5 in let ex = at 6 in let ey = at 7 in let ez = at 8 in
-    let cx = dy ⊗ ez ⊖ dz ⊗ ey in let cy = dz ⊗ ex ⊖ dx ⊗ ez in let cz = dx ⊗ ey ⊖ dy ⊗ ex in
-    follows (n.x ∷ n.y ∷ n.z ∷ d.x ∷ d.y ∷ d.z ∷ e.x ∷ e.y ∷ e.z ∷ [])
-    (nx ⊗ (cy ⊗ dz ⊖ cz ⊗ dy) ⊕ ny ⊗ (cz ⊗ dx ⊖ cx ⊗ dz) ⊕ nz ⊗ (cx ⊗ dy ⊖ cy ⊗ dx)) ((dx ⊗ dx ⊕ dy ⊗ dy ⊕ dz ⊗ dz) ⊗ (nx ⊗ ex ⊕ ny ⊗ ey ⊕ nz ⊗ ez))
-    (given (num (pos 0) ⊖ (dx ⊗ ex ⊕ dy ⊗ ey ⊕ dz ⊗ ez)) (nx ⊗ dx ⊕ ny ⊗ dy ⊕ nz ⊗ dz) (num (pos 0)) z none) tt
+across-side n d e z = follows (numbers n d e e) (triple_of (vec 0) (cross_of (vec 3) (vec 6)) (vec 3)) (dot_poly 3 3 ⊗ dot_poly 0 6) (given (neg (dot_poly 3 6)) (dot_poly 0 3) (num (pos 0)) z none) tt
 
 -- the turn from n x d to E about d: d.((n x d) x E) = (d.d)(n.E) - (d.n)(d.E)
 pub turn-ahead : (n d e : Vector) → dot n d ≡ pos 0 → triple d (cross n d) e ≡ dot d d *ℤ dot n e
-turn-ahead n d e z =
-    let nx = at 0 in let ny = at 1 in let nz = at 2 in let dx = at 3 in let dy = at 4 in let dz = at 5 in let ex = at 6 in let ey = at 7 in let ez = at 8 in
-    let sx = ny ⊗ dz ⊖ nz ⊗ dy in let sy = nz ⊗ dx ⊖ nx ⊗ dz in let sz = nx ⊗ dy ⊖ ny ⊗ dx in
-    follows (n.x ∷ n.y ∷ n.z ∷ d.x ∷ d.y ∷ d.z ∷ e.x ∷ e.y ∷ e.z ∷ [])
-    (dx ⊗ (sy ⊗ ez ⊖ sz ⊗ ey) ⊕ dy ⊗ (sz ⊗ ex ⊖ sx ⊗ ez) ⊕ dz ⊗ (sx ⊗ ey ⊖ sy ⊗ ex)) ((dx ⊗ dx ⊕ dy ⊗ dy ⊕ dz ⊗ dz) ⊗ (nx ⊗ ex ⊕ ny ⊗ ey ⊕ nz ⊗ ez))
-    (given (num (pos 0) ⊖ (dx ⊗ ex ⊕ dy ⊗ ey ⊕ dz ⊗ ez)) (nx ⊗ dx ⊕ ny ⊗ dy ⊕ nz ⊗ dz) (num (pos 0)) z none) tt
+turn-ahead n d e z = follows (numbers n d e e) (triple_of (vec 3) (cross_of (vec 0) (vec 3)) (vec 6)) (dot_poly 3 3 ⊗ dot_poly 0 6) (given (neg (dot_poly 3 6)) (dot_poly 0 3) (num (pos 0)) z none) tt
 
 turn-behind : (n d e : Vector) → dot n d ≡ pos 0 → triple d (cross d n) e ≡ pos 0 -ℤ dot d d *ℤ dot n e
-turn-behind n d e z =
-    let dx = at 0 in let dy = at 1 in let dz = at 2 in let nx = at 3 in let ny = at 4 in let nz = at 5 in let ex = at 6 in let ey = at 7 in let ez = at 8 in
-    let sx = ny ⊗ dz ⊖ nz ⊗ dy in let sy = nz ⊗ dx ⊖ nx ⊗ dz in let sz = nx ⊗ dy ⊖ ny ⊗ dx in
-    let rx = dy ⊗ nz ⊖ dz ⊗ ny in let ry = dz ⊗ nx ⊖ dx ⊗ nz in let rz = dx ⊗ ny ⊖ dy ⊗ nx in
-    ring (d.x ∷ d.y ∷ d.z ∷ n.x ∷ n.y ∷ n.z ∷ e.x ∷ e.y ∷ e.z ∷ [])
-    (dx ⊗ (ry ⊗ ez ⊖ rz ⊗ ey) ⊕ dy ⊗ (rz ⊗ ex ⊖ rx ⊗ ez) ⊕ dz ⊗ (rx ⊗ ey ⊖ ry ⊗ ex))
-    (num (pos 0) ⊖ (dx ⊗ (sy ⊗ ez ⊖ sz ⊗ ey) ⊕ dy ⊗ (sz ⊗ ex ⊖ sx ⊗ ez) ⊕ dz ⊗ (sx ⊗ ey ⊖ sy ⊗ ex))) tt
-    ∙ ap (λ r. pos 0 -ℤ r) (turn-ahead n d e z)
+turn-behind n d e z = follows (numbers n d e e) (triple_of (vec 3) (cross_of (vec 3) (vec 0)) (vec 6)) (num (pos 0) ⊖ dot_poly 3 3 ⊗ dot_poly 0 6) (given (dot_poly 3 6) (dot_poly 0 3) (num (pos 0)) z none) tt
 
 module _ (t : Star) (rays : (k : ℕ) (r : Ray) → At t.rays k r → IsRay t r) (K : IsStraight t) (axis : IsDirection t.axis) where
   abbrev d : Vector
@@ -99,34 +66,17 @@ module _ (t : Star) (rays : (k : ℕ) (r : Ray) → At t.rays k r → IsRay t r)
   side-of e = ap sign (across-side n d e straight_star-level) ∙ sign-scaled (dot d d) (dot n e) dd
 
   level-on : (w : Vector) (e : Vector) → dot n w ≡ pos 0 → SameDirection w (across d e) → sign (dot n e) ≡ nought
-  level-on w e z s = sym (side-of e) ∙ dir-signs w (across d e) n (dir-directed w (across d e) s) s ∙ ap sign z
+  level-on w e z s = sym (side-of e) ∙ dir-signs w (across d e) n (direction-left w (across d e) s) s ∙ ap sign z
 
   ahead-level : dot n (cross n d) ≡ pos 0
-  ahead-level = ring (n.x ∷ n.y ∷ n.z ∷ d.x ∷ d.y ∷ d.z ∷ []) (at 0 ⊗ (at 1 ⊗ at 5 ⊖ at 2 ⊗ at 4) ⊕ at 1 ⊗ (at 2 ⊗ at 3 ⊖ at 0 ⊗ at 5) ⊕ at 2 ⊗ (at 0 ⊗ at 4 ⊖ at 1 ⊗ at 3)) (num (pos 0)) tt
+  ahead-level = square-cross n d
 
   behind-level : dot n (cross d n) ≡ pos 0
-  behind-level = ring (n.x ∷ n.y ∷ n.z ∷ d.x ∷ d.y ∷ d.z ∷ []) (at 0 ⊗ (at 4 ⊗ at 2 ⊖ at 5 ⊗ at 1) ⊕ at 1 ⊗ (at 5 ⊗ at 0 ⊖ at 3 ⊗ at 2) ⊕ at 2 ⊗ (at 3 ⊗ at 1 ⊖ at 4 ⊗ at 0)) (num (pos 0)) tt
+  behind-level = level_cross_second d n
 
   opposite-ends : IsOpposite (cross n d) (cross d n)
-  opposite-ends = record { parallel = par; backward = back }
-    where
-      par : IsZero (cross (cross n d) (cross d n))
-      par = let ys = n.x ∷ n.y ∷ n.z ∷ d.x ∷ d.y ∷ d.z ∷ [] in
-          let sx = at 1 ⊗ at 5 ⊖ at 2 ⊗ at 4 in let sy = at 2 ⊗ at 3 ⊖ at 0 ⊗ at 5 in let sz = at 0 ⊗ at 4 ⊖ at 1 ⊗ at 3 in
-          let rx = at 4 ⊗ at 2 ⊖ at 5 ⊗ at 1 in let ry = at 5 ⊗ at 0 ⊖ at 3 ⊗ at 2 in let rz = at 3 ⊗ at 1 ⊖ at 4 ⊗ at 0 in
-          (ring ys (sy ⊗ rz ⊖ sz ⊗ ry) (num (pos 0)) tt, ring ys (sz ⊗ rx ⊖ sx ⊗ rz) (num (pos 0)) tt, ring ys (sx ⊗ ry ⊖ sy ⊗ rx) (num (pos 0)) tt)
-
-      -- (n x d).(d x n) = -(n.n)(d.d) + (n.d)(n.d)
-      back : dot (cross n d) (cross d n) <ℤ pos 0
-      back =
-          let nx = at 0 in let ny = at 1 in let nz = at 2 in let dx = at 3 in let dy = at 4 in let dz = at 5 in
-          let hn = self-pos n (normal-direction n straight_star-normal) in
-          let p = mul_pos (dot n n) (dot d d) hn dd in
-          let e : dot (cross n d) (cross d n) ≡ pos 0 -ℤ dot n n *ℤ dot d d = follows (n.x ∷ n.y ∷ n.z ∷ d.x ∷ d.y ∷ d.z ∷ [])
-          ((ny ⊗ dz ⊖ nz ⊗ dy) ⊗ (dy ⊗ nz ⊖ dz ⊗ ny) ⊕ (nz ⊗ dx ⊖ nx ⊗ dz) ⊗ (dz ⊗ nx ⊖ dx ⊗ nz) ⊕ (nx ⊗ dy ⊖ ny ⊗ dx) ⊗ (dx ⊗ ny ⊖ dy ⊗ nx))
-          (num (pos 0) ⊖ (nx ⊗ nx ⊕ ny ⊗ ny ⊕ nz ⊗ nz) ⊗ (dx ⊗ dx ⊕ dy ⊗ dy ⊕ dz ⊗ dz))
-          (given (nx ⊗ dx ⊕ ny ⊗ dy ⊕ nz ⊗ dz) (nx ⊗ dx ⊕ ny ⊗ dy ⊕ nz ⊗ dz) (num (pos 0)) straight_star-level none) tt in
-          omega (arith, ints)
+  opposite-ends = from-opposite (cross n d) (cross d n) (subst (λ (v : Vector). SameDirection v (cross d n)) (sym (opposite-cross n d))
+      (dir-self (cross d n) (λ z. axis (nought-if n d (normal-direction n straight_star-normal) (cross-turned d n z) straight_star-level))))
 
   turned-ends : IsOpposite (cross d n) (cross n d)
   turned-ends = record { parallel = cross-turned (cross n d) (cross d n) (let o = opposite-ends in o.parallel); backward = let e = dot-comm (cross d n) (cross n d) in let o = opposite-ends in let b = o.backward in omega (arith, ints) }

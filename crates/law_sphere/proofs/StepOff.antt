@@ -1,21 +1,11 @@
 -- A direction in general position to which given directions have a clear way.
-use Rattle.std.proofs.Common.{◌≡◌, ℕ, ◌<◌, ℤ, pos, ◌+ℤ◌, ◌*ℤ◌, arith, refl, sym, ◌∙◌, inl, inr, List, [], ◌∷◌, ◌++◌, subst}
-use Rattle.std.proofs.lemmas.Int.{ints}
-use Rattle.nef_space.specs.Signs.{Lies}
-use Rattle.nef_space.specs.Vectors.{Vector, IsDirection, cross, dot, IsZero, SameDirection, blend}
-use Rattle.law_near.proofs.Meets.{cross-none}
-use Rattle.law_sphere.specs.Maps.{At, MapVertex, Map, Item, items, item_normal, IsFree, IsClear, Shaped}
+use Rattle.law_sphere.proofs.Prelude.{◌≡◌, ℕ, ◌<◌, pos, arith, refl, sym, ◌∙◌, inl, inr, List, ◌∷◌, ◌++◌, subst, [], ints, Lies, Vector, IsDirection, cross, dot, IsZero, SameDirection, blend, At, MapVertex, Map, Item, items, item_normal, IsFree, IsClear, Shaped, Decided, lies-left, lies-right, zero-decided, dot-zero, cross-turned, cross-none, blend-turned}
 use Rattle.law_sphere.proofs.Vectors.{normal-is}
-use Rattle.law_near.proofs.Decided.{Decided}
-use Rattle.law_near.proofs.Directions.{zero-decided, dot-zero}
 use Rattle.law_sphere.proofs.Generic.{Generic, generic}
 use Rattle.law_sphere.proofs.Lists.{gather, gather-has}
-use Rattle.nef_space.proofs.Lists.{lies-left, lies-right}
 use Rattle.law_sphere.proofs.Places.{point_forms, row_x, row_y, row_z, row_x-is, row_y-is, row_z-is}
 use Rattle.law_sphere.proofs.Forms.{on-level}
 use Rattle.law_sphere.proofs.Parallel.{miss}
-use Rattle.law_near.proofs.FlatDecided.{cross-turned}
-use Rattle.law_near.proofs.Flats.{vector-same}
 use Rattle.law_sphere.proofs.Direct.{between-off, miss-between, cross-between}
 
 -- not parallel to v, where a form of v isn't nought
@@ -81,20 +71,7 @@ module _ (M : Map) (ds : List Vector) where
     }
       where
         between-direction : (i j : ℕ) → 0 < j → IsDirection (blend i d j x.vector)
-        between-direction i j sj z = cross-between d x.vector i j sj (x.apart k d here h) (row z)
-          where
-            row : IsZero (blend i d j x.vector) → IsZero (cross d (blend i d j x.vector))
-            row z = (
-              sym (row_x-is d (blend i d j x.vector)) ∙ dot-zero (row_x d) (blend i d j x.vector) z,
-              sym (row_y-is d (blend i d j x.vector)) ∙ dot-zero (row_y d) (blend i d j x.vector) z,
-              sym (row_z-is d (blend i d j x.vector)) ∙ dot-zero (row_z d) (blend i d j x.vector) z,
-            )
-
-pub blend-turned : (i j : ℕ) (d e : Vector) → blend i d j e ≡ blend j e i d
-blend-turned i j d e = vector-same (blend i d j e) (blend j e i d) (one d.x e.x) (one d.y e.y) (one d.z e.z)
-  where
-    one : (x y : ℤ) → pos i *ℤ x +ℤ pos j *ℤ y ≡ pos j *ℤ y +ℤ pos i *ℤ x
-    one x y = omega (arith, ints)
+        between-direction i j sj z = cross-between d x.vector i j sj (x.apart k d here h) (cross-none d (blend i d j x.vector) z)
 
 -- the way from the outlook to a svertex, on a map without items
 pub outlook-svertex : (M : Map) (ds : List Vector) → Shaped M → (x : Outlook M ds) → IsFree M x.vector → ((l : ℕ) (y : Item) → At (items M) l y → ⊥)

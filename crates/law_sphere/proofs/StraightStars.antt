@@ -1,24 +1,9 @@
 -- A simplified star at a straight direction has no ray, or two opposite rays with its mark.
-use Rattle.std.proofs.Common.{◌≡◌, ℕ, zero, suc, pos, ◌-ℤ◌, arith, refl, ap, sym, ◌∙◌, ◌⊎◌, inl, inr, List, [], ◌∷◌, subst, length}
-use Rattle.std.proofs.lemmas.Int.{ints}
-use Rattle.nef_space.proofs.Ring.{at, num, ◌⊕◌, ◌⊖◌, ◌⊗◌}
-use Rattle.nef_space.proofs.Combination.{follows, given, none}
-use Rattle.nef_space.proofs.Order.{Sign, sign}
-use Rattle.nef_space.specs.Vectors.{Vector, IsDirection, cross, dot, IsZero, SameDirection, IsOpposite}
-use Rattle.nef_space.specs.declared.label.Label.{Label}
-use Rattle.law_sphere.specs.Maps.{At, Map, NearLabel, Valid}
-use Rattle.law_sphere.specs.Least.{by_side, NearStraight}
-use Rattle.law_sphere.specs.Stars.{Ray, Star, ray_dir, StarShows, IsSimplified}
-use Rattle.law_sphere.proofs.Vectors.{nought-if, same-minus}
-use Rattle.law_near.proofs.Directions.{self-pos, dot-comm}
-use Rattle.law_sphere.proofs.Parallel.{parallel-trans}
-use Rattle.law_near.proofs.FlatDecided.{cross-turned}
-use Rattle.law_sphere.proofs.Labels.{near-unique, label-unique, dir-signs}
-use Rattle.law_sphere.proofs.Around.{Beside, same_way, other_way, beside, opposites}
-use Rattle.law_sphere.proofs.Compare.{dir-self, SameDirection-turned, SameDirection-trans}
+use Rattle.law_sphere.proofs.Prelude.{◌≡◌, ℕ, zero, suc, pos, arith, refl, ap, sym, ◌∙◌, ◌⊎◌, inl, inr, List, ◌∷◌, subst, length, [], ints, Sign, sign, Vector, IsDirection, cross, dot, SameDirection, IsOpposite, opposite, Label, At, Map, NearLabel, Valid, by_side, NearStraight, Ray, Star, ray_dir, StarShows, IsSimplified, dot-comm, self-pos, cross-turned, nought-if, opposites, SameDirection-turned, SameDirection-trans, dir-self, dir-signs, opposite-turned, parallel-trans, crossed, direction-opposite, dot-opposite, level-of_opposite}
+use Rattle.law_sphere.proofs.Vectors.{same-minus}
+use Rattle.law_sphere.proofs.Labels.{near-unique, label-unique}
+use Rattle.law_sphere.proofs.Around.{Beside, same_way, other_way, beside}
 use Rattle.law_sphere.proofs.Turn.{whole-passes}
-use Rattle.law_sphere.proofs.Kind.{away, away-dot}
-use Rattle.law_sphere.proofs.Flips.{away-direction}
 use Rattle.law_sphere.proofs.Simplified.{way-level, off-axis, ray-label, sector-label, straight-level}
 
 -- no two rays go the same way
@@ -32,19 +17,6 @@ pub record TwoRays (t : Star) : Type 0 where
   pub opposite : IsOpposite (ray_dir t first) (ray_dir t second)
   pub first_mark : first.mark ≡ t.mark
   pub second_mark : second.mark ≡ t.mark
-
--- what is at right angles to n and d lies along n x d: (n x d) x w = d (n.w) - n (d.w)
-pub along-meet : (n d w : Vector) → dot d w ≡ pos 0 → dot n w ≡ pos 0 → IsZero (cross (cross n d) w)
-along-meet n d w p q =
-    let nx = at 0 in let ny = at 1 in let nz = at 2 in let dx = at 3 in let dy = at 4 in let dz = at 5 in let wx = at 6 in let wy = at 7 in let wz = at 8 in
-    let cx = ny ⊗ dz ⊖ nz ⊗ dy in let cy = nz ⊗ dx ⊖ nx ⊗ dz in let cz = nx ⊗ dy ⊖ ny ⊗ dx in
-    let xs = n.x ∷ n.y ∷ n.z ∷ d.x ∷ d.y ∷ d.z ∷ w.x ∷ w.y ∷ w.z ∷ [] in
-    let o = num (pos 0) in
-    let dw = dx ⊗ wx ⊕ dy ⊗ wy ⊕ dz ⊗ wz in let nw = nx ⊗ wx ⊕ ny ⊗ wy ⊕ nz ⊗ wz in (
-      follows xs (cy ⊗ wz ⊖ cz ⊗ wy) o (given dx nw o q (given (o ⊖ nx) dw o p none)) tt,
-      follows xs (cz ⊗ wx ⊖ cx ⊗ wz) o (given dy nw o q (given (o ⊖ ny) dw o p none)) tt,
-      follows xs (cx ⊗ wy ⊖ cy ⊗ wx) o (given dz nw o q (given (o ⊖ nz) dw o p none)) tt,
-    )
 
 module _ (t : Star) (M : Map) (V : Valid M) (S : StarShows t M) (simple : IsSimplified t) (apart-rays : RaysApart t) (P : NearStraight M t.axis) where
   abbrev d : Vector
@@ -66,7 +38,7 @@ module _ (t : Star) (M : Map) (V : Valid M) (S : StarShows t M) (simple : IsSimp
   along-plane : (k : ℕ) (r : Ray) → At t.rays k r → Beside w0 (ray_dir t r)
   along-plane k r a =
       let x = way-level t M V S simple k r a in
-      beside w0 (ray_dir t r) w0-direction x.1 (along-meet n d (ray_dir t r) x.0 (straight-level t M V S simple P k r a))
+      beside w0 (ray_dir t r) w0-direction x.1 (crossed n d (ray_dir t r) (straight-level t M V S simple P k r a) x.0)
 
   ray-mark : (k : ℕ) (r : Ray) → At t.rays k r → r.mark ≡ P.label
   ray-mark k r a =
@@ -87,19 +59,16 @@ module _ (t : Star) (M : Map) (V : Valid M) (S : StarShows t M) (simple : IsSimp
       let w = ray_dir t r in
       let z = straight-level t M V S simple P zero r a in
       let dn = dot-comm d n ∙ P.level in
-      let hd = away-direction w x.1 in
-      let dw = away-dot d w in
-      let nw = away-dot n w in
-      let back = label-at r a s.0 s.1 (last-one l) (away w) hd (let y = x.0 in omega (arith, ints)) (λ q. let f = q.forward in let g = away-dot w w in let h = self-pos w x.1 in omega (arith, ints)) in
-      let m = near-unique M V d (away w) s.0 P.label back (subst (NearLabel M d (away w)) (ap side (ap sign (level-back z nw))) (P.near (away w) (off-axis t M V S simple (away w) hd (let y = x.0 in omega (arith, ints))))) in
+      let hd = direction-opposite w x.1 in
+      let dw = dot-opposite d w in
+      let nw = dot-opposite n w in
+      let back = label-at r a s.0 s.1 (last-one l) (opposite w) hd (let y = x.0 in omega (arith, ints)) (λ q. let f = q.forward in let g = dot-opposite w w in let h = self-pos w x.1 in omega (arith, ints)) in
+      let m = near-unique M V d (opposite w) s.0 P.label back (subst (NearLabel M d (opposite w)) (ap side (ap sign (level-of_opposite n (ray_dir t r) z))) (P.near (opposite w) (off-axis t M V S simple (opposite w) hd (let y = x.0 in omega (arith, ints))))) in
       let k = ray-mark zero r a in
       simple zero zero r r s.0 s.0 a a (inr (sym l, refl)) s.1 s.1 (k ∙ sym m) (k ∙ sym m)
     where
       last-one : length t.rays ≡ 1 → suc zero ≡ length t.rays
       last-one l = sym l
-
-      level-back : dot n (ray_dir t r) ≡ pos 0 → dot n (away (ray_dir t r)) ≡ pos 0 -ℤ dot n (ray_dir t r) → dot n (away (ray_dir t r)) ≡ pos 0
-      level-back z e = omega (arith, ints)
 
       label-at : (r : Ray) → At t.rays zero r → (l : Label) → At t.sectors zero l → suc zero ≡ length t.rays → (e : Vector) → IsDirection e → dot d e ≡ pos 0 → (SameDirection (ray_dir t r) e → ⊥) → NearLabel M d e l
       label-at r a l s q e he z f =
@@ -136,9 +105,6 @@ module _ (t : Star) (M : Map) (V : Valid M) (S : StarShows t M) (simple : IsSimp
         parallel = parallel-trans v u w h (cross-turned u v s.parallel) o.parallel;
         backward = same-minus (dot u w) (dot v w) (ap sign (dot-comm v w) ∙ dir-signs u v w h s ∙ ap sign (dot-comm w u)) o.backward;
       }
-
-      opposite-turned : (v w : Vector) → IsOpposite v w → IsOpposite w v
-      opposite-turned v w o = record { parallel = cross-turned v w o.parallel; backward = let e = dot-comm w v in let b = o.backward in omega (arith, ints) }
 
       pair : (q r : Ray) → t.rays ≡ q ∷ r ∷ [] → Beside w0 (ray_dir t q) → Beside w0 (ray_dir t r) → TwoRays t
       pair q r e (same_way x) (same_way y) = absurd (zero-one (both-same zero (suc zero) q r (listed (q ∷ r ∷ []) e zero q refl) (listed (q ∷ r ∷ []) e (suc zero) r refl) x y))

@@ -1,48 +1,26 @@
 -- Turns about one axis: arcs with the same ends, and which of two arcs from one source ends first.
-use Rattle.std.proofs.Common.{◌≡◌, ℤ, pos, ◌*ℤ◌, ◌<ℤ◌, arith, refl, ap, sym, ◌∙◌, ◌⊎◌, inl, inr, ⊎_elim, [], ◌∷◌, subst}
-use Rattle.std.proofs.lemmas.Int.{ints}
-use Rattle.nef_space.proofs.Ring.{ring, at, num, ◌⊖◌, ◌⊗◌}
-use Rattle.nef_space.proofs.Order.{sign, by_order}
-use Rattle.nef_space.specs.Vectors.{Vector, IsDirection, triple, cross, dot, SameDirection, IsOpposite}
-use Rattle.law_cyclic.specs.Arcs.{IsStrictlyOn}
-use Rattle.law_sphere.specs.Forms.{Keeps, arc_forms}
-use Rattle.law_sphere.proofs.Vectors.{triple-middle, same-plus, same-minus}
-use Rattle.law_near.proofs.Decided.{Decided}
-use Rattle.law_near.proofs.Far.{same-nought}
-use Rattle.law_near.proofs.Directions.{dot-comm, self-pos, dot-zero}
+use Rattle.law_sphere.proofs.Prelude.{◌≡◌, ℤ, pos, ◌*ℤ◌, ◌<ℤ◌, arith, refl, ap, sym, ◌∙◌, ◌⊎◌, inl, inr, ⊎_elim, ◌∷◌, subst, [], ints, ring, at, num, ◌⊖◌, ◌⊗◌, sign, by_order, Vector, IsDirection, triple, cross, dot, SameDirection, IsOpposite, IsStrictlyOn, Keeps, arc_forms, Decided, same-nought, dot-comm, dot-zero, self-pos, triple-dot, cross-turned, triple-middle, triple-turned, opposites, SameDirection-turned, SameDirection-trans, dir-signs, direction-right, direction-left, IsOpposite-same, parallel-trans, parallel-in_plane}
+use Rattle.law_sphere.proofs.Vectors.{same-plus, same-minus}
 use Rattle.law_sphere.proofs.Places.{SameDirection-decided, kept-minus}
-use Rattle.law_sphere.proofs.Parallel.{parallel-trans, parallel-in_plane}
-use Rattle.law_near.proofs.FlatDecided.{cross-turned, triple-dot}
-use Rattle.law_sphere.proofs.Labels.{dir-signs, dir-direction}
-use Rattle.law_sphere.proofs.Around.{opposite-triple, triple-turned, turn-plus, turn-minus, opposites, Beside, same_way, other_way, beside}
-use Rattle.law_sphere.proofs.Compare.{SameDirection-turned, SameDirection-trans}
+use Rattle.law_sphere.proofs.Around.{opposite-triple, turn-plus, turn-minus, Beside, same_way, other_way, beside, opposite-in_plane}
 
 -- ---- the same ways make the same turns
-pub dir-directed : (s d : Vector) → SameDirection s d → IsDirection s
-dir-directed s d w = dir-direction d s (SameDirection-turned s d w)
-
 turn-first : (n m a b : Vector) → SameDirection n m → sign (triple m a b) ≡ sign (triple n a b)
-turn-first n m a b w = ap sign (dot-comm m (cross a b)) ∙ dir-signs n m (cross a b) (dir-directed n m w) w ∙ ap sign (dot-comm (cross a b) n)
+turn-first n m a b w = ap sign (dot-comm m (cross a b)) ∙ dir-signs n m (cross a b) (direction-left n m w) w ∙ ap sign (dot-comm (cross a b) n)
 
 pub turn-last : (n a b c : Vector) → SameDirection b c → sign (triple n a c) ≡ sign (triple n a b)
-turn-last n a b c w = ap sign (triple-dot n a c) ∙ dir-signs b c (cross n a) (dir-directed b c w) w ∙ ap sign (sym (triple-dot n a b))
+turn-last n a b c w = ap sign (triple-dot n a c) ∙ dir-signs b c (cross n a) (direction-left b c w) w ∙ ap sign (sym (triple-dot n a b))
 
 turn-middle : (n a b c : Vector) → SameDirection b c → sign (triple n c a) ≡ sign (triple n b a)
-turn-middle n a b c w = ap sign (triple-middle n c a) ∙ dir-signs b c (cross a n) (dir-directed b c w) w ∙ ap sign (sym (triple-middle n b a))
+turn-middle n a b c w = ap sign (triple-middle n c a) ∙ dir-signs b c (cross a n) (direction-left b c w) w ∙ ap sign (sym (triple-middle n b a))
 
 pub turn-same : (n m a b c d : Vector) → SameDirection n m → SameDirection a b → SameDirection c d → sign (triple m b d) ≡ sign (triple n a c)
 turn-same n m a b c d u v w = turn-first n m b d u ∙ turn-last n b c d w ∙ turn-middle n c a b v
 
-IsOpposite-same : (s u t v : Vector) → SameDirection s u → SameDirection t v → IsOpposite u v → IsOpposite s t
-IsOpposite-same s u t v a b o = record {
-  parallel = parallel-trans s u t (dir-direction s u a) a.parallel (parallel-trans u v t (dir-direction t v b) o.parallel (cross-turned t v b.parallel));
-  backward = same-minus (dot u v) (dot s t) (sym (dir-signs t v u (dir-directed t v b) b ∙ ap sign (dot-comm u t) ∙ dir-signs s u t (dir-directed s u a) a ∙ ap sign (dot-comm t s))) o.backward;
-}
-
 -- an arc with the same normal and ends has the same points
 pub IsStrictlyOn-same : (n m s u t v d e : Vector) → SameDirection n m → SameDirection s u → SameDirection t v → SameDirection d e → IsStrictlyOn n s t d → IsStrictlyOn m u v e
 IsStrictlyOn-same n m s u t v d e a b c w o = record {
-  on_circle = record { direction = dir-direction d e w; level = same-nought (dot n d) (dot m e) (ap sign (dot-comm m e) ∙ dir-signs n m e (dir-directed n m a) a ∙ ap sign (dot-comm e n) ∙ dir-signs d e n (dir-directed d e w) w) o.on_circle.level };
+  on_circle = record { direction = direction-right d e w; level = same-nought (dot n d) (dot m e) (ap sign (dot-comm m e) ∙ dir-signs n m e (direction-left n m a) a ∙ ap sign (dot-comm e n) ∙ dir-signs d e n (direction-left d e w) w) o.on_circle.level };
   not_source = λ x. o.not_source (SameDirection-trans s u d b (SameDirection-trans u e d x (SameDirection-turned d e w)));
   not_target = λ x. o.not_target (SameDirection-trans t v d c (SameDirection-trans v e d x (SameDirection-turned d e w)));
   less_than_half = λ h. let r = o.less_than_half (same-plus (triple m u v) (triple n s t) (sym (turn-same n m s u t v a b c)) h) in
@@ -106,18 +84,10 @@ module _ (n s t u : Vector) (hn : IsDirection n) (hs : IsDirection s) (ht : IsDi
 
     -- beyond the source
     past-t : triple n s t ≡ pos 0 → IsOpposite s t
-    past-t z = by (beside s t hs ht (parallel-in_plane n s t hn ls lt z))
-      where
-        by : Beside s t → IsOpposite s t
-        by (same_way w) = absurd (off_t w)
-        by (other_way w) = w
+    past-t = opposite-in_plane n s t hn hs ht ls lt off_t
 
     past-u : triple n s u ≡ pos 0 → IsOpposite s u
-    past-u z = by (beside s u hs hu (parallel-in_plane n s u hn ls lu z))
-      where
-        by : Beside s u → IsOpposite s u
-        by (same_way w) = absurd (off_u w)
-        by (other_way w) = w
+    past-u = opposite-in_plane n s u hn hs hu ls lu off_u
 
     pub either-first : IsStrictlyOn n s t u ⊎ IsStrictlyOn n s u t
     either-first = by_order (triple n s t) (pos 0)

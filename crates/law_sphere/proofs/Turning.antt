@@ -1,9 +1,5 @@
 -- The order of directions round an axis.
-use Rattle.std.proofs.Common.{◌≡◌, ℕ, ◌+◌, ℤ, pos, ◌-ℤ◌, ◌*ℤ◌, ◌<ℤ◌, arith, List, [], ◌∷◌}
-use Rattle.std.proofs.lemmas.Int.{ints}
-use Rattle.nef_space.proofs.Ring.{ring, at, ◌⊕◌, ◌⊖◌, ◌⊗◌, Poly}
-use Rattle.nef_space.proofs.Order.{mul_pos, cancel_lt}
-use Rattle.nef_space.specs.Vectors.{Vector, triple}
+use Rattle.law_sphere.proofs.Prelude.{◌≡◌, ℕ, ◌+◌, ℤ, pos, ◌-ℤ◌, ◌*ℤ◌, ◌<ℤ◌, arith, List, ◌∷◌, [], ints, ring, at, ◌⊕◌, ◌⊖◌, ◌⊗◌, Poly, mul_pos, cancel_lt, Vector, triple}
 
 abbrev triple-p : ℕ → ℕ → ℕ → Poly
 triple-p a b c = at a ⊗ (at (b + 1) ⊗ at (c + 2) ⊖ at (b + 2) ⊗ at (c + 1)) ⊕ at (a + 1) ⊗ (at (b + 2) ⊗ at c ⊖ at b ⊗ at (c + 2)) ⊕ at (a + 2) ⊗ (at b ⊗ at (c + 1) ⊖ at (b + 1) ⊗ at c)

@@ -1,25 +1,14 @@
 -- Two least maps with one label in every direction hold the same things.
-use Rattle.std.proofs.Common.{◌≡◌, ℕ, zero, arith, refl, ap, sym, ◌∙◌, ◌⊎◌, inl, inr, ⊎_elim, List, [], ◌∷◌, subst, Option, Some, None}
-use Rattle.std.proofs.lemmas.Int.{ints}
-use Rattle.std.proofs.lemmas.Bool.{cases_lt}
-use Rattle.nef_space.specs.Vectors.{Vector, IsDirection, cross, dot, IsZero, SameDirection}
-use Rattle.nef_space.specs.declared.label.Label.{Label}
-use Rattle.law_sphere.specs.Maps.{At, MapVertex, MapSloop, Map, Item, arc_item, sloop_item, items, dir_of, IsFree, whole, directly, MapLabel, seen, HasArc, Valid}
-use Rattle.law_sphere.specs.Least.{NearPlain, NearStraight, Least, SameLabels, MatchedArc, MatchedSvertex, Within}
-use Rattle.law_near.proofs.Decided.{Decided, decided-or}
-use Rattle.law_near.proofs.Far.{same-nought}
-use Rattle.law_near.proofs.Directions.{self-pos}
+use Rattle.law_sphere.proofs.Prelude.{◌≡◌, ℕ, zero, arith, refl, ap, sym, ◌∙◌, ◌⊎◌, inl, inr, ⊎_elim, List, ◌∷◌, subst, Option, Some, None, [], ints, cases_lt, Vector, IsDirection, cross, dot, IsZero, SameDirection, Label, At, MapVertex, MapSloop, Map, Item, arc_item, sloop_item, items, dir_of, IsFree, whole, directly, MapLabel, seen, HasArc, Valid, NearPlain, NearStraight, Least, SameLabels, MatchedArc, MatchedSvertex, Within, Decided, decided-or, same-nought, self-pos, cross-turned, SameDirection-turned, SameDirection-trans, dir-self, dir-signs, direction-left, apart, parallel-trans, neg}
 use Rattle.law_sphere.proofs.Lists.{search_list, at-one}
 use Rattle.law_sphere.proofs.Places.{axis_x}
 use Rattle.law_sphere.proofs.Forms.{PlaceOf, svertex_place, item_place, free_place, place_of}
-use Rattle.law_sphere.proofs.Parallel.{apart, parallel-trans, circle-point}
-use Rattle.law_near.proofs.FlatDecided.{cross-turned}
+use Rattle.law_sphere.proofs.Parallel.{circle-point}
 use Rattle.law_sphere.proofs.Shot.{arc-at}
 use Rattle.law_sphere.proofs.Sight.{clear-self}
-use Rattle.law_sphere.proofs.Labels.{label-unique, near-unique, label-by_signs, dir-signs}
+use Rattle.law_sphere.proofs.Labels.{label-unique, near-unique, label-by_signs}
 use Rattle.law_sphere.proofs.NearItems.{free-plain, item-straight}
-use Rattle.law_sphere.proofs.Compare.{SameDirection-turned, SameDirection-trans, dir-self, labels-turned, near-carried, Matched, svertex-matched, svertex-mark}
-use Rattle.law_sphere.proofs.Turn.{dir-directed}
+use Rattle.law_sphere.proofs.Compare.{labels-turned, near-carried, Matched, svertex-matched, svertex-mark}
 use Rattle.law_sphere.proofs.Arcs.{Ends, ends-of, sloop-at, arc-matched, sloop-matched}
 use Rattle.law_sphere.proofs.Lone.{near-same_way, near-lone}
 
@@ -145,20 +134,20 @@ module _ (M N : Map) (V : Valid M) (W : Valid N) (L : Least M) (K : Least N) (s 
 pub plain-same_way : (M : Map) → Valid M → (d c : Vector) → SameDirection d c → NearPlain M d → NearPlain M c
 plain-same_way M V d c w p = record {
   label = p.label;
-  at_d = label-by_signs M V d c (λ g l. dir-signs d c g (dir-directed d c w) w) p.label p.at_d;
-  near = λ e f. near-same_way M V d c e w p.label (p.near e (λ z. f (parallel-trans c d e (dir-directed d c w) (cross-turned d c w.parallel) z)));
+  at_d = label-by_signs M V d c (λ g l. dir-signs d c g (direction-left d c w) w) p.label p.at_d;
+  near = λ e f. near-same_way M V d c e w p.label (p.near e (λ z. f (parallel-trans c d e (direction-left d c w) (cross-turned d c w.parallel) z)));
 }
 
 pub straight-same_way : (M : Map) → Valid M → (d c : Vector) → SameDirection d c → NearStraight M d → NearStraight M c
 straight-same_way M V d c w p = record {
   normal = p.normal;
   direction = p.direction;
-  level = same-nought (dot p.normal d) (dot p.normal c) (dir-signs d c p.normal (dir-directed d c w) w) p.level;
+  level = same-nought (dot p.normal d) (dot p.normal c) (dir-signs d c p.normal (direction-left d c w) w) p.level;
   pos = p.pos;
   label = p.label;
   neg = p.neg;
-  at_d = label-by_signs M V d c (λ g l. dir-signs d c g (dir-directed d c w) w) p.label p.at_d;
-  near = λ e f. near-same_way M V d c e w _ (p.near e (λ z. f (parallel-trans c d e (dir-directed d c w) (cross-turned d c w.parallel) z)));
+  at_d = label-by_signs M V d c (λ g l. dir-signs d c g (direction-left d c w) w) p.label p.at_d;
+  near = λ e f. near-same_way M V d c e w _ (p.near e (λ z. f (parallel-trans c d e (direction-left d c w) (cross-turned d c w.parallel) z)));
 }
 
 module _ (M : Map) (V : Valid M) (L : Least M) (d : Vector) where

@@ -1,23 +1,9 @@
 -- Labels that nothing changes along a way are the same at both ends.
-use Rattle.std.proofs.Common.{◌≡◌, ℕ, zero, suc, ◌+◌, ◌*◌, ◌<◌, ℤ, pos, ◌+ℤ◌, ◌*ℤ◌, nat_abs, arith, ap, sym, ◌∙◌, ◌⊎◌, inl, inr, ⊎_elim, List, [], ◌∷◌, subst, Bool, true, false}
-use Rattle.std.proofs.Math.Nat.{mul-pos}
-use Rattle.nef_space.proofs.Ring.{ring, at, ◌⊕◌, ◌⊗◌}
-use Rattle.nef_space.proofs.Order.{sign}
-use Rattle.nef_space.specs.Signs.{Lies}
-use Rattle.nef_space.specs.Vectors.{Vector, IsDirection, cross, dot, IsOpposite, blend}
-use Rattle.nef_space.specs.declared.label.Label.{Label}
+use Rattle.law_sphere.proofs.Prelude.{◌≡◌, ℕ, zero, suc, ◌+◌, ◌*◌, ◌<◌, pos, nat_abs, arith, ap, sym, ◌∙◌, ◌⊎◌, inl, inr, ⊎_elim, List, subst, Bool, true, false, mul-pos, sign, Lies, Vector, IsDirection, cross, dot, IsOpposite, blend, Label, SameSigns, Labelling, Plain, zero-decided, cross-turned, cross-none, dir-signs, blend-turned, left-of, right-of}
 use Rattle.law_near.proofs.Counting.{count, find-passing, count-less}
 use Rattle.law_near.proofs.Crossings.{opposite, sign-inside, opposite-left, opposite-right, to-nought, balance}
-use Rattle.law_near.proofs.Meets.{cross-none}
-use Rattle.law_sphere.specs.Forms.{SameSigns}
-use Rattle.law_sphere.specs.Labelling.{Labelling, Plain}
 use Rattle.law_sphere.proofs.Vectors.{dot-comb}
-use Rattle.law_near.proofs.Directions.{zero-decided}
-use Rattle.law_near.proofs.FlatDecided.{cross-turned}
-use Rattle.law_near.proofs.Flats.{vector-same}
 use Rattle.law_sphere.proofs.Direct.{cross-between}
-use Rattle.law_sphere.proofs.StepOff.{blend-turned}
-use Rattle.law_sphere.proofs.Labels.{dir-signs}
 use Rattle.law_sphere.proofs.Around.{Beside, same_way, other_way, beside}
 
 pub cross-direction_right : (d e : Vector) → IsDirection (cross d e) → IsDirection e
@@ -32,18 +18,6 @@ cross-direction_turned d e f z = f (cross-turned e d z)
 -- directions between
 pub between-direction : (d e : Vector) (i j : ℕ) → 0 < j → IsDirection (cross d e) → IsDirection (blend i d j e)
 between-direction d e i j sj f = cross-direction_right d (blend i d j e) (cross-between d e i j sj f)
-
-pub left-of : (i j a b : ℕ) (d c : Vector) → blend (i + j * a) d (j * b) c ≡ blend i d j (blend a d b c)
-left-of i j a b d c = vector-same (blend (i + j * a) d (j * b) c) (blend i d j (blend a d b c)) (one d.x c.x) (one d.y c.y) (one d.z c.z)
-  where
-    one : (x y : ℤ) → pos (i + j * a) *ℤ x +ℤ pos (j * b) *ℤ y ≡ pos i *ℤ x +ℤ pos j *ℤ (pos a *ℤ x +ℤ pos b *ℤ y)
-    one x y = ring (pos i ∷ pos j ∷ pos a ∷ pos b ∷ x ∷ y ∷ []) ((at 0 ⊕ at 1 ⊗ at 2) ⊗ at 4 ⊕ at 1 ⊗ at 3 ⊗ at 5) (at 0 ⊗ at 4 ⊕ at 1 ⊗ (at 2 ⊗ at 4 ⊕ at 3 ⊗ at 5)) tt
-
-pub right-of : (i j a b : ℕ) (d c : Vector) → blend (i * a) d (i * b + j) c ≡ blend i (blend a d b c) j c
-right-of i j a b d c = vector-same (blend (i * a) d (i * b + j) c) (blend i (blend a d b c) j c) (one d.x c.x) (one d.y c.y) (one d.z c.z)
-  where
-    one : (x y : ℤ) → pos (i * a) *ℤ x +ℤ pos (i * b + j) *ℤ y ≡ pos i *ℤ (pos a *ℤ x +ℤ pos b *ℤ y) +ℤ pos j *ℤ y
-    one x y = ring (pos i ∷ pos j ∷ pos a ∷ pos b ∷ x ∷ y ∷ []) (at 0 ⊗ at 2 ⊗ at 4 ⊕ (at 0 ⊗ at 3 ⊕ at 1) ⊗ at 5) (at 0 ⊗ (at 2 ⊗ at 4 ⊕ at 3 ⊗ at 5) ⊕ at 1 ⊗ at 5) tt
 
 -- ---- forms that change sign
 abbrev pub crosses : Vector → Vector → Vector → Bool

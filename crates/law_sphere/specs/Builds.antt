@@ -1,11 +1,11 @@
--- What a builder owes of the map that it makes of a labelling.
+-- Maps that are built of a labelling: what a builder must show of the built map.
 use Rattle.std.specs.Prelude.{◌≡◌, ℕ, ◌≤◌, pos, [], Some, None}
 use Rattle.nef_space.specs.Vectors.{Vector, IsDirection, cross, dot, blend, SameDirection, IsNormal}
 use Rattle.nef_space.specs.declared.label.Label.{Label}
 use Rattle.law_sphere.specs.Maps.{At, MapVertex, Arc, MapSloop, Map, Item, items, item_normal, dir_of, OnItem, ArcBetween, HasArc}
 use Rattle.law_sphere.specs.Labelling.{Near, StraightAt, IsSmooth}
 
--- close after s on the circle of n, the labels are a, m and b
+-- close after s on the circle of n, the labels above, on and below this circle are a, m and b
 abbrev pub StraightAfter : (Vector → Label → Type 0) → Vector → Label → Label → Label → Vector → Type 0
 StraightAfter F n a m b s = (k : ℕ) × ((i : ℕ) → k ≤ i → StraightAt F n a m b (blend i s 1 (cross n s)))
 
@@ -13,12 +13,12 @@ abbrev pub Proper : Label → Label → Label → Type 0
 Proper a m b = a ≡ m → b ≡ m → ⊥
 
 pub record IsBuilt (M : Map) (F : Vector → Label → Type 0) : Type 0 where
-  -- the svertices are the directions that are neither plain nor straight
+  -- the svertices are directions where the labels are neither plain nor straight
   pub svertex_dirs : (k : ℕ) (v : MapVertex) → At M.svertices k v → IsDirection v.dir
   pub svertices_apart : (i k : ℕ) (u v : MapVertex) → At M.svertices i u → At M.svertices k v → SameDirection u.dir v.dir → i ≡ k
   pub svertex_marks : (k : ℕ) (v : MapVertex) → At M.svertices k v → F v.dir v.mark
   pub smooth : (d : Vector) → IsDirection d → ((k : ℕ) (v : MapVertex) → At M.svertices k v → SameDirection v.dir d → ⊥) → IsSmooth F d
-  -- an arc for each ray that goes ahead, to the first svertex
+  -- an arc leaves a svertex along each ray that goes ahead, and ends at the first svertex on its circle
   pub normals : (k : ℕ) (x : Item) → At (items M) k x → IsNormal (item_normal x)
   pub arcs_between : (k : ℕ) (a : Arc) → At M.arcs k a → ArcBetween M a
   pub no_svertex_on_item : (i k : ℕ) (v : MapVertex) (x : Item) → At M.svertices i v → At (items M) k x → OnItem M x v.dir → ⊥
@@ -27,12 +27,12 @@ pub record IsBuilt (M : Map) (F : Vector → Label → Type 0) : Type 0 where
   pub arcs_apart : (i k : ℕ) (a b : Arc) → At M.arcs i a → At M.arcs k b → SameDirection a.normal b.normal → a.source ≡ b.source → i ≡ k
   pub arcs_all : (k : ℕ) (v : MapVertex) (n : Vector) (a m b : Label) → At M.svertices k v → IsNormal n → dot n v.dir ≡ pos 0 → Proper a m b → StraightAfter F n a m b v.dir
       → (i : ℕ) × (c : Arc) × At M.arcs i c × (c.source ≡ k) × SameDirection n c.normal
-  -- a sloop where a circle has no svertex
+  -- the sloop is the circle off all svertices on which, and beside which, the labels aren't all the same
   pub sloop_labels : (l : MapSloop) → M.sloop ≡ Some l → (y : Vector) × IsDirection y × StraightAt F l.normal l.pos l.mark l.neg y
   pub sloop_proper : (l : MapSloop) → M.sloop ≡ Some l → Proper l.pos l.mark l.neg
   pub sloop_all : (n y : Vector) (a m b : Label) → IsNormal n → IsDirection y → ((k : ℕ) (v : MapVertex) → At M.svertices k v → dot n v.dir ≡ pos 0 → ⊥) → Proper a m b → StraightAt F n a m b y
       → (l : MapSloop) × (M.sloop ≡ Some l) × SameDirection n l.normal
-  -- the faces round svertices without arcs, and the one face of a map without items
+  -- the labels round svertices without arcs, and the label of the ground, for a map without items
   pub around_lone : (k : ℕ) (v : MapVertex) → At M.svertices k v → (HasArc M k → ⊥) → (m : Label) × (v.around ≡ Some m)
   pub around_not : (k : ℕ) (v : MapVertex) → At M.svertices k v → HasArc M k → v.around ≡ None
   pub around_near : (k : ℕ) (v : MapVertex) (m : Label) (e : Vector) → At M.svertices k v → v.around ≡ Some m → IsDirection (cross v.dir e) → Near F v.dir e m
@@ -40,6 +40,6 @@ pub record IsBuilt (M : Map) (F : Vector → Label → Type 0) : Type 0 where
   pub ground_not : (m : Label) → M.ground ≡ Some m → (M.svertices ≡ []) × (M.sloop ≡ None)
   pub ground_label : (m : Label) (d : Vector) → M.ground ≡ Some m → IsDirection d → F d m
 
--- no svertex is plain or straight
+-- no svertex of M is a direction where F is plain or straight
 abbrev pub Kept : Map → (Vector → Label → Type 0) → Type 0
 Kept M F = (k : ℕ) (v : MapVertex) → At M.svertices k v → IsSmooth F v.dir → ⊥

@@ -1,13 +1,12 @@
 -- The linear forms of a map, and vectors that have the same signs on them.
-use Rattle.std.specs.Prelude.{◌≡◌, pos, ◌-ℤ◌, List, [], ◌∷◌, ◌++◌}
-use Rattle.nef_space.specs.Signs.{sign, Lies}
-use Rattle.nef_space.specs.Vectors.{Vector, cross, vector, dot}
+use Rattle.std.specs.Prelude.{◌≡◌, ◌-ℤ◌, ◌∷◌, ◌++◌}
+use Rattle.nef_space.specs.Prelude.{pos, List, [], sign, Lies, Vector, cross, vector, dot}
 use Rattle.law_sphere.specs.Maps.{Map, Item, arc_item, sloop_item, items, dir_of}
 
 abbrev pub SameSigns : List Vector → Vector → Vector → Type 0
 SameSigns gs d e = (g : Vector) → Lies gs g → sign (dot g e) ≡ sign (dot g d)
 
--- e has the signs of d wherever those aren't nought
+-- e has the sign of d on each form where the sign of d isn't nought
 abbrev pub Keeps : List Vector → Vector → Vector → Type 0
 Keeps gs d e = (g : Vector) → Lies gs g → (dot g d ≡ pos 0 → ⊥) → sign (dot g e) ≡ sign (dot g d)
 
@@ -23,7 +22,7 @@ axis_z = vector (pos 0) (pos 0) (pos 1)
 abbrev pub axes : List Vector
 axes = axis_x ∷ axis_y ∷ axis_z ∷ []
 
--- the products of v with d, and the numbers of v x d
+-- the three forms of d that give the numbers of v x d
 abbrev pub row_x : Vector → Vector
 row_x v = vector (pos 0) (pos 0 -ℤ v.z) v.y
 

@@ -1,15 +1,15 @@
--- Along which directions a map stays the same, and the kind of a least map.
+-- Directions along which a map stays the same, and the kind of a least map by its svertices and its sloop.
 use Rattle.std.specs.Prelude.{◌≡◌, ℕ, ◌<◌, ℤ, pos, [], ◌∷◌, ◌⊎◌, ◌↔◌, Some, None}
 use Rattle.nef_space.specs.Vectors.{Vector, IsZero, IsOpposite}
 use Rattle.nef_space.specs.declared.label.Label.{Label}
 use Rattle.law_sphere.specs.Vectors.{comb}
 use Rattle.law_sphere.specs.Maps.{MapVertex, MapSloop, Map, MapLabel}
 
--- the label toward e, which is the mark of the map where e is nought
+-- the label m of the map toward e, or the map's mark where e is nought
 abbrev pub Full : Map → Vector → Label → Type 0
 Full M e m = (IsZero e × (M.mark ≡ m)) ⊎ MapLabel M e m
 
--- the labels don't change along d
+-- a positive multiple of any vector, plus any multiple of d, has the label of the vector
 abbrev pub FlatMap : Map → Vector → Type 0
 FlatMap M d = (e : Vector) (b : ℕ) (a : ℤ) → 0 < b → (m : Label) → Full M e m ↔ Full M (comb (pos b) e a d) m
 
@@ -25,7 +25,7 @@ pub record IsInFacet (M : Map) (n : Vector) : Type 0 where
   pub same_mark : sloop.mark ≡ M.mark
   pub normal : sloop.normal ≡ n
 
--- the greater direction is the second svertex's
+-- the map of an edge along d: two opposite svertices with the map's mark, the second in the direction d
 pub record IsOnEdge (M : Map) (d : Vector) : Type 0 where
   pub first : MapVertex
   pub second : MapVertex

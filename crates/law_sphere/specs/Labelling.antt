@@ -1,13 +1,12 @@
--- Labels of directions that the signs of finitely many forms determine, and maps that agree with them piece by piece.
-use Rattle.std.specs.Prelude.{◌≡◌, ℕ, ◌≤◌, pos, List, Some}
-use Rattle.nef_space.specs.Signs.{sign}
-use Rattle.nef_space.specs.Vectors.{Vector, IsDirection, cross, dot, blend}
+-- Labellings, which the signs of finitely many forms determine, and maps that agree with a labelling piece by piece.
+use Rattle.std.specs.Prelude.{◌≡◌, ◌≤◌}
+use Rattle.nef_space.specs.Prelude.{ℕ, pos, List, Some, sign, Vector, IsDirection, cross, dot, blend}
 use Rattle.nef_space.specs.declared.label.Label.{Label}
 use Rattle.law_sphere.specs.Maps.{At, MapVertex, Map, Item, items, item_normal, item_pos, item_mark, item_neg, OnItem, IsFree, MapLabel}
 use Rattle.law_sphere.specs.Forms.{SameSigns}
 use Rattle.law_sphere.specs.Least.{by_side}
 
--- each direction has one label, which the signs of the forms determine
+-- each direction has one label by F, and the signs of the forms gs determine this label
 pub record Labelling (gs : List Vector) (F : Vector → Label → Type 0) : Type 0 where
   pub exists : (d : Vector) → IsDirection d → (m : Label) × F d m
   pub one : (d : Vector) (m n : Label) → IsDirection d → F d m → F d n → m ≡ n
@@ -16,11 +15,11 @@ pub record Labelling (gs : List Vector) (F : Vector → Label → Type 0) : Type
 abbrev pub Near : (Vector → Label → Type 0) → Vector → Vector → Label → Type 0
 Near F d e m = (n : ℕ) × ((k : ℕ) → n ≤ k → F (blend k d 1 e) m)
 
--- all around d there is the label of d
+-- F gives all directions close to d the label of d
 abbrev pub Plain : (Vector → Label → Type 0) → Vector → Type 0
 Plain F d = (m : Label) → F d m → (e : Vector) → IsDirection (cross d e) → Near F d e m
 
--- at each place of the map, and near it, the labels are those of the map's svertex, item, or face
+-- at each svertex, item and free direction of the map, and close to each, F gives the label that the map has there
 pub record Agrees (M : Map) (F : Vector → Label → Type 0) : Type 0 where
   pub svertices : (k : ℕ) (v : MapVertex) → At M.svertices k v → F v.dir v.mark
   pub marks : (k : ℕ) (x : Item) (d : Vector) → At (items M) k x → OnItem M x d → F d (item_mark x)
@@ -29,22 +28,22 @@ pub record Agrees (M : Map) (F : Vector → Label → Type 0) : Type 0 where
   pub free : (d : Vector) → IsFree M d → Plain F d
   pub ground : (m : Label) (d : Vector) → M.ground ≡ Some m → IsDirection d → F d m
 
--- op of the labels of two maps
+-- d has a label in A and a label in B, and op makes m of the two
 abbrev pub ByOp : Map → Map → (Label → Label → Label) → Vector → Label → Type 0
 ByOp A B op d m = (k : Label) × (l : Label) × MapLabel A d k × MapLabel B d l × (op k l ≡ m)
 
--- all around d there is the label m
+-- F gives d and all directions close to d the label m
 pub record PlainAt (F : Vector → Label → Type 0) (d : Vector) (m : Label) : Type 0 where
   pub at_d : F d m
   pub near : (e : Vector) → Near F d e m
 
--- around d, which lies in the plane of n, there are the labels a, m and b above, in and below the plane
+-- d lies in the plane of n, and close to d the labels above, in and below this plane are a, m and b
 pub record StraightAt (F : Vector → Label → Type 0) (n : Vector) (a m b : Label) (d : Vector) : Type 0 where
   pub level : dot n d ≡ pos 0
   pub at_d : F d m
   pub near : (e : Vector) → Near F d e (by_side a m b (sign (dot n e)))
 
--- plain or straight
+-- close to d, the labels by F are plain or straight
 pub data IsSmooth (F : Vector → Label → Type 0) (d : Vector) : Type 0 where
   plain : (m : Label) → PlainAt F d m → IsSmooth F d
   straight : (n : Vector) (a m b : Label) → IsDirection n → StraightAt F n a m b d → IsSmooth F d

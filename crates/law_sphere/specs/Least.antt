@@ -1,27 +1,23 @@
--- Plain and straight directions of a map, by its labels alone; least maps; maps that agree.
-use Rattle.std.specs.Prelude.{◌≡◌, ℕ, ◌<◌, pos, List, ◌⊎◌, Some}
-use Rattle.nef_space.specs.Signs.{Sign, minus, nought, plus, sign}
-use Rattle.nef_space.specs.Place.{Place}
-use Rattle.nef_space.specs.Vectors.{Vector, IsDirection, cross, dot, SameDirection}
+-- Plain and straight directions of a map by its labels alone, least maps, and two maps that match part by part.
+use Rattle.std.specs.Prelude.{◌≡◌, ◌<◌, ◌⊎◌}
+use Rattle.nef_space.specs.Prelude.{ℕ, pos, List, Some, Sign, minus, nought, plus, sign, Place, Vector, IsDirection, cross, dot, SameDirection, HasLabel, Germ, Set}
 use Rattle.nef_space.specs.declared.label.Label.{Label}
-use Rattle.nef_space.specs.Local.{HasLabel, Germ}
-use Rattle.nef_space.specs.Sets.{Set}
 use Rattle.law_sphere.specs.Vectors.{IsPrimitive, VectorBelow}
 use Rattle.law_sphere.specs.Maps.{At, MapVertex, Arc, MapSloop, Map, Item, items, item_normal, item_pos, item_mark, item_neg, dir_of, MapLabel, NearLabel, Valid}
 
--- the label above, in or below a plane
+-- the label for a sign at a plane: a above, m in, b below the plane
 abbrev pub by_side : Label → Label → Label → Sign → Label
 by_side a m b plus = a
 by_side a m b nought = m
 by_side a m b minus = b
 
--- all around d there is the label of d
+-- all directions close to d have the label of d
 pub record NearPlain (M : Map) (d : Vector) : Type 0 where
   pub label : Label
   pub at_d : MapLabel M d label
   pub near : (e : Vector) → IsDirection (cross d e) → NearLabel M d e label
 
--- around d there is one plane through d with the label of d, and one label on each side of it
+-- close to d, a plane through d has the label of d, and each side of this plane has one label
 pub record NearStraight (M : Map) (d : Vector) : Type 0 where
   pub normal : Vector
   pub direction : IsDirection normal
@@ -37,12 +33,12 @@ pub record Least (M : Map) : Type 0 where
   pub no_straight : (k : ℕ) (v : MapVertex) → At M.svertices k v → NearStraight M v.dir → ⊥
   pub items_differ : (k : ℕ) (x : Item) → At (items M) k x → item_pos x ≡ item_mark x → item_neg x ≡ item_mark x → ⊥
 
--- each label of M is one of N
+-- each direction with a label in M has the same label in N
 abbrev pub SameLabels : Map → Map → Type 0
 SameLabels M N = (d : Vector) (m : Label) → MapLabel M d m → MapLabel N d m
 
--- ---- maps that agree
--- an arc of N with the way of the normal, the ends and the labels of the arc a of M
+-- ---- maps that match
+-- the arc of N that matches the arc a of M: in the direction of its normal, in its ends and in its labels
 pub record MatchedArc (M N : Map) (a : Arc) : Type 0 where
   pub number : ℕ
   pub arc : Arc
@@ -70,14 +66,14 @@ pub record MatchedSvertex (N : Map) (v : MapVertex) : Type 0 where
   pub mark : v.mark ≡ svertex.mark
   pub around : v.around ≡ svertex.around
 
--- all that M holds N holds too, up to the lengths of vectors and the order of the lists
+-- each part of M has a matching part of N, up to the lengths of vectors and the order of the lists
 pub record Within (M N : Map) : Type 0 where
   pub svertices : (k : ℕ) (v : MapVertex) → At M.svertices k v → MatchedSvertex N v
   pub arcs : (k : ℕ) (a : Arc) → At M.arcs k a → MatchedArc M N a
   pub sloop : (l : MapSloop) → M.sloop ≡ Some l → MatchedSloop N l
   pub ground : M.ground ≡ N.ground
 
--- the orders of the lists, and directions in lowest terms
+-- the order of arcs: by normal, then by the number of the source
 abbrev pub ArcBelow : Arc → Arc → Type 0
 ArcBelow a b = VectorBelow a.normal b.normal ⊎ ((a.normal ≡ b.normal) × (a.source < b.source))
 
@@ -90,7 +86,7 @@ pub record Ordered (M : Map) : Type 0 where
   pub svertices : InOrder (λ (u v : MapVertex). VectorBelow u.dir v.dir) M.svertices
   pub arcs : InOrder ArcBelow M.arcs
 
--- the map shows the set close to p
+-- the map M is valid and shows the germs of the set s at the point p
 pub record Cone (M : Map) (s : Set) (p : Place) : Type 0 where
   pub valid : Valid M
   pub mark : HasLabel s p M.mark

@@ -1,16 +1,16 @@
--- Sphere maps: their places, sides, sight, labels, and which maps are valid.
+-- Sphere maps: svertices, arcs, sloops, sides and what a side sees, the labels of directions, and valid maps.
 use Rattle.std.specs.Prelude.{◌≡◌, ℕ, zero, suc, ◌<◌, ◌≤◌, pos, ◌<ℤ◌, List, [], ◌∷◌, ◌⊎◌, Option, Some, None}
 use Rattle.nef_space.specs.Vectors.{Vector, IsDirection, vector, dot, SameDirection, IsOpposite, IsNormal, blend}
 use Rattle.nef_space.specs.declared.label.Label.{Label}
 use Rattle.law_cyclic.specs.Arcs.{IsOnCircle, IsStrictlyOn}
 
--- x stands at place k
+-- x is the entry with number k of a list, counted from 0
 abbrev pub At : {X : Type 0} → List X → ℕ → X → Type 0
 At [] k x = ⊥
 At (y ∷ ys) zero x = y ≡ x
 At (y ∷ ys) (suc k) x = At ys k x
 
--- ---- places
+-- ---- the parts of a map
 pub record MapVertex : Type 0 where
   pub dir : Vector
   pub mark : Label
@@ -37,7 +37,7 @@ pub record Map : Type 0 where
   pub sloop : Option MapSloop
   pub ground : Option Label
 
--- an item is an arc or the sloop
+-- an item is an arc or a sloop
 pub data Item : Type 0 where
   arc_item : Arc → Item
   sloop_item : MapSloop → Item
@@ -50,7 +50,7 @@ abbrev pub items_then : List Arc → Option MapSloop → List Item
 items_then [] o = sloop_items o
 items_then (a ∷ as') o = arc_item a ∷ items_then as' o
 
--- the items by their numbers: the arcs, then the sloop
+-- the items of a map by number: the arcs, then the sloop
 abbrev pub items : Map → List Item
 items M = items_then M.arcs M.sloop
 
@@ -75,58 +75,58 @@ dir_of [] k = vector (pos 0) (pos 0) (pos 0)
 dir_of (v ∷ vs) zero = v.dir
 dir_of (v ∷ vs) (suc k) = dir_of vs k
 
--- d lies strictly on the arc, or on the sloop
+-- d lies strictly on the arc, or anywhere on the sloop
 abbrev pub OnItem : Map → Item → Vector → Type 0
 OnItem M (arc_item a) d = IsStrictlyOn a.normal (dir_of M.svertices a.source) (dir_of M.svertices a.target) d
 OnItem M (sloop_item l) d = IsOnCircle l.normal d
 
--- d is a direction on no svertex and on no item
+-- d is a direction that lies on no svertex and on no item
 pub record IsFree (M : Map) (d : Vector) : Type 0 where
   pub direction : IsDirection d
   pub off_svertices : (k : ℕ) (v : MapVertex) → At M.svertices k v → SameDirection v.dir d → ⊥
   pub off_items : (k : ℕ) (x : Item) → At (items M) k x → OnItem M x d → ⊥
 
 -- ---- sides and sight
--- what a side is a side of: the svertex or the item with a number, or the whole sphere
+-- a side of a map: round the svertex, or on either side of the item, with this number, or the ground
 pub data Side : Type 0 where
   around_svertex : ℕ → Side
   pos_item : ℕ → Side
   neg_item : ℕ → Side
   whole : Side
 
--- the map has this side, with this label
+-- the map M has the side, and m is the side's label
 abbrev pub HasSide : Map → Side → Label → Type 0
 HasSide M (around_svertex k) m = (v : MapVertex) × At M.svertices k v × (v.around ≡ Some m)
 HasSide M (pos_item k) m = (x : Item) × At (items M) k x × (item_pos x ≡ m)
 HasSide M (neg_item k) m = (x : Item) × At (items M) k x × (item_neg x ≡ m)
 HasSide M whole m = M.ground ≡ Some m
 
--- the short way from the free direction a to the direction b passes free directions alone
+-- all directions strictly between the free direction a and the direction b on the short way are free
 pub record IsClear (M : Map) (a b : Vector) : Type 0 where
   pub start : IsFree M a
   pub direction : IsDirection b
   pub short : IsOpposite a b → ⊥
   pub between : (i j : ℕ) → 0 < i → 0 < j → IsFree M (blend i a j b)
 
--- y is a point of the side's item, and who comes to it from a comes from that side
+-- y lies on the svertex or the item of the side, and a lies on this side of the item
 abbrev pub Reaches : Map → Side → Vector → Vector → Type 0
 Reaches M (around_svertex k) a y = (v : MapVertex) × At M.svertices k v × SameDirection v.dir y
 Reaches M (pos_item k) a y = (x : Item) × At (items M) k x × OnItem M x y × (pos 0 <ℤ dot (item_normal x) a)
 Reaches M (neg_item k) a y = (x : Item) × At (items M) k x × OnItem M x y × (dot (item_normal x) a <ℤ pos 0)
 Reaches M whole a y = Unit {0}
 
--- the side sees the free direction d: by a direct path to y, or by a path that turns at c
+-- the side sees the free direction d on a short way from d to y, or on two short ways that turn at c
 pub data Sees (M : Map) (o : Side) (d : Vector) : Type 0 where
   directly : (y : Vector) → IsClear M d y → Reaches M o d y → Sees M o d
   by_way_of : (c y : Vector) → IsClear M d c → IsClear M c y → Reaches M o c y → Sees M o d
 
--- a side of the map that sees d has the label m
+-- some side of the map that sees d has the label m
 pub record SeenAs (M : Map) (d : Vector) (m : Label) : Type 0 where
   pub side : Side
   pub has : HasSide M side m
   pub sees : Sees M side d
 
--- the map's label of the direction d
+-- d has the label m: the mark of the svertex or item that d lies on, or the label of a side that sees d
 pub data MapLabel (M : Map) (d : Vector) (m : Label) : Type 0 where
   at_svertex : (k : ℕ) (v : MapVertex) → At M.svertices k v → SameDirection v.dir d → v.mark ≡ m → MapLabel M d m
   on_item : (k : ℕ) (x : Item) → At (items M) k x → OnItem M x d → item_mark x ≡ m → MapLabel M d m
@@ -136,11 +136,11 @@ abbrev pub NearLabel : Map → Vector → Vector → Label → Type 0
 NearLabel M d e m = (n : ℕ) × ((k : ℕ) → n ≤ k → MapLabel M (blend k d 1 e) m)
 
 -- ---- validity
--- both sides see one direction
+-- there is one direction that both sides see
 abbrev pub SeeOne : Map → Side → Side → Type 0
 SeeOne M o p = (d : Vector) × Sees M o d × Sees M p d
 
--- a chain of sides that see one direction in common
+-- a chain of sides, of which each sees a direction that the next one sees too, so all bound one sface
 pub data InOneSface (M : Map) : Side → Side → Type 0 where
   here : (o : Side) → InOneSface M o o
   link : (o p q : Side) (m : Label) → HasSide M p m → SeeOne M o p → InOneSface M p q → InOneSface M o q
@@ -148,7 +148,7 @@ pub data InOneSface (M : Map) : Side → Side → Type 0 where
 abbrev pub HasArc : Map → ℕ → Type 0
 HasArc M k = (i : ℕ) × (a : Arc) × At M.arcs i a × ((a.source ≡ k) ⊎ (a.target ≡ k))
 
--- the arc goes from one svertex to another, or to the same, on the circle of its normal
+-- source and target of the arc are svertices, or one svertex, on the circle of the arc's normal
 pub record ArcBetween (M : Map) (a : Arc) : Type 0 where
   pub source : MapVertex
   pub target : MapVertex
@@ -157,7 +157,7 @@ pub record ArcBetween (M : Map) (a : Arc) : Type 0 where
   pub level_source : dot a.normal source.dir ≡ pos 0
   pub level_target : dot a.normal target.dir ≡ pos 0
 
--- the items of the map fit together: validity but for the labels, the orders of the lists and the sizes of the numbers
+-- the parts of the map fit together; only labels, the orders of lists and the sizes of numbers are left open
 pub record Shaped (M : Map) : Type 0 where
   pub svertex_dirs : (k : ℕ) (v : MapVertex) → At M.svertices k v → IsDirection v.dir
   pub svertices_apart : (i k : ℕ) (u v : MapVertex) → At M.svertices i u → At M.svertices k v → SameDirection u.dir v.dir → i ≡ k
@@ -170,7 +170,7 @@ pub record Shaped (M : Map) : Type 0 where
   pub ground_alone : M.svertices ≡ [] → M.sloop ≡ None → (m : Label) × (M.ground ≡ Some m)
   pub ground_not : (m : Label) → M.ground ≡ Some m → (M.svertices ≡ []) × (M.sloop ≡ None)
 
--- a valid map, but for the orders of the lists and the sizes of the numbers, which say nothing of directions
+-- a map whose parts fit, with one label for each sface; orders of lists and sizes of numbers are left open
 pub record Valid (M : Map) : Type 0 where
   pub shaped : Shaped M
   pub one_label : (o p : Side) (k l : Label) → HasSide M o k → HasSide M p l → InOneSface M o p → k ≡ l

@@ -1,4 +1,4 @@
--- Maps given by the stars of their axes, and what it means that such stars show labels of all directions.
+-- Raw maps, which stars at their axes give, and stars that show the labels of all directions.
 use Rattle.std.specs.Prelude.{◌≡◌, ℕ, suc, pos, List, [], ◌∷◌, length, Option, Some, None, ◌⊎◌, true, false}
 use Rattle.nef_space.specs.Vectors.{Vector, IsDirection, cross, dot, SameDirection, IsNormal}
 use Rattle.nef_space.specs.declared.label.Label.{Label}
@@ -11,31 +11,31 @@ use Rattle.law_sphere.specs.Stars.{Ray, Star, IsRay, StarLabel}
 use Rattle.law_sphere.specs.Labelling.{Near, StraightAt, IsSmooth}
 use Rattle.law_sphere.specs.Builds.{Proper}
 
--- the stars of the directions that may be svertices, a circle that none of them lies on, and the one label where there is nothing else
+-- stars at directions that may be svertices, a circle that no axis lies on, or the label of a ground alone
 pub record RawMap : Type 0 where
   pub mark : Label
   pub stars : List Star
   pub sloop : Option MapSloop
   pub ground : Option Label
 
--- a label for each direction, as a relation
+-- the relation of directions and labels that the function L gives
 abbrev pub Of : (Vector → Label) → Vector → Label → Type 0
 Of L d m = L d ≡ m
 
--- the signs of the forms determine the label of a direction
+-- directions with the same signs on the forms gs have the same label by L
 abbrev pub IsLabelling : List Vector → (Vector → Label) → Type 0
 IsLabelling gs L = (d e : Vector) → IsDirection d → IsDirection e → SameSigns gs d e → L d ≡ L e
 
--- as many sectors as rays, and one where there is no ray
+-- the number of sectors: one for each ray, and one if there is no ray
 abbrev pub sector_count : List Ray → ℕ
 sector_count [] = 1
 sector_count (r ∷ rs) = length (r ∷ rs)
 
--- the order by normal, with a ray that goes ahead before its opposite
+-- the order of rays by normal, and of two rays with one normal the ray ahead first
 abbrev pub RayBelow : Ray → Ray → Type 0
 RayBelow q r = VectorBelow q.normal r.normal ⊎ ((q.normal ≡ r.normal) × (q.ahead ≡ true) × (r.ahead ≡ false))
 
--- what holds of a star, whatever labels it has: the rays leave the axis, the first is the least, and each direction has one label
+-- a star with rays off the axis, the least ray first, and one label in each direction; which labels is left open
 pub record IsWellFormed (t : Star) : Type 0 where
   pub axis : IsDirection t.axis
   pub axis_lowest : IsPrimitive t.axis
@@ -46,17 +46,17 @@ pub record IsWellFormed (t : Star) : Type 0 where
   pub each : (e : Vector) → IsDirection (cross t.axis e) → (l : Label) × StarLabel t e l
   pub one : (e : Vector) (l m : Label) → IsDirection (cross t.axis e) → StarLabel t e l → StarLabel t e m → l ≡ m
 
--- the star has L's labels on its axis and near it
+-- the star's mark is L's label of the axis, and the star's labels are L's labels close to the axis
 pub record ShowsLabels (t : Star) (L : Vector → Label) : Type 0 where
   pub star : IsWellFormed t
   pub mark : L t.axis ≡ t.mark
   pub labels : (e : Vector) (l : Label) → IsDirection (cross t.axis e) → StarLabel t e l → Near (Of L) t.axis e l
 
--- no star has its axis on the circle of n
+-- no star of ts has its axis on the circle of n
 abbrev pub IsBare : List Star → Vector → Type 0
 IsBare ts n = (k : ℕ) (t : Star) → At ts k t → dot n t.axis ≡ pos 0 → ⊥
 
--- the stars, the circle and the one face show L: away from the axes L is plain or straight, and the circle has its labels all along
+-- stars, circle and ground of R show L: L is plain or straight off the axes, and the circle has its labels all along
 pub record IsRawOf (R : RawMap) (L : Vector → Label) : Type 0 where
   pub stars : (k : ℕ) (t : Star) → At R.stars k t → ShowsLabels t L
   pub ordered : InOrder (λ t u. VectorBelow t.axis u.axis) R.stars

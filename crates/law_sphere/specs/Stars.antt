@@ -1,4 +1,4 @@
--- Stars: the value that a star gives each direction, the star of a map at a direction, plain and straight stars.
+-- Stars: the label of each direction about the axis, the star of a map at a direction, plain and straight stars.
 use Rattle.std.specs.Prelude.{◌≡◌, ℕ, zero, suc, pos, List, [], ◌∷◌, length, Bool, true, false, cond, ◌⊎◌}
 use Rattle.nef_space.specs.Vectors.{Vector, IsDirection, cross, dot, SameDirection, IsNormal}
 use Rattle.nef_space.specs.declared.label.Label.{Label}
@@ -16,49 +16,49 @@ pub record Star : Type 0 where
   pub sectors : List Label
   pub mark : Label
 
--- the direction in which a ray leaves the axis
+-- the direction in which a ray leaves the axis of its star
 abbrev pub ray_dir : Star → Ray → Vector
 ray_dir t r = cond r.ahead (cross r.normal t.axis) (cross t.axis r.normal)
 
--- the part of e at right angles to the axis d
+-- the part of e at right angles to d, up to its length
 abbrev pub across : Vector → Vector → Vector
 across d e = cross (cross d e) d
 
 abbrev pub OnRay : Star → Ray → Vector → Type 0
 OnRay t r e = SameDirection (ray_dir t r) (across t.axis e)
 
--- e lies strictly between the rays q and r, counterclockwise; where they are the same ray, off it
+-- e lies strictly in the sector from the ray q to the ray r, counterclockwise; if q is r, anywhere off q
 abbrev pub PastRay : Star → Ray → Ray → Vector → Type 0
 PastRay t q r e = IsStrictlyOn t.axis (ray_dir t q) (ray_dir t r) (across t.axis e)
 
--- r is the ray after ray k; the first ray follows the last
+-- r is the ray after the ray with number k, where the first ray follows the last one
 abbrev pub NextRay : List Ray → ℕ → Ray → Type 0
 NextRay rs k r = At rs (suc k) r ⊎ ((suc k ≡ length rs) × At rs zero r)
 
--- the label that the star gives e, which isn't parallel to the axis
+-- the star's label toward e, for e that isn't parallel to the axis
 pub data StarLabel (t : Star) (e : Vector) (l : Label) : Type 0 where
   on_ray : (k : ℕ) (r : Ray) → At t.rays k r → OnRay t r e → r.mark ≡ l → StarLabel t e l
   in_sector : (k : ℕ) (q r : Ray) → At t.rays k q → NextRay t.rays k r → PastRay t q r e → At t.sectors k l → StarLabel t e l
   in_only_sector : t.rays ≡ [] → At t.sectors zero l → StarLabel t e l
 
--- each ray leaves the axis
+-- the ray leaves the axis: its normal is perpendicular to the axis
 pub record IsRay (t : Star) (r : Ray) : Type 0 where
   pub level : dot r.normal t.axis ≡ pos 0
   pub normal : IsNormal r.normal
 
--- t is the neighbourhood of the direction d in the map
+-- the star t has the axis d, and the labels of M on d and close to d
 pub record StarOf (t : Star) (M : Map) (d : Vector) : Type 0 where
   pub rays : (k : ℕ) (r : Ray) → At t.rays k r → IsRay t r
   pub axis : t.axis ≡ d
   pub mark : MapLabel M d t.mark
   pub labels : (e : Vector) → IsDirection (cross d e) → (l : Label) × StarLabel t e l × NearLabel M d e l
 
--- no ray, and the mark is the sector's label
+-- the star has no ray, and its one sector has the label of its mark
 pub record IsPlain (t : Star) : Type 0 where
   pub no_ray : t.rays ≡ []
   pub one_sector : t.sectors ≡ t.mark ∷ []
 
--- two rays with the star's mark leave in opposite directions, and there is no other
+-- the star has exactly two rays, which have its mark and leave in opposite directions
 pub record IsStraight (t : Star) : Type 0 where
   pub first : Ray
   pub second : Ray
@@ -72,7 +72,7 @@ pub record IsStraight (t : Star) : Type 0 where
   pub first_mark : first.mark ≡ t.mark
   pub second_mark : second.mark ≡ t.mark
 
--- all that the star says holds of the map near its axis
+-- each label of the star is a label of M, on the star's axis or close to it
 pub record StarShows (t : Star) (M : Map) : Type 0 where
   pub axis : IsDirection t.axis
   pub rays : (k : ℕ) (r : Ray) → At t.rays k r → IsRay t r
@@ -80,10 +80,10 @@ pub record StarShows (t : Star) (M : Map) : Type 0 where
   pub mark : MapLabel M t.axis t.mark
   pub labels : (e : Vector) (l : Label) → IsDirection (cross t.axis e) → StarLabel t e l → NearLabel M t.axis e l
 
--- ray k follows ray j; the first ray follows the last
+-- ray k comes next after ray j, where the first ray follows the last one
 abbrev pub Follows : List Ray → ℕ → ℕ → Type 0
 Follows rs j k = (suc j ≡ k) ⊎ ((suc j ≡ length rs) × (k ≡ zero))
 
--- no ray has the mark of both its sectors
+-- no ray has the mark of both neighbouring sectors
 abbrev pub IsSimplified : Star → Type 0
 IsSimplified t = (j k : ℕ) (q r : Ray) (l m : Label) → At t.rays j q → At t.rays k r → Follows t.rays j k → At t.sectors j l → At t.sectors k m → r.mark ≡ l → r.mark ≡ m → ⊥

@@ -1,4 +1,4 @@
-//! The laws of sphere maps.
+//! Laws of sphere maps: where a direction lies, its label, least maps, and maps that are built.
 
 ghost use Rattle.law_sphere.specs.Laws.{GenericVector, PlacesDecided, PlacesBySigns, SeenDirectly, OneSideSeesBoth, FreeSeen, ClearLabel, OneLabel, LabelBySigns, OneNearLabel, NearIsFar, SvertexExactly, LeastUnique, LeastMapUnique, ConeFromPieces, OpFromPieces, KindByDimension, OpBuild, SetBuild, OpSmooth};
 
@@ -9,8 +9,8 @@ pub fn place_laws()
     ensures by_signs { PlacesBySigns }
 {}
 
-/// Every direction of a valid map has one label, which the signs on the map's forms determine; so has
-/// every direction near another.
+/// Every direction of a valid map has one label, which the signs on the map's forms determine; close to a direction d
+/// there is one label toward each direction e.
 pub fn label_laws()
     ensures directly { SeenDirectly }
     ensures both { OneSideSeesBoth }
@@ -22,8 +22,8 @@ pub fn label_laws()
     ensures far { NearIsFar }
 {}
 
-/// Two least maps with one mark and one label in every direction are equal, and the kind of the least
-/// map of a set at a point is the dimension of the set's flat directions there.
+/// Two least maps with one mark and one label in every direction are equal, and the kind of the least map of a set at a
+/// point is the dimension of the set's flat directions there.
 pub fn least_laws()
     ensures exactly { SvertexExactly }
     ensures unique { LeastUnique }
@@ -31,8 +31,8 @@ pub fn least_laws()
     ensures kind { KindByDimension }
 {}
 
-/// What is put together from pieces that agree with a set, or with an operation on two maps, is valid,
-/// has their labels, and is least where each svertex is kept for a reason.
+/// A map that is put together from pieces that agree with a set, or with an operation on two maps, is valid, has the
+/// labels of the set or of the result, and is least where no svertex is plain or straight.
 pub fn build_laws()
     ensures pieces { ConeFromPieces }
     ensures op { OpFromPieces }

@@ -1,13 +1,5 @@
 -- Two arcs with one normal that begin at one svertex, or end at one, are one arc.
-use Rattle.std.proofs.Common.{◌≡◌, ℕ, pos, neg_ℤ, true, ap, sym, ◌∙◌, subst}
-use Rattle.nef_space.specs.Vectors.{Vector, dot, IsDirection, SameDirection, opposite}
-use Rattle.law_cyclic.specs.Arcs.{IsStrictlyOn}
-use Rattle.law_cyclic.proofs.Directions.{way_back_passes_the_same}
-use Rattle.law_sphere.specs.Maps.{At, Arc, arc_item, Map, items, dir_of, Shaped}
-use Rattle.law_sphere.proofs.Shot.{item-point}
-use Rattle.law_sphere.proofs.Arcs.{Ends, ends-of, at-arc}
-use Rattle.law_sphere.proofs.Vectors.{normal-is}
-use Rattle.law_sphere.proofs.Turn.{ends-together}
+use Rattle.law_turns.proofs.Prelude.{◌≡◌, ℕ, pos, neg_ℤ, true, ap, sym, ◌∙◌, subst, Vector, dot, IsDirection, SameDirection, opposite, IsStrictlyOn, way_back_passes_the_same, At, Arc, arc_item, Map, items, dir_of, Shaped, item-point, Ends, ends-of, at-arc, normal-is, ends-together}
 use Rattle.law_turns.proofs.Turning.{signed-dot, zero-signed}
 
 module _ (M : Map) (V : Shaped M) (i j : ℕ) (a b : Arc) (at-a : At M.arcs i a) (at-b : At M.arcs j b) (normal : a.normal ≡ b.normal) where

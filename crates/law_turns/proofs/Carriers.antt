@@ -1,18 +1,6 @@
 -- The carriers of a turned set are the turned carriers.
-use Rattle.std.proofs.Common.{◌≡◌, ℕ, zero, suc, ◌/◌, ◌%◌, ℤ, pos, negsuc, ◌*ℤ◌, neg_ℤ, Bool, true, false, refl, ap, sym, ◌∙◌, subst, ◌↔◌, ◌⊎◌, inl, inr, ⊎_elim, List, [], ◌∷◌, ◌++◌, arith}
-use Rattle.std.proofs.lemmas.Int.{ints}
-use Rattle.nef_space.proofs.Ring.{ring, at, neg, ◌⊗◌}
-use Rattle.nef_space.specs.Signs.{Lies}
-use Rattle.nef_space.proofs.Lists.{lies-left, lies-right, lies-append}
-use Rattle.nef_space.specs.Limits.{half_side}
-use Rattle.nef_space.specs.Place.{Form, form, normal_of}
-use Rattle.nef_space.specs.Sets.{Set, halves}
-use Rattle.nef_space.specs.Vectors.{IsDirection, IsZero, cross}
-use Rattle.nef_case.specs.Turns.{Triple, ordered, has_bit, negated_if, turned}
-use Rattle.law_near.specs.Cells.{side, frame, carriers}
-use Rattle.law_complex.specs.Shows.{SamePlane, Carriers}
-use Rattle.law_turns.specs.Turned.{disordered, unturned, turned_vector, turned_plane, turned_set, is_odd}
-use Rattle.law_turns.specs.Complexes.{signed_form, AreTurnedPlanes}
+use Rattle.law_turns.proofs.Prelude.{◌≡◌, ℕ, zero, suc, ◌/◌, ◌%◌, ℤ, pos, negsuc, ◌*ℤ◌, neg_ℤ, Bool, true, false, refl, ap, sym, ◌∙◌, subst, ◌↔◌, ◌⊎◌, inl, inr, ⊎_elim, List, [], ◌∷◌, ◌++◌, arith, ints, ring, at, neg, ◌⊗◌, Lies, lies-left, lies-right, half_side, Form, form, normal_of, Set, halves, IsDirection, IsZero, cross, Triple, ordered, has_bit, negated_if, turned, side, frame, carriers, SamePlane, Carriers, disordered, unturned, turned_vector, turned_plane, turned_set, is_odd, signed_form, AreTurnedPlanes}
+use Rattle.nef_space.proofs.Lists.{lies-append}
 use Rattle.law_turns.proofs.Coordinates.{SignBlind, each-turned, each-back, turned-back}
 use Rattle.law_turns.proofs.Turning.{direction-there, zero_cross-there}
 use Rattle.law_turns.proofs.Vectors.{turning}

@@ -1,19 +1,5 @@
 -- The turned complex shows the turned set.
-use Rattle.std.proofs.Common.{ℕ, List}
-use Rattle.nef_space.specs.Place.{Place, SamePlace}
-use Rattle.nef_space.specs.Sets.{Set}
-use Rattle.nef_space.specs.Local.{IsVertex}
-use Rattle.law_near.specs.Cells.{carriers}
-use Rattle.law_near.proofs.Germs.{Label-cells}
-use Rattle.law_near.proofs.Rays.{signs-same, same-place_sym}
-use Rattle.law_near.proofs.Alike.{germs-by_cell, FlatDim-by_germs}
-use Rattle.law_sphere.specs.Maps.{At, Map}
-use Rattle.law_sphere.specs.Least.{Cone}
-use Rattle.law_complex.specs.Complexes.{Vertex, Complex}
-use Rattle.law_complex.specs.Shows.{Shows}
-use Rattle.law_complex.proofs.Ways.{same-place_trans}
-use Rattle.law_turns.specs.Turned.{turned_place, turned_set}
-use Rattle.law_turns.specs.Complexes.{AreTurnedVertices, IsTurnedComplex, ShowsVertices}
+use Rattle.law_turns.proofs.Prelude.{ℕ, List, Place, SamePlace, Set, IsVertex, carriers, Label-cells, signs-same, same-place_sym, germs-by_cell, FlatDim-by_germs, At, Map, Cone, Vertex, Complex, Shows, same-place_trans, turned_place, turned_set, AreTurnedVertices, IsTurnedComplex, ShowsVertices}
 use Rattle.law_turns.proofs.Places.{every-place, same_place-turned}
 use Rattle.law_turns.proofs.Meaning.{flat_dim-turned}
 use Rattle.law_turns.proofs.TurnedMaps.{cone-turned, least-turned}

@@ -1,11 +1,7 @@
 -- What holds of each coordinate with its sign holds of turned vectors.
-use Rattle.std.proofs.Common.{◌≡◌, ℕ, zero, suc, ◌/◌, ◌%◌, ℤ, ◌+ℤ◌, ◌-ℤ◌, ◌*ℤ◌, neg_ℤ, Bool, true, false, refl, ap, ◌∙◌, subst, arith, [], ◌∷◌}
-use Rattle.std.proofs.lemmas.Int.{ints}
-use Rattle.nef_space.proofs.Ring.{ring, at, neg, ◌⊖◌, ◌⊗◌}
+use Rattle.law_turns.proofs.Prelude.{◌≡◌, ℕ, zero, suc, ◌/◌, ◌%◌, ℤ, ◌+ℤ◌, ◌-ℤ◌, ◌*ℤ◌, neg_ℤ, Bool, true, false, refl, ap, sym, ◌∙◌, subst, arith, [], ◌∷◌, ints, ring, at, neg, ◌⊖◌, ◌⊗◌, vector, Triple, ordered, has_bit, negated_if, turned, differ, is_exchange, is_odd, disordered, unturned}
 use lib.IntN.{neg_ℤ-neg_ℤ}
-use Rattle.nef_space.specs.Vectors.{vector}
-use Rattle.nef_case.specs.Turns.{Triple, ordered, has_bit, negated_if, turned}
-use Rattle.law_turns.specs.Turned.{differ, is_exchange, is_odd, disordered, unturned}
+use Rattle.law_turns.proofs.Bools.{each-three}
 
 pub same-vector : (x y z x' y' z' : ℤ) → x ≡ x' → y ≡ y' → z ≡ z' → vector x y z ≡ vector x' y' z'
 same-vector x y z x' y' z' p q r = ap (λ i. vector i y z) p ∙ ap (λ i. vector x' i z) q ∙ ap (λ i. vector x' y' i) r
@@ -118,36 +114,20 @@ area true false p q r s = ring (p ∷ q ∷ r ∷ s ∷ []) (neg (at 0) ⊗ at 1
 area false true p q r s = ring (p ∷ q ∷ r ∷ s ∷ []) (at 0 ⊗ neg (at 1) ⊖ neg (at 2) ⊗ at 3) (neg (at 0 ⊗ at 1 ⊖ at 2 ⊗ at 3)) tt
 area false false p q r s = refl
 
+sign-join : (b c : Bool) (t : ℤ) → negated_if b (negated_if c t) ≡ negated_if (differ b c) t
+sign-join true true t = neg_ℤ-neg_ℤ t
+sign-join true false t = refl
+sign-join false c t = refl
+
 -- the signs of two coordinates are the third's times that of all
 first-sign : (b c d : Bool) (t : ℤ) → negated_if (differ c d) t ≡ negated_if (differ b (differ c d)) (negated_if b t)
-first-sign true true true t = omega (arith, ints)
-first-sign true true false t = refl
-first-sign true false true t = refl
-first-sign true false false t = omega (arith, ints)
-first-sign false true true t = refl
-first-sign false true false t = refl
-first-sign false false true t = refl
-first-sign false false false t = refl
+first-sign b c d t = ap (λ s. negated_if s t) (each-three (λ x y z. differ y z) (λ x y z. differ (differ x (differ y z)) x) refl b c d) ∙ sym (sign-join (differ b (differ c d)) b t)
 
 second-sign : (b c d : Bool) (t : ℤ) → negated_if (differ d b) t ≡ negated_if (differ b (differ c d)) (negated_if c t)
-second-sign true true true t = omega (arith, ints)
-second-sign true true false t = refl
-second-sign true false true t = refl
-second-sign true false false t = refl
-second-sign false true true t = refl
-second-sign false true false t = omega (arith, ints)
-second-sign false false true t = refl
-second-sign false false false t = refl
+second-sign b c d t = ap (λ s. negated_if s t) (each-three (λ x y z. differ z x) (λ x y z. differ (differ x (differ y z)) y) refl b c d) ∙ sym (sign-join (differ b (differ c d)) c t)
 
 third-sign : (b c d : Bool) (t : ℤ) → negated_if (differ b c) t ≡ negated_if (differ b (differ c d)) (negated_if d t)
-third-sign true true true t = omega (arith, ints)
-third-sign true true false t = refl
-third-sign true false true t = refl
-third-sign true false false t = refl
-third-sign false true true t = refl
-third-sign false true false t = refl
-third-sign false false true t = omega (arith, ints)
-third-sign false false false t = refl
+third-sign b c d t = ap (λ s. negated_if s t) (each-three (λ x y z. differ x y) (λ x y z. differ (differ x (differ y z)) z) refl b c d) ∙ sym (sign-join (differ b (differ c d)) d t)
 
 abbrev pub crosses : Triple → Triple → Triple
 crosses v w = (v.1 *ℤ w.2 -ℤ v.2 *ℤ w.1, v.2 *ℤ w.0 -ℤ v.0 *ℤ w.2, v.0 *ℤ w.1 -ℤ v.1 *ℤ w.0)
@@ -174,14 +154,7 @@ crosses-flipped b c d v w = same-triple _ _ _ _ _ _
 
 -- signs come out
 signs-join : (a e b : Bool) (t : ℤ) → negated_if a (negated_if b (negated_if e t)) ≡ negated_if (differ a e) (negated_if b t)
-signs-join true true true t = omega (arith, ints)
-signs-join true true false t = omega (arith, ints)
-signs-join true false true t = refl
-signs-join true false false t = refl
-signs-join false true true t = refl
-signs-join false true false t = refl
-signs-join false false true t = refl
-signs-join false false false t = refl
+signs-join a e b t = ap (negated_if a) (sign-join b e t) ∙ sign-join a (differ b e) t ∙ ap (λ s. negated_if s t) (each-three (λ x y z. differ x (differ z y)) (λ x y z. differ (differ x y) z) refl a e b) ∙ sym (sign-join (differ a e) b t)
 
 flipped-signed : (a e b c d : Bool) (t : Triple) → signed_triple a (flipped b c d (signed_triple e t)) ≡ signed_triple (differ a e) (flipped b c d t)
 flipped-signed a e b c d t = same-triple _ _ _ _ _ _ (signs-join a e b t.0) (signs-join a e c t.1) (signs-join a e d t.2)

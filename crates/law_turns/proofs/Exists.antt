@@ -1,26 +1,8 @@
 -- Each ordered map that is well shaped has a turned image whose lists are in order.
-use Rattle.std.proofs.Common.{◌≡◌, ℕ, zero, Bool, true, false, cond, refl, ap, sym, ◌∙◌, subst, arith, ◌⊎◌, inl, inr, ⊎_elim, List, map, Option, Some, None}
-use Rattle.std.proofs.lemmas.Bool.{cases_order}
-use Rattle.nef_space.specs.Signs.{Lies}
-use Rattle.nef_space.specs.Vectors.{Vector, SameDirection, IsNormal}
-use Rattle.nef_space.specs.Place.{Form, normal_of}
-use Rattle.nef_case.specs.Turns.{negated_if}
-use Rattle.law_sphere.specs.Vectors.{IsPrimitive, VectorBelow}
-use Rattle.law_sphere.specs.Maps.{At, MapVertex, Arc, MapSloop, Item, arc_item, sloop_item, Map, items, item_normal, Shaped}
-use Rattle.law_sphere.specs.Least.{InOrder, ArcBelow, Ordered}
-use Rattle.law_sphere.proofs.Lists.{at-one}
-use Rattle.law_sphere.proofs.Compare.{dir-self}
-use Rattle.law_sphere.proofs.Shot.{arc-at}
-use Rattle.law_sphere.proofs.Arcs.{sloop-at, at-sloop, at-arc}
-use Rattle.law_sphere.proofs.Vectors.{normal-is}
-use Rattle.law_build.proofs.BuiltAxes.{at-map, map-at}
-use Rattle.law_cones.proofs.Listing.{lies-at, at-lies, Mapped, map-list, Sorted, sort, chain-order}
-use Rattle.law_cones.proofs.Lowest.{below-trans, below-either, below-itself}
-use Rattle.law_turns.specs.Complexes.{signed_form}
+use Rattle.law_turns.proofs.Prelude.{◌≡◌, ℕ, zero, Bool, true, false, cond, refl, ap, sym, ◌∙◌, subst, arith, ◌⊎◌, inl, inr, ⊎_elim, List, map, Option, Some, None, cases_order, Lies, Vector, SameDirection, IsNormal, Form, normal_of, negated_if, IsPrimitive, VectorBelow, At, MapVertex, Arc, MapSloop, Item, arc_item, sloop_item, Map, items, item_normal, Shaped, InOrder, ArcBelow, Ordered, at-one, lies-at, at-lies, arc-at, sloop-at, at-sloop, at-arc, normal-is, below-itself, at-map, map-at, Mapped, map-list, Sorted, sort, chain-order, signed_form, turned_plane, turned_vector, unturned_vector, differ, is_odd, signed, turned_svertex, IsTurnedArc, IsTurnedOption, HasTurnedLists, dir-self}
+use Rattle.law_cones.proofs.Lowest.{below-trans, below-either}
 use Rattle.law_turns.proofs.Turning.{sign-twice}
 use Rattle.law_turns.proofs.Carriers.{same-form}
-use Rattle.law_turns.specs.Turned.{turned_plane, turned_vector, unturned_vector, differ, is_odd, signed}
-use Rattle.law_turns.specs.Maps.{turned_svertex, IsTurnedArc, IsTurnedOption, HasTurnedLists}
 use Rattle.law_turns.proofs.Vectors.{back-vector, direction-turned, signed-turned, signed-twice}
 use Rattle.law_turns.proofs.Numbers.{normal-choice, primitive-turned}
 use Rattle.law_turns.proofs.TurnedLists.{chosen, chosen-has, both-normal}

@@ -1,12 +1,5 @@
 -- A map whose items are the images of another map's sees what the images see, and has the labels there.
-use Rattle.std.proofs.Common.{◌≡◌, ℕ, ℤ, pos, ◌<ℤ◌, neg_ℤ, Bool, true, false, cond, ap, sym, ◌∙◌, subst, arith}
-use Rattle.std.proofs.lemmas.Int.{ints}
-use Rattle.nef_space.specs.Signs.{sign}
-use Rattle.nef_space.specs.Vectors.{Vector, dot, cross, IsDirection, SameDirection, blend}
-use Rattle.nef_space.specs.declared.label.Label.{Label}
-use Rattle.law_sphere.specs.Maps.{At, MapVertex, Item, Map, items, item_normal, item_pos, item_mark, item_neg, OnItem, IsFree, Side, around_svertex, pos_item, neg_item, whole, HasSide, IsClear, Reaches, Sees, directly, by_way_of, MapLabel, at_svertex, on_item, seen, NearLabel, InOneSface, here, link}
-use Rattle.law_sphere.specs.Least.{by_side, NearPlain, NearStraight}
-use Rattle.law_turns.specs.Turned.{signed}
+use Rattle.law_turns.proofs.Prelude.{◌≡◌, ℕ, ℤ, pos, ◌<ℤ◌, neg_ℤ, Bool, true, false, cond, ap, sym, ◌∙◌, subst, arith, ints, sign, Vector, dot, cross, IsDirection, SameDirection, blend, Label, At, MapVertex, Item, Map, items, item_normal, item_pos, item_mark, item_neg, OnItem, IsFree, Side, around_svertex, pos_item, neg_item, whole, HasSide, IsClear, Reaches, Sees, directly, by_way_of, MapLabel, at_svertex, on_item, seen, NearLabel, InOneSface, here, link, by_side, NearPlain, NearStraight, signed}
 use Rattle.law_turns.proofs.Turning.{Turning, direction-there, direction_cross-there, same_direction-there, opposite-there, dot-there}
 
 -- y of N is the image of x of M

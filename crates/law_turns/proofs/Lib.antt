@@ -1,3 +1,5 @@
+pub mod Prelude
+pub mod Bools
 pub mod Coordinates
 pub mod Turning
 pub mod Vectors

@@ -1,24 +1,7 @@
 -- The turned planes and vertices of each complex that shows a set can be listed in order.
-use Rattle.std.proofs.Common.{◌≡◌, ℕ, ℤ, pos, ◌*ℤ◌, false, refl, sym, ◌∙◌, arith, ◌⊎◌, inl, inr, List, [], ◌∷◌, map}
-use Rattle.std.proofs.lemmas.Int.{ints}
-use Rattle.nef_space.specs.Signs.{Lies}
-use Rattle.nef_space.proofs.Order.{by_order}
-use Rattle.nef_space.specs.Numbers.{IsBelow}
-use Rattle.nef_space.specs.Place.{Place, Form, form_numbers, SamePlace, IsPlaceBelow}
-use Rattle.nef_space.specs.Sets.{Set}
+use Rattle.law_turns.proofs.Prelude.{◌≡◌, ℕ, ℤ, pos, ◌*ℤ◌, false, refl, sym, ◌∙◌, arith, ◌⊎◌, inl, inr, List, [], ◌∷◌, map, ints, Lies, by_order, IsBelow, Place, Form, form_numbers, SamePlace, IsPlaceBelow, Set, same-place_sym, At, Map, Ordered, at-map, map-at, Mapped, map-list, Sorted, sort, chain-order, Vertex, Complex, Shows, turned_plane, turned_place, AreTurnedPlanes, AreTurnedVertices, IsTurnedMap, same-place_trans, lies-at, at-lies}
 use Rattle.law_near.proofs.PlaceOrder.{place_below-trans}
-use Rattle.law_near.proofs.Rays.{same-place_sym}
-use Rattle.law_sphere.specs.Maps.{At, Map}
-use Rattle.law_sphere.specs.Least.{Ordered}
-use Rattle.law_build.proofs.BuiltAxes.{at-map, map-at}
-use Rattle.law_cones.proofs.Listing.{lies-at, at-lies, Mapped, map-list, Sorted, sort, chain-order}
-use Rattle.law_complex.specs.Complexes.{Vertex, Complex}
-use Rattle.law_complex.specs.Shows.{Shows}
-use Rattle.law_turns.specs.Turned.{turned_plane, turned_place}
-use Rattle.law_turns.specs.Complexes.{AreTurnedPlanes, AreTurnedVertices}
-use Rattle.law_turns.specs.Maps.{IsTurnedMap}
 use Rattle.law_turns.proofs.Carriers.{same-form}
-use Rattle.law_complex.proofs.Ways.{same-place_trans}
 use Rattle.law_turns.proofs.Exists.{turned_map, has-lists, turned-ordered}
 use Rattle.law_turns.proofs.TurnedLists.{lists-turned}
 

@@ -1,13 +1,6 @@
 -- A turned set holds at a turned point exactly where the set holds at the point, and looks turned near it.
-use Rattle.std.proofs.Common.{◌≡◌, ℕ, zero, suc, ℤ, pos, ◌<ℤ◌, ◌≤ℤ◌, Bool, true, false, sym, subst, ◌↔◌, ◌⊎◌, inl, inr, ⊎_elim, List, [], ◌∷◌, map}
-use Rattle.nef_space.specs.Vectors.{Vector, cross, triple, blend, IsDirection}
-use Rattle.nef_space.specs.Place.{Place, Form, Ratio, step, Within, SamePlace, InFrame, IsBetween}
-use Rattle.nef_space.specs.Sets.{Set, Holds, Interior, Closure, InHalf}
-use Rattle.nef_space.specs.Local.{HasLabel, SameSet, Germ, Flat, HasFlat, FlatDim, IsEven, IsEvenPath, Joined}
-use Rattle.nef_space.specs.declared.label.Label.{Label}
-use Rattle.nef_space.specs.declared.label.Label.TheVariants.{Out, Not, In}
-use Rattle.law_near.specs.Cones.{NearGerm}
-use Rattle.law_turns.specs.Turned.{turned_vector, turned_plane, turned_place, turned_set}
+use Rattle.law_turns.proofs.Prelude.{◌≡◌, ℕ, zero, suc, ℤ, pos, ◌<ℤ◌, ◌≤ℤ◌, Bool, true, false, sym, subst, ◌↔◌, ◌⊎◌, inl, inr, ⊎_elim, List, [], ◌∷◌, map, Vector, cross, triple, blend, IsDirection, Place, Form, Ratio, step, Within, SamePlace, InFrame, IsBetween, Set, Interior, Closure, InHalf, HasLabel, SameSet, Germ, Flat, HasFlat, FlatDim, IsEven, IsEvenPath, Joined, Label, Out, Not, In, NearGerm, turned_vector, turned_plane, turned_place, turned_set}
+use Rattle.nef_space.specs.Sets.{Holds}
 use Rattle.law_turns.proofs.Vectors.{every-vector, blend-turned, direction-turned, direction_cross-turned, zero_triple-turned}
 use Rattle.law_turns.proofs.Places.{form-turned, every-place, step-turned, between-turned, same_place-turned, frame-turned, within-turned}
 

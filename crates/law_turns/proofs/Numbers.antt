@@ -1,17 +1,9 @@
 -- Turned vectors and forms are as large as before, in lowest terms where they were, and have one normal form.
-use Rattle.std.proofs.Common.{◌≡◌, ℕ, ◌≤◌, ℤ, pos, negsuc, ◌+ℤ◌, ◌*ℤ◌, neg_ℤ, nat_abs, Bool, true, false, refl, ap, sym, ◌∙◌, subst, arith, ⊎_elim, [], ◌∷◌}
-use Rattle.std.proofs.lemmas.Int.{ints}
+use Rattle.law_turns.proofs.Prelude.{◌≡◌, ℕ, ◌≤◌, ℤ, pos, negsuc, ◌+ℤ◌, ◌*ℤ◌, neg_ℤ, nat_abs, Bool, true, false, refl, ap, sym, ◌∙◌, subst, arith, ⊎_elim, [], ◌∷◌, ints, ring, at, num, neg, ◌⊕◌, ◌⊗◌, IsLowest, Place, Form, form_numbers, Vector, dot, IsAtMost, IsDirection, IsNormal, Triple, negated_if, turned, IsPrimitive, triple_of, turned_vector, turned_plane, turned_place, place_numbers, signed, signed_form}
 use Rattle.std.specs.Int.{◌∣◌}
-use Rattle.nef_space.proofs.Ring.{ring, at, num, neg, ◌⊕◌, ◌⊗◌}
-use Rattle.nef_space.specs.Numbers.{IsLowest}
-use Rattle.nef_space.specs.Place.{Place, Form, form_numbers}
-use Rattle.nef_space.specs.Vectors.{triple_of as vector_numbers, Vector, dot, IsAtMost, IsDirection, IsNormal}
-use Rattle.nef_case.specs.Turns.{Triple, negated_if, turned}
-use Rattle.law_sphere.specs.Vectors.{IsPrimitive}
+use Rattle.nef_space.specs.Vectors.{triple_of as vector_numbers}
 use Rattle.law_sphere.proofs.Kind.{away}
 use Rattle.law_sphere.proofs.Builder.{normal-or}
-use Rattle.law_turns.specs.Turned.{triple_of, turned_vector, turned_plane, turned_place, place_numbers, signed}
-use Rattle.law_turns.specs.Complexes.{signed_form}
 use Rattle.law_turns.proofs.Coordinates.{same-vector, SignBlind, each-turned, each-back}
 use Rattle.law_turns.proofs.Turning.{signed-dot, dot-signed, sign-twice}
 use Rattle.law_turns.proofs.Vectors.{dot-turned}

@@ -1,13 +1,5 @@
 -- Turned points: the values of turned forms, and how the points lie to one another and to the frame.
-use Rattle.std.proofs.Common.{◌≡◌, ℕ, ◌*◌, ◌<◌, ℤ, pos, ◌+ℤ◌, ◌-ℤ◌, ◌*ℤ◌, neg_ℤ, nat_abs, ap, sym, ◌∙◌, subst, arith, ◌↔◌, [], ◌∷◌}
-use Rattle.std.proofs.lemmas.Int.{ints}
-use Rattle.std.proofs.Math.Nat.{mul-pos}
-use Rattle.nef_space.proofs.Ring.{ring, at, neg, ◌⊕◌, ◌⊖◌, ◌⊗◌}
-use Rattle.nef_space.specs.Limits.{half_side}
-use Rattle.nef_space.specs.Vectors.{Vector, SameDirection}
-use Rattle.nef_space.specs.Place.{Place, Form, form_at, slope, Ratio, step, toward, Near, Within, SamePlace, InFrame, IsAhead, IsBetween}
-use Rattle.nef_case.specs.Turns.{Triple}
-use Rattle.law_turns.specs.Turned.{vector_of, triple_of, turned_vector, turned_plane, turned_place, unturned_place}
+use Rattle.law_turns.proofs.Prelude.{◌≡◌, ℕ, ◌*◌, ◌<◌, ℤ, pos, ◌+ℤ◌, ◌-ℤ◌, ◌*ℤ◌, neg_ℤ, nat_abs, ap, sym, ◌∙◌, subst, arith, ◌↔◌, [], ◌∷◌, ints, mul-pos, ring, at, neg, ◌⊕◌, ◌⊖◌, ◌⊗◌, half_side, Vector, SameDirection, Place, Form, form_at, slope, Ratio, step, toward, Near, Within, SamePlace, InFrame, IsAhead, IsBetween, Triple, vector_of, triple_of, turned_vector, turned_plane, turned_place, unturned_place}
 use Rattle.law_turns.proofs.Coordinates.{zip-turned, IsOddFunction, SignBlind, each-turned, each-back, dots-turned, turned-back, back-turned}
 use Rattle.law_turns.proofs.Vectors.{same_direction-turned}
 

@@ -1,15 +1,5 @@
 -- A map whose lists have another map's turned items, in order, is the turned map.
-use Rattle.std.proofs.Common.{◌≡◌, ℕ, zero, suc, pos, neg_ℤ, Bool, true, false, refl, ap, sym, ◌∙◌, subst, arith, inl, inr, ⊎_elim, List, [], ◌∷◌, Option, Some, None}
-use Rattle.std.proofs.lemmas.Int.{ints}
-use Rattle.std.proofs.lemmas.Bool.{cases_order}
-use Rattle.nef_space.specs.Vectors.{Vector, IsNormal}
-use Rattle.law_sphere.specs.Vectors.{VectorBelow}
-use Rattle.law_sphere.specs.Maps.{At, MapVertex, Arc, MapSloop, Item, arc_item, sloop_item, Map, items, items_then}
-use Rattle.law_sphere.specs.Least.{InOrder, ArcBelow}
-use Rattle.law_sphere.proofs.Shot.{arc-at}
-use Rattle.law_sphere.proofs.Arcs.{sloop-at, at-sloop, at-arc}
-use Rattle.law_turns.specs.Turned.{turned_vector, signed}
-use Rattle.law_turns.specs.Maps.{IsTurnedArc, IsTurnedItem, IsTurnedOption, IsTurnedMap, HasTurnedLists}
+use Rattle.law_turns.proofs.Prelude.{◌≡◌, ℕ, zero, suc, pos, neg_ℤ, Bool, true, false, refl, ap, sym, ◌∙◌, subst, arith, inl, inr, ⊎_elim, List, [], ◌∷◌, Option, Some, None, ints, cases_order, Vector, IsNormal, VectorBelow, At, MapVertex, Arc, MapSloop, Item, arc_item, sloop_item, Map, items, items_then, InOrder, ArcBelow, arc-at, sloop-at, at-sloop, at-arc, turned_vector, signed, IsTurnedArc, IsTurnedItem, IsTurnedOption, IsTurnedMap, HasTurnedLists}
 
 -- ---- what is chosen for each element, by its number
 abbrev pub chosen : {A B : Type 0} (xs : List A) → B → ((i : ℕ) (x : A) → At xs i x → B) → ℕ → B

@@ -1,20 +1,5 @@
 -- The turned image of a valid map is valid, of a least one least, and shows the turned set at the turned point.
-use Rattle.std.proofs.Common.{◌≡◌, ℕ, pos, Bool, true, false, cond, refl, ap, sym, ◌∙◌, subst, ◌↔◌, ◌⊎◌, inl, inr, ⊎_elim, List, [], ◌∷◌, Option, Some, None}
-use Rattle.nef_space.specs.Vectors.{Vector, dot, IsDirection, SameDirection, blend}
-use Rattle.nef_space.specs.Place.{Place}
-use Rattle.nef_space.specs.Sets.{Set}
-use Rattle.nef_space.specs.Local.{HasLabel, Germ}
-use Rattle.nef_space.specs.declared.label.Label.{Label}
-use Rattle.law_cyclic.specs.Arcs.{IsOnCircle, IsStrictlyOn}
-use Rattle.law_sphere.specs.Maps.{At, MapVertex, Arc, MapSloop, Item, arc_item, sloop_item, Map, items, item_normal, item_pos, item_mark, item_neg, dir_of, OnItem, HasSide, Side, MapLabel, NearLabel, HasArc, ArcBetween, Shaped, Valid}
-use Rattle.law_sphere.specs.Least.{Least, Cone, NearPlain, NearStraight}
-use Rattle.law_sphere.proofs.Lists.{at-one}
-use Rattle.law_sphere.proofs.Shot.{dir-at, arc-at}
-use Rattle.law_sphere.proofs.Arcs.{ends-of, sloop-at, at-sloop, at-arc}
-use Rattle.law_sphere.proofs.Vectors.{normal-is}
-use Rattle.law_sphere.proofs.Compare.{dir-self}
-use Rattle.law_turns.specs.Turned.{turned_vector, unturned_vector, turned_place, turned_set, differ, is_odd, signed}
-use Rattle.law_turns.specs.Maps.{turned_svertex, IsTurnedArc, IsTurnedSloop, IsTurnedItem, IsTurnedMap}
+use Rattle.law_turns.proofs.Prelude.{◌≡◌, ℕ, pos, Bool, true, false, cond, refl, ap, sym, ◌∙◌, subst, ◌↔◌, ◌⊎◌, inl, inr, ⊎_elim, List, [], ◌∷◌, Option, Some, None, Vector, dot, IsDirection, SameDirection, blend, Place, Set, HasLabel, Germ, Label, IsOnCircle, IsStrictlyOn, At, MapVertex, Arc, MapSloop, Item, arc_item, sloop_item, Map, items, item_normal, item_pos, item_mark, item_neg, dir_of, OnItem, HasSide, Side, MapLabel, NearLabel, HasArc, ArcBetween, Shaped, Valid, Least, Cone, NearPlain, NearStraight, at-one, dir-at, arc-at, ends-of, sloop-at, at-sloop, at-arc, normal-is, turned_vector, unturned_vector, turned_place, turned_set, differ, is_odd, signed, turned_svertex, IsTurnedArc, IsTurnedSloop, IsTurnedItem, IsTurnedMap, dir-self}
 use Rattle.law_turns.proofs.Turning.{dir-there as way-sense, circle-there, level-there, direction-there, same_direction-there}
 use Rattle.law_turns.proofs.Vectors.{turning, turning-back, blend-turned, vector-back, back-vector, every-vector, signed-turned, signed-twice}
 use Rattle.law_turns.proofs.Meaning.{label-turned, germ-turned}

@@ -1,13 +1,6 @@
 -- Functions that keep products and sums of vectors, and cross products up to one sign: how what they make lies.
-use Rattle.std.proofs.Common.{◌≡◌, ℕ, ℤ, pos, ◌+ℤ◌, ◌*ℤ◌, ◌<ℤ◌, neg_ℤ, Bool, true, false, cond, refl, ap, sym, ◌∙◌, subst, arith, ◌↔◌, inl, inr, ⊎_elim, [], ◌∷◌}
-use Rattle.std.proofs.lemmas.Int.{ints}
+use Rattle.law_turns.proofs.Prelude.{◌≡◌, ℕ, ℤ, pos, ◌+ℤ◌, ◌*ℤ◌, ◌<ℤ◌, neg_ℤ, Bool, true, false, cond, refl, ap, sym, ◌∙◌, subst, arith, ◌↔◌, inl, inr, ⊎_elim, [], ◌∷◌, ints, ring, at, neg, ◌⊕◌, ◌⊗◌, Vector, dot, cross, triple, IsZero, IsDirection, SameDirection, IsOpposite, opposite, blend, IsOnCircle, IsStrictlyOn, way_back_passes_the_same, negated_if, differ, signed}
 use lib.IntN.{neg_ℤ-neg_ℤ}
-use Rattle.nef_space.proofs.Ring.{ring, at, neg, ◌⊕◌, ◌⊗◌}
-use Rattle.nef_space.specs.Vectors.{Vector, dot, cross, triple, IsZero, IsDirection, SameDirection, IsOpposite, opposite, blend}
-use Rattle.law_cyclic.specs.Arcs.{IsOnCircle, IsStrictlyOn}
-use Rattle.law_cyclic.proofs.Directions.{way_back_passes_the_same}
-use Rattle.nef_case.specs.Turns.{negated_if}
-use Rattle.law_turns.specs.Turned.{differ, signed}
 use Rattle.law_turns.proofs.Coordinates.{same-vector}
 
 pub record Turning (f : Vector → Vector) (odd : Bool) : Type 0 where

@@ -1,9 +1,5 @@
 -- A set that is turned twice.
-use Rattle.std.proofs.Common.{◌≡◌, ℕ, refl, ap, sym, ◌∙◌}
-use Rattle.nef_space.specs.Place.{Form, form}
-use Rattle.nef_space.specs.Sets.{Set}
-use Rattle.nef_case.specs.Turns.{Triple, Undoes, IsComposition}
-use Rattle.law_turns.specs.Turned.{turned_plane, turned_set}
+use Rattle.law_turns.proofs.Prelude.{◌≡◌, ℕ, refl, ap, sym, ◌∙◌, Form, form, Set, Triple, Undoes, IsComposition, turned_plane, turned_set}
 
 -- what is so of forms is so of sets
 module _ (i j k : ℕ) (same : (h : Form) → turned_plane i h ≡ turned_plane j (turned_plane k h)) where

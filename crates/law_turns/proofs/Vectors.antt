@@ -1,9 +1,5 @@
 -- Turned vectors: their products, and how they lie to one another.
-use Rattle.std.proofs.Common.{◌≡◌, ℕ, ℤ, pos, ◌+ℤ◌, ◌*ℤ◌, neg_ℤ, Bool, true, false, refl, ap, sym, ◌∙◌, subst, ◌↔◌, [], ◌∷◌}
-use Rattle.nef_space.proofs.Ring.{ring, at, neg, ◌⊕◌, ◌⊗◌}
-use Rattle.nef_space.specs.Vectors.{Vector, vector, dot, cross, triple, IsZero, IsDirection, SameDirection, IsOpposite, opposite, blend}
-use Rattle.nef_case.specs.Turns.{negated_if}
-use Rattle.law_turns.specs.Turned.{vector_of, triple_of, turned_vector, unturned_vector, is_odd, signed}
+use Rattle.law_turns.proofs.Prelude.{◌≡◌, ℕ, ℤ, pos, ◌+ℤ◌, ◌*ℤ◌, neg_ℤ, Bool, true, false, refl, ap, sym, ◌∙◌, subst, ◌↔◌, [], ◌∷◌, ring, at, neg, ◌⊕◌, ◌⊗◌, Vector, vector, dot, cross, triple, IsZero, IsDirection, SameDirection, IsOpposite, opposite, blend, negated_if, vector_of, triple_of, turned_vector, unturned_vector, is_odd, signed}
 use Rattle.law_turns.proofs.Turning.{Turning, sign-twice, triple-there, direction-there, direction_cross-there, same_direction-there, opposite-there, zero_triple-there}
 use Rattle.law_turns.proofs.Coordinates.{same-vector, zip-turned, IsOddFunction, SignBlind, each-turned, each-back, dots-turned, crosses-turned, turned-back, back-turned}
 

@@ -1,19 +1,13 @@
--- The laws on turns. Each is cited by a clause of a public function. A number of a turn is any number: those from 48 on are turns too.
-use Rattle.std.specs.Prelude.{◌≡◌, ℕ, ◌↔◌, List, Bool}
-use Rattle.nef_space.specs.Signs.{Lies}
+-- The laws of turns; clauses of public functions cite each law. Any number k is the number of a turn.
+use Rattle.std.specs.Prelude.{◌≡◌, ◌↔◌}
+use Rattle.nef_space.specs.Prelude.{ℕ, List, Bool, Lies, Vector, dot, cross, triple, IsDirection, SameDirection, IsOpposite, IsAtMost, IsNormal, triple_of as vector_numbers, IsLowest, Place, Form, form_numbers, normal_of, form_at, slope, Ratio, step, toward, Within, SamePlace, InFrame, IsAhead, IsBetween, Set, Holds, HasLabel, SameSet, Germ, Flat, FlatDim, IsVertex, Joined}
 use Rattle.nef_case.specs.Turns.{negated_if, Undoes, IsComposition}
-use Rattle.nef_space.specs.Vectors.{Vector, dot, cross, triple, IsDirection, SameDirection, IsOpposite, IsAtMost, IsNormal, triple_of as vector_numbers}
-use Rattle.nef_space.specs.Numbers.{IsLowest}
-use Rattle.nef_space.specs.Place.{Place, Form, form_numbers, normal_of, form_at, slope, Ratio, step, toward, Within, SamePlace, InFrame, IsAhead, IsBetween}
-use Rattle.nef_space.specs.Sets.{Set, Holds}
-use Rattle.nef_space.specs.Local.{HasLabel, SameSet, Germ, Flat, FlatDim, IsVertex, Joined}
 use Rattle.nef_space.specs.declared.label.Label.{Label}
 use Rattle.law_near.specs.Cells.{carriers}
 use Rattle.law_near.specs.Cones.{NearGerm}
 use Rattle.law_cyclic.specs.Arcs.{IsStrictlyOn}
-use Rattle.law_sphere.specs.Maps.{At, Arc, Map, MapLabel, NearLabel, Shaped, Valid}
+use Rattle.law_sphere.specs.Prelude.{At, Arc, Map, MapLabel, NearLabel, Shaped, Valid, Least, Ordered, Cone}
 use Rattle.law_sphere.specs.Vectors.{IsPrimitive}
-use Rattle.law_sphere.specs.Least.{Least, Ordered, Cone}
 use Rattle.law_complex.specs.Complexes.{Vertex, Complex}
 use Rattle.law_complex.specs.Shows.{SamePlane, Carriers, Shows}
 use Rattle.law_turns.specs.Turned.{turned_vector, turned_plane, turned_place, turned_set, place_numbers, is_odd, signed}
@@ -21,11 +15,11 @@ use Rattle.law_turns.specs.Maps.{IsTurnedMap, HasTurnedLists}
 use Rattle.law_turns.specs.Complexes.{AreTurnedPlanes, AreTurnedVertices, IsTurnedComplex, ShowsVertices, signed_form}
 
 -- ---- vectors
--- products are kept
+-- turns keep dot products
 abbrev pub DotTurned : Type 0
 DotTurned = (k : ℕ) (a b : Vector) → dot (turned_vector k a) (turned_vector k b) ≡ dot a b
 
--- cross products and triple products are kept up to the sign of the turn
+-- turns keep cross products and triple products up to the sign of the turn
 abbrev pub CrossTurned : Type 0
 CrossTurned = (k : ℕ) (a b : Vector) → cross (turned_vector k a) (turned_vector k b) ≡ signed (is_odd k) (turned_vector k (cross a b))
 
@@ -41,11 +35,11 @@ SameDirectionTurned = (k : ℕ) (a b : Vector) → SameDirection (turned_vector 
 abbrev pub OppositeTurned : Type 0
 OppositeTurned = (k : ℕ) (a b : Vector) → IsOpposite (turned_vector k a) (turned_vector k b) ↔ IsOpposite a b
 
--- what is passed counterclockwise about a normal is passed so about the turned normal with the sign of the turn
+-- a way about a normal stays the way about the turned normal with the sign of the turn
 abbrev pub ArcTurned : Type 0
 ArcTurned = (k : ℕ) (n s t d : Vector) → IsStrictlyOn (signed (is_odd k) (turned_vector k n)) (turned_vector k s) (turned_vector k t) (turned_vector k d) ↔ IsStrictlyOn n s t d
 
--- each vector is the image of one
+-- each vector is the turned image of a vector
 abbrev pub EachVectorIsTurned : Type 0
 EachVectorIsTurned = (k : ℕ) (e : Vector) → (d : Vector) × (turned_vector k d ≡ e)
 
@@ -53,7 +47,7 @@ EachVectorIsTurned = (k : ℕ) (e : Vector) → (d : Vector) × (turned_vector k
 abbrev pub AtMostTurned : Type 0
 AtMostTurned = (k : ℕ) (b : Bool) (n : ℕ) (d : Vector) → IsAtMost n d → IsAtMost n (signed b (turned_vector k d))
 
--- what is in lowest terms stays so
+-- vectors, forms and points in lowest terms stay in lowest terms
 abbrev pub PrimitiveTurned : Type 0
 PrimitiveTurned = (k : ℕ) (b : Bool) (d : Vector) → IsPrimitive d → IsPrimitive (signed b (turned_vector k d))
 
@@ -66,14 +60,14 @@ LowestFormTurned = (k : ℕ) (b : Bool) (h : Form) → IsLowest (form_numbers h)
 abbrev pub LowestPlaceTurned : Type 0
 LowestPlaceTurned = (k : ℕ) (p : Place) → IsLowest (place_numbers p) → IsLowest (place_numbers (turned_place k p))
 
--- a direction or its opposite is a normal form, and not both
+-- exactly one of a direction and its opposite is in normal form
 abbrev pub NormalExists : Type 0
 NormalExists = (d : Vector) → IsDirection d → (b : Bool) × IsNormal (signed b d)
 
 abbrev pub NormalIsOne : Type 0
 NormalIsOne = (b c : Bool) (d : Vector) → IsNormal (signed b d) → IsNormal (signed c d) → b ≡ c
 
--- different vectors have different images; so have, whatever the signs, different normals and planes in normal form
+-- different vectors stay different, and so do different normals and planes in normal form, whatever the signs
 abbrev pub VectorsDiffer : Type 0
 VectorsDiffer = (k : ℕ) (a b : Vector) → turned_vector k a ≡ turned_vector k b → a ≡ b
 
@@ -84,7 +78,7 @@ abbrev pub PlanesDiffer : Type 0
 PlanesDiffer = (k : ℕ) (b c : Bool) (g h : Form) → IsNormal (normal_of g) → IsNormal (normal_of h) → signed_form b (turned_plane k g) ≡ signed_form c (turned_plane k h) → g ≡ h
 
 -- ---- points
--- a turned form is at a turned point what the form is at the point
+-- a turned form has at a turned point the value of the form at the point
 abbrev pub FormTurned : Type 0
 FormTurned = (k : ℕ) (h : Form) (p : Place) → form_at (turned_plane k h) (turned_place k p) ≡ form_at h p
 
@@ -112,7 +106,7 @@ WithinTurned = (k : ℕ) (n : ℕ) (p q : Place) → Within n (turned_place k p)
 abbrev pub FrameTurned : Type 0
 FrameTurned = (k : ℕ) (p : Place) → InFrame (turned_place k p) ↔ InFrame p
 
--- each point is the image of one
+-- each point is the turned image of a point
 abbrev pub EachPlaceIsTurned : Type 0
 EachPlaceIsTurned = (k : ℕ) (q : Place) → (p : Place) × (turned_place k p ≡ q)
 
@@ -145,42 +139,42 @@ VertexTurned = (k : ℕ) (s : Set) (p : Place) → IsVertex (turned_set k s) (tu
 abbrev pub JoinedTurned : Type 0
 JoinedTurned = (k : ℕ) (s : Set) (p q : Place) → Joined (turned_set k s) (turned_place k p) (turned_place k q) ↔ Joined s p q
 
--- a set that is turned, and then back, is the set
+-- a set that is turned, and then turned by the turn that undoes the first, is the set
 abbrev pub SetTurnedBack : Type 0
 SetTurnedBack = (j k : ℕ) (s : Set) → Undoes j k → turned_set j (turned_set k s) ≡ s
 
--- turned twice, it is turned once by the composition
+-- a set that is turned twice is the set turned once by the composition
 abbrev pub SetTurnedTwice : Type 0
 SetTurnedTwice = (i j k : ℕ) (s : Set) → IsComposition i j k → turned_set i s ≡ turned_set j (turned_set k s)
 
 -- ---- sphere maps
--- a turned map has a direction's label at the turned direction
+-- a turned map has at a turned direction the label of the map at the direction
 abbrev pub MapLabelTurned : Type 0
 MapLabelTurned = (k : ℕ) (M N : Map) (d : Vector) (m : Label) → Shaped M → IsTurnedMap k M N → MapLabel N (turned_vector k d) m ↔ MapLabel M d m
 
 abbrev pub NearLabelTurned : Type 0
 NearLabelTurned = (k : ℕ) (M N : Map) (d e : Vector) (m : Label) → Shaped M → IsTurnedMap k M N → NearLabel N (turned_vector k d) (turned_vector k e) m ↔ NearLabel M d e m
 
--- it is valid where the map is, and least
+-- a turned map is valid where the map is, and least where the map is
 abbrev pub MapTurned : Type 0
 MapTurned = (k : ℕ) (M N : Map) → IsTurnedMap k M N → Valid M → Valid N
 
 abbrev pub LeastTurned : Type 0
 LeastTurned = (k : ℕ) (M N : Map) → IsTurnedMap k M N → Shaped M → Least M → Least N
 
--- and shows the turned set at the turned point
+-- a turned map shows the turned set at the turned point
 abbrev pub ConeTurned : Type 0
 ConeTurned = (k : ℕ) (M N : Map) (s : Set) (p : Place) → IsTurnedMap k M N → Cone M s p → Cone N (turned_set k s) (turned_place k p)
 
--- a map whose lists have the turned items, in order, is the turned map
+-- a map whose ordered lists have the turned items of M is a turned map of M
 abbrev pub ListsTurned : Type 0
 ListsTurned = (k : ℕ) (M N : Map) → HasTurnedLists k M N → IsTurnedMap k M N
 
--- each ordered map that is well shaped has a turned map, which is ordered
+-- each ordered, well shaped map has a turned map that is ordered
 abbrev pub TurnedExists : Type 0
 TurnedExists = (k : ℕ) (M : Map) → Shaped M → Ordered M → (N : Map) × HasTurnedLists k M N × Ordered N
 
--- arcs with one normal that begin at one svertex, or end at one, are one, so that arcs whose ends are exchanged stay apart in their order
+-- arcs with one normal that begin, or that end, at one svertex are equal, so exchanging ends keeps the order strict
 abbrev pub ArcsBegin : Type 0
 ArcsBegin = (M : Map) → Shaped M → (i j : ℕ) (a b : Arc) → At M.arcs i a → At M.arcs j b → a.normal ≡ b.normal → a.source ≡ b.source → i ≡ j
 
@@ -201,7 +195,7 @@ SamePlaneTurned = (k : ℕ) (g h : Form) → SamePlane (turned_plane k g) (turne
 abbrev pub CarriersTurned : Type 0
 CarriersTurned = (k : ℕ) (s : Set) (gs hs : List Form) → Carriers s gs → AreTurnedPlanes k gs hs → Carriers (turned_set k s) hs
 
--- the turned vertices, before they are paired
+-- the turned vertices of a set are the vertices of the turned set
 abbrev pub VerticesTurned : Type 0
 VerticesTurned = (k : ℕ) (s : Set) (us vs : List Vertex) → ShowsVertices s us → AreTurnedVertices k us vs → ShowsVertices (turned_set k s) vs
 
@@ -209,7 +203,7 @@ VerticesTurned = (k : ℕ) (s : Set) (us vs : List Vertex) → ShowsVertices s u
 abbrev pub ShowsTurned : Type 0
 ShowsTurned = (k : ℕ) (s : Set) (C D : Complex) → Shows s C → IsTurnedComplex k C D → Shows (turned_set k s) D
 
--- of each complex that shows a set there are turned planes and vertices, in order
+-- turned planes and turned vertices, in order, exist for each complex that shows a set
 abbrev pub TurnedPlanesExist : Type 0
 TurnedPlanesExist = (k : ℕ) (gs : List Form) → (hs : List Form) × AreTurnedPlanes k gs hs
 

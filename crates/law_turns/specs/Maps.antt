@@ -1,15 +1,14 @@
--- When a sphere map is the turned image of another.
+-- Sphere maps that are the turned images of others.
 use Rattle.std.specs.Prelude.{◌≡◌, ℕ, Bool, cond, Option, Some, None}
 use Rattle.nef_space.specs.Vectors.{IsNormal}
-use Rattle.law_sphere.specs.Maps.{At, MapVertex, Arc, MapSloop, Item, arc_item, sloop_item, Map, items, item_normal}
-use Rattle.law_sphere.specs.Least.{InOrder, ArcBelow}
+use Rattle.law_sphere.specs.Prelude.{At, MapVertex, Arc, MapSloop, Item, arc_item, sloop_item, Map, items, item_normal, InOrder, ArcBelow}
 use Rattle.law_turns.specs.Turned.{turned_vector, differ, is_odd, signed}
 
 abbrev pub turned_svertex : ℕ → MapVertex → MapVertex
 turned_svertex k v = record { dir = turned_vector k v.dir; mark = v.mark; around = v.around }
 
--- the arc b is the turned arc a. Where its normal is opposite to the turned one, the labels beside it are exchanged. Its ends are exchanged
--- where the turn is odd or the normal is opposite, and not both. The function gives the numbers that svertices have after the turn
+-- b is the turned arc a: with the normal opposite by `flip`, the sides are exchanged; with an odd turn or `flip`, not
+-- both, the ends are. `vertex` gives the new numbers of svertices.
 pub record IsTurnedArc (k : ℕ) (vertex : ℕ → ℕ) (flip : Bool) (a b : Arc) : Type 0 where
   pub normal : b.normal ≡ signed flip (turned_vector k a.normal)
   pub source : b.source ≡ vertex (cond (differ (is_odd k) flip) a.target a.source)
@@ -30,14 +29,14 @@ IsTurnedItem k vertex flip (arc_item a) (sloop_item m) = ⊥
 IsTurnedItem k vertex flip (sloop_item l) (arc_item b) = ⊥
 IsTurnedItem k vertex flip (sloop_item l) (sloop_item m) = IsTurnedSloop k flip l m
 
--- the items of N are the turned items of M, each once, in any order, with normals in normal form; mark and face are the same
+-- N has the turned items of M, each once, in any order, with normals in normal form, and the mark and ground of M
 pub record IsTurnedMap (k : ℕ) (M N : Map) : Type 0 where
-  -- the number in N of each svertex of M, and back; the same for items
+  -- the number in N of each svertex and item of M, and the number in M of each svertex and item of N
   pub vertex : ℕ → ℕ
   pub vertex_back : ℕ → ℕ
   pub item : ℕ → ℕ
   pub item_back : ℕ → ℕ
-  -- which normals are opposite to the turned ones, by the item's number in M
+  -- whether the normal of an item is opposite to its turned normal, by the item's number in M
   pub flip : ℕ → Bool
   pub svertices : (i : ℕ) (v : MapVertex) → At M.svertices i v → At N.svertices (vertex i) (turned_svertex k v)
   pub svertices_from : (j : ℕ) (u : MapVertex) → At N.svertices j u → (v : MapVertex) × At M.svertices (vertex_back j) v × (vertex (vertex_back j) ≡ j)
@@ -47,14 +46,14 @@ pub record IsTurnedMap (k : ℕ) (M N : Map) : Type 0 where
   pub mark : N.mark ≡ M.mark
   pub same_ground : N.ground ≡ M.ground
 
--- both have a sloop, the one the other turned, or neither has
+-- both are none, or both are sloops, m being the turned l
 abbrev pub IsTurnedOption : ℕ → Option MapSloop → Option MapSloop → Type 0
 IsTurnedOption k None None = Unit {0}
 IsTurnedOption k None (Some m) = ⊥
 IsTurnedOption k (Some l) None = ⊥
 IsTurnedOption k (Some l) (Some m) = (flip : Bool) × IsTurnedSloop k flip l m
 
--- the lists of N have the turned items of M and no other, in order
+-- the lists of N have the turned items of M and no others, in order
 pub record HasTurnedLists (k : ℕ) (M N : Map) : Type 0 where
   -- the number in N of each svertex of M
   pub vertex : ℕ → ℕ

@@ -1,8 +1,6 @@
--- What a turn makes of vectors, forms, places and sets.
-use Rattle.std.specs.Prelude.{ℕ, zero, suc, ◌/◌, ◌%◌, ℤ, pos, List, [], ◌∷◌, Bool, true, false}
-use Rattle.nef_space.specs.Vectors.{Vector, vector}
-use Rattle.nef_space.specs.Place.{Place, Form, form}
-use Rattle.nef_space.specs.Sets.{Set}
+-- What a turn makes of vectors, forms, points and sets.
+use Rattle.std.specs.Prelude.{◌/◌, ◌%◌, ◌∷◌, ℕ, zero, suc, ℤ, pos, List, [], Bool, true, false}
+use Rattle.nef_space.specs.Prelude.{Vector, vector, Place, Form, form, Set}
 use Rattle.nef_case.specs.Turns.{Triple, has_bit, negated_if, negated, turned}
 
 abbrev pub vector_of : Triple → Vector
@@ -11,7 +9,7 @@ vector_of t = vector t.0 t.1 t.2
 abbrev pub triple_of : Vector → Triple
 triple_of d = (d.x, d.y, d.z)
 
--- the vector with the numbers that the turn makes of d's
+-- the vector whose numbers the turn makes of the numbers of d
 abbrev pub turned_vector : ℕ → Vector → Vector
 turned_vector k d = vector_of (turned k (triple_of d))
 
@@ -19,7 +17,7 @@ turned_vector k d = vector_of (turned k (triple_of d))
 abbrev pub turned_plane : ℕ → Form → Form
 turned_plane k h = let t = turned k (h.a, h.b, h.c) in form t.0 t.1 t.2 h.d
 
--- the point with the turned numbers and the same weight
+-- the point with turned numbers and the same weight
 abbrev pub turned_place : ℕ → Place → Place
 turned_place k p = record {
   x = (turned k (p.x, p.y, p.z)).0;
@@ -32,7 +30,7 @@ turned_place k p = record {
 abbrev pub place_numbers : Place → List ℤ
 place_numbers p = p.x ∷ p.y ∷ p.z ∷ pos p.w ∷ []
 
--- the set with the turned forms of its halves
+-- the set whose halves have the turned forms
 abbrev pub turned_set : ℕ → Set → Set
 turned_set k (Set.half h c) = Set.half (turned_plane k h) c
 turned_set k Set.empty = Set.empty
@@ -48,7 +46,7 @@ turned_set k (Set.border a) = Set.border (turned_set k a)
 turned_set k (Set.regular a) = Set.regular (turned_set k a)
 
 -- ---- the way back
--- the new coordinates that become the old ones, for each of the six orders
+-- the inverse of each of the six permutations of coordinates, by the number of the permutation
 abbrev pub disordered : ℕ → Triple → Triple
 disordered zero (x, y, z) = (x, y, z)
 disordered (suc zero) (x, y, z) = (x, z, y)
@@ -57,7 +55,7 @@ disordered (suc (suc (suc zero))) (x, y, z) = (z, x, y)
 disordered (suc (suc (suc (suc zero)))) (x, y, z) = (y, z, x)
 disordered (suc (suc (suc (suc (suc n))))) (x, y, z) = (z, y, x)
 
--- the triple of which the turn makes this one
+-- the triple that the turn k turns into v
 abbrev pub unturned : ℕ → Triple → Triple
 unturned k v = disordered (k / 8) (negated (k % 8) v)
 
@@ -79,7 +77,7 @@ differ true true = false
 differ true false = true
 differ false b = b
 
--- the order of the coordinates exchanges two of them, and keeps the third
+-- the permutation with this number exchanges two coordinates and keeps the third
 abbrev pub is_exchange : ℕ → Bool
 is_exchange zero = false
 is_exchange (suc zero) = true
@@ -91,10 +89,10 @@ is_exchange (suc (suc (suc (suc (suc n))))) = true
 abbrev pub negates_odd : ℕ → Bool
 negates_odd s = differ (has_bit 1 s) (differ (has_bit 2 s) (has_bit 4 s))
 
--- the turn makes counterclockwise clockwise: it is an exchange, or negates one coordinate or three, and not both
+-- the turn makes counterclockwise clockwise: either it is an exchange, or it negates one or three coordinates, not both
 abbrev pub is_odd : ℕ → Bool
 is_odd k = differ (negates_odd (k % 8)) (is_exchange (k / 8))
 
--- the vector, or its opposite
+-- the vector d, or the opposite of d if b is set
 abbrev pub signed : Bool → Vector → Vector
 signed b d = vector (negated_if b d.x) (negated_if b d.y) (negated_if b d.z)

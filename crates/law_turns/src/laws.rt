@@ -1,9 +1,9 @@
-//! The laws, grouped by their subject.
+//! Laws of turns, on vectors, numbers, points, sets, sphere maps and complexes.
 
 ghost use Rattle.law_turns.specs.Laws.{DotTurned, CrossTurned, TripleTurned, DirectionTurned, SameDirectionTurned, OppositeTurned, ArcTurned, EachVectorIsTurned, AtMostTurned, PrimitiveTurned, LowestVectorTurned, LowestFormTurned, LowestPlaceTurned, NormalExists, NormalIsOne, VectorsDiffer, NormalsDiffer, PlanesDiffer, FormTurned, SlopeTurned, StepTurned, TowardTurned, AheadTurned, BetweenTurned, SamePlaceTurned, WithinTurned, FrameTurned, EachPlaceIsTurned, HoldsTurned, LabelTurned, SameSetTurned, GermTurned, NearGermTurned, FlatTurned, FlatDimTurned, VertexTurned, JoinedTurned, SetTurnedBack, SetTurnedTwice, MapLabelTurned, NearLabelTurned, MapTurned, LeastTurned, ConeTurned, ListsTurned, TurnedExists, ArcsBegin, ArcsEnd, CarrierTurned, CarrierIsTurned, SamePlaneTurned, CarriersTurned, VerticesTurned, ShowsTurned, TurnedPlanesExist, TurnedVerticesExist};
 
-/// Turned vectors have the products of the vectors, and their cross and triple products up to the sign of the turn. They lie
-/// to one another as the vectors do; about a normal the sense of way is kept with the sign of the turn.
+/// Turned vectors have the dot products of the vectors, and the cross and triple products up to the sign of the turn.
+/// About a turned normal, a way keeps its sense up to this sign.
 pub fn vector_laws()
     ensures dots { DotTurned }
     ensures crosses { CrossTurned }
@@ -15,8 +15,8 @@ pub fn vector_laws()
     ensures all { EachVectorIsTurned }
 {}
 
-/// Turned vectors, forms and points are no larger and in lowest terms where they were, with either sign. One sign of a
-/// direction is a normal form. Different ones have different images.
+/// Turned vectors, forms and points, with either sign, keep their size and their lowest terms. A direction or its
+/// opposite is in normal form. Different vectors, and different normals and planes in normal form, stay different.
 pub fn number_laws()
     ensures sizes { AtMostTurned }
     ensures primitive { PrimitiveTurned }
@@ -30,8 +30,7 @@ pub fn number_laws()
     ensures planes_differ { PlanesDiffer }
 {}
 
-/// A turned form is at a turned point what the form is at the point. Turned points lie to one another and to the frame as
-/// the points do.
+/// A turned form has at a turned point the value of the form at the point; turned points keep their mutual position.
 pub fn place_laws()
     ensures forms { FormTurned }
     ensures slopes { SlopeTurned }
@@ -45,8 +44,8 @@ pub fn place_laws()
     ensures all { EachPlaceIsTurned }
 {}
 
-/// A turned set holds at a turned point exactly where the set holds at the point, whatever the set is made of. It has the
-/// labels, germs, flat directions and joined points of the set, at the turned points. Turned back it is the set.
+/// A turned set holds at a turned point exactly where the set holds at the point, and has the set's labels, germs, flat
+/// directions and joined points at the turned points. A set that is turned and turned back is the set.
 pub fn set_laws()
     ensures holds { HoldsTurned }
     ensures labels { LabelTurned }
@@ -61,9 +60,9 @@ pub fn set_laws()
     ensures twice { SetTurnedTwice }
 {}
 
-/// A turned map has the map's labels, at the turned directions. It is valid, least, and shows the turned set at the turned
-/// point where the map is and does so. A map whose lists have the turned items, in order, is the turned map;
-/// there is one. Arcs with one normal and one end in common are one, so that exchanging ends leaves their order strict.
+/// A turned map has the map's labels at the turned directions; it is valid and least where the map is, and shows the
+/// turned set at the turned point. A map whose ordered lists have the turned items is the turned map, and such a map
+/// exists. Arcs with one normal and one common end are equal, so exchanging ends keeps the order of arcs strict.
 pub fn map_laws()
     ensures labels { MapLabelTurned }
     ensures near_labels { NearLabelTurned }
@@ -76,8 +75,8 @@ pub fn map_laws()
     ensures end { ArcsEnd }
 {}
 
-/// The carriers of a turned set are the turned carriers, and a turned complex shows the turned set.
-/// There always are turned planes and vertices, in order.
+/// The carriers of a turned set are the turned carriers, and a turned complex shows the turned set. Lists of turned
+/// planes and of turned vertices, in order, always exist.
 pub fn complex_laws()
     ensures carrier { CarrierTurned }
     ensures only_carriers { CarrierIsTurned }

@@ -1,4 +1,4 @@
-//! The 48 turns of space, on sets and on what a set looks like near a point.
+//! The 48 turns of space, on sets, on germs, on sphere maps and on complexes.
 #![tactic(auto)]
 
 mod laws;

@@ -1,11 +1,5 @@
 -- The directions on two arcs: two opposite candidates, and what is left where each is tried.
-use Rattle.std.proofs.Common.{◌≡◌, ◌⊎◌, inl, inr, sym, subst}
-use Rattle.nef_space.specs.Vectors.{Vector, cross, opposite, IsParallel, SameDirection, triple_of}
-use Rattle.nef_space.specs.Numbers.{IsBelow}
-use Rattle.law_cyclic.proofs.StrictlyOn.{same-sym}
-use Rattle.law_cyclic.proofs.Directions.{arcs_are_of_directions, two_meets_at}
-use Rattle.nef_arc.specs.declared.arc.Arc.{Arc}
-use Rattle.nef_arc.specs.Arcs.{normal_vector, source_vector, target_vector, IsOnBoth, IsOneCrossing, IsTwoCrossings}
+use Rattle.nef_arc.proofs.Prelude.{◌≡◌, ◌⊎◌, inl, inr, sym, subst, Vector, cross, opposite, IsParallel, SameDirection, triple_of, IsBelow, arcs_are_of_directions, two_meets_at, Arc, normal_vector, source_vector, target_vector, IsOnBoth, IsOneCrossing, IsTwoCrossings, SameDirection-turned}
 use Rattle.nef_arc.proofs.Ends.{source_on, target_on}
 
 -- x and y are opposite, and x is that of the cross product of the normals
@@ -23,28 +17,28 @@ same_on_both a b d e h on = record {
 one_of_two : (a b : Arc) (x y d : Vector) → Candidates a b x y → IsOnBoth a b d → SameDirection x d ⊎ SameDirection y d
 one_of_two a b x y d c on =
     subst (λ (v : Vector). SameDirection x d ⊎ SameDirection v d) (sym c.opposed)
-    (two_meets_at (normal_vector a) (normal_vector b) x d c.apart (same-sym (cross (normal_vector a) (normal_vector b)) x c.crossed) on.first.on_circle on.second.on_circle)
+    (two_meets_at (normal_vector a) (normal_vector b) x d c.apart (SameDirection-turned (cross (normal_vector a) (normal_vector b)) x c.crossed) on.first.on_circle on.second.on_circle)
 
 pub none_on : (a b : Arc) (x y : Vector) → Candidates a b x y → (IsOnBoth a b x → ⊥) → (IsOnBoth a b y → ⊥) → (d : Vector) → IsOnBoth a b d → ⊥
 none_on a b x y c n m d on = from (one_of_two a b x y d c on)
   where
     from : SameDirection x d ⊎ SameDirection y d → ⊥
-    from (inl h) = n (same_on_both a b d x (same-sym x d h) on)
-    from (inr h) = m (same_on_both a b d y (same-sym y d h) on)
+    from (inl h) = n (same_on_both a b d x (SameDirection-turned x d h) on)
+    from (inr h) = m (same_on_both a b d y (SameDirection-turned y d h) on)
 
 pub first_on : (a b : Arc) (x y : Vector) → Candidates a b x y → IsOnBoth a b x → (IsOnBoth a b y → ⊥) → IsOneCrossing a b x
 first_on a b x y c n m = record { on = n; alone = λ d on. from d on (one_of_two a b x y d c on) }
   where
     from : (d : Vector) → IsOnBoth a b d → SameDirection x d ⊎ SameDirection y d → SameDirection x d
     from d on (inl h) = h
-    from d on (inr h) = absurd (m (same_on_both a b d y (same-sym y d h) on))
+    from d on (inr h) = absurd (m (same_on_both a b d y (SameDirection-turned y d h) on))
 
 pub second_on : (a b : Arc) (x y : Vector) → Candidates a b x y → (IsOnBoth a b x → ⊥) → IsOnBoth a b y → IsOneCrossing a b y
 second_on a b x y c n m = record { on = m; alone = λ d on. from d on (one_of_two a b x y d c on) }
   where
     from : (d : Vector) → IsOnBoth a b d → SameDirection x d ⊎ SameDirection y d → SameDirection y d
     from d on (inr h) = h
-    from d on (inl h) = absurd (n (same_on_both a b d x (same-sym x d h) on))
+    from d on (inl h) = absurd (n (same_on_both a b d x (SameDirection-turned x d h) on))
 
 pub both_on : (a b : Arc) (x y : Vector) → Candidates a b x y → IsOnBoth a b x → IsOnBoth a b y → IsBelow (triple_of x) (triple_of y) → IsTwoCrossings a b x y
 both_on a b x y c n m below = record { first_on = n; second_on = m; in_order = below; alone = λ d on. one_of_two a b x y d c on }

@@ -1,11 +1,6 @@
 -- An arc's normal and ends as an arc of any size.
-use Rattle.std.proofs.Common.{◌≡◌, pos}
-use Rattle.nef_space.specs.Vectors.{Vector, dot, IsDirection}
-use Rattle.nef_geo.specs.Shapes.{vector_of}
+use Rattle.nef_arc.proofs.Prelude.{◌≡◌, pos, Vector, dot, IsDirection, vector_of, IsOnCircle, AboutThree, Arc, normal_vector, source_vector, target_vector, IsOn}
 use Rattle.nef_geo.specs.declared.dir.Dir.{Dir}
-use Rattle.law_cyclic.specs.Arcs.{IsOnCircle, AboutThree}
-use Rattle.nef_arc.specs.declared.arc.Arc.{Arc}
-use Rattle.nef_arc.specs.Arcs.{normal_vector, source_vector, target_vector, IsOn}
 
 pub direction : (d : Dir) → IsDirection (vector_of d)
 direction d = d.some

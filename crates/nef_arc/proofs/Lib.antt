@@ -1,3 +1,4 @@
+pub mod Prelude
 pub mod SignNumbers
 pub mod Ends
 pub mod Candidates

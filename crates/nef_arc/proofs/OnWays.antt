@@ -1,12 +1,6 @@
 -- What the turn from an arc's source to its target says of the directions on it.
-use Rattle.std.proofs.Common.{◌≡◌, zero, suc, ℤ, pos, negsuc, ◌<ℤ◌, ◌⊎◌, inl, inr, arith, refl, ◌↔◌}
-use Rattle.std.proofs.lemmas.Int.{ints}
-use Rattle.nef_space.specs.Vectors.{Vector, dot, triple}
-use Rattle.nef_geo.specs.Signs.{sign_of}
-use Rattle.law_cyclic.specs.Arcs.{IsOnCircle}
-use Rattle.law_cyclic.proofs.Planar.{self_positive, parallel_from_turn, turn_from_parallel, turn_or_dot}
-use Rattle.nef_arc.specs.declared.arc.Arc.{Arc}
-use Rattle.nef_arc.specs.Arcs.{normal_vector, source_vector, target_vector, IsOn, IsEnd, OnWay, IsPastSource, IsBeforeTarget, IsPassed}
+use Rattle.nef_arc.proofs.Prelude.{◌≡◌, zero, suc, ℤ, pos, negsuc, ◌<ℤ◌, ◌⊎◌, inl, inr, arith, refl, ◌↔◌, ints, Vector, dot, triple, sign_of, IsOnCircle, Arc, normal_vector, source_vector, target_vector, IsOn, IsEnd, OnWay, IsPastSource, IsBeforeTarget, IsPassed, self-pos}
+use Rattle.law_cyclic.proofs.Planar.{parallel_from_turn, turn_from_parallel, turn_or_dot}
 
 by_sign : {R : Type 0} (z : ℤ) → (z <ℤ pos 0 → R) → (z ≡ pos 0 → R) → (pos 0 <ℤ z → R) → R
 by_sign (pos zero) f g h = g refl
@@ -39,7 +33,7 @@ told a d h k = by_told (turn_of a) _ _ (record { less = h.less_than_half; more =
   where
     opposite : (dot (source_vector a) (target_vector a) <ℤ pos 0 ⊎ (turn_of a ≡ pos 0 → ⊥)) → turn_of a ≡ pos 0 → IsPastSource a d
     opposite (inl back) e = h.just_half (record {
-      parallel = parallel_from_turn (normal_vector a) (source_vector a) (target_vector a) (self_positive (normal_vector a) a.normal.some) a.source_level a.target_level e;
+      parallel = parallel_from_turn (normal_vector a) (source_vector a) (target_vector a) (self-pos (normal_vector a) a.normal.some) a.source_level a.target_level e;
       backward = back;
     })
     opposite (inr turned) e = absurd (turned e)
@@ -47,12 +41,12 @@ told a d h k = by_told (turn_of a) _ _ (record { less = h.less_than_half; more =
 passed_on : (a : Arc) (d : Vector) → IsOn a d → IsPassed a d
 passed_on a d h =
     let s = source_vector a in let t = target_vector a in let n = normal_vector a in
-    let hn = self_positive n a.normal.some in
+    let hn = self-pos n a.normal.some in
     by_sign (turn_of a)
     (λ k. inr (told a d h (inr (λ e. absurd (omega (arith, ints))))))
     (λ e. by_sign (dot s t)
     (λ k. inr (told a d h (inl k)))
-    (λ f. absurd (turn_or_dot n s t hn (self_positive s a.source.some) (self_positive t a.target.some) a.source_level a.target_level e f))
+    (λ f. absurd (turn_or_dot n s t hn (self-pos s a.source.some) (self-pos t a.target.some) a.source_level a.target_level e f))
     (λ k. inl (record { parallel = parallel_from_turn n s t hn a.source_level a.target_level e; forward = k })))
     (λ k. inr (told a d h (inr (λ e. absurd (omega (arith, ints))))))
 

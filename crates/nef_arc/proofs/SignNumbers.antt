@@ -1,14 +1,9 @@
 -- Signs as the machine's numbers, and the five signs of an arc and a direction.
-use Rattle.std.proofs.Common.{◌≡◌, zero, suc, ◌<◌, ◌^◌, ℤ, pos, negsuc, Bool, true, false, w8, to_z, of_z, [], ◌∷◌, arith, refl, sym, ap, ◌∙◌, subst}
-use Rattle.std.proofs.lemmas.Int.{to_z-of_z}
-use Rattle.std.specs.List.{All}
+use Rattle.nef_arc.proofs.Prelude.{◌≡◌, zero, suc, ◌<◌, ◌^◌, ℤ, pos, negsuc, Bool, true, false, w8, to_z, of_z, [], ◌∷◌, arith, refl, sym, ap, ◌∙◌, subst, to_z-of_z, All, sign_of, sign_number as number_of_sign, Sign, IsSign, between_signs}
 use Rattle.std.specs.Bool.{IsTrue}
 use lib.Dec.{T}
 use lib.Signed.{mag}
-use Rattle.nef_geo.specs.Signs.{sign_of, sign_number as number_of_sign}
-use Rattle.nef_geo.specs.declared.sign.Sign.{Sign}
-use Rattle.nef_case.specs.Keys.{IsSign}
-use Rattle.nef_case.specs.Between.{between_of, between_signs}
+use Rattle.nef_case.specs.Between.{between_of}
 use Rattle.law_cyclic.specs.Signs.{sign_number}
 use Rattle.law_cyclic.proofs.Signs.{sgn_is_sign}
 

@@ -1,13 +1,6 @@
 -- The way back along an arc, and the order of two directions on it.
-use Rattle.std.proofs.Common.{◌≡◌, Ordering, Less, Equal, Greater, refl, sym, subst, ◌↔◌, ◌⊎◌, inl, inr}
-use Rattle.std.specs.Ordering.{MatchOrdering}
-use Rattle.nef_space.specs.Vectors.{Vector, opposite, IsDirection, SameDirection}
-use Rattle.law_cyclic.specs.Arcs.{IsOnCircle, IsStrictlyOn}
-use Rattle.law_cyclic.proofs.Directions.{way_back_passes_the_same}
-use Rattle.law_cyclic.proofs.StrictlyOn.{same-sym}
+use Rattle.nef_arc.proofs.Prelude.{◌≡◌, Ordering, Less, Equal, Greater, refl, sym, subst, ◌↔◌, ◌⊎◌, inl, inr, MatchOrdering, Vector, opposite, IsDirection, SameDirection, IsOnCircle, IsStrictlyOn, way_back_passes_the_same, Arc, normal_vector, source_vector, IsOn, IsOnBefore, SameDirection-turned}
 use Rattle.law_cyclic.proofs.Cyclic.{one_is_first, never_both_ways}
-use Rattle.nef_arc.specs.declared.arc.Arc.{Arc}
-use Rattle.nef_arc.specs.Arcs.{normal_vector, source_vector, IsOn, IsOnBefore}
 use Rattle.nef_arc.proofs.Ends.{seen_from_source}
 
 pub back_passes_the_same : (n s t n' s' t' : Vector) → n' ≡ opposite n → s' ≡ t → t' ≡ s → IsDirection n → IsOnCircle n s → IsOnCircle n t → (d : Vector) → IsStrictlyOn n' s' t' d ↔ IsStrictlyOn n s t d
@@ -31,7 +24,7 @@ equal_not_greater e = subst (λ (o : Ordering). MatchOrdering o ⊥ (Unit {0}) �
 
 pub ranked_equal : (a : Arc) (d e : Vector) → SameDirection d e → IsRanked a d e Equal
 ranked_equal a d e h = record {
-  less = (λ k. absurd (less_not_equal (sym k)), λ k. absurd (k.not_target (same-sym d e h)));
+  less = (λ k. absurd (less_not_equal (sym k)), λ k. absurd (k.not_target (SameDirection-turned d e h)));
   equal = (λ k. h, λ k. refl);
   greater = (λ k. absurd (equal_not_greater k), λ k. absurd (k.not_target h));
 }
@@ -39,7 +32,7 @@ ranked_equal a d e h = record {
 pub ranked_less : (a : Arc) (d e : Vector) → IsOn a d → IsOn a e → IsOnBefore a e d → IsRanked a d e Less
 ranked_less a d e p q h = record {
   less = (λ k. h, λ k. refl);
-  equal = (λ k. absurd (less_not_equal k), λ k. absurd (h.not_target (same-sym d e k)));
+  equal = (λ k. absurd (less_not_equal k), λ k. absurd (h.not_target (SameDirection-turned d e k)));
   greater = (λ k. absurd (less_not_greater k), λ k. absurd (never_both_ways (normal_vector a) (source_vector a) d e (seen_from_source a d e p q) h k));
 }
 

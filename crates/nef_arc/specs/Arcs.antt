@@ -1,9 +1,6 @@
--- The directions on an arc, the directions on two, and the order along an arc.
-use Rattle.std.specs.Prelude.{pos, ◌<ℤ◌, ◌⊎◌}
-use Rattle.nef_space.specs.Numbers.{IsBelow}
-use Rattle.nef_space.specs.Vectors.{Vector, SameDirection, triple, triple_of}
-use Rattle.nef_geo.specs.Shapes.{vector_of}
-use Rattle.nef_geo.specs.Signs.{sign_of}
+-- The directions on an arc and on two arcs, and the order along an arc.
+use Rattle.std.specs.Prelude.{◌<ℤ◌, ◌⊎◌}
+use Rattle.nef_geo.specs.Prelude.{pos, IsBelow, Vector, SameDirection, triple, triple_of, vector_of, sign_of}
 use Rattle.nef_geo.specs.declared.sign.Sign.{Sign}
 use Rattle.nef_geo.specs.declared.sign.Sign.TheVariants.{Minus, Zero, Plus}
 use Rattle.law_cyclic.specs.Arcs.{IsStrictlyOn}
@@ -32,21 +29,22 @@ IsPastSource a d = pos 0 <ℤ triple (normal_vector a) (source_vector a) d
 abbrev pub IsBeforeTarget : Arc → Vector → Type 0
 IsBeforeTarget a d = pos 0 <ℤ triple (normal_vector a) d (target_vector a)
 
--- by the sign of the turn from the source to the target: what says, of a direction that is neither, that it is passed
+-- whether a direction is passed that is neither end: by the turn from source to target, being past one, before the
+-- other
 abbrev pub OnWay : Sign → Type 0 → Type 0 → Type 0
 OnWay Plus Past Before = Past × Before
 OnWay Minus Past Before = Past ⊎ Before
 OnWay Zero Past Before = Past
 
--- the ends are the same, or the turn says that a direction that is neither is passed
+-- the direction, if it is neither end, is passed
 abbrev pub IsPassed : Arc → Vector → Type 0
 IsPassed a d = SameDirection (source_vector a) (target_vector a) ⊎ OnWay (sign_of (triple (normal_vector a) (source_vector a) (target_vector a))) (IsPastSource a d) (IsBeforeTarget a d)
 
--- the direction is that of an end
+-- the direction is an end of the arc
 abbrev pub IsEnd : Arc → Vector → Type 0
 IsEnd a d = SameDirection (source_vector a) d ⊎ SameDirection (target_vector a) d
 
--- strictly on the way along the arc from its source to the direction e
+-- d lies strictly on the way along the arc from its source to the direction e
 abbrev pub IsOnBefore : Arc → Vector → Vector → Type 0
 IsOnBefore a e d = IsStrictlyOn (normal_vector a) (source_vector a) e d
 
@@ -54,19 +52,19 @@ pub record IsOnBoth (a b : Arc) (d : Vector) : Type 0 where
   pub first : IsOn a d
   pub second : IsOn b d
 
--- e is on both, and no other direction is
+-- e is strictly on both arcs, and no other direction is
 pub record IsOneCrossing (a b : Arc) (e : Vector) : Type 0 where
   pub on : IsOnBoth a b e
   pub alone : (d : Vector) → IsOnBoth a b d → SameDirection e d
 
--- e and f are on both, in this order as triples of numbers, and no other direction is
+-- e and f are strictly on both arcs, in this order as triples of numbers, and no other direction is
 pub record IsTwoCrossings (a b : Arc) (e f : Vector) : Type 0 where
   pub first_on : IsOnBoth a b e
   pub second_on : IsOnBoth a b f
   pub in_order : IsBelow (triple_of e) (triple_of f)
   pub alone : (d : Vector) → IsOnBoth a b d → SameDirection e d ⊎ SameDirection f d
 
--- the directions strictly on both arcs
+-- the crossing has the directions strictly on both arcs
 abbrev pub IsCrossing : Arc → Arc → Crossing → Type 0
 IsCrossing a b Nowhere = (d : Vector) → IsOnBoth a b d → ⊥
 IsCrossing a b (One e) = IsOneCrossing a b (vector_of e)

@@ -1,13 +1,13 @@
-//! Arcs of great circles, and the directions that two of them have in common.
+//! Arcs of great circles, and what two arcs have in common.
 
 ghost use Rattle.std.specs.Prelude.{◌≡◌};
 ghost use Rattle.nef_geo.specs.Prelude.{pos, dot, vector_of};
 
 use nef_geo::Dir;
 
-/// The set of directions strictly passed when going counterclockwise about the normal from the source to the target.
-/// Where the two are the same, it is the whole circle but one point. An arc may be longer than half a circle.
-#[derive(Debug, Clone, Copy, PartialEq, Eq)]
+/// The set of directions strictly passed when going counterclockwise about the normal from the source to the target:
+/// where these are one, all of the circle but that direction. An arc may be longer than half a circle.
+#[derive(Clone, Copy)]
 pub struct Arc {
     pub source: Dir,
     pub target: Dir,
@@ -33,9 +33,8 @@ impl Arc {
     }
 }
 
-/// The directions strictly on both of two arcs whose normals aren't parallel. Two directions stand in their order as
-/// triples of numbers.
-#[derive(Debug, Clone, Copy, PartialEq, Eq)]
+/// The directions strictly on both of two arcs whose normals aren't parallel, in their order as triples of numbers.
+#[derive(Clone, Copy)]
 pub enum Crossing {
     Nowhere,
     One(Dir),

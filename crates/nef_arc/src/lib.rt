@@ -1,4 +1,4 @@
-//! Arcs of great circles of any length, by signs. No call takes memory.
+//! Arcs of great circles of any length, with all questions answered by signs. No call takes memory.
 #![tactic(auto)]
 
 mod arc;

@@ -1,4 +1,4 @@
-//! The directions on an arc and on two, the way along an arc and the way back.
+//! Directions on one arc and on two, the way along an arc and the way back.
 
 ghost use Rattle.std.specs.Prelude.{◌≡◌, ◌≢◌, ◌↔◌, ◌⊎◌};
 ghost use Rattle.nef_geo.specs.Prelude.{IsTrue, normal_limit, IsBelow, Vector, opposite, IsAtMost, IsParallel, SameDirection, triple_of, vector_of};
@@ -23,8 +23,7 @@ fn is_before_target(arc: &Arc, d: &Dir) -> bool
     triple(&arc.normal, d, &arc.target).is_plus()
 }
 
-// Whether a direction on the arc's circle is passed that is neither end, where the ends differ, by the turn from the
-// source to the target.
+// Whether a direction on the arc's circle, neither of two different ends, is passed. `turn` is from source to target.
 fn is_on_way(turn: Sign, arc: &Arc, d: &Dir) -> bool
     ensures way { IsTrue result ↔ OnWay turn (IsPastSource arc.now (vector_of d.now)) (IsBeforeTarget arc.now (vector_of d.now)) }
 {
@@ -41,7 +40,7 @@ fn is_end(arc: &Arc, d: &Dir) -> bool
     arc.source.is_same(d) || arc.target.is_same(d)
 }
 
-// Whether a direction on the arc's circle is strictly on the arc. Where the ends are the same, each is but them.
+// Whether a direction on the arc's circle is strictly on the arc. Where both ends are one, every other direction is.
 fn is_inside(arc: &Arc, d: &Dir) -> bool
     ensures inside { IsTrue result ↔ ((IsEnd arc.now (vector_of d.now) → ⊥) × IsPassed arc.now (vector_of d.now)) }
 {
@@ -55,7 +54,7 @@ fn is_inside(arc: &Arc, d: &Dir) -> bool
     is_on_way(turn, arc, d)
 }
 
-/// Whether the direction is strictly on the arc. The ends aren't.
+/// Whether the direction is strictly on the arc, so at neither end.
 pub fn strictly_on(arc: &Arc, d: &Dir) -> bool
     ensures on { IsTrue result ↔ IsOn arc.now (vector_of d.now) }
 {
@@ -79,10 +78,8 @@ fn in_order(d: Dir, e: Dir) -> Crossing
     }
 }
 
-/// The directions strictly on both arcs, whose normals aren't parallel and have entries of at most `2^11` in size.
-///
-/// The two great circles meet in the direction of the cross product of the normals and in its opposite, and nowhere
-/// else.
+/// The directions strictly on both arcs, whose normals aren't parallel and have entries of at most `2^11` in size. The
+/// two great circles meet in the direction of the normals' cross product and in the opposite one only.
 pub fn crossing(a: &Arc, b: &Arc) -> Crossing
     requires apart { IsParallel (normal_vector a.now) (normal_vector b.now) → ⊥ }
     requires first_small { IsAtMost normal_limit (normal_vector a.now) }
@@ -99,7 +96,7 @@ pub fn crossing(a: &Arc, b: &Arc) -> Crossing
     }
 }
 
-/// The way back: the same directions, from the target to the source about the opposite normal.
+/// The reversed arc: the same directions, from the target to the source about the opposite normal.
 pub fn reverse(arc: &Arc) -> Arc
     ensures normal { normal_vector result ≡ opposite (normal_vector arc.now) }
     ensures source { source_vector result ≡ target_vector arc.now }
@@ -109,7 +106,7 @@ pub fn reverse(arc: &Arc) -> Arc
     Arc::of(arc.target, arc.source, arc.normal.back())
 }
 
-/// Which of two directions strictly on the arc comes first from the source: `Less` where the first does.
+/// Which of two directions strictly on the arc comes first from the source: `Less` where d does.
 pub fn next_along(arc: &Arc, d: &Dir, e: &Dir) -> Ordering
     requires d_on { IsOn arc.now (vector_of d.now) }
     requires e_on { IsOn arc.now (vector_of e.now) }

@@ -1,11 +1,7 @@
 -- The row of a key, and a test of all keys that computes.
-use Rattle.std.proofs.Common.{◌≡◌, ℕ, zero, suc, ◌+◌, ◌*◌, ◌^◌, ◌<◌, ◌≤◌, ℤ, pos, negsuc, List, [], ◌∷◌, length, Bool, true, false, cond, arith}
+use Rattle.nef_case.proofs.Prelude.{◌≡◌, ℕ, zero, suc, ◌+◌, ◌*◌, ◌^◌, ◌<◌, ◌≤◌, ℤ, pos, negsuc, List, [], ◌∷◌, length, Bool, true, false, cond, arith, pow_more, ints, All, IsSign, digit_of}
 use Rattle.std.proofs.Math.Nat.{pow-le-pow_right}
-use Rattle.std.proofs.lemmas.Grind.{pow_more}
-use Rattle.std.proofs.lemmas.Int.{ints}
-use Rattle.std.specs.List.{All}
 use lib.Dec.{T}
-use Rattle.nef_case.specs.Keys.{IsSign, digit_of}
 
 pub row_step : (row i N n : ℕ) → row < 3 ^ i → i < N → n ≡ 3 ^ N → row * 3 + 2 < n
 row_step row i N n h k e = omega (arith, pow_more 3 i, pow-le-pow_right {n = 3} (omega arith) {i = i + 1} {j = N} (omega arith))

@@ -1,14 +1,8 @@
 -- A table in which every row passes a test that computes has the plain definition's value at each key.
-use Rattle.std.proofs.Common.{◌≡◌, ℕ, ◌<◌, ◌^◌, ℤ, w8, to_z, of_z, List, length, Bool, true, false, cond, get_or, Some, sym, refl, ◌∙◌, ap}
-use Rattle.std.specs.Prelude.{slice_get}
-use Rattle.std.proofs.lemmas.Option.{get_or_from_slice_get}
-use Rattle.std.specs.Ordering.{int_eq}
+use Rattle.nef_case.proofs.Prelude.{◌≡◌, ℕ, ◌<◌, ◌^◌, ℤ, w8, to_z, of_z, List, length, Bool, true, false, cond, get_or, Some, sym, refl, ◌∙◌, ap, slice_get, get_or_from_slice_get, int_eq, All, to_z-of_z, IsSign, row_of}
 use Rattle.std.proofs.lemmas.Bool.Decides.{Decides-int_eq}
-use Rattle.std.specs.List.{All}
 use lib.Dec.{T}
 use lib.Signed.{mag}
-use Rattle.std.proofs.lemmas.Int.{to_z-of_z}
-use Rattle.nef_case.specs.Keys.{IsSign, row_of}
 use Rattle.nef_case.proofs.Rows.{every_key, passes_at}
 
 -- a test of two values by which they are the same

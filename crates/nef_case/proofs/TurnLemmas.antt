@@ -1,17 +1,10 @@
 -- A turn is known by what it makes of the numbers 1, 2 and 3, so that finitely many tests say all of turns.
-use Rattle.std.proofs.Common.{◌≡◌, ℕ, zero, suc, ◌+◌, ◌-◌, ◌*◌, ◌/◌, ◌%◌, ◌^◌, ◌<◌, ◌≤◌, ℤ, pos, negsuc, neg_ℤ, List, length, Bool, true, false, cond, refl, sym, ◌∙◌, ap, subst, inl, inr, arith}
-use Rattle.std.specs.Prelude.{nat_abs, unsigned_abs, ◌==◌, nat_lt}
-use Rattle.std.specs.Int.{is_negative}
-use Rattle.std.specs.Ordering.{int_eq}
-use Rattle.std.specs.List.{All}
+use Rattle.nef_case.proofs.Prelude.{◌≡◌, ℕ, zero, suc, ◌+◌, ◌-◌, ◌*◌, ◌/◌, ◌%◌, ◌^◌, ◌<◌, ◌≤◌, ℤ, pos, negsuc, neg_ℤ, List, length, Bool, true, false, cond, refl, sym, ◌∙◌, ap, subst, inl, inr, arith, nat_abs, unsigned_abs, ◌==◌, nat_lt, is_negative, int_eq, All, to_z-of_z, number_at, Triple, ordered, has_bit, negated_if, negated, turned, IsEntry, coordinate, named_by, made_by, IsRowOf, Undoes, IsComposition, triple_of, numbered, IsTurnRow}
 use Rattle.std.proofs.lemmas.Bool.{cases_order}
 use lib.Dec.{T, eqb→eq, ltb→lt}
 use lib.IntN.{neg_ℤ-neg_ℤ}
 use mir.Val.{bool_byte, to_z, of_z, SFits}
 use mir.Syntax.{w8, w64}
-use Rattle.std.proofs.lemmas.Int.{to_z-of_z}
-use Rattle.nef_case.specs.Keys.{number_at}
-use Rattle.nef_case.specs.Turns.{Triple, ordered, has_bit, negated_if, negated, turned, IsEntry, coordinate, named_by, made_by, IsRowOf, Undoes, IsComposition, triple_of, numbered, IsTurnRow}
 use Rattle.nef_case.proofs.Rows.{both_left, both_right}
 use Rattle.nef_case.proofs.Tables.{int_tests}
 

@@ -1,10 +1,6 @@
 -- The tables of turns, as lists that are computed from what the turns make of the numbers 1, 2 and 3.
-use Rattle.std.proofs.Common.{◌≡◌, ℕ, zero, suc, ◌+◌, ◌<◌, ◌≤◌, ℤ, pos, neg_ℤ, List, [], ◌∷◌, length, get_or, Bool, false, cond, sym, ◌∙◌, ap, subst, arith}
-use Rattle.std.specs.Prelude.{unsigned_abs, ◌==◌, nat_lt, nat_le}
-use Rattle.std.specs.Int.{is_negative}
-use Rattle.std.specs.List.{All}
+use Rattle.nef_case.proofs.Prelude.{◌≡◌, ℕ, zero, suc, ◌+◌, ◌<◌, ◌≤◌, ℤ, pos, neg_ℤ, List, [], ◌∷◌, length, get_or, Bool, false, cond, sym, ◌∙◌, ap, subst, arith, unsigned_abs, ◌==◌, nat_lt, nat_le, is_negative, All, Triple, turned, IsEntry, IsRowOf, Undoes, IsTurnRow, numbered}
 use lib.Dec.{T, ltb→lt, leb→le}
-use Rattle.nef_case.specs.Turns.{Triple, turned, IsEntry, IsRowOf, Undoes, IsTurnRow, numbered}
 use Rattle.nef_case.proofs.Rows.{both_left, both_right}
 use Rattle.nef_case.proofs.TurnLemmas.{triple, same_triple, word, word-is, made-turned, undoes-by_numbers, below-passes, number_by, numbers-differ, same_parts, parts-same, inverse-one}
 

@@ -3,7 +3,8 @@
 use Rattle.std.specs.Prelude.{ℕ, zero, suc, ℤ, pos, negsuc, List, Bool, true, false, if◌then◌else◌, nat_lt, ◌==◌, ◌&&◌, ◌||◌, Option, Some, None}
 use Rattle.nef_case.specs.Keys.{number_at}
 
--- the signs of n.(s x d) and s.d as a class: how many eighths of a turn d is ahead of s, where an odd class is all that lies strictly between two even ones
+-- the class of d, by the signs of n.(s x d) and s.d: how many eighths of a turn d is ahead of s, where an odd class has
+-- all directions strictly between two even ones
 abbrev pub class_of : ℤ → ℤ → Option ℕ
 class_of (pos zero) (pos zero) = None
 class_of (pos zero) (pos (suc n)) = Some 0
@@ -23,11 +24,11 @@ is_positive (negsuc n) = false
 abbrev pub is_odd : ℕ → Bool
 is_odd p = p == 1 || p == 3 || p == 5 || p == 7
 
--- the class of the target, where the target in the source's own direction is a whole turn ahead
+-- the class of the target, where a target in the source's direction is a whole turn ahead
 abbrev pub whole_turn : ℕ → ℕ
 whole_turn q = if q == 0 then 8 else q
 
--- d of the class p is passed before a target of the class q. Within one class, which is odd then, it is where t is ahead of d
+-- d of class p is passed before a target of class q; within one class, which then is odd, where t is ahead of d
 abbrev pub passes : ℕ → ℕ → ℤ → Bool
 passes q p last = (nat_lt 0 p && nat_lt p q) || (p == q && is_odd p && is_positive last)
 
@@ -39,6 +40,6 @@ passes_classes (Some q) (Some p) last = passes (whole_turn q) p last
 abbrev pub between_signs : ℤ → ℤ → ℤ → ℤ → ℤ → Bool
 between_signs st_turn st_along sd_turn sd_along dt_turn = passes_classes (class_of st_turn st_along) (class_of sd_turn sd_along) dt_turn
 
--- the same for a key of the five signs
+-- whether the direction is passed, by a key of the five signs
 abbrev pub between_of : List ℤ → Bool
 between_of key = between_signs (number_at key 0) (number_at key 1) (number_at key 2) (number_at key 3) (number_at key 4)

@@ -2,19 +2,19 @@
 use Rattle.std.specs.Prelude.{ℕ, ◌+◌, ◌*◌, ℤ, pos, negsuc, ◌≤ℤ◌, ◌+ℤ◌, List, fold, slice_index_or}
 use Rattle.std.specs.Int.RustNames.{unsigned_abs}
 
--- -1, 0 or 1
+-- z is -1, 0 or 1
 pub record IsSign (z : ℤ) : Type 0 where
   pub low : negsuc 0 ≤ℤ z
   pub high : z ≤ℤ pos 1
 
--- such a number as a digit
+-- a number from -1 to 1 as a digit
 abbrev pub digit_of : ℤ → ℕ
 digit_of z = unsigned_abs (z +ℤ pos 1)
 
--- a key as a number in base 3, the first digit highest
+-- a key as a number in base 3, with the first digit highest
 abbrev pub row_of : List ℤ → ℕ
 row_of = fold (λ row z. row * 3 + digit_of z) 0
 
--- the number of the key in the k-th place
+-- number k of the key
 abbrev pub number_at : List ℤ → ℕ → ℤ
 number_at key k = slice_index_or key k (pos 0)

@@ -12,11 +12,11 @@ is_not a = int_eq a (pos 0)
 abbrev pub is_in : ℤ → Bool
 is_in a = int_eq a (pos 1)
 
--- Out where the first holds; otherwise In exactly where the second holds
+-- the label is Out where the first value holds; otherwise In exactly where the second one does
 abbrev pub label_by : Bool → Bool → ℤ
 label_by outside inside = if outside then negsuc 0 else (if inside then pos 1 else pos 0)
 
--- ---- two sets: Out where one of them is Out
+-- ---- the label of a combination: Out where one of both labels is Out
 -- otherwise In exactly where both are In
 abbrev pub and_label : ℤ → ℤ → ℤ
 and_label a b = label_by (is_out a || is_out b) (is_in a && is_in b)
@@ -29,11 +29,11 @@ or_label a b = label_by (is_out a || is_out b) (is_in a || is_in b)
 abbrev pub diff_label : ℤ → ℤ → ℤ
 diff_label a b = label_by (is_out a || is_out b) (is_in a && is_not b)
 
--- otherwise In exactly where they differ
+-- otherwise In exactly where the labels differ
 abbrev pub xor_label : ℤ → ℤ → ℤ
 xor_label a b = label_by (is_out a || is_out b) (not (int_eq a b))
 
--- ---- an arc with its mark and the labels of the faces on its two sides: Out where the mark is Out
+-- ---- the label of an arc, from its mark and the labels of the faces on both sides: Out where the mark is Out
 -- otherwise In exactly where all three are In
 abbrev pub interior_label : ℤ → ℤ → ℤ → ℤ
 interior_label mark ahead behind = label_by (is_out mark) (is_in mark && is_in ahead && is_in behind)
@@ -42,7 +42,7 @@ interior_label mark ahead behind = label_by (is_out mark) (is_in mark && is_in a
 abbrev pub closure_label : ℤ → ℤ → ℤ → ℤ
 closure_label mark ahead behind = label_by (is_out mark) (is_in mark || is_in ahead || is_in behind)
 
--- ---- the same for keys of two or three labels
+-- ---- these labels by keys of two or three labels
 abbrev pub and_of : List ℤ → ℤ
 and_of key = and_label (number_at key 0) (number_at key 1)
 

@@ -1,11 +1,9 @@
-//! Tables over keys of signs or labels, three rows for each number of the key to the next, and the tables of the
-//! kernel: whether a direction is strictly passed on an arc, the labels of combinations, the labels of an arc in the
-//! interior and in the closure, and the 48 turns of space that exchange or negate the axes.
-//!
-//! Every row is proved to be the value of a plain definition in specs/.
+//! Tables over keys of signs or labels, with three rows for each number of the key to the next; and the kernel's
+//! tables: whether a direction is strictly passed on an arc, the labels of combinations and of an arc in the interior
+//! and in the closure, and the 48 turns of space. Every row is proved to be the value of a plain definition in specs/.
 #![tactic(auto)]
 
-// How the rows of a table are written: T and F for a truth value; O, N and I for the labels Out, Not and In as numbers.
+// A row of a table: T and F for a truth value; O, N and I for the labels Out, Not and In as numbers.
 macro_rules! row {
     (T) => {
         true

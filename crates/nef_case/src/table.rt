@@ -1,12 +1,11 @@
-//! Tables over keys of numbers from -1 to 1, which are signs or labels: whether a direction is passed, and labels of
-//! combinations. A label is a number here: -1 for Out, 0 for Not, 1 for In.
+//! Tables over keys of numbers from -1 to 1, which are signs or labels: -1 is Out, 0 is Not, 1 is In.
 
 ghost use Rattle.std.specs.Prelude.{◌≡◌, ◌^◌, length, All, slice_get, Some};
 ghost use Rattle.nef_case.specs.Keys.{IsSign, row_of};
 ghost use Rattle.nef_case.specs.Between.{between_of};
 ghost use Rattle.nef_case.specs.Labels.{and_of, or_of, diff_of, xor_of, interior_of, closure_of};
 
-/// A table with one row for each key of `N` numbers from -1 to 1, so `3^N` rows.
+/// A table with one row for each key of `N` numbers from -1 to 1: `3^N` rows.
 #[derive(Drop)]
 pub struct CaseTable<'a, const N: usize, T: Copy> {
     rows: &'a [T],
@@ -14,7 +13,7 @@ pub struct CaseTable<'a, const N: usize, T: Copy> {
 }
 
 impl<'a, const N: usize, T: Copy> CaseTable<'a, N, T> {
-    /// The table of these rows, which are exactly `3^N`. The row of a key is the one that [`CaseTable::at`] reads.
+    /// The table of exactly `3^N` rows. [`CaseTable::at`] tells which row is that of a key.
     pub fn new(rows: &'a [T]) -> CaseTable<'a, N, T>
         requires full { length rows.now ≡ 3 ^ N }
         ensures rows { result.rows.now ≡ rows.entry.now }
@@ -22,8 +21,8 @@ impl<'a, const N: usize, T: Copy> CaseTable<'a, N, T> {
         CaseTable { rows }
     }
 
-    /// The row of the key, whose numbers are from -1 to 1. The row's number is the key read in base 3, with
-    /// `key[i] + 1` as its digits and the first digit highest.
+    /// The row of the key, whose numbers are from -1 to 1. The row's number is the key in base 3, with digits `key[i] +
+    /// 1`, the first digit highest.
     pub fn at(&self, key: &[i8; N]) -> T
         requires signs { All IsSign key.now }
         ensures row { slice_get self.now.rows.now (row_of key.now) ≡ Some result }
@@ -37,10 +36,9 @@ impl<'a, const N: usize, T: Copy> CaseTable<'a, N, T> {
 }
 
 /// Whether the direction d is strictly passed on the way counterclockwise about the normal n from the source s to the
-/// target t, all three on one circle about n. From s to s itself the way is a whole turn.
-///
-/// The key is the signs of `n.(s x t)`, `s.t`, `n.(s x d)`, `s.d` and `n.(d x t)`. Where the first two or the next two
-/// are both 0, which no directions give, the answer is false.
+/// target t, all three on one circle about n. From s to s itself the way is a whole turn. The key has the signs of
+/// `n.(s x t)`, `s.t`, `n.(s x d)`, `s.d` and `n.(d x t)`. Where the first two or the next two are both 0, which no
+/// directions give, the answer is false.
 pub fn between(key: &[i8; 5]) -> bool
     requires signs { All IsSign key.now }
     ensures value { result ≡ between_of key.now }
@@ -59,7 +57,7 @@ pub fn between(key: &[i8; 5]) -> bool
     CaseTable::<5, bool>::new(&rows).at(key)
 }
 
-/// The label of `A and B` from the labels of A and B: Out where one is Out; otherwise In exactly where both are In.
+/// The label of `A and B` from the labels of A and B: Out where one is Out; else In exactly where both are In.
 pub fn op_and(key: &[i8; 2]) -> i8
     requires signs { All IsSign key.now }
     ensures label { result ≡ and_of key.now }
@@ -72,7 +70,7 @@ pub fn op_and(key: &[i8; 2]) -> i8
     CaseTable::<2, i8>::new(&rows).at(key)
 }
 
-/// The label of `A or B` from the labels of A and B: Out where one is Out; otherwise In exactly where one is In.
+/// The label of `A or B` from the labels of A and B: Out where one is Out; else In exactly where one is In.
 pub fn op_or(key: &[i8; 2]) -> i8
     requires signs { All IsSign key.now }
     ensures label { result ≡ or_of key.now }
@@ -85,8 +83,7 @@ pub fn op_or(key: &[i8; 2]) -> i8
     CaseTable::<2, i8>::new(&rows).at(key)
 }
 
-/// The label of `A diff B` from the labels of A and B: Out where one is Out; otherwise In exactly where A is In and B
-/// is Not.
+/// The label of `A diff B` from the labels of A and B: Out where one is Out; else In exactly where A is In, B Not.
 pub fn op_diff(key: &[i8; 2]) -> i8
     requires signs { All IsSign key.now }
     ensures label { result ≡ diff_of key.now }
@@ -99,7 +96,7 @@ pub fn op_diff(key: &[i8; 2]) -> i8
     CaseTable::<2, i8>::new(&rows).at(key)
 }
 
-/// The label of `A xor B` from the labels of A and B: Out where one is Out; otherwise In exactly where they differ.
+/// The label of `A xor B` from the labels of A and B: Out where one is Out; else In exactly where they differ.
 pub fn op_xor(key: &[i8; 2]) -> i8
     requires signs { All IsSign key.now }
     ensures label { result ≡ xor_of key.now }
@@ -112,8 +109,8 @@ pub fn op_xor(key: &[i8; 2]) -> i8
     CaseTable::<2, i8>::new(&rows).at(key)
 }
 
-/// The label that an arc has in the interior of the set, from its mark and the labels of the faces on its two sides:
-/// Out where the mark is Out; otherwise In exactly where all three are In.
+/// The label of an arc in the interior of a set, from its mark and the labels of the faces on both sides: Out where the
+/// mark is Out; otherwise In exactly where all three are In.
 pub fn arc_interior(key: &[i8; 3]) -> i8
     requires signs { All IsSign key.now }
     ensures label { result ≡ interior_of key.now }
@@ -126,8 +123,8 @@ pub fn arc_interior(key: &[i8; 3]) -> i8
     CaseTable::<3, i8>::new(&rows).at(key)
 }
 
-/// The label that an arc has in the closure of the set, from its mark and the labels of the faces on its two sides:
-/// Out where the mark is Out; otherwise In exactly where one of the three is In.
+/// The label of an arc in the closure of a set, from its mark and the labels of the faces on both sides: Out where the
+/// mark is Out; otherwise In exactly where one of the three is In.
 pub fn arc_closure(key: &[i8; 3]) -> i8
     requires signs { All IsSign key.now }
     ensures label { result ≡ closure_of key.now }

@@ -1,11 +1,11 @@
-//! The 48 turns of space: each puts the three axes into one of their six orders, and then negates some of the new
-//! coordinates. The number of a turn is 8 times that of its order, and 1, 2 and 4 more where it negates the new x, y
-//! and z. Of (x, y, z) the orders 0 to 5 make (x, y, z), (x, z, y), (y, x, z), (y, z, x), (z, x, y) and (z, y, x).
+//! The 48 turns of space: each puts the three axes into one of their six orders, and then negates some new coordinates.
+//! The number of a turn is 8 times the number of the order, and 1, 2 and 4 more where the new x, y and z are negated.
+//! Of (x, y, z) the orders 0 to 5 make (x, y, z), (x, z, y), (y, x, z), (y, z, x), (z, x, y) and (z, y, x).
 
 ghost use Rattle.std.specs.Prelude.{◌≡◌, ℕ, ◌<◌, ◌^◌, All, nat_abs};
 ghost use Rattle.nef_case.specs.Turns.{IsEntry, IsRowOf, Undoes, IsComposition, IsTurnRow, named_by, made_by, numbered, turned};
 
-// The rows of the turns whose orders these are, from the old coordinates that become the new x, y and z.
+// The rows of all turns, eight for each order, which is given by the old coordinates that become the new x, y and z.
 macro_rules! turn_rows {
     ($($x:literal $y:literal $z:literal)*) => {
         [$(
@@ -22,8 +22,7 @@ macro_rules! turn_rows {
 }
 
 /// The row of the turn with the number `k`, which is below 48: for each new coordinate 1, 2 or 3 for the old x, y or z,
-/// negative where it is negated. The number is 8 times that of the order in which the old coordinates stand, counted
-/// from 0 in rising order, and 1, 2 and 4 more where the new x, y and z are negated.
+/// negative where negated. `k` is 8 times the number of the order, and 1, 2 and 4 more for negated x, y and z.
 pub fn turn_row(k: usize) -> [i8; 3]
     requires turn { k < 48 }
     ensures entries { All IsEntry result }
@@ -59,7 +58,7 @@ fn coordinate(entry: i8, x: i64, y: i64, z: i64) -> i64
     }
 }
 
-/// What the turn with this row makes of three coordinates, each less than `2^63` in size.
+/// The three coordinates, each less than `2^63` in size, after the turn with this row.
 pub fn turned_coordinates(row: &[i8; 3], x: i64, y: i64, z: i64) -> (i64, i64, i64)
     requires entries { All IsEntry row.now }
     requires x_small { nat_abs x < 2 ^ 63 }
@@ -74,7 +73,7 @@ pub fn turned_coordinates(row: &[i8; 3], x: i64, y: i64, z: i64) -> (i64, i64, i
     )
 }
 
-/// The number of the turn that undoes the turn `k`, which is below 48: each after the other gives back every triple.
+/// The number of the turn that undoes the turn `k`, which is below 48: one after the other gives back every triple.
 pub fn turn_inverse(k: usize) -> usize
     requires turn { k < 48 }
     ensures below { result < 48 }
@@ -93,8 +92,8 @@ pub fn turn_inverse(k: usize) -> usize
     inverses[k]
 }
 
-/// The number of the turn that is the turn `k` and then the turn `j`, both below 48. It is 0, which moves nothing, where
-/// the one undoes the other.
+/// The number of the turn that is the turn `k` and then the turn `j`, both below 48. The number is 0, of the turn that
+/// moves nothing, where one of both undoes the other.
 pub fn turn_compose(j: usize, k: usize) -> usize
     requires later { j < 48 }
     requires earlier { k < 48 }

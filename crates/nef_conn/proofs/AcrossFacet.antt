@@ -1,35 +1,9 @@
 -- From a vertex beside which z lies, whose item goes on ahead, to a point of the facet there.
-use Rattle.std.proofs.Common.{◌≡◌, pos, arith, inl, inr}
-use Rattle.std.proofs.lemmas.Int.{ints}
-use Rattle.nef_space.specs.Lists.{Chained}
-use Rattle.nef_space.specs.Local.{FlatDim}
-use Rattle.nef_space.specs.Place.{Place, Form, form_at, normal_of, toward, IsBetween}
-use Rattle.nef_space.specs.Sets.{Set}
-use Rattle.nef_space.specs.Vectors.{Vector, opposite, dot, IsDirection, SameDirection, plane_dir}
-use Rattle.law_near.proofs.Between.{between-turned}
-use Rattle.law_sphere.specs.Maps.{item_normal, OnItem}
-use Rattle.law_near.proofs.Decisions.{ahead}
-use Rattle.law_sphere.proofs.Forms.{on-direction}
-use Rattle.law_sphere.proofs.Vectors.{normal-is}
-use Rattle.law_sphere.proofs.Compare.{SameDirection-turned, SameDirection-trans}
-use Rattle.law_complex.specs.Complexes.{Vertex, Complex, Corner}
-use Rattle.law_complex.specs.Shows.{Shows}
-use Rattle.law_complex.proofs.FacetPoints.{IsInFacetOf}
-use Rattle.law_complex.specs.Skeleton.{item_plane, RayNames}
-use Rattle.law_complex.specs.Laws.{IsFlatIn}
-use Rattle.law_complex.proofs.FacetWays.{plane-ahead}
-use Rattle.law_links.specs.Links.{LinkAcross, FacetLink}
-use Rattle.law_links.proofs.Across.{through-same}
-use Rattle.law_links.proofs.NearVertex.{facet-near}
-use Rattle.law_links.proofs.Ties.{ahead-toward, even-after}
-use Rattle.law_links.proofs.ItemPoints.{on_item-way}
-use Rattle.law_cyclic.proofs.Directions.{level-of_opposite}
+use Rattle.nef_conn.proofs.Prelude.{◌≡◌, pos, arith, inl, inr, ints, Chained, FlatDim, Place, Form, form_at, normal_of, toward, IsBetween, Set, Vector, opposite, dot, IsDirection, SameDirection, plane_dir, between-turned, item_normal, OnItem, ahead, on-direction, normal-is, Vertex, Complex, Corner, Shows, IsInFacetOf, item_plane, RayNames, IsFlatIn, plane-ahead, LinkAcross, FacetLink, through-same, facet-near, ahead-toward, even-after, on_item-way, way_inward, level-of_opposite, SameDirection-turned, SameDirection-trans, opposite-same}
 use Rattle.nef_conn.proofs.Onward.{level-kept}
-use Rattle.law_complex.proofs.Ways.{opposite-same}
 use Rattle.nef_conn.proofs.WayInward.{dir-same, names-same}
 use Rattle.nef_conn.proofs.Named
 use Rattle.nef_conn.proofs.Chain.{chain-here, chain-before}
-use Rattle.nef_conn.specs.Items.{way_inward}
 use Rattle.nef_conn.proofs.Sector.{Through, Stops}
 use Rattle.nef_conn.proofs.FacetStrip.{Strip, m-some, short-of, angle-ahead}
 use Rattle.nef_conn.proofs.Beside.{turn-to, near, near-onward, Beside, off-edges, fan-beside}
@@ -46,9 +20,6 @@ module _ (s : Set) (C : Complex) (S : Shows s C) (h g : Form) (d : Vector) (y z 
 
   some-m : IsDirection m
   some-m = m-some s C S h g d y z T
-
-  some-opposite : (e : Vector) → IsDirection e → IsDirection (opposite e)
-  some-opposite e i q = i (let a = q.0 in omega (arith, ints), let a = q.1 in omega (arith, ints), let a = q.2 in omega (arith, ints))
 
   level-opposite : dot n (opposite d) ≡ pos 0
   level-opposite = level-of_opposite n d T.level

@@ -1,34 +1,11 @@
 -- From vertex to vertex along y's line, to the corner that z's ray names.
-use Rattle.std.proofs.Common.{◌≡◌, ℕ, ◌<◌, ◌≤◌, ◌+◌, zero, suc, pos, length, arith, ◌∙◌, ◌⊎◌, inl, inr, ⊎_elim, subst}
-use Rattle.std.proofs.lemmas.Int.{ints}
-use Rattle.std.proofs.lemmas.Bool.{cases_order}
-use Rattle.nef_space.specs.Lists.{Chained}
-use Rattle.nef_space.specs.Local.{FlatDim}
-use Rattle.nef_space.specs.Place.{Place, Form, form_at, normal_of, SamePlace, toward, IsBetween, IsPlaceBelow}
-use Rattle.nef_space.specs.Sets.{Set}
-use Rattle.nef_space.specs.Vectors.{Vector, opposite, cross, IsNormal, SameDirection, plane_dir}
-use Rattle.law_near.proofs.Flats.{vector-same}
-use Rattle.law_near.proofs.Mixed.{place-toward}
-use Rattle.law_near.proofs.Directions.{dot-zero, direction-left}
-use Rattle.law_sphere.specs.Maps.{At}
-use Rattle.law_sphere.proofs.Builder.{normal-or}
-use Rattle.law_sphere.proofs.Kind.{away}
-use Rattle.law_sphere.proofs.Lists.{at-one}
-use Rattle.law_sphere.proofs.Compare.{SameDirection-turned, SameDirection-trans, dir-self}
-use Rattle.law_sphere.proofs.Vectors.{normal-direction}
-use Rattle.law_complex.specs.Complexes.{Vertex, Complex, Corner}
-use Rattle.law_complex.specs.Shows.{Shows}
-use Rattle.law_complex.specs.Skeleton.{RayNames}
-use Rattle.law_complex.specs.Laws.{IsFlatIn}
-use Rattle.law_complex.proofs.Ways.{between-way, same-itself}
-use Rattle.law_complex.proofs.FacetAngles.{through-at}
-use Rattle.law_complex.proofs.FacetEdges.{ahead-back}
-use Rattle.law_links.specs.Links.{FacetLink}
+use Rattle.nef_conn.proofs.Prelude.{◌≡◌, ℕ, ◌<◌, ◌≤◌, ◌+◌, zero, suc, pos, length, arith, ◌∙◌, ◌⊎◌, inl, inr, ⊎_elim, subst, cases_order, Chained, FlatDim, Place, Form, form_at, normal_of, SamePlace, toward, IsBetween, IsPlaceBelow, Set, Vector, opposite, cross, SameDirection, plane_dir, place-toward, At, at-one, normal-direction, Vertex, Complex, Corner, Shows, RayNames, IsFlatIn, between-way, same-itself, through-at, ahead-back, FacetLink, dot-zero, SameDirection-turned, SameDirection-trans, dir-self, direction-left}
+use Rattle.law_sphere.proofs.Builder.{normal-either}
 use Rattle.nef_conn.proofs.Reached.{Rises, never-both, toward-normal, within}
 use Rattle.nef_conn.proofs.Chain.{chain-both}
 use Rattle.nef_conn.proofs.Sector.{Through, Stops, turned}
 use Rattle.nef_conn.proofs.FacetStrip.{Strip, m-some, turn-z}
-use Rattle.nef_conn.proofs.Beside.{near, near-onward}
+use Rattle.nef_conn.proofs.Beside.{near}
 use Rattle.nef_conn.proofs.Beside as lies
 use Rattle.nef_conn.proofs.AlongEdge.{Goes_on, along-edge}
 use Rattle.nef_conn.proofs.OverEdge.{over-edge}
@@ -98,9 +75,7 @@ module _ (s : Set) (C : Complex) (S : Shows s C) (h g : Form) (d : Vector) (y z 
 
   comes-to : (k : Corner) → Is_beside k → Chained (FacetLink C) k l
   comes-to k N = ⊎_elim (λ M. rising (d, M, dir-self d T.some) k N)
-      (λ M. let e = vector-same (away d) (opposite d) (omega (arith, ints)) (omega (arith, ints)) (omega (arith, ints)) in
-      let O = subst IsNormal e M in
-      falling (opposite d, O, dir-self (opposite d) (normal-direction (opposite d) O)) k N) (normal-or d T.some)
+      (λ M. falling (opposite d, M, dir-self (opposite d) (normal-direction (opposite d) M)) k N) (normal-either d T.some)
 
   pub strip-names : (on : form_at h y ≡ pos 0) (F : IsFlatIn s h y) → ((r : Place) → IsBetween y r z → FlatDim s r 2) → (k : Corner) → RayNames C h y d k → Chained (FacetLink C) k l
   strip-names on F clear k a = ⊎_elim (λ c. c) (λ r. comes-to k r.0) (from-facet s C S h g d y z T y on start F clear k l a named)

@@ -1,24 +1,5 @@
 -- From a vertex beside which z lies, whose arc goes on along an edge ahead, to the vertex at the edge's other end.
-use Rattle.std.proofs.Common.{◌≡◌, ℕ, pos, neg_ℤ, ◌<ℤ◌, arith, refl, ◌⊎◌, inl, inr, ⊎_elim, [], ◌∷◌, subst}
-use Rattle.std.proofs.lemmas.Int.{ints}
-use Rattle.nef_space.proofs.Ring.{ring, at, neg, ◌⊕◌, ◌⊖◌, ◌⊗◌}
-use Rattle.nef_space.specs.Lists.{Chained}
-use Rattle.nef_space.specs.Local.{FlatDim}
-use Rattle.nef_space.specs.Place.{Place, Form, form_at, normal_of, toward, IsBetween}
-use Rattle.nef_space.specs.Sets.{Set}
-use Rattle.nef_space.specs.Vectors.{Vector, opposite, dot, triple, IsDirection, SameDirection}
-use Rattle.law_near.proofs.Between.{between-turned}
-use Rattle.law_sphere.specs.Maps.{Arc, Item, item_normal, OnItem, Shaped}
-use Rattle.law_sphere.proofs.Around.{triple-turned}
-use Rattle.law_sphere.proofs.Compare.{SameDirection-turned, SameDirection-trans}
-use Rattle.law_complex.specs.Complexes.{Vertex, Complex, Corner, IsCorner}
-use Rattle.law_complex.specs.Shows.{Shows}
-use Rattle.law_complex.proofs.FacetWays.{plane-ahead}
-use Rattle.law_links.specs.Links.{FacetLink}
-use Rattle.law_links.proofs.EdgeEnds.{right-turn}
-use Rattle.law_links.proofs.ItemPoints.{on_item-way}
-use Rattle.law_cyclic.proofs.Directions.{level-of_opposite}
-use Rattle.law_complex.proofs.Ways.{opposite-same}
+use Rattle.nef_conn.proofs.Prelude.{◌≡◌, ℕ, pos, neg_ℤ, ◌<ℤ◌, arith, refl, ◌⊎◌, inl, inr, ⊎_elim, subst, ints, Chained, FlatDim, Place, Form, form_at, normal_of, toward, IsBetween, Set, Vector, opposite, dot, triple, IsDirection, SameDirection, cross, between-turned, Arc, Item, item_normal, OnItem, Shaped, Vertex, Complex, Corner, IsCorner, Shows, plane-ahead, FacetLink, on_item-way, level-of_opposite, triple-turned, SameDirection-turned, SameDirection-trans, opposite-same, direction-opposite, right-turn, opposite-dot}
 use Rattle.nef_conn.proofs.Chain.{chain-here, chain-before}
 use Rattle.nef_conn.proofs.Sector.{Seen, end_of, seen-back, Through, Stops, turned}
 use Rattle.nef_conn.proofs.Leads.{Leads, leads, link-of}
@@ -26,9 +7,7 @@ use Rattle.nef_conn.proofs.FacetStrip.{Strip, m-some, short-of, angle-ahead, tur
 use Rattle.nef_conn.proofs.Beside.{turn-to, near, near-onward, hidden, Beside, off-edges, fan-beside, seen-beside}
 
 pub opposite-normal : (m a b : Vector) → triple (opposite m) a b ≡ neg_ℤ (triple m a b)
-opposite-normal m a b = ring (m.x ∷ m.y ∷ m.z ∷ a.x ∷ a.y ∷ a.z ∷ b.x ∷ b.y ∷ b.z ∷ [])
-    (neg (at 0) ⊗ (at 4 ⊗ at 8 ⊖ at 5 ⊗ at 7) ⊕ neg (at 1) ⊗ (at 5 ⊗ at 6 ⊖ at 3 ⊗ at 8) ⊕ neg (at 2) ⊗ (at 3 ⊗ at 7 ⊖ at 4 ⊗ at 6))
-    (neg (at 0 ⊗ (at 4 ⊗ at 8 ⊖ at 5 ⊗ at 7) ⊕ at 1 ⊗ (at 5 ⊗ at 6 ⊖ at 3 ⊗ at 8) ⊕ at 2 ⊗ (at 3 ⊗ at 7 ⊖ at 4 ⊗ at 6))) tt
+opposite-normal m a b = opposite-dot m (cross a b)
 
 -- both the normal and one of the ways turned
 both-opposite : (m a b : Vector) → triple (opposite m) a (opposite b) ≡ triple m a b
@@ -51,9 +30,6 @@ module _ (s : Set) (C : Complex) (S : Shows s C) (h g : Form) (d : Vector) (y z 
 
   some-m : IsDirection m
   some-m = m-some s C S h g d y z T
-
-  some-opposite : (e : Vector) → IsDirection e → IsDirection (opposite e)
-  some-opposite e i q = i (let a = q.0 in omega (arith, ints), let a = q.1 in omega (arith, ints), let a = q.2 in omega (arith, ints))
 
   level-opposite : dot n (opposite d) ≡ pos 0
   level-opposite = level-of_opposite n d T.level
@@ -126,7 +102,7 @@ module _ (s : Set) (C : Complex) (S : Shows s C) (h g : Form) (d : Vector) (y z 
         goes-on : Goes_on k N
         goes-on =
             let link = ⊎_elim (λ (t : Through v1.map x n (opposite m) (toward v1.point z) (opposite d)). absurd (V.no_svertex_on_item L.there_end l.item L.end x L.is_end K.item (on_item-way v1.map x (opposite d) L.end.dir back-way t.on))) linked
-            (turned n (opposite m) Back (some-opposite m some-m) v1.map V (toward v1.point z) (opposite d) (some-opposite d T.some) level-opposite turn-right l.item x K.item same on) in (
+            (turned n (opposite m) Back (direction-opposite m some-m) v1.map V (toward v1.point z) (opposite d) (direction-opposite d T.some) level-opposite turn-right l.item x K.item same on) in (
               l,
               record { vertex = v1; item = x; corner = K; same = same; on_plane = on1; on_line = near1; on = on; all = λ r b. reach r (between-turned v1.point z r b) },
               chain-before (FacetLink C) k l l link (chain-here (FacetLink C) l),

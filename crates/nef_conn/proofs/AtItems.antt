@@ -1,22 +1,5 @@
 -- A facet point is a point at its item: all points between it and the vertex that it sees are facet points of the item too.
-use Rattle.std.proofs.Common.{inl, inr}
-use Rattle.nef_space.specs.Place.{Place, toward, IsBetween}
-use Rattle.nef_space.specs.Sets.{Set}
-use Rattle.law_near.proofs.Between.{between-inner}
-use Rattle.law_near.proofs.Even.{joined-itself}
-use Rattle.law_near.proofs.Rays.{same-place_sym}
-use Rattle.law_sphere.specs.Maps.{Item}
-use Rattle.law_sphere.proofs.Compare.{SameDirection-turned}
-use Rattle.law_complex.specs.Complexes.{Vertex, Complex, Corner, IsCorner}
-use Rattle.law_complex.specs.Shows.{Shows}
-use Rattle.law_complex.specs.Skeleton.{IsFacetPoint}
-use Rattle.law_complex.proofs.Ways.{between-way}
-use Rattle.law_complex.proofs.FacetWays.{dim-same}
-use Rattle.law_complex.proofs.FacetPoints.{facet-point}
-use Rattle.law_complex.proofs.FacetNames.{facet-of}
-use Rattle.law_links.specs.Components.{IsEvenAfter}
-use Rattle.law_links.proofs.ItemPoints.{on_item-way}
-use Rattle.nef_conn.specs.Reach.{PointsReachItems}
+use Rattle.nef_conn.proofs.Prelude.{inl, inr, Place, toward, IsBetween, Set, between-inner, joined-itself, same-place_sym, Item, Vertex, Complex, Corner, IsCorner, Shows, IsFacetPoint, between-way, dim-same, facet-point, facet-of, IsEvenAfter, on_item-way, PointsReachItems, SameDirection-turned}
 
 -- a point between the vertex and a facet point is a facet point
 facet-before : (C : Complex) (v : Vertex) (x : Item) (y r : Place) → IsFacetPoint C v x y → IsBetween v.point r y → IsFacetPoint C v x r

@@ -1,40 +1,6 @@
 -- A point with three flat directions is joined to a point close to a vertex: beside the first vertex, edge point or facet point that some way from it meets.
 -- Off the vertex all germs are one, so toward it the map has no svertex and no item, and a side sees it.
-use Rattle.std.proofs.Common.{◌≡◌, ℕ, zero, suc, ◌*◌, ℤ, pos, ◌+ℤ◌, ◌*ℤ◌, arith, refl, sym, inl, [], ◌∷◌, subst}
-use Rattle.nef_space.proofs.Ring.{ring, at, num, ◌⊕◌, ◌⊗◌}
-use Rattle.nef_space.specs.Local.{Germ, FlatDim, Joined}
-use Rattle.nef_space.specs.Place.{Place, SamePlace, toward}
-use Rattle.nef_space.specs.Sets.{Set}
-use Rattle.nef_space.specs.Vectors.{Vector, zero_vector, blend, IsZero, IsDirection}
-use Rattle.nef_space.specs.declared.label.Label.{Label}
-use Rattle.law_near.specs.Cells.{carriers}
-use Rattle.law_near.proofs.Alike.{flat-germ, FlatDim-by_germs, FlatDim-one}
-use Rattle.law_near.proofs.Decided.{label_of}
-use Rattle.law_near.proofs.Decisions.{ahead, near-ahead}
-use Rattle.law_near.proofs.Even.{joined-germs}
-use Rattle.law_near.proofs.FlatDecided.{flat_dim-of}
-use Rattle.law_near.proofs.Germs.{sample}
-use Rattle.law_near.proofs.NearGerms.{steep}
-use Rattle.law_near.proofs.Rays.{signs-same, same-place_sym}
-use Rattle.law_near.proofs.Topology.{near-germ_zero}
-use Rattle.law_sphere.specs.Least.{NearPlain}
-use Rattle.law_sphere.specs.Maps.{At, MapLabel, at_svertex, on_item, seen, SeenAs}
-use Rattle.law_sphere.proofs.Compare.{dir-self}
-use Rattle.law_sphere.proofs.Forms.{on-direction}
-use Rattle.law_sphere.proofs.Unique.{svertex-neither}
-use Rattle.law_complex.specs.Complexes.{Vertex, Complex}
-use Rattle.law_complex.specs.Shows.{Shows}
-use Rattle.law_complex.specs.Rays.{VertexSide}
-use Rattle.law_complex.proofs.Cones.{germ-label, near-label}
-use Rattle.law_complex.proofs.Joining.{edges-complete}
-use Rattle.law_complex.proofs.FacetWays.{dim-same}
-use Rattle.law_complex.proofs.FacetNames.{facet-of}
-use Rattle.law_links.specs.Components.{IsAtSide}
-use Rattle.law_links.proofs.Ties.{ahead-cells, IsTied, tied-cell, tied-both, tied-ahead, tied-ray}
-use Rattle.law_links.proofs.NearVertex.{facet-near}
-use Rattle.law_links.proofs.EdgeEnds.{corner_of, edge-ways, tied-low, tied-turn}
-use Rattle.law_links.proofs.SidePoints.{at-side}
-use Rattle.nef_conn.specs.Reach.{PointsReachSides}
+use Rattle.nef_conn.proofs.Prelude.{◌≡◌, ℕ, zero, suc, ◌*◌, ℤ, pos, ◌+ℤ◌, ◌*ℤ◌, arith, refl, sym, inl, ◌∷◌, subst, [], ring, at, num, ◌⊕◌, ◌⊗◌, Germ, FlatDim, Joined, Place, SamePlace, toward, Set, Vector, zero_vector, blend, IsZero, IsDirection, Label, carriers, flat-germ, FlatDim-by_germs, FlatDim-one, label_of, ahead, near-ahead, joined-germs, flat_dim-of, sample, steep, signs-same, same-place_sym, near-germ_zero, NearPlain, At, MapLabel, at_svertex, on_item, seen, SeenAs, on-direction, svertex-neither, Vertex, Complex, Shows, VertexSide, germ-label, near-label, edges-complete, dim-same, facet-of, IsAtSide, ahead-cells, IsTied, tied-cell, tied-both, tied-ahead, tied-ray, facet-near, corner_of, edge-ways, tied-low, tied-turn, at-side, PointsReachSides, dir-self}
 use Rattle.nef_conn.proofs.AtItems.{facet-even}
 use Rattle.nef_conn.proofs.FirstMet.{all-flat, first-met}
 

@@ -1,39 +1,10 @@
 -- Vertices of y's line beside which z lies, on an item of the plane; and how one comes from one of them to the next.
-use Rattle.std.proofs.Common.{◌≡◌, ℕ, ℤ, pos, ◌<ℤ◌, ◌≤ℤ◌, arith, refl, sym, ◌∙◌, ◌⊎◌, inl, inr, ⊎_elim, subst}
-use Rattle.std.proofs.lemmas.Int.{ints}
-use Rattle.nef_space.specs.Local.{FlatDim}
-use Rattle.nef_space.specs.Place.{Place, Form, form_at, normal_of, slope, SamePlace, toward, IsBetween}
-use Rattle.nef_space.specs.Sets.{Set}
-use Rattle.nef_space.specs.Vectors.{Vector, opposite, dot, cross, triple, IsZero, IsDirection, SameDirection}
-use Rattle.law_near.proofs.Alike.{FlatDim-one}
-use Rattle.law_near.proofs.Between.{between-turned, between-inner}
-use Rattle.law_near.proofs.Rays.{same-place_sym}
-use Rattle.law_near.proofs.Mixed.{between-same, toward-place, place-toward}
-use Rattle.law_near.proofs.FlatDecided.{triple-dot}
-use Rattle.law_near.proofs.Directions.{dot-zero}
-use Rattle.law_sphere.specs.Maps.{At, MapVertex, Item, item_normal, OnItem}
-use Rattle.law_sphere.proofs.Vectors.{same-plus}
-use Rattle.law_sphere.proofs.Around.{triple-turned}
-use Rattle.law_sphere.proofs.Compare.{SameDirection-turned, SameDirection-trans, dir-self}
-use Rattle.law_sphere.proofs.Turn.{turn-last, turn-same}
-use Rattle.law_complex.specs.Complexes.{Vertex, Complex, Corner, IsCorner}
-use Rattle.law_complex.specs.Shows.{Shows}
-use Rattle.law_complex.proofs.Planes.{plane-way}
-use Rattle.law_complex.proofs.Ways.{between-way, same-itself}
-use Rattle.law_complex.proofs.Edges.{near_point, near-between}
-use Rattle.law_complex.proofs.FacetWays.{dim-same, plane-ahead}
-use Rattle.law_complex.proofs.FacetPoints.{beside-vertex}
-use Rattle.law_complex.proofs.FacetEnds.{item-seen}
-use Rattle.law_complex.proofs.FacetEdges.{ahead-same}
-use Rattle.law_complex.proofs.FacetNames.{through-level}
-use Rattle.law_complex.proofs.FacetAngles.{angle, turn_form, turn-at, angle-turned, angle-self, between-plus, Cut}
-use Rattle.law_complex.proofs.FacetTriangle.{HalfEdge, plane-between}
-use Rattle.nef_conn.proofs.Onward.{back-triple}
+use Rattle.nef_conn.proofs.Prelude.{◌≡◌, ℕ, ℤ, pos, ◌<ℤ◌, ◌≤ℤ◌, arith, refl, sym, ◌∙◌, ◌⊎◌, inl, inr, ⊎_elim, subst, ints, FlatDim, Place, Form, form_at, normal_of, slope, SamePlace, toward, IsBetween, Set, Vector, opposite, dot, cross, triple, IsZero, IsDirection, SameDirection, FlatDim-one, between-turned, between-inner, same-place_sym, between-same, toward-place, place-toward, At, MapVertex, Item, item_normal, OnItem, same-plus, turn-last, turn-same, Vertex, Complex, Corner, IsCorner, Shows, plane-way, between-way, same-itself, near_point, near-between, dim-same, plane-ahead, beside-vertex, item-seen, ahead-same, through-level, toward-turned, angle, turn_form, turn-at, angle-turned, angle-self, between-plus, Cut, HalfEdge, plane-between, dot-zero, triple-dot, triple-turned, SameDirection-turned, SameDirection-trans, dir-self, back-triple}
 use Rattle.nef_conn.proofs.Sweep.{minus-any, cut-of}
 use Rattle.nef_conn.proofs.FacetStrip.{SideWithin}
 use Rattle.nef_conn.proofs.Sector.{end_of, Through, Stops, turned}
 use Rattle.nef_conn.proofs.Leads.{Leads, leads}
-use Rattle.nef_conn.proofs.FacetStrip.{Strip, Near_line, Far_line, m-some, turn-k, strip, near-turn, short-of, turn-z, angle-ahead, angle-over, angle-under, On_far_line, at_start, ahead_of, behind_of, on-far_line, fan, not-at, not-behind, toward-turned}
+use Rattle.nef_conn.proofs.FacetStrip.{Strip, Near_line, Far_line, m-some, turn-k, strip, near-turn, short-of, turn-z, angle-ahead, angle-over, angle-under, On_far_line, at_start, ahead_of, behind_of, on-far_line, fan, not-at, not-behind}
 
 -- the same turns by the same ways
 turn-from : (m a b f : Vector) → IsDirection m → IsDirection f → SameDirection a b → pos 0 <ℤ triple m a f → pos 0 <ℤ triple m b f

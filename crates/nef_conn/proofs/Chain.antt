@@ -1,6 +1,5 @@
 -- Chains of links, whatever is linked: they are joined end to end, and led back.
-use Rattle.std.proofs.Common.{refl, sym, ◌⊎◌, inl, inr, ⊎_elim, List, [], ◌∷◌, subst}
-use Rattle.nef_space.specs.Lists.{IsChain, Chained}
+use Rattle.nef_conn.proofs.Prelude.{refl, sym, ◌⊎◌, inl, inr, ⊎_elim, List, ◌∷◌, subst, [], IsChain, Chained}
 
 module _ {X : Type 0} (Link : X → X → Type 0) where
   after : (x y z : X) (ys : List X) → IsChain Link x ys y → Chained Link y z → Chained Link x z

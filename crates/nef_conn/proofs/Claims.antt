@@ -1,53 +1,5 @@
 -- Where the fall from y ends at y', what falls from b beside it names a side of the class of what lies above y', if that is known for y' where it is a vertex of the plane; and so what falls from b beside a vertex of the plane names a side of the class of what touches it, if that is known of what lies below it, and of what touches it downward and what the ray down from it names.
-use Rattle.std.proofs.Common.{◌≡◌, ℕ, zero, suc, ◌<◌, ℤ, pos, ◌-ℤ◌, ◌*ℤ◌, ◌<ℤ◌, neg_ℤ, arith, ap, sym, ◌∙◌, ◌⊎◌, inl, inr, ⊎_elim, [], ◌∷◌, subst}
-use Rattle.std.proofs.lemmas.Int.{ints}
-use Rattle.nef_space.specs.Signs.{sign}
-use Rattle.nef_space.proofs.Order.{by_order, sign-plus, sign-minus, sign-scaled}
-use Rattle.nef_space.proofs.Ring.{ring, at, num, neg, ◌⊕◌, ◌⊖◌, ◌⊗◌}
-use Rattle.law_near.proofs.Far.{same-nought}
-use Rattle.law_sphere.proofs.Vectors.{same-plus, same-minus}
-use Rattle.law_sphere.proofs.KindFlats.{in-span}
-use Rattle.law_sphere.proofs.StepOff.{blend-turned}
-use Rattle.law_sphere.proofs.Around.{triple-turned}
-use Rattle.nef_space.specs.Lists.{Chained}
-use Rattle.nef_space.specs.Local.{Flat, FlatDim}
-use Rattle.nef_space.specs.Place.{Place, Form, form_at, normal_of, slope, plane_through, SamePlace, InFrame, toward, IsBetween}
-use Rattle.nef_space.specs.Sets.{Set}
-use Rattle.nef_space.specs.Vectors.{Vector, blend, opposite, dot, cross, IsZero, IsDirection, SameDirection, up}
-use Rattle.law_near.specs.Cells.{carriers}
-use Rattle.law_near.specs.Laws.{SameGerms}
-use Rattle.law_near.proofs.Alike.{FlatDim-one, FlatDim-by_germs, germs-by_cell}
-use Rattle.law_near.proofs.Between.{between-turned, between-inner, ray-cell}
-use Rattle.law_near.proofs.Decisions.{ahead, near-ahead}
-use Rattle.law_near.proofs.Edges.{start-close, start-toward}
-use Rattle.law_near.proofs.Even.{even-germs}
-use Rattle.law_near.proofs.FlatDecided.{flat_dim-of, near-of_flat, triple-dot}
-use Rattle.law_near.proofs.Flats.{FlatCone-from_flat}
-use Rattle.law_near.proofs.Rays.{same-place_sym}
-use Rattle.law_near.proofs.Skeleton.{flat_dim-nearby}
-use Rattle.law_near.proofs.Supports.{flat-plane}
-use Rattle.law_near.proofs.Near.{reach_all, slope-toward}
-use Rattle.law_near.proofs.Directions.{zero-decided, dot-comm, direction-left}
-use Rattle.law_sphere.proofs.Compare.{SameDirection-turned, SameDirection-trans, dir-self}
-use Rattle.law_sphere.proofs.Labels.{dir-signs}
-use Rattle.law_complex.specs.Complexes.{Complex}
-use Rattle.law_complex.specs.Shows.{Shows}
-use Rattle.law_complex.specs.Rays.{VertexSide, RayDown}
-use Rattle.law_complex.specs.Laws.{IsFlatIn}
-use Rattle.law_complex.proofs.Edges.{near_point, near-between}
-use Rattle.law_complex.proofs.FacetAngles.{through-at, through-slope}
-use Rattle.law_complex.proofs.FacetEdges.{ahead-back}
-use Rattle.law_complex.proofs.FacetSides.{level-way}
-use Rattle.law_complex.proofs.FacetTriangle.{plane-between}
-use Rattle.law_complex.proofs.FacetWays.{dim-same, plane-ahead, even-by}
-use Rattle.law_complex.proofs.Ways.{between-way, between-outer, same-itself}
-use Rattle.law_links.specs.Links.{VolumeLink}
-use Rattle.law_links.specs.Components.{IsUpright, IsEvenAfter}
-use Rattle.law_links.proofs.EdgeEnds.{dot-opposite}
-use Rattle.law_links.proofs.Ties.{ahead-close, ahead-toward, tied-ray}
-use Rattle.nef_conn.specs.Items.{AreLinkedWhereJoined}
-use Rattle.nef_conn.proofs.Named.{twice}
-use Rattle.nef_conn.specs.Slices.{sliced}
+use Rattle.nef_conn.proofs.Prelude.{◌≡◌, ℕ, zero, suc, ◌<◌, ℤ, pos, ◌-ℤ◌, ◌*ℤ◌, ◌<ℤ◌, neg_ℤ, arith, ap, sym, ◌∙◌, ◌⊎◌, inl, inr, ⊎_elim, ◌∷◌, subst, [], ints, sign, by_order, sign-plus, sign-minus, sign-scaled, ring, at, num, neg, ◌⊕◌, ◌⊖◌, ◌⊗◌, same-nought, same-plus, same-minus, Chained, Flat, FlatDim, Place, Form, form_at, normal_of, slope, plane_through, SamePlace, InFrame, toward, IsBetween, Set, Vector, blend, opposite, dot, cross, IsZero, IsDirection, SameDirection, up, carriers, SameGerms, FlatDim-one, FlatDim-by_germs, germs-by_cell, between-turned, between-inner, ray-cell, ahead, near-ahead, start-close, start-toward, even-germs, flat_dim-of, near-of_flat, FlatCone-from_flat, same-place_sym, flat_dim-nearby, flat-plane, reach_all, slope-toward, Complex, Shows, VertexSide, RayDown, IsFlatIn, near_point, near-between, through-at, through-slope, ahead-back, plane-between, dim-same, plane-ahead, even-by, between-way, between-outer, same-itself, VolumeLink, IsUpright, IsEvenAfter, ahead-close, ahead-toward, tied-ray, AreLinkedWhereJoined, sliced, dot-comm, zero-decided, triple-dot, triple-turned, SameDirection-turned, SameDirection-trans, dir-self, dir-signs, in-span, dot-opposite, level-way, opposite-twice, direction-left, blend-turned}
 use Rattle.nef_conn.proofs.Chain.{chain-both}
 use Rattle.nef_conn.proofs.Fall.{corner-two, corner-wedge, lam-down, lam-zero}
 use Rattle.nef_conn.proofs.Fans.{off-close}
@@ -212,7 +164,7 @@ module _ (s : Set) (C : Complex) (S : Shows s C) (upright : IsUpright C) (linked
         (even-fan (sliced s h) h hn level y y' b on-y on-y' on-b down side clear first-two second-two F corner u (between-turned r q u m))) three-q
 
     back : SameDirection (toward y' y) up
-    back = subst (λ (v : Vector). SameDirection (toward y' y) v) (twice up) (ahead-back y y' (opposite up) down)
+    back = subst (λ (v : Vector). SameDirection (toward y' y) v) (opposite-twice up) (ahead-back y y' (opposite up) down)
 
     up-wedge : Wedge s 3 y' up (toward y' b)
     up-wedge = wedge-way s 3 y' (toward y' y) up (toward y' b) (toward y' b) back (dir-self (toward y' b) some-y')

@@ -1,17 +1,5 @@
 -- Components are counted by a point of each class.
-use Rattle.std.proofs.Common.{◌≡◌, ℕ, zero, suc, ◌<◌, arith, refl, ap, List, [], ◌∷◌, length, subst}
-use Rattle.nef_space.specs.Local.{FlatDim, Joined}
-use Rattle.nef_space.specs.Place.{Place, toward}
-use Rattle.nef_space.specs.Sets.{Set}
-use Rattle.law_near.proofs.Even.{joined-itself, joined-both}
-use Rattle.law_near.proofs.Directions.{direction-left}
-use Rattle.law_sphere.specs.Maps.{At}
-use Rattle.law_complex.specs.Skeleton.{IsVertexPoint, IsEdgePoint}
-use Rattle.law_complex.proofs.Edges.{near_point, near-between, edge-points}
-use Rattle.law_complex.proofs.FacetWays.{dim-same}
-use Rattle.law_complex.proofs.Joining.{edges-complete}
-use Rattle.law_complex.proofs.Ways.{same-itself}
-use Rattle.nef_conn.specs.Components.{HasComponents, VerticesCounted, EdgesCounted}
+use Rattle.nef_conn.proofs.Prelude.{◌≡◌, ℕ, zero, suc, ◌<◌, arith, refl, ap, List, ◌∷◌, length, subst, [], FlatDim, Joined, Place, toward, Set, joined-itself, joined-both, At, IsVertexPoint, IsEdgePoint, near_point, near-between, edge-points, dim-same, edges-complete, same-itself, HasComponents, VerticesCounted, EdgesCounted, direction-left, apart}
 use Rattle.nef_conn.proofs.OnEdges.{joined-vertices, joined-edges}
 use Rattle.nef_conn.proofs.Reached.{within}
 

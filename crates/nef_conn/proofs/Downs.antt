@@ -1,35 +1,5 @@
 -- Where no edge runs along up, the direction down is free at each vertex and edge; and a side that sees down from a vertex is linked with what the ray down names.
-use Rattle.std.proofs.Common.{◌≡◌, ℕ, ◌≤◌, ℤ, pos, ◌+ℤ◌, ◌-ℤ◌, ◌*ℤ◌, ◌<ℤ◌, neg_ℤ, arith, sym, ◌∙◌, ◌⊎◌, inl, inr, ⊎_elim, [], ◌∷◌, subst}
-use Rattle.std.proofs.lemmas.Int.{ints}
-use Rattle.nef_space.proofs.Ring.{ring, at, num, neg, ◌⊕◌, ◌⊖◌, ◌⊗◌}
-use Rattle.nef_space.specs.Lists.{Chained}
-use Rattle.nef_space.specs.Local.{FlatDim}
-use Rattle.nef_space.specs.Place.{Place, InFrame, toward, IsBetween}
-use Rattle.nef_space.specs.Sets.{Set}
-use Rattle.nef_space.specs.Vectors.{Vector, blend, dot, cross, opposite, IsZero, IsDirection, SameDirection, up}
-use Rattle.nef_space.specs.declared.label.Label.TheVariants.{Out}
-use Rattle.law_near.proofs.Rays.{same-place_sym}
-use Rattle.law_near.proofs.Mixed.{between-same}
-use Rattle.law_near.proofs.Directions.{direction-left}
-use Rattle.law_near.proofs.Far.{nought-or, same-nought}
-use Rattle.law_sphere.specs.Forms.{forms, Keeps}
-use Rattle.law_near.proofs.Between.{between-inner}
-use Rattle.law_sphere.specs.Maps.{At, MapVertex, Map, Item, items, item_normal, IsFree, Sees, Shaped}
-use Rattle.law_sphere.proofs.Around.{direction-around, svertex-around}
-use Rattle.law_sphere.proofs.Compare.{SameDirection-turned, SameDirection-trans}
-use Rattle.law_sphere.proofs.Forms.{PlaceOf, svertex_place, item_place, free_place, place_of, item-forms, normal-form, on-level}
-use Rattle.law_sphere.proofs.Generic.{amount, far-keeps, far-level}
-use Rattle.law_complex.specs.Complexes.{Vertex, Complex}
-use Rattle.law_complex.specs.Shows.{Shows}
-use Rattle.law_complex.specs.Rays.{VertexSide, RayDown}
-use Rattle.law_complex.proofs.Edges.{near_point, near-between}
-use Rattle.law_complex.proofs.FacetWays.{dim-same}
-use Rattle.law_complex.proofs.Ways.{between-way, same-itself}
-use Rattle.law_links.specs.Links.{VolumeLink}
-use Rattle.law_links.specs.Components.{IsUpright, IsEvenAfter, IsAtSide}
-use Rattle.law_links.proofs.SideSight.{sees-way}
-use Rattle.law_links.proofs.EdgeEnds.{dot-opposite}
-use Rattle.nef_conn.specs.Items.{AreLinkedWhereJoined}
+use Rattle.nef_conn.proofs.Prelude.{◌≡◌, ℕ, ◌≤◌, ℤ, pos, ◌+ℤ◌, ◌-ℤ◌, ◌*ℤ◌, ◌<ℤ◌, neg_ℤ, arith, sym, ◌∙◌, ◌⊎◌, inl, inr, ⊎_elim, ◌∷◌, subst, [], ints, ring, at, num, neg, ◌⊕◌, ◌⊖◌, ◌⊗◌, Chained, FlatDim, Place, InFrame, toward, IsBetween, Set, Vector, blend, dot, cross, opposite, IsZero, IsDirection, SameDirection, up, Out, same-place_sym, between-same, same-nought, forms, Keeps, between-inner, At, MapVertex, Map, Item, items, item_normal, IsFree, Sees, Shaped, direction-around, svertex-around, PlaceOf, svertex_place, item_place, free_place, place_of, item-forms, normal-form, on-level, amount, far-keeps, far-level, Vertex, Complex, Shows, VertexSide, RayDown, near_point, near-between, dim-same, between-way, same-itself, VolumeLink, IsUpright, IsEvenAfter, IsAtSide, sees-way, AreLinkedWhereJoined, nought-or, SameDirection-turned, SameDirection-trans, dot-opposite, direction-left}
 use Rattle.nef_conn.proofs.Chain.{chain-one}
 use Rattle.nef_conn.proofs.SidePaths.{side-label, inside-label}
 use Rattle.nef_conn.proofs.Leaves.{BesideVertex, toward-same}

@@ -1,61 +1,5 @@
 -- What touches an edge downward is linked with what the ray down from a point of the edge names: the points just below the edge lead to its lower end, and what falls from them is known, as are the claims at the lower end.
-use Rattle.std.proofs.Common.{◌≡◌, ℕ, ◌+◌, ◌<◌, ◌≤◌, ℤ, pos, ◌-ℤ◌, ◌*ℤ◌, ◌<ℤ◌, ◌≤ℤ◌, neg_ℤ, arith, refl, ap, sym, ◌∙◌, ◌⊎◌, inl, inr, ⊎_elim, List, [], ◌∷◌, subst}
-use Rattle.std.proofs.lemmas.Int.{ints}
-use Rattle.nef_space.specs.Signs.{nought, sign, Lies}
-use Rattle.nef_space.proofs.Lists.{each, lies-each}
-use Rattle.nef_space.proofs.Ring.{ring, at, num, ◌⊕◌, ◌⊖◌, ◌⊗◌}
-use Rattle.nef_space.proofs.Combination.{given, none as no-more, follows_times}
-use Rattle.nef_space.proofs.Order.{by_order, nought-is, sign-plus, sign-minus, sign-scaled, plus-is, minus-is}
-use Rattle.nef_space.specs.Lists.{Chained}
-use Rattle.nef_space.specs.Local.{Flat, FlatDim, IsVertex, IsEven}
-use Rattle.nef_space.specs.Place.{Place, Form, form_at, normal_of, slope, plane_through, SamePlace, InFrame, Within, toward, IsBetween}
-use Rattle.nef_space.specs.Sets.{Set}
-use Rattle.nef_space.specs.Vectors.{Vector, blend, dot, cross, triple, opposite, IsDirection, SameDirection, up}
-use Rattle.law_near.specs.Cells.{sign_at, carriers}
-use Rattle.law_near.specs.Laws.{SameGerms}
-use Rattle.law_near.proofs.Alike.{FlatDim-one, FlatDim-by_germs, germs-by_cell}
-use Rattle.law_near.proofs.Between.{between-turned, between-inner, ray-cell}
-use Rattle.law_near.proofs.Cells.{keeps-all, is_nought}
-use Rattle.law_near.proofs.Decisions.{ahead, near-ahead}
-use Rattle.law_near.proofs.Edges.{start, start-close, start-between, start-toward}
-use Rattle.law_near.proofs.Even.{even-germs, flat-nearby, flat-way, joined-germs, joined-turned, span-2}
-use Rattle.law_near.proofs.FlatDecided.{flat_dim-of, near-of_flat, cross-turned}
-use Rattle.law_near.proofs.Flats.{Flat-from_cone, FlatCone-from_flat}
-use Rattle.law_near.proofs.NearGerms.{steep}
-use Rattle.law_near.proofs.Rays.{signs-same, same-place_sym}
-use Rattle.law_near.proofs.Vertices.{all-vertices}
-use Rattle.law_near.proofs.Near.{reach_all, slope-toward}
-use Rattle.law_near.proofs.Mixed.{place-toward, between-same}
-use Rattle.law_near.proofs.Directions.{dot-zero, self-pos, direction-left, direction-right}
-use Rattle.law_near.proofs.Far.{nought-or, same-nought}
-use Rattle.law_sphere.specs.Forms.{forms, SameSigns}
-use Rattle.law_sphere.specs.Maps.{At}
-use Rattle.law_sphere.proofs.Around.{triple-turned}
-use Rattle.law_sphere.proofs.Compare.{SameDirection-turned, SameDirection-trans, dir-self}
-use Rattle.law_sphere.proofs.Direct.{cross-self}
-use Rattle.law_sphere.proofs.Generic.{amount, far-keeps, far-level}
-use Rattle.law_sphere.proofs.Labels.{dir-signs}
-use Rattle.law_sphere.proofs.Parallel.{parallel-trans}
-use Rattle.law_sphere.proofs.Turn.{turn-last, turn-same}
-use Rattle.law_sphere.proofs.Vectors.{same-plus, same-minus}
-use Rattle.law_complex.specs.Complexes.{Vertex, Edge, Complex, HasEnds}
-use Rattle.law_complex.specs.Shows.{Shows}
-use Rattle.law_complex.specs.Rays.{VertexSide, RayDown}
-use Rattle.law_complex.specs.Laws.{IsFlatIn}
-use Rattle.law_complex.proofs.Edges.{near_point, near-between, edge-points}
-use Rattle.law_complex.proofs.FacetAngles.{through-at, through-slope, angle, turn_form, turn-at, angle-turned, angle-self, between-minus}
-use Rattle.law_complex.proofs.FacetNames.{through-level}
-use Rattle.law_complex.proofs.FacetTriangle.{plane-between}
-use Rattle.law_complex.proofs.FacetWays.{dim-same, plane-ahead, even-by}
-use Rattle.law_complex.proofs.Ways.{between-way, between-outer, between-start, same-itself}
-use Rattle.law_links.specs.Links.{VolumeLink}
-use Rattle.law_links.specs.Components.{IsUpright, IsEvenAfter}
-use Rattle.law_links.proofs.Across.{through-same}
-use Rattle.law_links.proofs.EdgeEnds.{EdgeWays, edge-ways, dot-opposite}
-use Rattle.law_links.proofs.NearVertex.{free-dim}
-use Rattle.law_links.proofs.Ties.{ahead-close, ahead-toward, dim-cell, tied-ray, tied-turned}
-use Rattle.nef_conn.specs.Items.{AreLinkedWhereJoined, IsInTriangle}
-use Rattle.nef_conn.specs.Slices.{sliced}
+use Rattle.nef_conn.proofs.Prelude.{◌≡◌, ℕ, ◌+◌, ◌<◌, ◌≤◌, ℤ, pos, ◌-ℤ◌, ◌*ℤ◌, ◌<ℤ◌, ◌≤ℤ◌, neg_ℤ, arith, refl, ap, sym, ◌∙◌, ◌⊎◌, inl, inr, ⊎_elim, List, ◌∷◌, subst, [], ints, nought, sign, Lies, each, lies-each, ring, at, num, ◌⊕◌, ◌⊖◌, ◌⊗◌, by_order, nought-is, sign-scaled, nought-or, Chained, Flat, FlatDim, IsVertex, IsEven, Place, Form, form_at, normal_of, slope, plane_through, SamePlace, InFrame, Within, toward, IsBetween, Set, Vector, blend, dot, cross, triple, opposite, IsDirection, SameDirection, up, sign_at, carriers, SameGerms, FlatDim-one, FlatDim-by_germs, germs-by_cell, between-turned, between-inner, ray-cell, keeps-all, is_nought, ahead, near-ahead, start, start-close, start-between, start-toward, even-germs, flat-nearby, flat-way, joined-germs, joined-turned, span-2, flat_dim-of, near-of_flat, Flat-from_cone, FlatCone-from_flat, steep, signs-same, same-place_sym, all-vertices, reach_all, slope-toward, place-toward, between-same, same-nought, forms, SameSigns, At, cross-self, amount, far-keeps, far-level, turn-last, turn-same, same-plus, same-minus, Vertex, Edge, Complex, HasEnds, Shows, VertexSide, RayDown, IsFlatIn, near_point, near-between, edge-points, through-at, through-slope, angle, turn_form, turn-at, angle-turned, angle-self, between-minus, through-level, plane-between, dim-same, plane-ahead, even-by, between-way, between-outer, between-start, same-itself, VolumeLink, IsUpright, IsEvenAfter, through-same, EdgeWays, edge-ways, free-dim, ahead-close, ahead-toward, dim-cell, tied-ray, tied-turned, AreLinkedWhereJoined, IsInTriangle, sliced, dot-zero, self-pos, cross-turned, triple-turned, SameDirection-turned, SameDirection-trans, dir-self, dir-signs, parallel-trans, dot-opposite, triple-in_plane, direction-left, direction-right, apart}
 use Rattle.nef_conn.proofs.Chain.{chain-both}
 use Rattle.nef_conn.proofs.Claims.{Claim}
 use Rattle.nef_conn.proofs.Downs.{svertex-down}
@@ -68,7 +12,7 @@ use Rattle.nef_conn.proofs.Triangles.{on-second, at-corner, never-passes, third-
 use Rattle.nef_conn.proofs.RaysEnd.{ray-down, tied-dim}
 use Rattle.nef_conn.proofs.Silhouettes.{germs-inside, resliced, sliced-ahead, two-of, three-of, no-vertices}
 use Rattle.nef_conn.proofs.Slice.{unsliced}
-use Rattle.nef_conn.proofs.SliceStrip.{lam, up_line, lam-at, lam-turned, down-turn, slope-to, inside-level, Clear}
+use Rattle.nef_conn.proofs.SliceStrip.{lam, up_line, lam-at, lam-turned, down-turn, slope-to, inside-level, Clear, clear-close}
 use Rattle.nef_conn.proofs.Touch.{Seer, bound, Frame, Touch, edge-frame, vertex-frame, same-seers, touched, no-way}
 
 -- the plane along up through two points
@@ -77,17 +21,6 @@ plane_of p q = plane_through (cross up (toward p q)) p
 
 down-some : IsDirection (opposite up)
 down-some z = let e = z.2 in omega (arith, ints)
-
--- three directions of one plane are dependent
-dependent : (n d e c : Vector) → IsDirection n → dot n d ≡ pos 0 → dot n e ≡ pos 0 → dot n c ≡ pos 0 → triple d e c ≡ pos 0
-dependent n d e c i x y z =
-    let dx = at 3 in let dy = at 4 in let dz = at 5 in let ex = at 6 in let ey = at 7 in let ez = at 8 in let cx = at 9 in let cy = at 10 in let cz = at 11 in
-    let nx = at 0 in let ny = at 1 in let nz = at 2 in let o = num (pos 0) in
-    follows_times (n.x ∷ n.y ∷ n.z ∷ d.x ∷ d.y ∷ d.z ∷ e.x ∷ e.y ∷ e.z ∷ c.x ∷ c.y ∷ c.z ∷ []) (nx ⊗ nx ⊕ ny ⊗ ny ⊕ nz ⊗ nz)
-    (dx ⊗ (ey ⊗ cz ⊖ ez ⊗ cy) ⊕ dy ⊗ (ez ⊗ cx ⊖ ex ⊗ cz) ⊕ dz ⊗ (ex ⊗ cy ⊖ ey ⊗ cx)) o
-    (given (nx ⊗ (ey ⊗ cz ⊖ ez ⊗ cy) ⊕ ny ⊗ (ez ⊗ cx ⊖ ex ⊗ cz) ⊕ nz ⊗ (ex ⊗ cy ⊖ ey ⊗ cx)) (nx ⊗ dx ⊕ ny ⊗ dy ⊕ nz ⊗ dz) o x
-    (given (nx ⊗ (cy ⊗ dz ⊖ cz ⊗ dy) ⊕ ny ⊗ (cz ⊗ dx ⊖ cx ⊗ dz) ⊕ nz ⊗ (cx ⊗ dy ⊖ cy ⊗ dx)) (nx ⊗ ex ⊕ ny ⊗ ey ⊕ nz ⊗ ez) o y
-    (given (nx ⊗ (dy ⊗ ez ⊖ dz ⊗ ey) ⊕ ny ⊗ (dz ⊗ ex ⊖ dx ⊗ ez) ⊕ nz ⊗ (dx ⊗ ey ⊖ dy ⊗ ex)) (nx ⊗ cx ⊕ ny ⊗ cy ⊕ nz ⊗ cz) o z no-more))) (self-pos n i) tt
 
 -- ---- how flat a slice is at a point beside which it has just the plane's directions
 module _ (s : Set) (h : Form) (hn : IsDirection (normal_of h)) (level : slope h up ≡ pos 0) where
@@ -154,7 +87,7 @@ module _ (s : Set) (h : Form) (hn : IsDirection (normal_of h)) (level : slope h 
       two d e c x' y' =
           let x = in-plane r (ahead (sliced s h) r f) (ahead-close (sliced s h) r f) F d x' in
           let y = in-plane r (ahead (sliced s h) r f) (ahead-close (sliced s h) r f) F e y' in
-          let k = span-2 (sliced s h) r d e f c x' y' (dependent (normal_of h) d e f hn x y level-down) in
+          let k = span-2 (sliced s h) r d e f c x' y' (triple-in_plane (normal_of h) d e f hn x y level-down) in
           let same : SameGerms (sliced s h) r (ahead (sliced s h) r f) = λ v l.
           let a = near-of_flat (sliced s h) r f (FlatCone-from_flat (sliced s h) r f k) v l in
           let b = near-ahead (sliced s h) r f v l in
@@ -561,25 +494,7 @@ module _ (s : Set) (C : Complex) (S : Shows s C) (upright : IsUpright C) (linked
     amid1 = start-between (reach_all hs' v.point) v.point r0 (way-some r0 at-r0)
 
     clear1 : Clear (sliced s h) h hn level v.point b1
-    clear1 r vertex on l i = by ((all-vertices (sliced s h)).2 r vertex)
-      where
-        by : (q : Place) × Lies (all-vertices (sliced s h)).0 q × SamePlace q r → ⊥
-        by (q, lies, same) =
-            let g = lam-at n v.point r in
-            let g' = lam-at n v.point q in
-            let p = plus-is (form_at (up_line n v.point) q) (signs-same (up_line n v.point ∷ []) q r same (up_line n v.point) (inl refl) ∙ sign-plus (form_at (up_line n v.point) r) (omega (arith, ints))) in
-            let t1 = lam-turned n v.point q in
-            let c = lam-at n q v.point in
-            let low : form_at (up_line n q) v.point <ℤ pos 0 = omega (arith, ints) in
-            let f = keeps-all hs' v.point b1 (start-close (reach_all hs' v.point) v.point r0) (up_line n q) (lies-each (λ q. up_line n q) E q lies) (λ z. let z' = nought-is (form_at (up_line n q) v.point) z in omega (arith, ints)) in
-            let j = minus-is (form_at (up_line n q) b1) (f ∙ sign-minus (form_at (up_line n q) v.point) low) in
-            let c' = lam-at n q b1 in
-            let t2 = lam-turned n q b1 in
-            let k1 = lam-at n b1 q in
-            let k2 = lam-at n b1 r in
-            let p2 = plus-is (form_at (up_line n b1) r) (sym (signs-same (up_line n b1 ∷ []) q r same (up_line n b1) (inl refl)) ∙ sign-plus (form_at (up_line n b1) q) (omega (arith, ints))) in
-            let t3 = lam-turned n b1 r in
-            omega (arith, ints)
+    clear1 = clear-close (sliced s h) h hn level v.point b1 (start-close (reach_all hs' v.point) v.point r0)
 
     -- the ray down from r0
     ray-r0 : RayDown C r0 x2

@@ -1,35 +1,14 @@
 -- A direction of an arc's plane that lies neither on the arc nor at its ends leads away from the arc's side at one end.
-use Rattle.std.proofs.Common.{◌≡◌, pos, ◌<ℤ◌, neg_ℤ, arith, ap, ◌∙◌, ◌⊎◌, inl, inr}
-use Rattle.std.proofs.lemmas.Int.{ints}
-use Rattle.nef_space.specs.Signs.{sign}
-use Rattle.nef_space.proofs.Order.{by_order}
-use Rattle.nef_space.specs.Vectors.{Vector, opposite, dot, cross, triple, IsDirection, SameDirection, IsOpposite}
-use Rattle.law_cyclic.specs.Arcs.{IsStrictlyOn}
-use Rattle.law_near.proofs.Directions.{dot-zero}
-use Rattle.law_sphere.proofs.Vectors.{same-plus, same-minus}
-use Rattle.law_sphere.proofs.Parallel.{parallel-in_plane}
-use Rattle.law_sphere.proofs.Around.{Beside, same_way, other_way, beside, opposites, triple-turned}
-use Rattle.law_sphere.proofs.Compare.{dir-self}
-use Rattle.law_sphere.proofs.Turn.{turn-same}
-use Rattle.law_links.proofs.EdgeEnds.{opposite-way, right-turn}
-use Rattle.nef_conn.proofs.Onward.{back-triple}
+use Rattle.nef_conn.proofs.Prelude.{◌≡◌, pos, ◌<ℤ◌, neg_ℤ, arith, ap, ◌∙◌, ◌⊎◌, inl, inr, ints, sign, by_order, Vector, opposite, dot, cross, triple, IsDirection, SameDirection, IsOpposite, IsStrictlyOn, same-plus, same-minus, Beside, same_way, other_way, beside, opposite-in_plane, turn-same, dot-zero, triple-turned, opposites, dir-self, parallel-in_plane, opposite-way, right-turn, back-triple}
 
 module _ (n s t d : Vector) (hn : IsDirection n) (hs : IsDirection s) (ht : IsDirection t) (hd : IsDirection d) (ls : dot n s ≡ pos 0) (lt : dot n t ≡ pos 0) (ld : dot n d ≡ pos 0)
     (off-s : SameDirection s d → ⊥) (off-t : SameDirection t d → ⊥) where
   -- what is parallel to an end is opposite to it
   against-s : triple n s d ≡ pos 0 → IsOpposite s d
-  against-s z = by (beside s d hs hd (parallel-in_plane n s d hn ls ld z))
-    where
-      by : Beside s d → IsOpposite s d
-      by (same_way w) = absurd (off-s w)
-      by (other_way o) = o
+  against-s = opposite-in_plane n s d hn hs hd ls ld off-s
 
   against-t : triple n d t ≡ pos 0 → IsOpposite t d
-  against-t z = by (beside t d ht hd (parallel-in_plane n t d hn lt ld (let e = triple-turned n d t in omega (arith, ints))))
-    where
-      by : Beside t d → IsOpposite t d
-      by (same_way w) = absurd (off-t w)
-      by (other_way o) = o
+  against-t z = opposite-in_plane n t d hn ht hd lt ld off-t (let e = triple-turned n d t in omega (arith, ints))
 
   not-half : (triple n s t ≡ pos 0 → ⊥) → IsOpposite s t → ⊥
   not-half f o = f (dot-zero n (cross s t) o.parallel)

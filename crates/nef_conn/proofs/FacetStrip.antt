@@ -1,44 +1,7 @@
 -- The strip between two lines along d in the plane of h: on y's line lie vertices, between it and z's line and on z's line none. g is h or its opposite, so that z lies to the right of y's line.
-use Rattle.std.proofs.Common.{◌≡◌, ℕ, ◌+◌, ℤ, pos, ◌+ℤ◌, ◌-ℤ◌, ◌*ℤ◌, ◌<ℤ◌, ◌≤ℤ◌, arith, refl, ap, sym, ◌∙◌, ◌⊎◌, inl, inr, ⊎_elim, [], ◌∷◌, subst}
-use Rattle.std.proofs.lemmas.Int.{ints}
-use Rattle.nef_space.specs.Signs.{sign}
-use Rattle.nef_space.proofs.Ring.{ring, at, num, ◌⊕◌, ◌⊖◌, ◌⊗◌, Poly}
-use Rattle.nef_space.proofs.Order.{mul_pos, mul_nonneg, cancel_lt, cancel_le, by_order, sign-scaled, nought-is}
-use Rattle.nef_space.specs.Local.{Flat, FlatDim, IsVertex}
-use Rattle.nef_space.specs.Place.{Place, Form, form_at, normal_of, slope, plane_through, SamePlace, toward, IsBetween}
-use Rattle.nef_space.specs.Sets.{Set}
-use Rattle.nef_space.specs.Vectors.{Vector, opposite, dot, cross, triple, IsZero, IsDirection, IsNormal, SameDirection}
-use Rattle.law_near.proofs.Alike.{FlatDim-one}
-use Rattle.law_near.proofs.Between.{between-turned}
-use Rattle.law_near.proofs.Rays.{signs-same, same-place_sym}
-use Rattle.law_near.proofs.FlatDecided.{triple-dot}
-use Rattle.law_near.proofs.Near.{slope-toward}
-use Rattle.law_near.proofs.Mixed.{toward-place, place-toward, between-same}
-use Rattle.law_near.proofs.Directions.{zero-decided, dot-zero, direction-right}
-use Rattle.law_cyclic.proofs.Directions.{level-opposite-back}
-use Rattle.law_sphere.specs.Maps.{At}
-use Rattle.law_sphere.proofs.Vectors.{triple-middle, same-plus, same-minus}
-use Rattle.law_sphere.proofs.Around.{triple-turned, Beside, same_way, other_way, beside}
-use Rattle.law_sphere.proofs.Parallel.{parallel-in_plane}
-use Rattle.law_sphere.proofs.Compare.{SameDirection-turned, SameDirection-trans, dir-self}
-use Rattle.law_sphere.proofs.Turn.{turn-last, turn-same}
-use Rattle.law_sphere.proofs.Turning.{turns}
-use Rattle.law_complex.specs.Complexes.{Vertex, Complex}
-use Rattle.law_complex.specs.Shows.{Shows}
-use Rattle.law_complex.specs.Skeleton.{IsVertexPoint}
-use Rattle.law_complex.specs.Laws.{IsFlatIn}
-use Rattle.law_complex.proofs.Ways.{same-itself, opposite-same, same-place_trans}
-use Rattle.law_complex.proofs.FacetWays.{dim-same}
-use Rattle.law_complex.proofs.Planes.{plane-way}
-use Rattle.law_complex.proofs.FacetAngles.{same-by, aligned, through-at, through-slope, angle, turn_form, turn-at, angle-turned, angle-self, angle-start, angle-inside, between-plus, between-minus}
-use Rattle.law_complex.proofs.FacetTriangle.{HalfEdge, plane-between, below-or}
-use Rattle.law_near.proofs.Flats.{vector-same}
-use Rattle.law_complex.proofs.FacetNames.{weight}
-use Rattle.law_links.proofs.EdgeEnds.{opposite-way, right-turn, dot-opposite}
+use Rattle.nef_conn.proofs.Prelude.{◌≡◌, ℕ, ◌+◌, ℤ, pos, ◌+ℤ◌, ◌-ℤ◌, ◌*ℤ◌, ◌<ℤ◌, ◌≤ℤ◌, arith, refl, ap, sym, ◌∙◌, ◌⊎◌, inl, inr, ⊎_elim, ◌∷◌, subst, [], ints, sign, ring, at, num, ◌⊕◌, ◌⊖◌, ◌⊗◌, Poly, mul_pos, mul_nonneg, cancel_le, by_order, sign-scaled, nought-is, nonneg-of, minus-of, plus-of, mul_neg, Flat, FlatDim, IsVertex, Place, Form, form_at, normal_of, slope, plane_through, SamePlace, toward, IsBetween, Set, Vector, opposite, dot, cross, triple, IsZero, IsDirection, IsNormal, SameDirection, FlatDim-one, between-turned, signs-same, same-place_sym, slope-toward, toward-place, place-toward, between-same, At, same-plus, same-minus, Beside, same_way, other_way, beside, turn-last, turn-same, turns, Vertex, Complex, Shows, IsVertexPoint, IsFlatIn, same-itself, same-place_trans, dim-same, plane-way, same-by, aligned, through-at, through-slope, angle, turn_form, turn-at, angle-turned, angle-self, angle-start, angle-inside, between-plus, between-minus, angle-cyclic, HalfEdge, plane-between, below-or, weight, toward-turned, IsInTriangle, LiesAlong, zero-decided, dot-zero, triple-dot, level-opposite-back, triple-middle, triple-turned, SameDirection-turned, SameDirection-trans, dir-self, parallel-in_plane, opposite-same, dot-opposite, opposite-way, opposite-twice, direction-right, right-turn}
 use Rattle.nef_conn.proofs.Onward.{level-kept}
-use Rattle.nef_conn.proofs.Named.{twice}
 use Rattle.nef_conn.proofs.Sweep.{minus-any, cut-of}
-use Rattle.nef_conn.specs.Items.{IsInTriangle, LiesAlong}
 use Rattle.nef_conn.proofs.Triangles.{half-to, never-along, third-side, at-corner, on-second}
 use Rattle.nef_conn.proofs.Sector.{Seen, seen-level}
 
@@ -70,14 +33,6 @@ shift k y z q = ring (k.x ∷ k.y ∷ k.z ∷ y.x ∷ y.y ∷ y.z ∷ pos y.w �
     (at 10 ⊗ (at 0 ⊗ way 3 11 0 ⊕ at 1 ⊗ way 3 11 1 ⊕ at 2 ⊗ way 3 11 2))
     (at 6 ⊗ (at 0 ⊗ way 7 11 0 ⊕ at 1 ⊗ way 7 11 1 ⊕ at 2 ⊗ way 7 11 2) ⊕ at 14 ⊗ (at 0 ⊗ way 3 7 0 ⊕ at 1 ⊗ way 3 7 1 ⊕ at 2 ⊗ way 3 7 2)) tt
 
--- seen from z too
-cyclic : (n : Vector) (y z w : Place) → pos z.w *ℤ angle n y z w ≡ pos y.w *ℤ angle n z w y
-cyclic n y z w = ring (n.x ∷ n.y ∷ n.z ∷ y.x ∷ y.y ∷ y.z ∷ pos y.w ∷ z.x ∷ z.y ∷ z.z ∷ pos z.w ∷ w.x ∷ w.y ∷ w.z ∷ pos w.w ∷ [])
-    (at 10 ⊗ turn-p 3 7 11) (at 6 ⊗ turn-p 7 11 3) tt
-
-pub toward-turned : (p q : Place) → opposite (toward p q) ≡ toward q p
-toward-turned p q = vector-same (opposite (toward p q)) (toward q p) (omega (arith, ints)) (omega (arith, ints)) (omega (arith, ints))
-
 -- a form is nought at equal points
 level-same_place : (F : Form) (p q : Place) → SamePlace p q → form_at F p ≡ pos 0 → form_at F q ≡ pos 0
 level-same_place F p q e z = nought-is (form_at F q) (sym (signs-same (F ∷ []) p q e F (inl refl)) ∙ ap sign z)
@@ -102,38 +57,29 @@ first-plain ac vd av cd ad cv e h i j k l =
     let p = mul_nonneg av cd i j in
     let q = mul_nonneg ad (pos 0 -ℤ cv) (omega (arith, ints)) (omega (arith, ints)) in
     let r = ring (ad ∷ cv ∷ []) (at 0 ⊗ (num (pos 0) ⊖ at 1)) (num (pos 0) ⊖ at 0 ⊗ at 1) tt in
-    let u = ring (vd ∷ ac ∷ []) (at 1 ⊗ at 0) (at 0 ⊗ at 1) tt in
-    let o = ring (ac ∷ []) (num (pos 0) ⊗ at 0) (num (pos 0)) tt in
-    cancel_le (pos 0) vd ac h (omega (arith, ints))
+    nonneg-of ac vd h (omega (arith, ints))
 
 first-nought : (ac vd av cd ad cv : ℤ) → ac *ℤ vd ≡ av *ℤ cd -ℤ ad *ℤ cv → pos 0 ≤ℤ av → pos 0 ≤ℤ cd → pos 0 <ℤ ad → cv ≤ℤ pos 0 → vd ≡ pos 0 → cv ≡ pos 0
 first-nought ac vd av cd ad cv e i j k l z = by_order cv (pos 0)
     (λ m. absurd (
     let p = mul_nonneg av cd i j in
-    let q = mul_pos ad (pos 0 -ℤ cv) k (omega (arith, ints)) in
-    let r = ring (ad ∷ cv ∷ []) (at 0 ⊗ (num (pos 0) ⊖ at 1)) (num (pos 0) ⊖ at 0 ⊗ at 1) tt in
+    let q = mul_neg ad cv k (omega (arith, ints)) in
     let u = ap (λ x. ac *ℤ x) z in
-    let o = ring (ac ∷ []) (at 0 ⊗ num (pos 0)) (num (pos 0)) tt in
     omega (arith, ints)))
     (λ m. m) (λ m. absurd (omega (arith, ints)))
 
 second-plain : (ca vd cv ad cd av : ℤ) → ca *ℤ vd ≡ cv *ℤ ad -ℤ cd *ℤ av → pos 0 <ℤ ca → pos 0 <ℤ cv → ad <ℤ pos 0 → cd ≤ℤ pos 0 → av ≤ℤ pos 0 → vd <ℤ pos 0
 second-plain ca vd cv ad cd av e h i j k l =
-    let p = mul_pos cv (pos 0 -ℤ ad) i (omega (arith, ints)) in
+    let p = mul_neg cv ad i (omega (arith, ints)) in
     let q = mul_nonneg (pos 0 -ℤ cd) (pos 0 -ℤ av) (omega (arith, ints)) (omega (arith, ints)) in
-    let r = ring (cv ∷ ad ∷ []) (at 0 ⊗ (num (pos 0) ⊖ at 1)) (num (pos 0) ⊖ at 0 ⊗ at 1) tt in
     let u = ring (cd ∷ av ∷ []) ((num (pos 0) ⊖ at 0) ⊗ (num (pos 0) ⊖ at 1)) (at 0 ⊗ at 1) tt in
-    let w = ring (vd ∷ ca ∷ []) (at 1 ⊗ at 0) (at 0 ⊗ at 1) tt in
-    let o = ring (ca ∷ []) (num (pos 0) ⊗ at 0) (num (pos 0)) tt in
-    cancel_lt vd (pos 0) ca h (omega (arith, ints))
+    minus-of ca vd h (omega (arith, ints))
 
 shift-plain : (zw yw qw a b c : ℤ) → zw *ℤ a ≡ yw *ℤ b +ℤ qw *ℤ c → pos 0 <ℤ zw → pos 0 <ℤ yw → pos 0 <ℤ qw → pos 0 ≤ℤ b → pos 0 <ℤ c → pos 0 <ℤ a
 shift-plain zw yw qw a b c e h i j k l =
     let p = mul_nonneg yw b (omega (arith, ints)) k in
     let q = mul_pos qw c j l in
-    let r = ring (a ∷ zw ∷ []) (at 1 ⊗ at 0) (at 0 ⊗ at 1) tt in
-    let o = ring (zw ∷ []) (num (pos 0) ⊗ at 0) (num (pos 0)) tt in
-    cancel_lt (pos 0) a zw h (omega (arith, ints))
+    plus-of zw a h (omega (arith, ints))
 
 -- ---- the strip
 pub record Strip (s : Set) (C : Complex) (h g : Form) (d : Vector) (y z : Place) : Type 0 where
@@ -257,7 +203,7 @@ module _ (s : Set) (C : Complex) (S : Shows s C) (h g : Form) (d : Vector) (y z 
 
       by : Beside (toward z x) d → On_far_line x
       by (same_way w) = ahead_of w
-      by (other_way o) = behind_of (subst (λ (r : Vector). SameDirection r (opposite d)) (twice (toward z x)) (opposite-same (opposite (toward z x)) d (opposite-way (toward z x) d o)))
+      by (other_way o) = behind_of (subst (λ (r : Vector). SameDirection r (opposite d)) (opposite-twice (toward z x)) (opposite-same (opposite (toward z x)) d (opposite-way (toward z x) d o)))
 
   -- ---- the third side of a triangle with one side from y's line to z
   module _ (a c : Place) (on-a : form_at h a ≡ pos 0) (on-c : form_at h c ≡ pos 0) (start : form_at Near_line a ≡ pos 0) (near-c : pos 0 ≤ℤ form_at Near_line c) (far-c : form_at Far_line c ≤ℤ pos 0) (turn : pos 0 <ℤ angle m a z c)
@@ -309,13 +255,12 @@ module _ (s : Set) (C : Complex) (S : Shows s C) (h g : Form) (d : Vector) (y z 
           (λ l. absurd (omega (arith, ints)))
 
       from-z_past-a : angle m z a p ≤ℤ pos 0
-      from-z_past-a = plain (angle m a z p) (angle m z p a) (angle m z a p) (cyclic m a z p) (angle-turned m z a p) left-of_first
+      from-z_past-a = plain (angle m a z p) (angle m z p a) (angle m z a p) (angle-cyclic m a z p) (angle-turned m z a p) left-of_first
         where
           plain : (x u w : ℤ) → pos z.w *ℤ x ≡ pos a.w *ℤ u → w ≡ pos 0 -ℤ u → pos 0 ≤ℤ x → w ≤ℤ pos 0
           plain x u w e f l =
               let q = mul_nonneg (pos z.w) x (let i = weight z in omega (arith, ints)) l in
               let r = ring (u ∷ pos a.w ∷ []) (at 1 ⊗ at 0) (at 0 ⊗ at 1) tt in
-              let o = ring (pos a.w ∷ []) (num (pos 0) ⊗ at 0) (num (pos 0)) tt in
               let n = cancel_le (pos 0) u (pos a.w) (weight a) (omega (arith, ints)) in
               omega (arith, ints)
 

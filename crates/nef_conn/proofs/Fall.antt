@@ -1,45 +1,5 @@
 -- In a plane that holds up: an edge that leaves a point to the side of b, beside no vertex, runs under b or over it; where the points between are free it runs under b, and what falls from b comes down to it.
-use Rattle.std.proofs.Common.{◌≡◌, ℕ, ℤ, pos, ◌+ℤ◌, ◌-ℤ◌, ◌*ℤ◌, ◌<ℤ◌, ◌≤ℤ◌, arith, ap, sym, ◌∙◌, ◌⊎◌, inl, inr, ⊎_elim, [], ◌∷◌, subst}
-use Rattle.std.proofs.lemmas.Int.{ints}
-use Rattle.nef_space.proofs.Ring.{ring, at, num, ◌⊕◌, ◌⊖◌, ◌⊗◌}
-use Rattle.nef_space.proofs.Order.{by_order}
-use Rattle.nef_space.proofs.Combination.{given, none, follows}
-use Rattle.law_sphere.proofs.Shot.{product-off}
-use Rattle.law_sphere.proofs.NearItems.{opposite-turned}
-use Rattle.law_complex.proofs.FacetEdges.{ahead-back}
-use Rattle.law_complex.proofs.FacetSides.{level-way}
-use Rattle.nef_space.specs.Local.{Flat, FlatDim, IsVertex}
-use Rattle.nef_space.specs.Place.{Place, Form, form_at, normal_of, slope, SamePlace, Within, toward, IsBetween}
-use Rattle.nef_space.specs.Sets.{Set}
-use Rattle.nef_space.specs.Vectors.{Vector, blend, opposite, cross, triple, IsZero, IsDirection, SameDirection, up}
-use Rattle.law_near.specs.Cells.{carriers}
-use Rattle.law_near.specs.Laws.{EdgeAround}
-use Rattle.law_near.proofs.Alike.{FlatDim-one}
-use Rattle.law_near.proofs.Between.{between-turned, between-inner, mixed-of, ray-cell}
-use Rattle.law_near.proofs.Decisions.{ahead}
-use Rattle.law_near.proofs.Edges.{start-close, start-toward, edge-around}
-use Rattle.law_near.proofs.Even.{flat-nearby, flat-toward}
-use Rattle.law_near.proofs.Flats.{Flat-from_cone, FlatCone-from_flat}
-use Rattle.law_near.proofs.Rays.{same-place_sym}
-use Rattle.law_near.proofs.Skeleton.{flat_dim-nearby}
-use Rattle.law_near.proofs.Near.{reach_all}
-use Rattle.law_near.proofs.Mixed.{toward-place, place-toward}
-use Rattle.law_near.proofs.Directions.{dot-zero, zero-decided, factor-same, direction-left, direction-right}
-use Rattle.law_near.proofs.Far.{same-nought, nought-or}
-use Rattle.law_sphere.proofs.Around.{Beside, same_way, other_way, beside, triple-turned}
-use Rattle.law_sphere.proofs.Compare.{SameDirection-turned, SameDirection-trans}
-use Rattle.law_sphere.proofs.Parallel.{parallel-in_plane}
-use Rattle.law_sphere.proofs.Turn.{turn-last}
-use Rattle.law_sphere.proofs.Vectors.{same-plus}
-use Rattle.law_complex.specs.Laws.{IsFlatIn}
-use Rattle.law_complex.proofs.Edges.{near_point, near-between}
-use Rattle.law_complex.proofs.FacetAngles.{between-level}
-use Rattle.law_complex.proofs.FacetTriangle.{HalfEdge, plane-between, below-or}
-use Rattle.law_complex.proofs.FacetWays.{dim-same, plane-onward}
-use Rattle.law_complex.proofs.Planes.{plane-way}
-use Rattle.law_complex.proofs.Ways.{between-way, between-cases, same-itself}
-use Rattle.law_links.proofs.EdgeEnds.{opposite-way}
-use Rattle.law_links.proofs.Ties.{ahead-way, dim-cell}
+use Rattle.nef_conn.proofs.Prelude.{◌≡◌, ℕ, ℤ, pos, ◌+ℤ◌, ◌-ℤ◌, ◌*ℤ◌, ◌<ℤ◌, ◌≤ℤ◌, arith, ap, sym, ◌∙◌, ◌⊎◌, inl, inr, ⊎_elim, ◌∷◌, subst, [], ints, ring, at, num, ◌⊕◌, ◌⊖◌, ◌⊗◌, by_order, nought-or, given, none, follows, product-off, ahead-back, Flat, FlatDim, IsVertex, Place, Form, form_at, normal_of, slope, SamePlace, Within, toward, IsBetween, Set, Vector, blend, opposite, cross, triple, IsZero, IsDirection, SameDirection, up, carriers, EdgeAround, FlatDim-one, between-turned, between-inner, mixed-of, ray-cell, ahead, start-close, start-toward, edge-around, flat-nearby, flat-toward, Flat-from_cone, FlatCone-from_flat, same-place_sym, flat_dim-nearby, reach_all, toward-place, place-toward, factor-same, same-nought, Beside, same_way, other_way, beside, turn-last, same-plus, IsFlatIn, near_point, near-between, between-level, HalfEdge, plane-between, below-or, dim-same, plane-onward, plane-way, between-way, between-cases, same-itself, ahead-way, dim-cell, zero-decided, dot-zero, triple-turned, SameDirection-turned, SameDirection-trans, opposite-turned, parallel-in_plane, level-way, opposite-way, cross-none, direction-left, direction-right}
 use Rattle.nef_conn.proofs.Fans.{off-close, off-dim}
 use Rattle.nef_conn.proofs.Near.{Wedge}
 use Rattle.nef_conn.proofs.Triangles.{cut-up, half-to, around-halves, across-way, ends-level}
@@ -95,14 +55,8 @@ module _ (t : Set) (a x : Place) (apart : SamePlace a x → ⊥) (edge : (r : Pl
       let z = ⊎_elim (λ z. z) (λ n. absurd (one.1 (toward a c, toward a q, n, one-way, other))) (zero-decided (cross (toward a c) (toward a q))) in
       subst (λ (v : Vector). IsZero (cross (toward a c) v)) (start-toward (reach_all (carriers t) a) a x) z
 
-pub cross-zero : (u v : Vector) → IsZero v → IsZero (cross u v)
-cross-zero u v z = (each u.y u.z z.1 z.2, each u.z u.x z.2 z.0, each u.x u.y z.0 z.1)
-  where
-    each : (a b : ℤ) {x y : ℤ} → x ≡ pos 0 → y ≡ pos 0 → a *ℤ y -ℤ b *ℤ x ≡ pos 0
-    each a b {x} {y} e f = ap (λ r. a *ℤ r -ℤ b *ℤ x) f ∙ ap (λ r. a *ℤ pos 0 -ℤ b *ℤ r) e ∙ ring (a ∷ b ∷ []) (at 0 ⊗ num (pos 0) ⊖ at 1 ⊗ num (pos 0)) (num (pos 0)) tt
-
 pub lam-zero : (n : Vector) (p q : Place) → IsZero (toward p q) → lam n p q ≡ pos 0
-lam-zero n p q z = dot-zero n (cross up (toward p q)) (cross-zero up (toward p q) z)
+lam-zero n p q z = dot-zero n (cross up (toward p q)) (cross-none up (toward p q) z)
 
 pub lam-self : (n : Vector) (p : Place) → lam n p p ≡ pos 0
 lam-self n p = lam-zero n p p (place-toward p p (same-itself p))

@@ -1,21 +1,6 @@
 -- Between two points close to a third, all points lie toward the blends of their directions: so what is as flat between them is as flat toward all blends.
-use Rattle.std.proofs.Common.{◌≡◌, ℕ, ◌+◌, ◌*◌, ◌<◌, ℤ, pos, ◌+ℤ◌, ◌-ℤ◌, ◌*ℤ◌, arith, sym, ◌∙◌, [], ◌∷◌, subst}
-use Rattle.std.proofs.Math.Nat.{mul-pos}
-use Rattle.nef_space.specs.Signs.{nought, Lies}
-use Rattle.nef_space.proofs.Ring.{ring, at, ◌⊕◌, ◌⊖◌, ◌⊗◌}
-use Rattle.nef_space.specs.Local.{FlatDim}
-use Rattle.nef_space.specs.Place.{Place, Form, Within, toward, IsBetween}
-use Rattle.nef_space.specs.Sets.{Set}
-use Rattle.nef_space.specs.Vectors.{Vector, blend, IsDirection}
-use Rattle.law_near.specs.Cells.{sign_at, carriers, SameSigns}
-use Rattle.law_near.proofs.Between.{between-of}
-use Rattle.law_near.proofs.Cells.{keeps-all}
-use Rattle.law_near.proofs.Decisions.{ahead}
-use Rattle.law_near.proofs.Flats.{vector-same, sign-toward}
-use Rattle.law_near.specs.Homogeneous.{of_place}
-use Rattle.law_near.proofs.Near.{reach_all}
-use Rattle.law_near.proofs.Sums.{mixed-mix}
-use Rattle.law_links.proofs.Ties.{beside-ahead, beside-cell, same-between, dim-cell, ahead-close}
+use Rattle.nef_conn.proofs.Prelude.{◌≡◌, ℕ, ◌+◌, ◌*◌, ◌<◌, ℤ, pos, ◌+ℤ◌, ◌-ℤ◌, ◌*ℤ◌, arith, sym, ◌∙◌, ◌∷◌, subst, [], mul-pos, nought, Lies, ring, at, ◌⊕◌, ◌⊖◌, ◌⊗◌, FlatDim, Place, Form, Within, toward, IsBetween, Set, Vector, blend, IsDirection, sign_at, carriers, between-of, keeps-all, ahead, sign-toward, of_place, reach_all, mixed-mix, beside-ahead, beside-cell, same-between, dim-cell, ahead-close, vector-same}
+use Rattle.law_near.specs.Cells.{SameSigns}
 
 pub mixed-proper : (i j a b : ℕ) → 0 < i → 0 < a → 0 < i * a + j * b
 mixed-proper i j a b si sa = let m = mul-pos si sa in omega arith

@@ -1,21 +1,5 @@
 -- From a point with three flat directions the way to a side of the frame first meets a point with fewer.
-use Rattle.std.proofs.Common.{ℕ, ◌+◌, ◌*◌, ◌<◌, pos, negsuc, ◌+ℤ◌, ◌*ℤ◌, nat_abs, arith, ⊎_elim}
-use Rattle.std.proofs.lemmas.Int.{ints}
-use Rattle.nef_space.specs.Limits.{half_side}
-use Rattle.nef_space.specs.Local.{Germ, Flat, FlatDim}
-use Rattle.nef_space.specs.Place.{Place, Ratio, toward, IsBetween}
-use Rattle.nef_space.specs.Sets.{Set}
-use Rattle.nef_space.specs.Vectors.{Vector, vector, IsDirection}
-use Rattle.nef_space.specs.declared.label.Label.TheVariants.{Out}
-use Rattle.law_near.specs.Laws.{Drop}
-use Rattle.law_near.proofs.Alike.{flat-germ, FlatDim-one}
-use Rattle.law_near.proofs.Between.{between-turned}
-use Rattle.law_near.proofs.Edges.{even-until}
-use Rattle.law_near.proofs.Even.{span-3}
-use Rattle.law_near.proofs.Rays.{same-place_sym}
-use Rattle.law_near.proofs.Mixed.{toward-place}
-use Rattle.law_complex.proofs.FacetWays.{dim-same}
-use Rattle.law_links.specs.Components.{IsEvenAfter}
+use Rattle.nef_conn.proofs.Prelude.{ℕ, ◌+◌, ◌*◌, ◌<◌, pos, negsuc, ◌+ℤ◌, ◌*ℤ◌, nat_abs, arith, ⊎_elim, ints, half_side, Germ, Flat, FlatDim, Place, Ratio, toward, IsBetween, Set, Vector, vector, IsDirection, Out, Drop, flat-germ, FlatDim-one, between-turned, even-until, span-3, same-place_sym, toward-place, dim-same, IsEvenAfter}
 
 -- where three directions are flat, all are
 pub all-flat : (s : Set) (p : Place) → FlatDim s p 3 → (d : Vector) → Flat s p d

@@ -1,53 +1,7 @@
 -- The rays down from the ends of a segment of points with three flat directions name sides of one class, where that is known beside each vertex of the slices below: cut where a vertex of the slice lies on the line along up.
-use Rattle.std.proofs.Common.{◌≡◌, ℕ, ℤ, pos, ◌+ℤ◌, ◌*ℤ◌, ◌<ℤ◌, ◌≤ℤ◌, neg_ℤ, arith, refl, ap, sym, ◌∙◌, ◌⊎◌, inl, inr, ⊎_elim, List, [], ◌∷◌, subst}
-use Rattle.std.proofs.lemmas.Int.{ints}
-use Rattle.nef_space.specs.Signs.{sign, Lies}
-use Rattle.nef_space.proofs.Ring.{ring, at, num, neg, ◌⊕◌, ◌⊖◌, ◌⊗◌}
-use Rattle.nef_space.proofs.Order.{by_order, mul_pos, mul_nonneg, cancel_lt, sign-plus, plus-is, minus-is, sign-minus, nought-is}
-use Rattle.nef_space.specs.Lists.{Chained}
-use Rattle.nef_space.specs.Local.{FlatDim, IsVertex, IsEven}
-use Rattle.nef_space.specs.Place.{Place, Form, plane_through, form_at, normal_of, slope, SamePlace, InFrame, toward, IsBetween}
-use Rattle.nef_space.specs.Sets.{Set}
-use Rattle.nef_space.specs.Vectors.{Vector, opposite, cross, dot, IsZero, IsDirection, SameDirection, up}
-use Rattle.law_near.proofs.Alike.{FlatDim-by_germs}
-use Rattle.law_near.proofs.Between.{between-turned, between-inner}
-use Rattle.law_near.proofs.Decided.{germ_of}
-use Rattle.law_near.proofs.Even.{even-germs}
-use Rattle.law_near.proofs.Germs.{Germ-unique}
-use Rattle.law_near.proofs.Rays.{signs-same, same-place_sym}
-use Rattle.law_near.proofs.Vertices.{all-vertices}
-use Rattle.nef_space.specs.Local.{Germ}
-use Rattle.nef_space.specs.declared.label.Label.{Label}
-use Rattle.law_near.specs.Cones.{label_not}
-use Rattle.law_near.proofs.Mixed.{toward-place, place-toward, between-same}
-use Rattle.law_near.proofs.Directions.{zero-decided, dot-zero, dot-comm, direction-left, direction-right}
-use Rattle.law_near.proofs.Far.{nought-or}
-use Rattle.law_sphere.proofs.Around.{Beside, same_way, other_way, beside}
-use Rattle.law_sphere.proofs.Compare.{SameDirection-turned, SameDirection-trans}
-use Rattle.law_sphere.proofs.Parallel.{parallel-in_plane}
-use Rattle.law_sphere.proofs.Vectors.{same-plus}
-use Rattle.law_complex.specs.Complexes.{Complex}
-use Rattle.law_complex.specs.Shows.{Shows}
-use Rattle.law_complex.specs.Rays.{VertexSide, RayDown}
-use Rattle.law_complex.proofs.Edges.{near_point, near-between}
-use Rattle.law_complex.proofs.FacetAngles.{through-at}
-use Rattle.law_complex.proofs.FacetEdges.{ahead-back}
-use Rattle.law_complex.proofs.FacetNames.{facet-of, through-level}
-use Rattle.law_links.proofs.Across.{through-same}
-use Rattle.law_sphere.proofs.Turn.{turn-last}
-use Rattle.law_complex.proofs.FacetTriangle.{plane-between}
-use Rattle.law_complex.proofs.FacetWays.{dim-same, plane-ahead, even-by}
-use Rattle.law_complex.proofs.Planes.{plane-way}
-use Rattle.law_complex.proofs.Skeletons.{skeleton-not_flat, skeleton-or_flat}
-use Rattle.law_complex.proofs.Ways.{between-way, between-cases, between-outer, same-itself, same-place_trans}
-use Rattle.law_links.specs.Links.{VolumeLink}
-use Rattle.law_links.specs.Components.{IsUpright}
-use Rattle.law_links.proofs.EdgeEnds.{opposite-way, dot-opposite}
-use Rattle.law_links.proofs.Down.{facet-at}
-use Rattle.nef_conn.specs.Items.{AreLinkedWhereJoined}
+use Rattle.nef_conn.proofs.Prelude.{◌≡◌, ℕ, ℤ, pos, ◌+ℤ◌, ◌*ℤ◌, ◌<ℤ◌, ◌≤ℤ◌, neg_ℤ, arith, refl, ap, sym, ◌∙◌, ◌⊎◌, inl, inr, ⊎_elim, List, ◌∷◌, subst, [], ints, sign, Lies, ring, at, num, neg, ◌⊕◌, ◌⊖◌, ◌⊗◌, by_order, mul_pos, mul_nonneg, sign-plus, plus-is, minus-is, sign-minus, nought-is, nought-or, plus-of, Chained, FlatDim, IsVertex, IsEven, Place, Form, plane_through, form_at, normal_of, slope, SamePlace, InFrame, toward, IsBetween, Set, Vector, opposite, cross, dot, IsZero, IsDirection, SameDirection, up, FlatDim-by_germs, between-turned, between-inner, germ_of, even-germs, Germ-unique, signs-same, same-place_sym, all-vertices, Germ, Label, label_not, toward-place, place-toward, between-same, Beside, same_way, other_way, beside, same-plus, Complex, Shows, VertexSide, RayDown, near_point, near-between, through-at, ahead-back, facet-of, through-level, through-same, turn-last, plane-between, dim-same, plane-ahead, even-by, plane-way, skeleton-not_flat, skeleton-or_flat, between-way, between-cases, between-outer, same-itself, same-place_trans, VolumeLink, IsUpright, facet-at, AreLinkedWhereJoined, minus_form, sliced, dot-comm, zero-decided, dot-zero, SameDirection-turned, SameDirection-trans, parallel-in_plane, dot-opposite, opposite-way, direction-left, direction-right}
 use Rattle.nef_conn.proofs.SameRay.{on-ray}
 use Rattle.nef_conn.proofs.Sweep.{Crosses, crosses-or, crosses-first, crosses-second, level-end, level-start, cut-of}
-use Rattle.nef_conn.specs.Slices.{minus_form, sliced}
 use Rattle.nef_conn.proofs.Chain.{chain-both, chain-back}
 use Rattle.nef_conn.proofs.Claims.{Claim, beside-fall}
 use Rattle.nef_conn.proofs.Fall.{lam-zero}
@@ -58,7 +12,7 @@ use Rattle.nef_conn.proofs.Leaves.{toward-same}
 use Rattle.nef_conn.proofs.RaysEnd.{ray-down}
 use Rattle.nef_conn.proofs.Silhouettes.{germs-inside, two-of}
 use Rattle.nef_conn.proofs.Slice.{germ-on, germ-off}
-use Rattle.nef_conn.proofs.SliceStrip.{lam, up_line, lam-at, lam-turned, lam-sum, Clear}
+use Rattle.nef_conn.proofs.SliceStrip.{lam, up_line, lam-at, lam-turned, lam-sum, Clear, lam-plus}
 
 -- ---- the slice by a plane and by its opposite form have one cone at each point of the plane
 minus-level : (h : Form) (p : Place) → form_at (minus_form h) p ≡ neg_ℤ (form_at h p)
@@ -221,18 +175,6 @@ module _ (s : Set) (C : Complex) (S : Shows s C) (upright : IsUpright C) (linked
           let m = minus-is (form_at (up_line n y) q) (signs-same (up_line n y ∷ []) q p e (up_line n y) (inl refl) ∙ sign-minus (form_at (up_line n y) p) (omega (arith, ints))) in
           omega (arith, ints)
 
-      -- sums of differences
-      lam-plus : (a b c : Place) → pos 0 ≤ℤ lam (normal_of h) a b → pos 0 <ℤ lam (normal_of h) b c → pos 0 <ℤ lam (normal_of h) a c
-      lam-plus a b c l m = plain (lam n a c) (lam n a b) (lam n b c) (lam-sum n a b c) l m
-        where
-          plain : (g d e : ℤ) → pos b.w *ℤ g ≡ pos c.w *ℤ d +ℤ pos a.w *ℤ e → pos 0 ≤ℤ d → pos 0 <ℤ e → pos 0 <ℤ g
-          plain g d e q l m =
-              let u = mul_nonneg (pos c.w) d (let k = c.proper in omega (arith, ints)) l in
-              let v = mul_pos (pos a.w) e (let k = a.proper in omega (arith, ints)) m in
-              let i = ring (g ∷ pos b.w ∷ []) (at 1 ⊗ at 0) (at 0 ⊗ at 1) tt in
-              let k = ring (pos b.w ∷ []) (num (pos 0) ⊗ at 0) (num (pos 0)) tt in
-              cancel_lt (pos 0) g (pos b.w) (let j = b.proper in omega (arith, ints)) (omega (arith, ints))
-
       lam-past : (a b c : Place) → pos 0 <ℤ lam (normal_of h) a b → pos 0 ≤ℤ lam (normal_of h) b c → pos 0 <ℤ lam (normal_of h) a c
       lam-past a b c l m = plain (lam n a c) (lam n a b) (lam n b c) (lam-sum n a b c) l m
         where
@@ -240,9 +182,7 @@ module _ (s : Set) (C : Complex) (S : Shows s C) (upright : IsUpright C) (linked
           plain g d e q l m =
               let u = mul_pos (pos c.w) d (let k = c.proper in omega (arith, ints)) l in
               let v = mul_nonneg (pos a.w) e (let k = a.proper in omega (arith, ints)) m in
-              let i = ring (g ∷ pos b.w ∷ []) (at 1 ⊗ at 0) (at 0 ⊗ at 1) tt in
-              let k = ring (pos b.w ∷ []) (num (pos 0) ⊗ at 0) (num (pos 0)) tt in
-              cancel_lt (pos 0) g (pos b.w) (let j = b.proper in omega (arith, ints)) (omega (arith, ints))
+              plus-of (pos b.w) g (let j = b.proper in omega (arith, ints)) (omega (arith, ints))
 
       -- a vertex that lies past y and before z is crossed
       crossed : (y z r : Place) → IsVertex (sliced s h) r → form_at h r ≡ pos 0 → pos 0 <ℤ lam (normal_of h) y r → pos 0 <ℤ lam (normal_of h) r z → (q : Place) × Lies (all-vertices (sliced s h)).0 q × (form_at h q ≡ pos 0) × Crosses (up_line (normal_of h) q) y z
@@ -300,7 +240,7 @@ module _ (s : Set) (C : Complex) (S : Shows s C) (upright : IsUpright C) (linked
           side-z = same-plus (lam n y (near_point s y z)) (lam n (near_point s y z) z) (turn-last n up (toward y (near_point s y z)) (toward (near_point s y z) z) amid) side-y
 
           clear-y : Clear (sliced s h) h hn level y (near_point s y z)
-          clear-y u v on l m = let c = crossed y z u v on l (lam-plus u (near_point s y z) z m side-z) in none c.0 c.1 c.2 c.3
+          clear-y u v on l m = let c = crossed y z u v on l (lam-plus n u (near_point s y z) z m side-z) in none c.0 c.1 c.2 c.3
 
           clear-z : (u : Place) → IsVertex (sliced s h) u → form_at h u ≡ pos 0 → lam (normal_of h) z u <ℤ pos 0 → lam (normal_of h) u (near_point s y z) ≤ℤ pos 0 → ⊥
           clear-z u v on l m =

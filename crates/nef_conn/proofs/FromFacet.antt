@@ -1,39 +1,5 @@
 -- From a facet point of y's line, with a clear way to z: its ray and z's come to one edge, or its ray comes to a vertex beside which z lies.
-use Rattle.std.proofs.Common.{◌≡◌, ℕ, pos, ◌<ℤ◌, arith, ap, ◌∙◌, ◌⊎◌, inl, inr, ⊎_elim, subst}
-use Rattle.std.proofs.lemmas.Int.{ints}
-use Rattle.nef_space.specs.Signs.{sign}
-use Rattle.nef_space.proofs.Order.{by_order, nought-is}
-use Rattle.nef_space.specs.Lists.{Chained}
-use Rattle.nef_space.specs.Local.{Flat, FlatDim}
-use Rattle.nef_space.specs.Place.{Place, Form, form_at, normal_of, SamePlace, toward, IsBetween}
-use Rattle.nef_space.specs.Sets.{Set}
-use Rattle.nef_space.specs.Vectors.{Vector, opposite, triple, SameDirection}
-use Rattle.law_near.specs.Laws.{Drop}
-use Rattle.law_near.proofs.Alike.{FlatDim-one}
-use Rattle.law_near.proofs.Between.{between-turned, between-inner}
-use Rattle.law_near.proofs.Edges.{even-until}
-use Rattle.law_near.proofs.Even.{span-1}
-use Rattle.law_near.proofs.Rays.{same-place_sym}
-use Rattle.law_near.proofs.Mixed.{between-same}
-use Rattle.law_near.proofs.Directions.{direction-left}
-use Rattle.law_sphere.specs.Maps.{At}
-use Rattle.law_sphere.proofs.Around.{triple-turned}
-use Rattle.law_sphere.proofs.Lists.{at-one}
-use Rattle.law_sphere.proofs.Parallel.{parallel-in_plane, parallel-trans}
-use Rattle.law_sphere.proofs.Compare.{SameDirection-turned, SameDirection-trans}
-use Rattle.law_complex.specs.Complexes.{Vertex, Edge, Complex, Corner}
-use Rattle.law_complex.specs.Shows.{Shows}
-use Rattle.law_complex.specs.Skeleton.{IsVertexPoint, IsEdgePoint, LiesIn, PlaneMeet, meets_vertex, meets_edge, IsFirstInPlane, IsCornerAt, RayNames}
-use Rattle.law_complex.specs.Laws.{IsFlatIn}
-use Rattle.law_complex.proofs.Planes.{plane-way}
-use Rattle.law_complex.proofs.Ways.{between-way, between-start, between-outer, same-itself}
-use Rattle.law_complex.proofs.FacetSides.{level-way}
-use Rattle.law_complex.proofs.FacetWays.{dim-same, plane-ahead, end-meets}
-use Rattle.law_complex.proofs.FacetEdges.{ahead-same}
-use Rattle.law_complex.proofs.FacetAngles.{between-level, Cut}
-use Rattle.law_complex.proofs.FacetTriangle.{HalfEdge, edge-halves, plane-between}
-use Rattle.law_links.specs.Links.{FacetLink}
-use Rattle.law_cyclic.proofs.Directions.{level-of_opposite}
+use Rattle.nef_conn.proofs.Prelude.{◌≡◌, ℕ, pos, ◌<ℤ◌, arith, ap, ◌∙◌, ◌⊎◌, inl, inr, ⊎_elim, subst, ints, sign, by_order, nought-is, Chained, Flat, FlatDim, Place, Form, form_at, normal_of, SamePlace, toward, IsBetween, Set, Vector, opposite, triple, SameDirection, Drop, FlatDim-one, between-turned, between-inner, even-until, span-1, same-place_sym, between-same, At, at-one, Vertex, Edge, Complex, Corner, Shows, IsVertexPoint, IsEdgePoint, LiesIn, PlaneMeet, meets_vertex, meets_edge, IsFirstInPlane, IsCornerAt, RayNames, IsFlatIn, plane-way, between-way, between-start, between-outer, same-itself, dim-same, plane-ahead, end-meets, ahead-same, between-level, Cut, HalfEdge, edge-halves, plane-between, FacetLink, level-of_opposite, triple-turned, SameDirection-turned, SameDirection-trans, parallel-trans, parallel-in_plane, level-way, direction-left}
 use Rattle.nef_conn.proofs.Chain.{chain-here}
 use Rattle.nef_conn.proofs.Sweep.{cut-of}
 use Rattle.nef_conn.proofs.Triangles.{across-way}

@@ -29,45 +29,7 @@
 -- The claims that are used come before. Events are the vertices of the set and those of the slices through two of them: finitely many. In the order of points,
 -- what lies below comes before, and so do an edge's points before its higher end. Claims at v, and at the vertices below an edge, are at events before y, so fewer events come before them.
 -- The claim at r needs no more events, and fewer carriers lie ahead of r downward than of y: r lies on one that up crosses, or up would be flat there. So induction on both, in that order, ends.
-use Rattle.std.proofs.Common.{◌≡◌, ℕ, zero, suc, ◌+◌, ◌<◌, ◌≤◌, ℤ, pos, ◌-ℤ◌, ◌*ℤ◌, ◌<ℤ◌, ◌≤ℤ◌, neg_ℤ, arith, refl, sym, ◌∙◌, ◌⊎◌, inl, inr, ⊎_elim, List, [], ◌∷◌, ◌++◌, subst}
-use Rattle.std.proofs.lemmas.Int.{ints}
-use Rattle.nef_space.specs.Signs.{nought, sign, Lies}
-use Rattle.nef_space.proofs.Lists.{lies-left, lies-right}
-use Rattle.nef_space.proofs.Ring.{ring, at, num, neg, ◌⊖◌, ◌⊗◌}
-use Rattle.nef_space.proofs.Order.{by_order, nought-is, mul_nonneg, cancel_lt}
-use Rattle.nef_space.specs.Lists.{Chained}
-use Rattle.nef_space.specs.Local.{Flat, FlatDim, IsVertex, IsEven}
-use Rattle.nef_space.specs.Place.{Place, Form, form_at, normal_of, slope, SamePlace, InFrame, toward, IsBetween, IsPlaceBelow}
-use Rattle.nef_space.specs.Sets.{Set}
-use Rattle.nef_space.specs.Vectors.{Vector, blend, opposite, cross, IsZero, IsDirection, SameDirection, up}
-use Rattle.law_near.specs.Cells.{sign_at, carriers}
-use Rattle.law_near.proofs.Between.{between-inner}
-use Rattle.law_near.proofs.Cells.{is_nought}
-use Rattle.law_near.proofs.Decided.{Decided, decided-to, decided-both, decided-or, every}
-use Rattle.law_near.proofs.Flats.{Flat-from_cone, FlatCone-from_flat, FlatCone-from_carriers}
-use Rattle.law_near.proofs.PlaceOrder.{place_below-trans, same-place_below, place_below-apart}
-use Rattle.law_near.proofs.Rays.{signs-same, same-place_sym}
-use Rattle.law_near.proofs.Vertices.{all-vertices}
-use Rattle.law_near.proofs.Mixed.{place-toward, between-same}
-use Rattle.law_near.proofs.Directions.{dot-zero, direction-left, direction-right}
-use Rattle.law_near.proofs.Far.{nought-or}
-use Rattle.law_near.proofs.Near.{slope-toward}
-use Rattle.law_sphere.specs.Forms.{gather}
-use Rattle.law_sphere.specs.Maps.{At, MapVertex}
-use Rattle.law_sphere.proofs.Compare.{SameDirection-turned, SameDirection-trans, dir-self}
-use Rattle.law_sphere.proofs.Labels.{dir-signs}
-use Rattle.law_sphere.proofs.Lists.{gather-has}
-use Rattle.law_sphere.proofs.Vectors.{same-plus, same-minus}
-use Rattle.law_complex.specs.Complexes.{Vertex, Edge, Complex, HasEnds}
-use Rattle.law_complex.specs.Shows.{Shows}
-use Rattle.law_complex.specs.Rays.{VertexSide, RayDown}
-use Rattle.law_complex.proofs.FacetAngles.{through-at}
-use Rattle.law_complex.proofs.Ways.{between-way, between-outer, same-itself, same-place_trans}
-use Rattle.law_links.specs.Links.{VolumeLink}
-use Rattle.law_links.specs.Components.{IsUpright}
-use Rattle.law_links.proofs.EdgeEnds.{edge-ways, dot-opposite}
-use Rattle.nef_conn.specs.Items.{AreLinkedWhereJoined}
-use Rattle.nef_conn.specs.Slices.{minus_form, sliced}
+use Rattle.nef_conn.proofs.Prelude.{◌≡◌, ℕ, zero, suc, ◌+◌, ◌<◌, ◌≤◌, ℤ, pos, ◌-ℤ◌, ◌*ℤ◌, ◌<ℤ◌, ◌≤ℤ◌, neg_ℤ, arith, refl, sym, ◌∙◌, ◌⊎◌, inl, inr, ⊎_elim, List, ◌∷◌, ◌++◌, subst, [], ints, nought, sign, Lies, lies-left, lies-right, ring, at, num, neg, ◌⊖◌, ◌⊗◌, by_order, nought-is, mul_nonneg, nought-or, plus-of, minus-of, Chained, Flat, FlatDim, IsVertex, IsEven, Place, Form, form_at, normal_of, slope, SamePlace, InFrame, toward, IsBetween, IsPlaceBelow, Set, Vector, blend, opposite, cross, IsZero, IsDirection, SameDirection, up, sign_at, carriers, between-inner, is_nought, Decided, decided-to, decided-both, decided-or, every, Flat-from_cone, FlatCone-from_flat, FlatCone-from_carriers, place_below-trans, same-place_below, place_below-apart, signs-same, same-place_sym, all-vertices, place-toward, between-same, slope-toward, gather, At, MapVertex, gather-has, same-plus, same-minus, Vertex, Edge, Complex, HasEnds, Shows, VertexSide, RayDown, through-at, between-way, between-outer, same-itself, same-place_trans, VolumeLink, IsUpright, edge-ways, AreLinkedWhereJoined, minus_form, sliced, FlatDim-one, FlatDim-by_germs, ahead, near-ahead, span-1, near-of_flat, steep, forms, amount, at-one, dir-at, near_point, near-between, edge-points, dim-same, IsEvenAfter, free-dim, ahead-cells, dim-cell, tied-ray, tied-turned, dot-zero, SameDirection-turned, SameDirection-trans, dir-self, dir-signs, dot-opposite, direction-left, direction-right}
 use Rattle.nef_conn.proofs.Claims.{Claim, not-flat}
 use Rattle.nef_conn.proofs.Downs.{vertex-down, svertex-down, vertex-falls}
 use Rattle.nef_conn.proofs.EdgeFalls.{plane_of, hn, level, edge-falls}
@@ -78,20 +40,6 @@ use Rattle.nef_conn.proofs.NearOver.{up-some}
 use Rattle.nef_conn.proofs.Reached.{toward-normal}
 use Rattle.nef_conn.proofs.OneNamed.{one-vertex}
 use Rattle.nef_conn.proofs.Tally.{tally, tally-mono, tally-strict}
-use Rattle.law_near.proofs.Alike.{FlatDim-one, FlatDim-by_germs}
-use Rattle.law_near.proofs.Decisions.{ahead, near-ahead}
-use Rattle.law_near.proofs.Even.{span-1}
-use Rattle.law_near.proofs.FlatDecided.{near-of_flat}
-use Rattle.law_near.proofs.NearGerms.{steep}
-use Rattle.law_sphere.specs.Forms.{forms}
-use Rattle.law_sphere.proofs.Generic.{amount}
-use Rattle.law_sphere.proofs.Lists.{at-one}
-use Rattle.law_sphere.proofs.Shot.{dir-at}
-use Rattle.law_complex.proofs.Edges.{near_point, near-between, edge-points}
-use Rattle.law_complex.proofs.FacetWays.{dim-same}
-use Rattle.law_links.specs.Components.{IsEvenAfter}
-use Rattle.law_links.proofs.NearVertex.{free-dim}
-use Rattle.law_links.proofs.Ties.{ahead-cells, dim-cell, tied-ray, tied-turned}
 use Rattle.nef_conn.proofs.Near.{Wedge}
 use Rattle.nef_conn.proofs.RaysEnd.{tied-dim}
 use Rattle.nef_conn.proofs.SliceStrip.{lam, Clear}
@@ -135,17 +83,13 @@ module _ (y r : Place) (down : SameDirection (toward y r) (opposite up)) where
     falls-plain : (a b m : ℤ) → m ≡ pos y.w *ℤ b -ℤ pos r.w *ℤ a → m <ℤ pos 0 → pos 0 ≤ℤ b → pos 0 <ℤ a
     falls-plain a b m e l h =
         let u = mul_nonneg (pos y.w) b (let k = y.proper in omega (arith, ints)) h in
-        let v = ring (a ∷ pos r.w ∷ []) (at 1 ⊗ at 0) (at 0 ⊗ at 1) tt in
-        let w = ring (pos r.w ∷ []) (num (pos 0) ⊗ at 0) (num (pos 0)) tt in
-        cancel_lt (pos 0) a (pos r.w) (let k = r.proper in omega (arith, ints)) (omega (arith, ints))
+        plus-of (pos r.w) a (let k = r.proper in omega (arith, ints)) (omega (arith, ints))
 
     rises-plain : (a b m : ℤ) → m ≡ pos y.w *ℤ b -ℤ pos r.w *ℤ a → pos 0 <ℤ m → b ≤ℤ pos 0 → a <ℤ pos 0
     rises-plain a b m e l h =
         let u = mul_nonneg (pos y.w) (pos 0 -ℤ b) (let k = y.proper in omega (arith, ints)) (omega (arith, ints)) in
-        let v = ring (a ∷ pos r.w ∷ []) (at 1 ⊗ at 0) (at 0 ⊗ at 1) tt in
-        let w = ring (pos r.w ∷ []) (num (pos 0) ⊗ at 0) (num (pos 0)) tt in
         let x = ring (b ∷ pos y.w ∷ []) (at 1 ⊗ (num (pos 0) ⊖ at 0)) (num (pos 0) ⊖ at 1 ⊗ at 0) tt in
-        cancel_lt a (pos 0) (pos r.w) (let k = r.proper in omega (arith, ints)) (omega (arith, ints))
+        minus-of (pos r.w) a (let k = r.proper in omega (arith, ints)) (omega (arith, ints))
 
     pub still-ahead : Ahead r f → Ahead y f
     still-ahead (inl (a, b)) = inl (falls-plain (form_at f y) (form_at f r) (slope f (toward y r)) (slope-toward f y r) (same-minus (slope f (opposite up)) (slope f (toward y r)) same b) (omega (arith, ints)), b)

@@ -1,33 +1,5 @@
 -- What lies above a skeleton point: a side that touches a vertex or an edge upward, or the upper side of an item of the facet. What lies above equal points, or points of one edge or facet, is linked; for facets that is the converse for items.
-use Rattle.std.proofs.Common.{◌≡◌, ℕ, ◌+◌, pos, arith, refl, sym, ◌∙◌, ◌⊎◌, inl, inr, ⊎_elim, List, [], ◌∷◌, subst}
-use Rattle.nef_space.specs.Lists.{IsChain, Chained}
-use Rattle.nef_space.specs.Local.{Joined}
-use Rattle.nef_space.specs.Place.{Place, form_at, SamePlace, toward, IsBetween}
-use Rattle.nef_space.specs.Sets.{Set}
-use Rattle.nef_space.specs.Vectors.{Vector, blend, up, plane_axis}
-use Rattle.nef_space.specs.declared.label.Label.{Label}
-use Rattle.law_near.proofs.Decisions.{ahead}
-use Rattle.law_near.proofs.Even.{joined-turned, joined-both}
-use Rattle.law_sphere.specs.Maps.{At, Item, item_normal, item_pos, pos_item, OnItem, Side, HasSide, Sees}
-use Rattle.law_sphere.proofs.Forms.{on-level}
-use Rattle.law_sphere.proofs.Lists.{at-one}
-use Rattle.law_sphere.proofs.Sectors.{bounds-sees}
-use Rattle.law_sphere.proofs.Shot.{dir-at}
-use Rattle.law_sphere.proofs.Vectors.{normal-is}
-use Rattle.law_complex.specs.Complexes.{Vertex, Edge, Complex, Corner, HasEnds, IsCorner}
-use Rattle.law_complex.specs.Shows.{Shows}
-use Rattle.law_complex.specs.Skeleton.{item_plane, Spot, at_vertex, on_edge, in_facet, IsSpot}
-use Rattle.law_complex.specs.Rays.{VertexSide, HasSideLabel, IsAbove, RayDown}
-use Rattle.law_complex.specs.Laws.{IsFlatIn}
-use Rattle.law_complex.proofs.FacetAngles.{through-at}
-use Rattle.law_complex.proofs.FacetNames.{through-level, axis-in}
-use Rattle.law_complex.proofs.FacetPoints.{facet-point}
-use Rattle.law_links.specs.Links.{FacetLink, VolumeLink, pos_arcs}
-use Rattle.law_links.proofs.Across.{across, across-tied}
-use Rattle.law_links.proofs.EdgeEnds.{edge-ways, AreTiedItems, corner_of, along-tied}
-use Rattle.law_links.proofs.ItemPoints.{at-item}
-use Rattle.law_links.proofs.Ties.{IsTied}
-use Rattle.nef_conn.specs.Items.{AreLinkedWhereJoined}
+use Rattle.nef_conn.proofs.Prelude.{◌≡◌, ℕ, ◌+◌, pos, arith, refl, sym, ◌∙◌, ◌⊎◌, inl, inr, ⊎_elim, List, ◌∷◌, subst, [], IsChain, Chained, Joined, Place, form_at, SamePlace, toward, IsBetween, Set, Vector, blend, up, plane_axis, Label, ahead, joined-turned, joined-both, At, Item, item_normal, item_pos, pos_item, OnItem, Side, HasSide, Sees, on-level, at-one, bounds-sees, dir-at, normal-is, Vertex, Edge, Complex, Corner, HasEnds, IsCorner, Shows, item_plane, Spot, at_vertex, on_edge, in_facet, IsSpot, VertexSide, HasSideLabel, IsAbove, RayDown, IsFlatIn, through-at, through-level, axis-in, facet-point, FacetLink, VolumeLink, pos_arcs, across, across-tied, edge-ways, AreTiedItems, corner_of, along-tied, at-item, IsTied, AreLinkedWhereJoined}
 use Rattle.nef_conn.proofs.Chain.{chain-both, chain-one, chain-back, chain-here}
 use Rattle.nef_conn.proofs.Touch.{bound, Touch, vertex-frame, edge-frame, no-way}
 

@@ -1,33 +1,5 @@
 -- Along a path of even segments within a facet, the ends of each segment in its turn: so the converse comes to single segments.
-use Rattle.std.proofs.Common.{◌≡◌, ℕ, pos, List, [], ◌∷◌, inl, inr, ⊎_elim, subst}
-use Rattle.nef_space.specs.Lists.{Chained}
-use Rattle.nef_space.specs.Local.{Joined, IsEven, IsEvenPath}
-use Rattle.nef_space.specs.Place.{Place, Form, form_at, normal_of, slope, toward}
-use Rattle.nef_space.specs.Sets.{Set}
-use Rattle.nef_space.specs.Vectors.{Vector, opposite, IsDirection, IsNormal, SameDirection, plane_dir}
-use Rattle.law_near.specs.Cells.{carriers}
-use Rattle.law_near.proofs.Alike.{FlatDim-one}
-use Rattle.law_near.proofs.Edges.{start-close}
-use Rattle.law_near.proofs.Even.{flat-way, even-germs, joined-germs, joined-turned, joined-both}
-use Rattle.law_near.proofs.Directions.{dot-zero, zero-decided, direction-right}
-use Rattle.law_near.proofs.Near.{reach_all}
-use Rattle.law_sphere.specs.Maps.{Item, item_normal}
-use Rattle.law_sphere.proofs.Vectors.{normal-direction}
-use Rattle.law_sphere.proofs.Compare.{SameDirection-turned, SameDirection-trans}
-use Rattle.law_complex.specs.Complexes.{Vertex, Complex, Corner, IsCorner}
-use Rattle.law_complex.specs.Shows.{Shows}
-use Rattle.law_complex.specs.Skeleton.{item_plane, RayNames}
-use Rattle.law_complex.specs.Laws.{IsFlatIn}
-use Rattle.law_complex.proofs.Ways.{between-way, between-start, same-itself, opposite-same}
-use Rattle.law_complex.proofs.Edges.{near_point, near-between}
-use Rattle.law_complex.proofs.FacetSides.{level-way, flats-carried, flats-one}
-use Rattle.law_complex.proofs.FacetWays.{plane-onward}
-use Rattle.law_complex.proofs.FacetNames.{weight, normal-scaled}
-use Rattle.law_complex.proofs.FacetEnds.{facet-behind}
-use Rattle.law_links.specs.Links.{FacetLink}
-use Rattle.law_links.proofs.Across.{through-same}
-use Rattle.nef_conn.specs.Items.{way_inward, NamesFor, NamesOfSegments, ConverseBySegments}
-use Rattle.law_cyclic.proofs.Directions.{level-of_opposite}
+use Rattle.nef_conn.proofs.Prelude.{◌≡◌, ℕ, pos, List, ◌∷◌, inl, inr, ⊎_elim, subst, [], Chained, Joined, IsEven, IsEvenPath, Place, Form, form_at, normal_of, slope, toward, Set, Vector, opposite, IsDirection, IsNormal, SameDirection, plane_dir, carriers, FlatDim-one, start-close, flat-way, even-germs, joined-germs, joined-turned, joined-both, reach_all, Item, item_normal, normal-direction, Vertex, Complex, Corner, IsCorner, Shows, item_plane, RayNames, IsFlatIn, between-way, between-start, same-itself, near_point, near-between, flats-carried, flats-one, plane-onward, weight, normal-scaled, facet-behind, FacetLink, through-same, way_inward, NamesFor, NamesOfSegments, ConverseBySegments, zero-decided, dot-zero, level-of_opposite, SameDirection-turned, SameDirection-trans, opposite-same, level-way, direction-right}
 use Rattle.nef_conn.proofs.Onward.{level-kept}
 use Rattle.nef_conn.proofs.WayInward.{names-same, dir-level, dir-same}
 use Rattle.nef_conn.proofs.Reached.{items-name}

@@ -1,51 +1,11 @@
 -- What falls from a point b beside a start y, where all between is free: it comes down on the edge through the point y' at which y's own fall ends, or, where that is a vertex of the plane, on the first edge that leaves it, or all is free below.
-use Rattle.std.proofs.Common.{◌≡◌, ℕ, zero, suc, ◌<◌, ℤ, pos, ◌+ℤ◌, ◌*ℤ◌, ◌<ℤ◌, neg_ℤ, arith, ap, sym, ◌∙◌, ◌⊎◌, inl, inr, ⊎_elim, [], ◌∷◌, subst}
-use Rattle.std.proofs.lemmas.Int.{ints}
-use Rattle.nef_space.proofs.Order.{by_order, mul_pos, cancel_lt}
-use Rattle.nef_space.proofs.Ring.{ring, at, num, neg, ◌⊕◌, ◌⊗◌}
-use Rattle.law_near.proofs.Even.{even-germs, flat-toward}
-use Rattle.law_near.proofs.Flats.{Flat-from_cone}
-use Rattle.law_near.proofs.FlatDecided.{triple-dot}
-use Rattle.law_complex.proofs.FacetEdges.{ahead-back}
-use Rattle.law_complex.proofs.FacetSides.{flats-carried}
-use Rattle.nef_conn.proofs.Named.{twice}
+use Rattle.nef_conn.proofs.Prelude.{◌≡◌, ℕ, zero, suc, ◌<◌, ℤ, pos, ◌+ℤ◌, ◌*ℤ◌, ◌<ℤ◌, arith, ap, sym, ◌∙◌, ◌⊎◌, inl, inr, ⊎_elim, subst, ints, by_order, mul_pos, plus-of, even-germs, flat-toward, Flat-from_cone, ahead-back, flats-carried, Flat, FlatDim, IsEven, Place, Form, form_at, normal_of, slope, SamePlace, Within, toward, IsBetween, Set, Vector, opposite, dot, cross, triple, IsZero, IsDirection, SameDirection, up, carriers, Drop, IsFlatBelow, FlatDim-one, between-turned, between-inner, ahead, start-close, start-toward, even-until, same-place_sym, reach_all, toward-place, place-toward, Beside, same_way, other_way, beside, turn-last, same-plus, same-minus, IsFlatIn, near_point, near-between, same-by, zero-by, aligned, angle, turn_form, turn-at, angle-turned, angle-self, angle-inside, between-plus, between-minus, cut-at, plane-between, dim-same, plane-ahead, even-by, plane-way, between-way, between-start, between-outer, ahead-close, ahead-toward, dot-zero, triple-dot, triple-turned, SameDirection-turned, SameDirection-trans, dir-self, parallel-in_plane, dot-opposite, opposite-way, opposite-dot, cross-none, opposite-twice, direction-left}
 use Rattle.nef_conn.proofs.Sweep.{minus-any}
-use Rattle.nef_space.specs.Local.{Flat, FlatDim, IsEven}
-use Rattle.nef_space.specs.Place.{Place, Form, form_at, normal_of, slope, SamePlace, Within, toward, IsBetween}
-use Rattle.nef_space.specs.Sets.{Set}
-use Rattle.nef_space.specs.Vectors.{Vector, opposite, dot, cross, triple, IsZero, IsDirection, SameDirection, up}
-use Rattle.law_near.specs.Cells.{carriers}
-use Rattle.law_near.specs.Laws.{Drop, IsFlatBelow}
-use Rattle.law_near.proofs.Alike.{FlatDim-one}
-use Rattle.law_near.proofs.Between.{between-turned, between-inner}
-use Rattle.law_near.proofs.Decisions.{ahead}
-use Rattle.law_near.proofs.Edges.{start-close, start-toward, even-until}
-use Rattle.law_near.proofs.Rays.{same-place_sym}
-use Rattle.law_near.proofs.Near.{reach_all}
-use Rattle.law_near.proofs.Mixed.{toward-place, place-toward}
-use Rattle.law_near.proofs.Directions.{dot-zero, direction-left}
-use Rattle.law_sphere.proofs.Around.{Beside, same_way, other_way, beside, triple-turned}
-use Rattle.law_sphere.proofs.Compare.{SameDirection-turned, SameDirection-trans, dir-self}
-use Rattle.law_sphere.proofs.Parallel.{parallel-in_plane}
-use Rattle.law_sphere.proofs.Turn.{turn-last}
-use Rattle.law_sphere.proofs.Vectors.{same-plus, same-minus}
-use Rattle.law_complex.specs.Laws.{IsFlatIn}
-use Rattle.law_complex.proofs.Edges.{near_point, near-between}
-use Rattle.law_complex.proofs.FacetAngles.{same-by, zero-by, aligned, angle, turn_form, turn-at, angle-turned, angle-self, angle-inside, between-plus, between-minus, cut-at}
-use Rattle.law_complex.proofs.FacetTriangle.{plane-between}
-use Rattle.law_complex.proofs.FacetWays.{dim-same, plane-ahead, even-by}
-use Rattle.law_complex.proofs.Planes.{plane-way}
-use Rattle.law_complex.proofs.Ways.{between-way, between-start, between-outer}
-use Rattle.law_links.proofs.EdgeEnds.{opposite-way, dot-opposite}
-use Rattle.law_links.proofs.Ties.{ahead-close, ahead-toward}
-use Rattle.nef_conn.proofs.Fall.{corner-two, corner-wedge, corner-edge, Run, run-edge, run-near, lam-down, lam-chain, lam-self, lam-zero, cross-zero}
+use Rattle.nef_conn.proofs.Fall.{corner-two, corner-wedge, corner-edge, Run, run-edge, run-near, lam-down, lam-chain, lam-self, lam-zero}
 use Rattle.nef_conn.proofs.Near.{Wedge, wedge-of, wedge-way}
 use Rattle.nef_conn.proofs.Fans.{IsOff, off-close, off-ahead, off-between, off-dim}
 use Rattle.nef_conn.proofs.NearOver.{up-some, blend-rises}
 use Rattle.nef_conn.proofs.SliceStrip.{lam, up_line, lam-at, lam-turned, lam-sum, down-turn, Clear, slope-to, along-start, along-end, along-back}
-
-neg-dot : (m u : Vector) → dot (opposite m) u ≡ neg_ℤ (dot m u)
-neg-dot m u = ring (m.x ∷ m.y ∷ m.z ∷ u.x ∷ u.y ∷ u.z ∷ []) (neg (at 0) ⊗ at 3 ⊕ neg (at 1) ⊗ at 4 ⊕ neg (at 2) ⊗ at 5) (neg (at 0 ⊗ at 3 ⊕ at 1 ⊗ at 4 ⊕ at 2 ⊗ at 5)) tt
 
 module _ (t : Set) (h : Form) (hn : IsDirection (normal_of h)) (level : slope h up ≡ pos 0) where
   abbrev n : Vector
@@ -59,7 +19,7 @@ module _ (t : Set) (h : Form) (hn : IsDirection (normal_of h)) (level : slope h 
       inside = angle-inside n y b c turn
 
       some : IsDirection (toward b c)
-      some z = let e = triple-turned n (toward b c) (toward b y) in let f = dot-zero n (cross (toward b y) (toward b c)) (cross-zero (toward b y) (toward b c) z) in let i = inside in omega (arith, ints)
+      some z = let e = triple-turned n (toward b c) (toward b y) in let f = dot-zero n (cross (toward b y) (toward b c)) (cross-none (toward b y) (toward b c) z) in let i = inside in omega (arith, ints)
 
       by : Beside up (toward b c) → SameDirection (toward b c) (opposite up)
       by (same_way w) =
@@ -81,10 +41,7 @@ module _ (t : Set) (h : Form) (hn : IsDirection (normal_of h)) (level : slope h 
       plain a d q e l =
           let p = mul_pos (pos c.w) a (let k = c.proper in omega (arith, ints)) l in
           let o = ap (λ r. pos b.w *ℤ r) e in
-          let z = ring (pos b.w ∷ []) (at 0 ⊗ num (pos 0)) (num (pos 0)) tt in
-          let m = ring (d ∷ pos y.w ∷ []) (at 1 ⊗ at 0) (at 0 ⊗ at 1) tt in
-          let k = ring (pos y.w ∷ []) (num (pos 0) ⊗ at 0) (num (pos 0)) tt in
-          cancel_lt (pos 0) d (pos y.w) (let i = y.proper in omega (arith, ints)) (omega (arith, ints))
+          plus-of (pos y.w) d (let i = y.proper in omega (arith, ints)) (omega (arith, ints))
 
   line-turned : (y c : Place) → lam n y c ≡ pos 0 → lam n c y ≡ pos 0
   line-turned y c e = let f = lam-turned n y c in omega (arith, ints)
@@ -190,7 +147,7 @@ module _ (t : Set) (h : Form) (hn : IsDirection (normal_of h)) (level : slope h 
     some-b z = let e = lam-zero n y' b z in let l = side' in omega (arith, ints)
 
     back : SameDirection (toward y' y) up
-    back = subst (λ (v : Vector). SameDirection (toward y' y) v) (twice up) (ahead-back y y' (opposite up) down)
+    back = subst (λ (v : Vector). SameDirection (toward y' y) v) (opposite-twice up) (ahead-back y y' (opposite up) down)
 
     on-segment : IsBetween y' q0 b
     on-segment = near-between t y' b some-b
@@ -315,8 +272,8 @@ module _ (t : Set) (h : Form) (hn : IsDirection (normal_of h)) (level : slope h 
             same-here e = clash b (dim-same t K.1.place b 1 e K.1.here) F.0
 
             zero-there : IsZero (cross (toward r0 b) (toward K.1.place b)) → SamePlace K.1.place b
-            zero-there m = toward-place K.1.place b (zero-by (opposite (cross n up)) (toward r0 b) (toward K.1.place b) m (let e = neg-dot (cross n up) (toward r0 b) in let l = plus-r0 in omega (arith, ints))
-                (let e = neg-dot (cross n up) (toward K.1.place b) in let f = triple-dot n up (toward K.1.place b) in let g = lam-turned n b K.1.place in let l = line in omega (arith, ints)))
+            zero-there m = toward-place K.1.place b (zero-by (opposite (cross n up)) (toward r0 b) (toward K.1.place b) m (let e = opposite-dot (cross n up) (toward r0 b) in let l = plus-r0 in omega (arith, ints))
+                (let e = opposite-dot (cross n up) (toward K.1.place b) in let f = triple-dot n up (toward K.1.place b) in let g = lam-turned n b K.1.place in let l = line in omega (arith, ints)))
 
         over-b : angle n r0 b K.1.place <ℤ pos 0 → ⊥
         over-b l =

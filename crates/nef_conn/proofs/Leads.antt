@@ -1,25 +1,5 @@
 -- The edge that leads from a svertex, seen from there.
-use Rattle.std.proofs.Common.{◌≡◌, ℕ, pos, refl, sym, ◌∙◌, ◌⊎◌, inl, inr, ⊎_elim, subst}
-use Rattle.nef_space.specs.Local.{Flat, FlatDim}
-use Rattle.nef_space.specs.Place.{Place, Form, form_at, toward, IsBetween}
-use Rattle.nef_space.specs.Sets.{Set}
-use Rattle.nef_space.specs.Vectors.{Vector, opposite, SameDirection}
-use Rattle.law_near.proofs.Between.{between-turned}
-use Rattle.law_sphere.specs.Maps.{At, MapVertex, Arc, arc_item, dir_of}
-use Rattle.law_sphere.proofs.Lists.{at-one}
-use Rattle.law_sphere.proofs.Shot.{arc-at}
-use Rattle.law_sphere.proofs.Compare.{SameDirection-turned, SameDirection-trans}
-use Rattle.law_complex.specs.Complexes.{Vertex, Edge, Complex, Corner, HasEnds, IsCorner}
-use Rattle.law_complex.specs.Shows.{Shows}
-use Rattle.law_complex.specs.Skeleton.{IsEdgePoint, LiesIn}
-use Rattle.law_complex.proofs.Edges.{edge-points, edge-way}
-use Rattle.law_complex.proofs.Joining.{svertex-edge}
-use Rattle.law_complex.proofs.FacetAngles.{cross-back}
-use Rattle.law_complex.proofs.FacetEdges.{ahead-back}
-use Rattle.law_links.specs.Links.{FacetLink}
-use Rattle.law_links.proofs.EdgeEnds.{edge-ways, opposite-way}
-use Rattle.law_complex.proofs.Ways.{opposite-same}
-use Rattle.nef_conn.proofs.Named.{twice}
+use Rattle.nef_conn.proofs.Prelude.{◌≡◌, ℕ, pos, refl, sym, ◌∙◌, ◌⊎◌, inl, inr, ⊎_elim, subst, Flat, FlatDim, Place, Form, form_at, toward, IsBetween, Set, Vector, opposite, SameDirection, between-turned, At, MapVertex, Arc, arc_item, dir_of, at-one, arc-at, Vertex, Edge, Complex, Corner, HasEnds, IsCorner, Shows, IsEdgePoint, LiesIn, edge-points, edge-way, svertex-edge, cross-back, ahead-back, FacetLink, edge-ways, SameDirection-turned, SameDirection-trans, opposite-same, opposite-way, opposite-twice}
 
 -- an edge leads from svertex a of vertex i, which is v, whose svertex u is, to the svertex there_end of the vertex there, which is other
 pub record Leads (s : Set) (C : Complex) (i a : ℕ) (v : Vertex) (u : MapVertex) : Type 0 where
@@ -82,7 +62,7 @@ module _ (s : Set) (C : Complex) (S : Shows s C) (i a : ℕ) (v : Vertex) (u : M
         is_end = W.is_low;
         onward = subst (λ (t : MapVertex). SameDirection (toward v.point w.point) t.dir) one (SameDirection-trans (toward v.point w.point) (opposite W.low.dir) W.high.dir (ahead-back w.point v.point W.low.dir W.onward) away);
         back = subst (λ (t : MapVertex). SameDirection (opposite t.dir) W.low.dir) one
-            (subst (λ (d : Vector). SameDirection (opposite W.high.dir) d) (twice W.low.dir) (opposite-same W.high.dir (opposite W.low.dir) (SameDirection-turned (opposite W.low.dir) W.high.dir away)));
+            (subst (λ (d : Vector). SameDirection (opposite W.high.dir) d) (opposite-twice W.low.dir) (opposite-same W.high.dir (opposite W.low.dir) (SameDirection-turned (opposite W.low.dir) W.high.dir away)));
         along = λ r b. let P = edge-points s C n e w v r S at-n H (between-turned v.point w.point r b) in (P.0, (P.1 (toward v.point w.point)).1 (cross-back (dir_of w.map.svertices e.low_svertex) w.point v.point (edge-way s C n e w v S at-n H)));
         which = inr (high, sv, refl, refl, H);
       }

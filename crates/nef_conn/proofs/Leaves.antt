@@ -1,38 +1,6 @@
 -- What lies above a vertex or an edge is linked with what lies above the edge or facet that leaves it in the first direction, down from up, that isn't free.
-use Rattle.std.proofs.Common.{ℕ, ◌+◌, ◌<◌, ◌≤◌, arith, sym, ◌∙◌, ◌⊎◌, inl, inr, ⊎_elim, List, subst}
-use Rattle.nef_space.specs.Lists.{Chained}
-use Rattle.nef_space.specs.Local.{Flat, FlatDim, Joined}
-use Rattle.nef_space.specs.Place.{Place, SamePlace, toward, IsBetween}
-use Rattle.nef_space.specs.Sets.{Set}
-use Rattle.nef_space.specs.Vectors.{Vector, blend, dot, cross, opposite, IsZero, IsDirection, SameDirection, up}
-use Rattle.law_near.proofs.Alike.{FlatDim-one}
-use Rattle.law_near.proofs.Between.{between-turned, between-inner, between-mix}
+use Rattle.nef_conn.proofs.Prelude.{ℕ, ◌+◌, ◌<◌, ◌≤◌, arith, sym, ◌∙◌, ◌⊎◌, inl, inr, ⊎_elim, List, subst, Chained, Flat, FlatDim, Joined, Place, SamePlace, toward, IsBetween, Set, Vector, blend, dot, cross, opposite, IsZero, IsDirection, SameDirection, up, FlatDim-one, between-turned, between-inner, between-mix, ahead, joined-both, same-place_sym, toward-place, between-same, forms, SameSigns, same-nought, at-one, At, Beside, same_way, other_way, beside, amount, far-keeps, far-level, Vertex, Edge, Complex, Corner, HasEnds, Shows, VertexSide, edge-points, edge-way, ahead-back, dim-same, between-way, between-ends, between-outer, same-itself, same-place_trans, VolumeLink, IsUpright, IsEvenAfter, EdgeWays, edge-ways, tied-ray, AreLinkedWhereJoined, nought-or, zero-decided, SameDirection-turned, SameDirection-trans, dir-signs, opposite-way, direction-left}
 use Rattle.law_near.proofs.Places.{mix_place}
-use Rattle.law_near.proofs.Decisions.{ahead}
-use Rattle.law_near.proofs.Even.{joined-both}
-use Rattle.law_near.proofs.Rays.{same-place_sym}
-use Rattle.law_near.proofs.Mixed.{toward-place, between-same}
-use Rattle.law_near.proofs.Directions.{zero-decided, direction-left}
-use Rattle.law_sphere.specs.Forms.{forms, SameSigns}
-use Rattle.law_near.proofs.Far.{nought-or, same-nought}
-use Rattle.law_sphere.proofs.Labels.{dir-signs}
-use Rattle.law_sphere.proofs.Lists.{at-one}
-use Rattle.law_sphere.specs.Maps.{At}
-use Rattle.law_sphere.proofs.Around.{Beside, same_way, other_way, beside}
-use Rattle.law_sphere.proofs.Compare.{SameDirection-turned, SameDirection-trans}
-use Rattle.law_sphere.proofs.Generic.{amount, far-keeps, far-level}
-use Rattle.law_complex.specs.Complexes.{Vertex, Edge, Complex, Corner, HasEnds}
-use Rattle.law_complex.specs.Shows.{Shows}
-use Rattle.law_complex.specs.Rays.{VertexSide}
-use Rattle.law_complex.proofs.Edges.{edge-points, edge-way}
-use Rattle.law_complex.proofs.FacetEdges.{ahead-back}
-use Rattle.law_complex.proofs.FacetWays.{dim-same}
-use Rattle.law_complex.proofs.Ways.{between-way, between-ends, between-outer, same-itself, same-place_trans}
-use Rattle.law_links.specs.Links.{VolumeLink}
-use Rattle.law_links.specs.Components.{IsUpright, IsEvenAfter}
-use Rattle.law_links.proofs.EdgeEnds.{EdgeWays, edge-ways, opposite-way}
-use Rattle.law_links.proofs.Ties.{tied-ray}
-use Rattle.nef_conn.specs.Items.{AreLinkedWhereJoined}
 use Rattle.nef_conn.proofs.SameRay.{on-ray}
 use Rattle.nef_conn.proofs.Chain.{chain-both, chain-back}
 use Rattle.nef_conn.proofs.Hits.{OverEdge, OverFacet, Over, ItemAt, over-item, above}

@@ -1,17 +1,5 @@
 -- The order of points: what lies below another point on a line along up comes before it, and so does what lies between two points that do.
-use Rattle.std.proofs.Common.{◌≡◌, ℕ, ◌+◌, ◌<◌, ℤ, pos, ◌+ℤ◌, ◌-ℤ◌, ◌*ℤ◌, ◌<ℤ◌, ◌≤ℤ◌, arith, ap, inl, inr, [], ◌∷◌, subst}
-use Rattle.std.proofs.lemmas.Int.{ints}
-use Rattle.nef_space.proofs.Ring.{ring, at, num, ◌⊕◌, ◌⊖◌, ◌⊗◌}
-use Rattle.nef_space.proofs.Combination.{given, none, follows}
-use Rattle.nef_space.proofs.Order.{by_order, mul_pos, mul_nonneg}
-use Rattle.nef_space.specs.Place.{Place, toward, IsBetween, IsPlaceBelow}
-use Rattle.nef_space.specs.Vectors.{Vector, opposite, IsNormal, SameDirection, up}
-use Rattle.law_near.proofs.Between.{mixed-of}
-use Rattle.law_near.proofs.Decided.{Decided}
-use Rattle.law_near.proofs.Directions.{same-factor}
-use Rattle.law_sphere.proofs.Compare.{SameDirection-turned}
-use Rattle.law_complex.proofs.FacetEdges.{ahead-back}
-use Rattle.nef_conn.proofs.Named.{twice}
+use Rattle.nef_conn.proofs.Prelude.{◌≡◌, ℕ, ◌+◌, ◌<◌, ℤ, pos, ◌+ℤ◌, ◌-ℤ◌, ◌*ℤ◌, ◌<ℤ◌, ◌≤ℤ◌, arith, ap, inl, inr, ◌∷◌, subst, [], ints, at, num, ◌⊕◌, ◌⊖◌, ◌⊗◌, given, none, follows, by_order, mul_pos, mul_nonneg, mul_neg, Place, toward, IsBetween, IsPlaceBelow, Vector, opposite, IsNormal, SameDirection, up, mixed-of, Decided, same-factor, ahead-back, SameDirection-turned, opposite-twice}
 use Rattle.nef_conn.proofs.Reached.{toward-normal}
 
 pub normal-below : (p q : Place) → IsNormal (toward p q) → IsPlaceBelow p q
@@ -30,8 +18,7 @@ module _ (k i j : ℕ) (sk : 0 < k) (si : 0 < i) (sj : 0 < j) where
       (λ l. absurd (
       let u = mul_nonneg (pos i) a (omega (arith, ints)) x in
       let v = mul_nonneg (pos j) b (omega (arith, ints)) y in
-      let w = mul_pos (pos k) (pos 0 -ℤ c) (omega (arith, ints)) (omega (arith, ints)) in
-      let z = ring (pos k ∷ c ∷ []) (at 0 ⊗ (num (pos 0) ⊖ at 1)) (num (pos 0) ⊖ at 0 ⊗ at 1) tt in
+      let w = mul_neg (pos k) c (omega (arith, ints)) (omega (arith, ints)) in
       omega (arith, ints)))
       (λ l. omega (arith, ints)) (λ l. omega (arith, ints))
 
@@ -39,7 +26,6 @@ module _ (k i j : ℕ) (sk : 0 < k) (si : 0 < i) (sj : 0 < j) where
   both-zero : (a b c : ℤ) → pos k *ℤ c ≡ pos i *ℤ a +ℤ pos j *ℤ b → pos 0 ≤ℤ a → pos 0 ≤ℤ b → c ≡ pos 0 → (a ≡ pos 0) × (b ≡ pos 0)
   both-zero a b c e x y z =
       let f = ap (λ r. pos k *ℤ r) z in
-      let g = ring (pos k ∷ []) (at 0 ⊗ num (pos 0)) (num (pos 0)) tt in
       let u = mul_nonneg (pos i) a (omega (arith, ints)) x in
       let v = mul_nonneg (pos j) b (omega (arith, ints)) y in (
         by_order a (pos 0) (λ l. absurd (omega (arith, ints))) (λ l. l) (λ l. absurd (let w = mul_pos (pos i) a (omega (arith, ints)) l in omega (arith, ints))),
@@ -86,7 +72,7 @@ normal-way a b w n =
 
 -- what lies below comes before
 pub down-before : (y r : Place) → SameDirection (toward y r) (opposite up) → IsPlaceBelow r y
-down-before y r w = normal-below r y (normal-way up (toward r y) (SameDirection-turned (toward r y) up (subst (λ (v : Vector). SameDirection (toward r y) v) (twice up) (ahead-back y r (opposite up) w)))
+down-before y r w = normal-below r y (normal-way up (toward r y) (SameDirection-turned (toward r y) up (subst (λ (v : Vector). SameDirection (toward r y) v) (opposite-twice up) (ahead-back y r (opposite up) w)))
     (record { first = omega (arith, ints); second = λ e. omega (arith, ints); third = λ e f. omega (arith, ints) }))
 
 pub below-decided : (p q : Place) → Decided (IsPlaceBelow p q)

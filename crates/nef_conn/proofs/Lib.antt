@@ -1,3 +1,4 @@
+pub mod Prelude
 pub mod AtItems
 pub mod FirstMet
 pub mod AtSides

@@ -6,59 +6,15 @@
 --   and names the arc at its lower end, which is this one or linked with it along the edge.
 -- * an arc ends at the svertex of d. Then the arc at the other end of the edge is linked with it, has the same plane, and lies further along d, where
 --   the number of its vertex is greater for each such step, or smaller for each. So this comes to an end, by induction on the vertices left.
-use Rattle.std.proofs.Common.{◌≡◌, ℕ, pos, ◌<ℤ◌, arith, sym, ◌∙◌, ◌⊎◌, inl, inr, ⊎_elim, subst}
-use Rattle.std.proofs.lemmas.Int.{ints}
-use Rattle.nef_space.specs.Lists.{Chained}
-use Rattle.nef_space.specs.Local.{FlatDim}
-use Rattle.nef_space.specs.Place.{Place, Form, form_at, normal_of, plane_through, SamePlace, toward, IsBetween}
-use Rattle.nef_space.specs.Sets.{Set}
-use Rattle.nef_space.specs.Vectors.{Vector, opposite, dot, triple, IsDirection, SameDirection, plane_dir}
-use Rattle.law_near.specs.Laws.{SameGerms}
-use Rattle.law_near.proofs.Alike.{FlatDim-by_germs}
-use Rattle.law_near.proofs.Decisions.{ahead}
-use Rattle.law_near.proofs.Even.{joined-germs, joined-turned, joined-both}
-use Rattle.law_near.proofs.Between.{between-turned}
-use Rattle.law_near.proofs.Flats.{vector-same}
-use Rattle.law_near.proofs.Mixed.{place-toward}
-use Rattle.law_near.proofs.Directions.{dot-zero, direction-left, direction-right}
-use Rattle.law_sphere.specs.Maps.{At, Arc, Item, arc_item, item_normal, dir_of, OnItem}
-use Rattle.law_sphere.proofs.Vectors.{normal-is, same-plus, same-minus}
-use Rattle.law_sphere.proofs.Forms.{on-direction, on-level}
-use Rattle.law_sphere.proofs.Shot.{dir-at, arc-at}
-use Rattle.law_sphere.proofs.Compare.{SameDirection-turned, SameDirection-trans, dir-self}
-use Rattle.law_sphere.proofs.Turn.{turn-same, turn-last}
-use Rattle.law_complex.specs.Complexes.{Vertex, Edge, Complex, Corner, HasEnds, IsCorner}
-use Rattle.law_complex.specs.Shows.{Shows}
-use Rattle.law_complex.specs.Skeleton.{item_plane, PlaneMeet, meets_edge, Meets, IsFirstInPlane, IsArcOnSide, IsCornerAt}
-use Rattle.law_complex.specs.Laws.{IsFlatIn}
-use Rattle.law_complex.proofs.Cones.{FlatAre}
-use Rattle.law_complex.proofs.Ways.{between-way, between-cases, same-itself, opposite-same}
-use Rattle.law_complex.proofs.Edges.{near_point, near-between}
-use Rattle.law_complex.proofs.FacetSides.{level-way, flats-carried}
-use Rattle.law_complex.proofs.FacetWays.{plane-ahead, two-off, meets-on}
-use Rattle.law_complex.proofs.FacetPoints.{IsInFacetOf}
-use Rattle.law_complex.proofs.FacetEdges.{ahead-back}
-use Rattle.law_complex.proofs.FacetAngles.{through-at}
-use Rattle.law_complex.proofs.FacetNames.{weight, normal-scaled, through-level}
-use Rattle.law_complex.proofs.FacetEnds.{facet-behind}
-use Rattle.law_links.specs.Links.{LinkAcross, FacetLink}
-use Rattle.law_links.proofs.Ties.{ahead-toward, even-after, IsTied, tied-both, tied-ahead}
-use Rattle.law_links.proofs.NearVertex.{facet-near}
-use Rattle.law_links.proofs.ItemPoints.{at-item, item-has_point, one-item}
+use Rattle.nef_conn.proofs.Prelude.{◌≡◌, ℕ, pos, ◌<ℤ◌, sym, ◌∙◌, ◌⊎◌, inl, inr, ⊎_elim, subst, Chained, FlatDim, Place, Form, form_at, normal_of, plane_through, SamePlace, toward, IsBetween, Set, Vector, opposite, dot, triple, IsDirection, SameDirection, plane_dir, SameGerms, FlatDim-by_germs, ahead, joined-germs, joined-turned, joined-both, between-turned, place-toward, At, Arc, Item, arc_item, item_normal, dir_of, OnItem, normal-is, same-plus, same-minus, on-direction, on-level, dir-at, arc-at, turn-same, turn-last, Vertex, Edge, Complex, Corner, HasEnds, IsCorner, Shows, item_plane, PlaneMeet, meets_edge, Meets, IsFirstInPlane, IsArcOnSide, IsCornerAt, IsFlatIn, FlatAre, between-way, between-cases, same-itself, near_point, near-between, flats-carried, plane-ahead, two-off, meets-on, IsInFacetOf, ahead-back, through-at, weight, normal-scaled, through-level, facet-behind, LinkAcross, FacetLink, ahead-toward, even-after, IsTied, tied-both, tied-ahead, facet-near, at-item, item-has_point, one-item, EdgeWays, edge-ways, tied-low, EndsOnSide, end-level, close_way, on-close, tied-close_way, through-same, way_inward, NamesFor, dot-zero, SameDirection-turned, SameDirection-trans, dir-self, opposite-same, level-way, opposite-twice, direction-left, direction-right}
 use Rattle.law_links.proofs.ItemLinks.{items-joined}
-use Rattle.law_links.proofs.EdgeEnds.{EdgeWays, edge-ways, tied-low, EndsOnSide, end-level, close_way, on-close, tied-close_way}
-use Rattle.law_links.proofs.Across.{through-same}
 use Rattle.nef_conn.proofs.Chain.{chain-here, chain-before}
-use Rattle.nef_conn.specs.Items.{way_inward, NamesFor}
 use Rattle.nef_conn.proofs.Onward.{level-kept}
 use Rattle.nef_conn.proofs.WayInward.{on-too, names-same, dir-level, dir-some, dir-same}
 
 -- ---- planes
 own-plane : (n : Vector) (p : Place) → form_at (plane_through n p) p ≡ pos 0
 own-plane n p = through-at n p p ∙ dot-zero n (toward p p) (place-toward p p (same-itself p))
-
-pub twice : (d : Vector) → opposite (opposite d) ≡ d
-twice d = vector-same (opposite (opposite d)) d (omega (arith, ints)) (omega (arith, ints)) (omega (arith, ints))
 
 flats-in : (s : Set) (q p : Place) (n : Vector) → FlatDim s q 2 → FlatAre s q n → IsFlatIn s (plane_through n p) q
 flats-in s q p n two flat = (two, λ e. let l = through-level n e p in let f = flat e in (λ g. l.0 (f.0 g), λ z. f.1 (l.1 z)))
@@ -204,7 +160,7 @@ module _ (s : Set) (C : Complex) (S : Shows s C) (i : ℕ) (e : Edge) (at-i : At
   amid = near-between s v.point w.point (direction-left (toward v.point w.point) u W.onward)
 
   f-is : f ≡ plane_dir c.normal
-  f-is = twice (plane_dir c.normal)
+  f-is = opposite-twice (plane_dir c.normal)
 
   level-f : dot c.normal f ≡ pos 0
   level-f = subst (λ (r : Vector). dot c.normal r ≡ pos 0) (sym f-is) (dir-level c.normal)
@@ -253,7 +209,7 @@ module _ (s : Set) (C : Complex) (S : Shows s C) (i : ℕ) (e : Edge) (at-i : At
     first-met : IsFirstInPlane C sheet y (way_inward (arc_item c)) (meets_edge i)
     first-met = record {
       place = z;
-      ahead = subst (λ (r : Vector). SameDirection (toward y z) r) (twice (way_inward (arc_item c))) (ahead-back z y f (ahead-toward s z f f-some));
+      ahead = subst (λ (r : Vector). SameDirection (toward y z) r) (opposite-twice (way_inward (arc_item c))) (ahead-back z y f (ahead-toward s z f f-some));
       meets = ((e, v, w, at-i, H, amid), (e, v, w, at-i, H, own-plane c.normal v.point, on-w));
       first = λ r t b m. two-off s C S r (even-after s 2 z f two r (inl (between-turned y z r b))) (meets-on s C S sheet t r m);
     }

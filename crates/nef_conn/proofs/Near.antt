@@ -1,38 +1,5 @@
 -- What lies above a point of the skeleton, and above what leaves it in the first direction down from up that isn't free, is linked.
-use Rattle.std.proofs.Common.{◌≡◌, ℕ, ◌+◌, ◌*◌, ◌<◌, ◌≤◌, ℤ, pos, ◌+ℤ◌, ◌*ℤ◌, ◌<ℤ◌, arith, refl, ap, sym, ◌∙◌, inl, ⊎_elim, [], ◌∷◌, subst}
-use Rattle.std.proofs.lemmas.Int.{ints}
-use Rattle.std.proofs.Math.Nat.{mul-pos}
-use Rattle.nef_space.specs.Signs.{sign}
-use Rattle.nef_space.proofs.Ring.{ring, at, num, ◌⊕◌, ◌⊗◌}
-use Rattle.nef_space.proofs.Combination.{given, none, follows}
-use Rattle.law_sphere.proofs.Shot.{product-off}
-use Rattle.law_sphere.proofs.StepOff.{blend-turned}
-use Rattle.nef_space.specs.Lists.{Chained}
-use Rattle.nef_space.specs.Local.{FlatDim}
-use Rattle.nef_space.specs.Place.{Place, toward, IsBetween}
-use Rattle.nef_space.specs.Sets.{Set}
-use Rattle.nef_space.specs.Vectors.{Vector, blend, dot, IsZero, IsDirection, SameDirection, up}
-use Rattle.law_near.proofs.Alike.{FlatDim-one}
-use Rattle.law_near.proofs.Decisions.{ahead}
-use Rattle.law_near.proofs.Flats.{vector-same}
-use Rattle.law_near.proofs.Directions.{same-factor, factor-same, direction-left}
-use Rattle.law_near.proofs.Far.{nought-or, same-nought}
-use Rattle.law_sphere.specs.Forms.{forms, SameSigns}
-use Rattle.law_sphere.specs.Maps.{At, Item, items, item_normal, item_pos, OnItem, Shaped}
-use Rattle.law_sphere.proofs.Compare.{SameDirection-turned, SameDirection-trans}
-use Rattle.law_sphere.proofs.Forms.{item-forms, normal-form, on-level, PlaceOf, svertex_place, item_place, free_place, place_of}
-use Rattle.law_sphere.proofs.Generic.{far-keeps, far-level}
-use Rattle.law_sphere.proofs.Vectors.{dot-comb, same-plus}
-use Rattle.law_complex.specs.Complexes.{Vertex, Complex, Corner}
-use Rattle.law_complex.specs.Shows.{Shows}
-use Rattle.law_complex.specs.Rays.{VertexSide}
-use Rattle.law_complex.proofs.Edges.{near_point, near-between, near-one}
-use Rattle.law_complex.proofs.FacetWays.{dim-same}
-use Rattle.law_links.specs.Links.{VolumeLink}
-use Rattle.law_links.specs.Components.{IsUpright}
-use Rattle.law_links.proofs.NearVertex.{free-dim}
-use Rattle.law_links.proofs.SideSight.{sees-pos}
-use Rattle.law_links.proofs.Ties.{ahead-toward, ahead-way, dim-cell, even-after, IsTied}
+use Rattle.nef_conn.proofs.Prelude.{◌≡◌, ℕ, ◌+◌, ◌*◌, ◌<◌, ◌≤◌, ℤ, pos, ◌+ℤ◌, ◌*ℤ◌, ◌<ℤ◌, arith, refl, ap, sym, ◌∙◌, inl, ⊎_elim, ◌∷◌, subst, [], ints, mul-pos, sign, ring, at, num, ◌⊕◌, ◌⊗◌, given, none, follows, product-off, Chained, FlatDim, Place, toward, IsBetween, Set, Vector, blend, dot, IsZero, IsDirection, SameDirection, up, FlatDim-one, ahead, same-factor, factor-same, same-nought, forms, SameSigns, At, Item, items, item_normal, item_pos, OnItem, Shaped, item-forms, normal-form, on-level, PlaceOf, svertex_place, item_place, free_place, place_of, far-keeps, far-level, dot-comb, same-plus, Vertex, Complex, Corner, Shows, VertexSide, near_point, near-between, near-one, dim-same, VolumeLink, IsUpright, free-dim, sees-pos, ahead-toward, ahead-way, dim-cell, even-after, IsTied, nought-or, vector-same, SameDirection-turned, SameDirection-trans, direction-left, blend-turned}
 use Rattle.nef_conn.proofs.AtSides.{ahead-zero}
 use Rattle.nef_conn.proofs.Chain.{chain-both}
 use Rattle.nef_conn.proofs.Fans.{IsOff, fan}

@@ -1,49 +1,5 @@
 -- Sides above the two ends' views of an edge are linked; so what lies above a vertex or an edge is linked with what lies above the edge or facet that leaves it in the first direction, down from up, that isn't free.
-use Rattle.std.proofs.Common.{◌≡◌, ℕ, zero, suc, ◌<◌, ℤ, pos, ◌<ℤ◌, ◌≤ℤ◌, arith, refl, sym, ◌∙◌, inl, inr, ⊎_elim, subst}
-use Rattle.std.proofs.lemmas.Int.{ints}
-use Rattle.std.proofs.lemmas.Bool.{cases_order}
-use Rattle.nef_space.proofs.Order.{mul_pos, mul_nonneg}
-use Rattle.nef_space.specs.Lists.{Chained}
-use Rattle.nef_space.specs.Local.{Flat, FlatDim}
-use Rattle.nef_space.specs.Place.{Place, plane_through, toward, IsBetween}
-use Rattle.nef_space.specs.Sets.{Set}
-use Rattle.nef_space.specs.Vectors.{Vector, blend, dot, cross, IsZero, IsDirection, SameDirection, up}
-use Rattle.law_near.specs.Laws.{Drop, IsFlatBelow}
-use Rattle.law_near.proofs.Alike.{FlatDim-one, FlatDim-by_germs}
-use Rattle.law_sphere.proofs.Parallel.{parallel-trans}
-use Rattle.law_sphere.proofs.Shot.{dir-at}
-use Rattle.law_near.proofs.Decided.{Decided, decided-or}
-use Rattle.law_near.proofs.Decisions.{ahead, near-ahead}
-use Rattle.law_near.proofs.Edges.{even-until}
-use Rattle.law_near.proofs.Even.{flat-nearby, flat-toward, span-1}
-use Rattle.law_near.proofs.Flats.{Flat-from_cone, FlatCone-from_flat}
-use Rattle.law_near.proofs.FlatDecided.{near-of_flat}
-use Rattle.law_near.proofs.Mixed.{toward-place}
-use Rattle.law_near.proofs.Directions.{dot-zero, direction-left, direction-right}
-use Rattle.law_sphere.specs.Maps.{At, MapVertex, Arc, arc_item, around_svertex, HasArc, Shaped, dir_of}
-use Rattle.law_sphere.proofs.Arcs.{at-arc}
-use Rattle.law_sphere.proofs.Compare.{SameDirection-turned, dir-self}
-use Rattle.law_sphere.proofs.KindFlats.{in-span}
-use Rattle.law_sphere.proofs.Lists.{search_list}
-use Rattle.law_sphere.proofs.Labels.{dir-signs}
-use Rattle.law_sphere.proofs.NearItems.{opposite-turned}
-use Rattle.law_sphere.proofs.Vectors.{dot-comb, normal-is, same-plus}
-use Rattle.law_sphere.proofs.Lone.{sees-around}
-use Rattle.law_complex.specs.Complexes.{Vertex, Edge, Complex, HasEnds, IsCorner}
-use Rattle.law_complex.specs.Shows.{Shows}
-use Rattle.law_complex.specs.Rays.{VertexSide}
-use Rattle.law_complex.proofs.Edges.{edge-points}
-use Rattle.law_complex.proofs.FacetAngles.{through-at, between-plus}
-use Rattle.law_complex.proofs.FacetSides.{level-way}
-use Rattle.law_complex.proofs.FacetWays.{dim-same}
-use Rattle.law_complex.proofs.Ways.{between-start}
-use Rattle.law_links.specs.Links.{VolumeLink, around_ends}
-use Rattle.law_links.specs.Components.{IsUpright}
-use Rattle.law_links.proofs.EdgeEnds.{EdgeWays, edge-ways, tied-low, tied-high, end-level, close_way, on-close, tied-close_way, corner_of}
-use Rattle.law_links.proofs.NearVertex.{facet-near}
-use Rattle.law_links.proofs.SidePoints.{level-opposite}
-use Rattle.law_links.proofs.Ties.{ahead-close, ahead-toward, tied-turned, tied-both, tied-ahead}
-use Rattle.nef_conn.specs.Items.{AreLinkedWhereJoined, EndsAt}
+use Rattle.nef_conn.proofs.Prelude.{◌≡◌, ℕ, zero, suc, ◌<◌, ℤ, pos, ◌<ℤ◌, ◌≤ℤ◌, arith, refl, sym, ◌∙◌, inl, inr, ⊎_elim, subst, ints, mul_pos, mul_nonneg, Chained, Flat, FlatDim, Place, plane_through, toward, IsBetween, Set, Vector, blend, dot, cross, IsZero, IsDirection, SameDirection, up, Drop, IsFlatBelow, FlatDim-one, FlatDim-by_germs, dir-at, Decided, decided-or, ahead, near-ahead, even-until, flat-nearby, flat-toward, span-1, Flat-from_cone, FlatCone-from_flat, near-of_flat, toward-place, At, MapVertex, Arc, arc_item, around_svertex, HasArc, Shaped, dir_of, at-arc, search_list, dot-comb, normal-is, same-plus, sees-around, Vertex, Edge, Complex, HasEnds, IsCorner, Shows, VertexSide, edge-points, through-at, between-plus, dim-same, between-start, VolumeLink, around_ends, IsUpright, EdgeWays, edge-ways, tied-low, tied-high, end-level, close_way, on-close, tied-close_way, corner_of, facet-near, level-opposite, ahead-close, ahead-toward, tied-turned, tied-both, tied-ahead, AreLinkedWhereJoined, EndsAt, dot-zero, SameDirection-turned, dir-self, dir-signs, in-span, opposite-turned, parallel-trans, level-way, direction-left, direction-right, eq-decided}
 use Rattle.nef_conn.proofs.Onward.{side-of}
 use Rattle.nef_conn.proofs.FirstMet.{all-flat}
 use Rattle.nef_conn.proofs.Chain.{chain-both, chain-back, chain-one}
@@ -244,10 +200,7 @@ module _ (s : Set) (C : Complex) (S : Shows s C) (upright : IsUpright C) (linked
             chain-both (VolumeLink C) x here y c (chain-both (VolumeLink C) here there y m (chain-back (VolumeLink C) y there d))
 
       ends-at : (i : ℕ) (c : Arc) (j : ℕ) → Decided (EndsAt c j)
-      ends-at i c j = decided-or (same-number c.source j) (same-number c.target j)
-        where
-          same-number : (m n : ℕ) → Decided (m ≡ n)
-          same-number m n = ⊎_elim (λ g. inl g) (λ o. inr (λ g. ⊎_elim (λ l. omega arith) (λ l. omega arith) o)) (cases_order m n)
+      ends-at i c j = decided-or (eq-decided c.source j) (eq-decided c.target j)
 
       pub two-views : Chained (VolumeLink C) x y
       two-views = ⊎_elim (λ f. low-arc f.number f.element f.listed f.holds)

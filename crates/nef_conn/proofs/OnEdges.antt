@@ -1,31 +1,5 @@
 -- An even segment from a vertex stays at it, and one from an edge point stays within the edge; so vertices are joined where they are one, and points of edges where the edges are one.
-use Rattle.std.proofs.Common.{◌≡◌, ℕ, sym, ◌⊎◌, inl, inr, ⊎_elim, List, [], ◌∷◌, subst, arith}
-use Rattle.nef_space.specs.Local.{Flat, FlatDim, IsEven, IsEvenPath, Joined}
-use Rattle.nef_space.specs.Place.{Place, SamePlace, toward, IsBetween}
-use Rattle.nef_space.specs.Sets.{Set}
-use Rattle.nef_space.specs.Vectors.{Vector, opposite, cross, IsZero, IsDirection, SameDirection}
-use Rattle.law_near.specs.Cells.{carriers}
-use Rattle.law_near.proofs.Alike.{FlatDim-one, FlatDim-by_germs}
-use Rattle.law_near.proofs.Between.{between-turned, between-inner}
-use Rattle.law_near.proofs.Edges.{start-close}
-use Rattle.law_near.proofs.Even.{flat-way, joined-germs}
-use Rattle.law_near.proofs.Rays.{signs-same, same-place_sym}
-use Rattle.law_near.proofs.Mixed.{toward-place, place-toward, between-same}
-use Rattle.law_near.proofs.Directions.{zero-decided}
-use Rattle.law_near.proofs.Near.{reach_all}
-use Rattle.law_sphere.specs.Maps.{At}
-use Rattle.law_sphere.proofs.Around.{Beside, same_way, other_way, beside}
-use Rattle.law_sphere.proofs.Compare.{SameDirection-turned, SameDirection-trans}
-use Rattle.law_sphere.proofs.Lists.{at-one}
-use Rattle.law_complex.specs.Complexes.{Vertex, Edge, Complex, HasEnds}
-use Rattle.law_complex.specs.Shows.{Shows}
-use Rattle.law_complex.proofs.Edges.{near_point, near-between, edge-points, edge-way}
-use Rattle.law_complex.proofs.FacetEdges.{ahead-back}
-use Rattle.law_complex.proofs.FacetWays.{dim-same}
-use Rattle.law_complex.proofs.Ways.{between-way, between-outer, between-ends, between-start, same-itself, same-place_trans}
-use Rattle.law_links.proofs.EdgeEnds.{opposite-way}
-use Rattle.law_links.proofs.Ties.{joined-even, joined-cell}
-use Rattle.nef_conn.specs.Components.{JoinedAreAsFlat, JoinedVertices, JoinedEdges}
+use Rattle.nef_conn.proofs.Prelude.{◌≡◌, ℕ, sym, ◌⊎◌, inl, inr, ⊎_elim, List, ◌∷◌, subst, arith, [], Flat, FlatDim, IsEven, IsEvenPath, Joined, Place, SamePlace, toward, IsBetween, Set, Vector, opposite, cross, IsZero, IsDirection, SameDirection, carriers, FlatDim-one, FlatDim-by_germs, between-turned, between-inner, start-close, flat-way, joined-germs, signs-same, same-place_sym, toward-place, place-toward, between-same, reach_all, At, Beside, same_way, other_way, beside, at-one, Vertex, Edge, Complex, HasEnds, Shows, near_point, near-between, edge-points, edge-way, ahead-back, dim-same, between-way, between-outer, between-ends, between-start, same-itself, same-place_trans, joined-even, joined-cell, JoinedAreAsFlat, JoinedVertices, JoinedEdges, zero-decided, SameDirection-turned, SameDirection-trans, opposite-way}
 use Rattle.nef_conn.proofs.OneNamed.{one-vertex, one-edge}
 use Rattle.nef_conn.proofs.SameRay.{on-ray}
 

@@ -1,13 +1,5 @@
 -- The number of components is one: of two lists with a point of each component, each point of the one is joined to just one of the other.
-use Rattle.std.proofs.Common.{◌≡◌, ℕ, zero, suc, ◌<◌, ◌≤◌, arith, refl, ◌⊎◌, inl, inr, ⊎_elim, List, length, subst}
-use Rattle.std.proofs.lemmas.Bool.{cases_order}
-use Rattle.nef_space.specs.Local.{Joined}
-use Rattle.nef_space.specs.Place.{Place}
-use Rattle.nef_space.specs.Sets.{Set}
-use Rattle.law_near.proofs.Even.{joined-both, joined-turned}
-use Rattle.law_sphere.specs.Maps.{At}
-use Rattle.law_sphere.proofs.Lists.{at-one}
-use Rattle.nef_conn.specs.Components.{AreComponents, OneCount}
+use Rattle.nef_conn.proofs.Prelude.{◌≡◌, ℕ, zero, suc, ◌<◌, ◌≤◌, arith, refl, ◌⊎◌, inl, inr, ⊎_elim, List, length, subst, cases_order, Joined, Place, Set, joined-both, joined-turned, At, at-one, AreComponents, OneCount}
 use Rattle.nef_conn.proofs.Counted.{at-some}
 use Rattle.nef_conn.proofs.Reached.{within}
 

@@ -1,35 +1,6 @@
 -- What a ray within a plane first meets, and the corner there, are one.
-use Rattle.std.proofs.Common.{◌≡◌, ℕ, ◌<◌, pos, ◌<ℤ◌, ◌+ℤ◌, ◌*ℤ◌, arith, ap, sym, ◌∙◌, inl, inr, ◌⊎◌, ⊎_elim, [], ◌∷◌, subst}
-use Rattle.std.proofs.lemmas.Bool.{cases_order}
-use Rattle.std.proofs.lemmas.Int.{ints}
-use Rattle.nef_space.proofs.Ring.{ring, at, num, ◌⊕◌, ◌⊗◌}
+use Rattle.nef_conn.proofs.Prelude.{◌≡◌, ℕ, ◌<◌, pos, ◌<ℤ◌, ◌+ℤ◌, ◌*ℤ◌, arith, ap, sym, ◌∙◌, inl, inr, ◌⊎◌, ⊎_elim, ◌∷◌, subst, map, [], cases_order, ints, ring, at, num, ◌⊕◌, ◌⊗◌, Place, Form, normal_of, slope, toward, SamePlace, IsBetween, Set, Vector, dot, cross, opposite, blend, triple, IsDirection, IsZero, IsNormal, SameDirection, Label, between-same, between-turned, between-inner, place_below-apart, same-place_sym, forms, At, MapVertex, Arc, arc_item, items, OnItem, Map, dir_of, Shaped, at-arc, Ends, ends-of, normals-same, amount, at-one, dir-at, dot-comb, Vertex, Edge, Complex, Corner, HasEnds, IsEdge, IsEdgeBelow, Shows, IsEdgePoint, PlaneMeet, meets_vertex, meets_edge, Meets, IsFirstInPlane, IsArcOnSide, IsCornerAt, RayNames, edge-points, source-meets, target-meets, ahead-back, between-way, between-outer, same-itself, same-place_trans, SameDirection-turned, SameDirection-trans, dir-self, parallel-trans, opposite-same, opposite-way, direction-right}
 use Rattle.nef_space.specs.Numbers.{IsBelow}
-use Rattle.nef_space.specs.Place.{Place, Form, normal_of, slope, toward, SamePlace, IsBetween}
-use Rattle.nef_space.specs.Sets.{Set}
-use Rattle.nef_space.specs.Vectors.{Vector, dot, cross, opposite, blend, triple, IsDirection, IsZero, IsNormal, SameDirection}
-use Rattle.nef_space.specs.declared.label.Label.{Label}
-use Rattle.law_near.proofs.Mixed.{between-same}
-use Rattle.law_near.proofs.Directions.{direction-right}
-use Rattle.law_near.proofs.Between.{between-turned, between-inner}
-use Rattle.law_near.proofs.PlaceOrder.{place_below-apart}
-use Rattle.law_near.proofs.Rays.{same-place_sym}
-use Rattle.law_sphere.specs.Forms.{forms}
-use Rattle.law_sphere.specs.Maps.{At, MapVertex, Arc, arc_item, items, OnItem, Map, dir_of, Shaped}
-use Rattle.law_sphere.proofs.Arcs.{at-arc, Ends, ends-of}
-use Rattle.law_sphere.proofs.Compare.{SameDirection-turned, SameDirection-trans, dir-self, normals-same}
-use Rattle.law_sphere.proofs.Generic.{amount}
-use Rattle.law_sphere.proofs.Lists.{at-one}
-use Rattle.law_sphere.proofs.Parallel.{parallel-trans}
-use Rattle.law_sphere.proofs.Shot.{dir-at}
-use Rattle.law_sphere.proofs.Vectors.{dot-comb}
-use Rattle.law_complex.specs.Complexes.{Vertex, Edge, Complex, Corner, HasEnds, IsEdge, IsEdgeBelow}
-use Rattle.law_complex.specs.Shows.{Shows}
-use Rattle.law_complex.specs.Skeleton.{IsEdgePoint, PlaneMeet, meets_vertex, meets_edge, Meets, IsFirstInPlane, IsArcOnSide, IsCornerAt, RayNames}
-use Rattle.law_complex.proofs.Edges.{edge-points}
-use Rattle.law_complex.proofs.FacetArcs.{source-meets, target-meets}
-use Rattle.law_complex.proofs.FacetEdges.{ahead-back}
-use Rattle.law_complex.proofs.Ways.{between-way, between-outer, same-itself, opposite-same, same-place_trans}
-use Rattle.law_links.proofs.EdgeEnds.{opposite-way}
 use Rattle.nef_conn.proofs.Onward.{level-kept}
 use Rattle.nef_conn.proofs.WayInward.{side-turned}
 use Rattle.nef_conn.proofs.SameRay.{on-ray}
@@ -89,7 +60,7 @@ module _ (M : Map) (V : Shaped M) (j : ℕ) (u : MapVertex) (b : At M.svertices 
       → IsArcOnSide (record { point = p; map = M }) j n f a → IsArcOnSide (record { point = p; map = M }) j n f e → i ≡ k
   one-arc p i k a e l m w r o q = V.no_items_meet i k (arc_item a) (arc_item e) c (at-arc M.arcs M.sloop i a l) (at-arc M.arcs M.sloop k e m) (met p i a l w o) (met p k e m r q)
 
-corners-same : (j k : Corner) → j.vertex ≡ k.vertex → j.item ≡ k.item → j ≡ k
+pub corners-same : (j k : Corner) → j.vertex ≡ k.vertex → j.item ≡ k.item → j ≡ k
 corners-same j k e f = ap (λ n. make n j.item) e ∙ ap (λ n. make k.vertex n) f
   where
     make : ℕ → ℕ → Corner

@@ -1,46 +1,8 @@
 -- Sides above one place, or above points of one edge or one facet, are linked.
-use Rattle.std.proofs.Common.{◌≡◌, ℕ, ◌≤◌, arith, ap, sym, ◌∙◌, ◌⊎◌, inl, inr, ⊎_elim, List, subst}
-use Rattle.nef_space.specs.Signs.{sign}
-use Rattle.nef_space.specs.Lists.{Chained}
-use Rattle.nef_space.specs.Local.{Flat, FlatDim, Joined, IsEven}
-use Rattle.nef_space.specs.Place.{Place, SamePlace, toward, IsBetween}
-use Rattle.nef_space.specs.Sets.{Set}
-use Rattle.nef_space.specs.Vectors.{Vector, blend, dot, cross, opposite, IsZero, IsDirection, IsNormal, SameDirection, zero_vector, up}
-use Rattle.law_near.specs.Cells.{carriers}
-use Rattle.law_near.proofs.Alike.{FlatDim-one, Flat-by_germs}
-use Rattle.law_near.proofs.Between.{between-turned, between-inner}
-use Rattle.law_near.proofs.Decisions.{ahead}
-use Rattle.law_near.proofs.Even.{even-germs}
-use Rattle.law_near.proofs.Rays.{signs-same, same-place_sym}
-use Rattle.law_near.proofs.Mixed.{toward-place, between-same}
-use Rattle.law_near.proofs.Directions.{zero-decided, direction-left}
-use Rattle.law_near.proofs.Far.{nought-or, same-nought}
-use Rattle.law_sphere.specs.Forms.{forms, SameSigns}
-use Rattle.law_sphere.specs.Maps.{At, pos_item}
-use Rattle.law_sphere.proofs.Around.{Beside, same_way, other_way, beside}
-use Rattle.law_sphere.proofs.Compare.{SameDirection-turned, SameDirection-trans, normals-not_opposite, dir-self}
-use Rattle.law_sphere.proofs.Generic.{amount, far-keeps, far-level}
-use Rattle.law_sphere.proofs.Labels.{dir-signs}
-use Rattle.law_sphere.proofs.Lists.{at-one}
-use Rattle.law_complex.specs.Complexes.{Vertex, Edge, Complex, HasEnds}
-use Rattle.law_complex.specs.Shows.{Shows}
-use Rattle.law_complex.specs.Rays.{VertexSide}
-use Rattle.law_complex.proofs.Edges.{edge-points, edge-way}
-use Rattle.law_complex.proofs.FacetEdges.{ahead-back}
-use Rattle.law_complex.proofs.FacetWays.{dim-same}
-use Rattle.law_complex.proofs.Ways.{between-way, between-cases, same-itself, same-place_trans}
-use Rattle.law_links.specs.Links.{VolumeLink}
-use Rattle.law_links.proofs.EdgeEnds.{edge-ways, opposite-way}
-use Rattle.law_sphere.proofs.NearItems.{opposite-turned}
-use Rattle.law_sphere.proofs.Vectors.{normal-direction}
-use Rattle.law_near.proofs.FlatDecided.{flat_dim-of}
-use Rattle.law_links.proofs.NearVertex.{facet-near}
-use Rattle.law_links.proofs.Ties.{joined-even, tied-turned, even-cell}
+use Rattle.nef_conn.proofs.Prelude.{◌≡◌, ℕ, ◌≤◌, arith, ap, sym, ◌∙◌, ◌⊎◌, inl, inr, ⊎_elim, List, subst, sign, Chained, Flat, FlatDim, Joined, IsEven, Place, SamePlace, toward, IsBetween, Set, Vector, blend, dot, cross, opposite, IsZero, IsDirection, IsNormal, SameDirection, zero_vector, up, carriers, FlatDim-one, Flat-by_germs, between-turned, between-inner, ahead, even-germs, signs-same, same-place_sym, toward-place, between-same, same-nought, forms, SameSigns, At, pos_item, Beside, same_way, other_way, beside, normals-not_opposite, amount, far-keeps, far-level, at-one, Vertex, Edge, Complex, HasEnds, Shows, VertexSide, edge-points, edge-way, ahead-back, dim-same, between-way, between-cases, same-itself, same-place_trans, VolumeLink, edge-ways, normal-direction, flat_dim-of, facet-near, joined-even, tied-turned, even-cell, AreLinkedWhereJoined, joined-both, nought-or, zero-decided, SameDirection-turned, SameDirection-trans, dir-self, dir-signs, opposite-turned, opposite-way, direction-left}
 use Rattle.nef_conn.proofs.OneNamed.{one-vertex}
-use Rattle.nef_conn.specs.Items.{AreLinkedWhereJoined}
 use Rattle.nef_conn.proofs.SameRay.{on-ray}
 use Rattle.nef_conn.proofs.Hits.{OverVertex, OverEdge, OverFacet, Over, over-item, side-is}
-use Rattle.law_near.proofs.Even.{joined-both}
 use Rattle.nef_conn.proofs.Triangles.{half-to}
 use Rattle.nef_conn.proofs.Reached.{toward-normal}
 use Rattle.nef_conn.proofs.RaysEnd.{tied-dim}

@@ -1,55 +1,11 @@
 -- An arc that ends at an edge goes on along it: at the edge's other end there is an arc of the same plane on the same side, and the two are linked.
-use Rattle.std.proofs.Common.{◌≡◌, ℕ, ◌+◌, pos, ◌<ℤ◌, ◌+ℤ◌, ◌*ℤ◌, neg_ℤ, arith, ap, ◌∙◌, ◌⊎◌, inl, inr, ⊎_elim, [], ◌∷◌, subst, refl}
-use Rattle.std.proofs.lemmas.Int.{ints}
-use Rattle.nef_space.specs.Signs.{sign}
-use Rattle.nef_space.proofs.Ring.{ring, at, num, neg, ◌⊕◌, ◌⊖◌, ◌⊗◌}
-use Rattle.nef_space.specs.Local.{Germ}
-use Rattle.nef_space.specs.Place.{Place, toward}
-use Rattle.nef_space.specs.Sets.{Set}
-use Rattle.nef_space.specs.Vectors.{Vector, opposite, blend, dot, cross, triple, IsDirection, SameDirection, IsOpposite}
-use Rattle.nef_space.specs.declared.label.Label.{Label}
-use Rattle.law_near.specs.Cells.{carriers}
-use Rattle.law_near.specs.Laws.{SameGerms}
-use Rattle.law_near.proofs.Alike.{FlatDim-by_germs}
-use Rattle.law_near.proofs.Decisions.{ahead, near-ahead}
-use Rattle.law_near.proofs.Even.{joined-germs}
-use Rattle.law_near.proofs.NearGerms.{steep}
-use Rattle.law_near.proofs.Supports.{square-cross}
-use Rattle.law_near.proofs.Directions.{dot-comm, direction-right}
-use Rattle.law_cyclic.proofs.Directions.{level-of_opposite}
-use Rattle.law_sphere.specs.Forms.{forms}
-use Rattle.law_sphere.specs.Maps.{At, MapVertex, Arc, Item, arc_item, sloop_item, items, item_normal, Map, OnItem, NearLabel, Valid}
-use Rattle.law_sphere.proofs.Vectors.{normal-is, dot-comb, same-plus, same-minus, nought-if}
-use Rattle.law_sphere.proofs.Generic.{amount, far-keeps}
-use Rattle.law_sphere.proofs.Shot.{arc-at}
-use Rattle.law_sphere.proofs.NearItems.{opposite-turned}
-use Rattle.law_sphere.proofs.Around.{direction-around}
-use Rattle.law_sphere.proofs.Compare.{SameDirection-turned, SameDirection-trans, dir-self}
-use Rattle.law_sphere.proofs.Turn.{turn-same}
-use Rattle.law_sphere.proofs.Arcs.{at-arc}
-use Rattle.law_complex.specs.Complexes.{Vertex, Edge, Complex, Corner, HasEnds, IsCorner}
-use Rattle.law_complex.specs.Shows.{Shows}
-use Rattle.law_complex.proofs.Cones.{near-label}
-use Rattle.law_complex.proofs.FacetSides.{level-way, flats-carried}
+use Rattle.nef_conn.proofs.Prelude.{◌≡◌, ℕ, ◌+◌, pos, ◌<ℤ◌, ◌+ℤ◌, ◌*ℤ◌, neg_ℤ, arith, ap, ◌∙◌, ◌⊎◌, inl, inr, ⊎_elim, ◌∷◌, subst, refl, [], ints, sign, ring, at, num, ◌⊕◌, ◌⊗◌, Germ, Place, toward, Set, Vector, opposite, blend, dot, cross, triple, IsDirection, SameDirection, IsOpposite, Label, carriers, SameGerms, FlatDim-by_germs, ahead, near-ahead, joined-germs, steep, forms, At, MapVertex, Arc, Item, arc_item, sloop_item, items, item_normal, Map, OnItem, NearLabel, Valid, normal-is, dot-comb, same-plus, same-minus, amount, far-keeps, arc-at, direction-around, turn-same, at-arc, Vertex, Edge, Complex, Corner, HasEnds, IsCorner, Shows, near-label, flats-carried, IsInFacetOf, source-met, target-met, ahead-back, LinkAlong, facet-near, IsTied, tied-turned, tied-both, tied-ahead, EdgeWays, edge-ways, ends-tied, EndsOnSide, end-level, close_way, on-close, tied-close_way, tied-turn, corner_of, left-turn, EndsAt, ArcsGoOn, dot-comm, square-cross, level-of_opposite, nought-if, SameDirection-turned, SameDirection-trans, dir-self, opposite-turned, level-way, opposite-way, direction-right, right-turn, back-triple}
 use Rattle.law_complex.proofs.FacetCorners.{ItemAt, item-at}
-use Rattle.law_complex.proofs.FacetPoints.{IsInFacetOf}
-use Rattle.law_complex.proofs.FacetArcs.{source-met, target-met}
-use Rattle.law_complex.proofs.FacetEdges.{ahead-back}
-use Rattle.law_links.specs.Links.{LinkAlong}
-use Rattle.law_links.proofs.NearVertex.{facet-near}
-use Rattle.law_links.proofs.Ties.{IsTied, tied-turned, tied-both, tied-ahead}
-use Rattle.law_links.proofs.EdgeEnds.{EdgeWays, edge-ways, ends-tied, EndsOnSide, end-level, close_way, on-close, tied-close_way, tied-turn, corner_of, opposite-way, left-turn, right-turn}
-use Rattle.nef_conn.specs.Items.{EndsAt, ArcsGoOn}
 
 -- ---- directions of a plane
 -- what lies in a plane lies in each plane with the same normal
 pub level-kept : (n m d : Vector) → SameDirection n m → dot n d ≡ pos 0 → dot m d ≡ pos 0
 level-kept n m d w z = dot-comm m d ∙ level-way d n m w (dot-comm d n ∙ z)
-
-pub back-triple : (n u f : Vector) → triple n (opposite u) f ≡ neg_ℤ (triple n u f)
-back-triple n u f = ring (n.x ∷ n.y ∷ n.z ∷ u.x ∷ u.y ∷ u.z ∷ f.x ∷ f.y ∷ f.z ∷ [])
-    (at 0 ⊗ (neg (at 4) ⊗ at 8 ⊖ neg (at 5) ⊗ at 7) ⊕ at 1 ⊗ (neg (at 5) ⊗ at 6 ⊖ neg (at 3) ⊗ at 8) ⊕ at 2 ⊗ (neg (at 3) ⊗ at 7 ⊖ neg (at 4) ⊗ at 6))
-    (neg (at 0 ⊗ (at 4 ⊗ at 8 ⊖ at 5 ⊗ at 7) ⊕ at 1 ⊗ (at 5 ⊗ at 6 ⊖ at 3 ⊗ at 8) ⊕ at 2 ⊗ (at 3 ⊗ at 7 ⊖ at 4 ⊗ at 6))) tt
 
 -- ---- an edge seen from one of its ends
 -- an edge leads from svertex a of vertex i, which is v, to svertex b of vertex j, which is w

@@ -1,32 +1,5 @@
 -- From a vertex beside which z lies, whose arc ends at an edge that leads to z's line: z's ray comes to this edge, and names the arc or the one linked with it along the edge.
-use Rattle.std.proofs.Common.{◌≡◌, ℕ, ℤ, pos, neg_ℤ, ◌<ℤ◌, arith, refl, ap, sym, ◌∙◌, ◌⊎◌, inl, inr, subst}
-use Rattle.std.proofs.lemmas.Int.{ints}
-use Rattle.nef_space.specs.Signs.{sign}
-use Rattle.nef_space.specs.Lists.{Chained}
-use Rattle.nef_space.specs.Local.{Flat, FlatDim}
-use Rattle.nef_space.specs.Place.{Place, Form, form_at, normal_of, toward, IsBetween}
-use Rattle.nef_space.specs.Sets.{Set}
-use Rattle.nef_space.specs.Vectors.{Vector, opposite, dot, triple, IsDirection, SameDirection}
-use Rattle.law_near.proofs.Between.{between-inner}
-use Rattle.law_near.proofs.Even.{span-1}
-use Rattle.law_near.proofs.Directions.{direction-right}
-use Rattle.law_sphere.specs.Maps.{At, Arc, Item, arc_item, item_normal, dir_of}
-use Rattle.law_sphere.proofs.Vectors.{same-plus, same-minus, normal-direction}
-use Rattle.law_sphere.proofs.Arcs.{at-arc}
-use Rattle.law_sphere.proofs.Lists.{at-one}
-use Rattle.law_sphere.proofs.Shot.{arc-at, dir-at}
-use Rattle.law_sphere.proofs.Compare.{SameDirection-turned, dir-self}
-use Rattle.law_sphere.proofs.Turn.{turn-same}
-use Rattle.law_complex.specs.Complexes.{Vertex, Edge, Complex, Corner, HasEnds, IsCorner}
-use Rattle.law_complex.specs.Shows.{Shows}
-use Rattle.law_complex.proofs.FacetAngles.{Cut}
-use Rattle.law_complex.specs.Skeleton.{PlaneMeet, meets_edge, Meets, IsFirstInPlane, IsArcOnSide, IsCornerAt, RayNames}
-use Rattle.law_complex.proofs.Ways.{between-way, between-ends}
-use Rattle.law_complex.proofs.FacetWays.{two-off, meets-on}
-use Rattle.law_links.specs.Links.{FacetLink}
-use Rattle.law_links.proofs.EdgeEnds.{right-turn}
-use Rattle.law_cyclic.proofs.Directions.{level-of_opposite}
-use Rattle.nef_conn.proofs.Onward.{back-triple}
+use Rattle.nef_conn.proofs.Prelude.{◌≡◌, ℕ, ℤ, pos, neg_ℤ, ◌<ℤ◌, arith, refl, ap, sym, ◌∙◌, ◌⊎◌, inl, inr, subst, ints, sign, Chained, Flat, FlatDim, Place, Form, form_at, normal_of, toward, IsBetween, Set, Vector, opposite, dot, triple, IsDirection, SameDirection, between-inner, span-1, At, Arc, Item, arc_item, item_normal, dir_of, same-plus, same-minus, normal-direction, at-arc, at-one, arc-at, dir-at, turn-same, Vertex, Edge, Complex, Corner, HasEnds, IsCorner, Shows, Cut, PlaneMeet, meets_edge, Meets, IsFirstInPlane, IsArcOnSide, IsCornerAt, RayNames, between-way, between-ends, two-off, meets-on, FacetLink, level-of_opposite, SameDirection-turned, dir-self, direction-opposite, direction-right, right-turn, back-triple}
 use Rattle.nef_conn.proofs.Chain.{chain-here, chain-before}
 use Rattle.nef_conn.proofs.OneNamed.{one-met, one-corner}
 use Rattle.nef_conn.proofs.Sector.{Seen, end_of, Stops}
@@ -47,9 +20,6 @@ module _ (s : Set) (C : Complex) (S : Shows s C) (h g : Form) (d : Vector) (y z 
 
   some-m : IsDirection m
   some-m = m-some s C S h g d y z T
-
-  some-opposite : (e : Vector) → IsDirection e → IsDirection (opposite e)
-  some-opposite e i q = i (let a = q.0 in omega (arith, ints), let a = q.1 in omega (arith, ints), let a = q.2 in omega (arith, ints))
 
   level-opposite : dot n (opposite d) ≡ pos 0
   level-opposite = level-of_opposite n d T.level
@@ -139,7 +109,7 @@ module _ (s : Set) (C : Complex) (S : Shows s C) (h g : Form) (d : Vector) (y z 
           let f = back-triple n u (opposite d) in
           let r = right-turn n u d in
           let i : IsDirection n = normal-direction n T.normal in
-          let o = some-opposite d T.some in
+          let o = direction-opposite d T.some in
           ap (λ (r : Vector). sign (triple n r (opposite d))) e ∙ turn-same n n (opposite u) L.end.dir (opposite d) (opposite d) (dir-self n i) L.back (dir-self (opposite d) o)
           ∙ ap sign (plain (triple n (opposite u) (opposite d)) (triple n u (opposite d)) (triple n u d) f r)
         where
@@ -173,7 +143,7 @@ module _ (s : Set) (C : Complex) (S : Shows s C) (h g : Form) (d : Vector) (y z 
                 same-here,
                 subst (λ (j : ℕ). IsArcOnSide v j n (opposite d) E.arc) (sym q) (arc-side T.seen (dir-at v.map.svertices a E.svertex E.end)),
               ) in
-              subst (λ (j : Corner). Chained (FacetLink C) k j) (one-corner s C S h (opposite d) (some-opposite d T.some) level-opposite k l (meets_edge L.number) here (e, f, b, at-e, is, at-f, at-b, nb, side)) (chain-here (FacetLink C) k)
+              subst (λ (j : Corner). Chained (FacetLink C) k j) (one-corner s C S h (opposite d) (direction-opposite d T.some) level-opposite k l (meets_edge L.number) here (e, f, b, at-e, is, at-f, at-b, nb, side)) (chain-here (FacetLink C) k)
           by (inr (p, q, r, t, H)) =
               let low = ap (λ (j : Edge). j.low) one in
               let other = at-one C.vertices L.edge.low f L.other (subst (λ (j : ℕ). At C.vertices j f) low at-f) H.low in

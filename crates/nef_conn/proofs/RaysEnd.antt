@@ -1,51 +1,7 @@
 -- From a point of the frame with three flat directions the ray down ends at a skeleton point, above which some side lies.
-use Rattle.std.proofs.Common.{◌≡◌, ℕ, ◌+◌, ◌≤◌, ℤ, pos, ◌+ℤ◌, ◌-ℤ◌, ◌*ℤ◌, ◌<ℤ◌, arith, refl, ◌∙◌, ⊎_elim, [], ◌∷◌, subst}
-use Rattle.std.proofs.lemmas.Int.{ints}
-use Rattle.nef_space.proofs.Ring.{ring, at, num, ◌⊕◌, ◌⊖◌, ◌⊗◌}
-use Rattle.nef_space.specs.Local.{FlatDim}
-use Rattle.nef_space.specs.Place.{Place, form_at, InFrame, toward, IsAhead, IsBetween}
-use Rattle.nef_space.specs.Sets.{Set}
-use Rattle.nef_space.specs.Vectors.{Vector, opposite, blend, dot, cross, IsZero, IsDirection, SameDirection, up, plane_axis}
-use Rattle.nef_space.specs.declared.label.Label.{Label}
-use Rattle.law_near.specs.Cells.{carriers}
-use Rattle.law_near.proofs.Alike.{flat-germ, FlatDim-by_germs}
-use Rattle.law_near.proofs.Between.{between-turned}
-use Rattle.law_near.proofs.Decided.{label_of}
-use Rattle.law_near.proofs.Decisions.{ahead}
-use Rattle.law_near.proofs.Even.{joined-germs}
-use Rattle.law_near.proofs.NearGerms.{steep}
-use Rattle.law_near.proofs.Rays.{signs-same, same-place_sym}
-use Rattle.law_sphere.specs.Forms.{forms}
-use Rattle.law_sphere.specs.Sectors.{BoundsSector}
-use Rattle.law_sphere.specs.Maps.{At, MapVertex, Arc, Item, arc_item, item_normal, item_pos, IsFree, Side, pos_item, HasSide, SeenAs, Shaped}
-use Rattle.law_sphere.proofs.Arcs.{at-arc}
-use Rattle.law_sphere.proofs.Around.{Beside, same_way, other_way, beside}
-use Rattle.law_sphere.proofs.Forms.{axes-forms, on-level}
-use Rattle.law_sphere.proofs.Generic.{amount, far-keeps}
-use Rattle.law_sphere.proofs.NearItems.{kept-not_opposite}
-use Rattle.law_sphere.proofs.Sectors.{bounded, unrayed-ahead}
-use Rattle.law_sphere.proofs.Vectors.{normal-is}
-use Rattle.law_complex.specs.Complexes.{Vertex, Complex, Corner, IsCorner}
-use Rattle.law_complex.specs.Shows.{Shows}
-use Rattle.law_complex.specs.Skeleton.{item_plane, IsVertexPoint, IsEdgePoint, IsFacetPoint, Spot, at_vertex, on_edge, in_facet, IsSpot, IsSkeletonPoint, HasCorner}
-use Rattle.law_complex.specs.Rays.{VertexSide, HasSideLabel, IsAbove, RayDown}
-use Rattle.law_complex.specs.Laws.{IsFlatIn}
-use Rattle.law_complex.proofs.FacetAngles.{through-at}
-use Rattle.law_complex.proofs.FacetEdges.{ahead-back}
-use Rattle.law_complex.proofs.FacetNames.{weight, normal-scaled, through-level, axis-in, facet-of, facets-complete}
-use Rattle.law_complex.proofs.FacetPoints.{facet-point}
-use Rattle.law_complex.proofs.FacetWays.{dim-same}
-use Rattle.law_complex.proofs.Skeletons.{way-ends, skeleton-not_flat, skeleton-or_flat}
-use Rattle.law_links.specs.Components.{IsEvenAfter, IsUpright}
-use Rattle.law_links.proofs.Across.{across}
-use Rattle.law_links.proofs.Down.{facet-at}
-use Rattle.law_links.proofs.EdgeEnds.{edge-ways, tied-low, tied-turn}
-use Rattle.law_links.proofs.SideSight.{seen-free}
-use Rattle.law_links.proofs.Ties.{ahead-cells, dim-cell, IsTied, tied-both, tied-ahead, tied-ray}
+use Rattle.nef_conn.proofs.Prelude.{◌≡◌, ℕ, ◌+◌, ◌≤◌, ℤ, pos, ◌+ℤ◌, ◌-ℤ◌, ◌*ℤ◌, ◌<ℤ◌, arith, refl, ◌∙◌, ⊎_elim, ◌∷◌, subst, [], ints, ring, at, num, ◌⊕◌, ◌⊖◌, ◌⊗◌, FlatDim, Place, form_at, InFrame, toward, IsAhead, IsBetween, Set, Vector, opposite, blend, dot, cross, IsZero, IsDirection, SameDirection, up, plane_axis, Label, carriers, flat-germ, FlatDim-by_germs, between-turned, label_of, ahead, joined-germs, steep, signs-same, same-place_sym, forms, BoundsSector, At, MapVertex, Arc, Item, arc_item, item_normal, item_pos, IsFree, Side, pos_item, HasSide, SeenAs, Shaped, at-arc, Beside, same_way, other_way, beside, axes-forms, on-level, amount, far-keeps, kept-not_opposite, bounded, unrayed-ahead, normal-is, Vertex, Complex, Corner, IsCorner, Shows, item_plane, IsVertexPoint, IsEdgePoint, IsFacetPoint, Spot, at_vertex, on_edge, in_facet, IsSpot, IsSkeletonPoint, HasCorner, VertexSide, HasSideLabel, IsAbove, RayDown, IsFlatIn, through-at, ahead-back, weight, normal-scaled, through-level, axis-in, facet-of, facets-complete, facet-point, dim-same, way-ends, skeleton-not_flat, skeleton-or_flat, IsEvenAfter, IsUpright, across, facet-at, edge-ways, tied-low, tied-turn, seen-free, ahead-cells, dim-cell, IsTied, tied-both, tied-ahead, tied-ray, RaysEnd, opposite-twice}
 use Rattle.nef_conn.proofs.AtSides.{side-toward}
 use Rattle.nef_conn.proofs.FirstMet.{all-flat}
-use Rattle.nef_conn.proofs.Named.{twice}
-use Rattle.nef_conn.specs.Sides.{RaysEnd}
 
 -- what is tied is as flat
 pub tied-dim : (s : Set) (p q : Place) (k : ℕ) → IsTied s p q → FlatDim s p k → FlatDim s q k
@@ -62,7 +18,7 @@ module _ (s : Set) (C : Complex) (S : Shows s C) where
   -- what is met below a free way has three flat directions above it
   pub free-above : (p z : Place) → IsAhead p (opposite up) z → FlatDim s p 3 → ((q : Place) → IsBetween p q z → IsSkeletonPoint C q → ⊥) → FlatDim s (ahead s z up) 3
   free-above p z on f clear =
-      let back = subst (λ (r : Vector). SameDirection (toward z p) r) (twice up) (ahead-back p z (opposite up) on) in
+      let back = subst (λ (r : Vector). SameDirection (toward z p) r) (opposite-twice up) (ahead-back p z (opposite up) on) in
       let even : IsEvenAfter s 3 z p = λ r o. ⊎_elim
       (λ b. ⊎_elim (λ g. g) (λ k. absurd (clear r (between-turned z p r b) k)) (skeleton-or_flat s C S (facet-at s C S) (facet-of s C S) r))
       (λ e. dim-same s p r 3 (same-place_sym r p e) f) o in

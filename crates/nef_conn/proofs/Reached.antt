@@ -1,34 +1,8 @@
 -- The facet beside each item has a point that names a corner of its class: by the cases of the way inward, and by induction on the vertices ahead of it.
-use Rattle.std.proofs.Common.{◌≡◌, ℕ, ◌<◌, ◌≤◌, ◌+◌, suc, zero, ℤ, pos, ◌<ℤ◌, ◌-ℤ◌, ◌*ℤ◌, neg_ℤ, List, length, arith, refl, ap, sym, ◌∙◌, ◌⊎◌, inl, inr, ⊎_elim, [], ◌∷◌, subst}
-use Rattle.std.proofs.lemmas.Int.{ints}
-use Rattle.nef_space.proofs.Ring.{ring, at, neg, ◌⊕◌, ◌⊖◌, ◌⊗◌}
-use Rattle.nef_space.specs.Place.{Place, form_at, toward, IsPlaceBelow}
-use Rattle.nef_space.specs.Sets.{Set}
-use Rattle.nef_space.specs.Vectors.{Vector, opposite, dot, triple, IsDirection, IsNormal, SameDirection, IsOpposite, plane_dir}
-use Rattle.law_near.proofs.Decided.{Decided}
-use Rattle.law_sphere.specs.Maps.{At, MapVertex, Arc, arc_item, sloop_item, dir_of, OnItem}
-use Rattle.law_sphere.proofs.Vectors.{normal-is}
-use Rattle.law_sphere.proofs.Forms.{OnItem-decided}
-use Rattle.law_sphere.proofs.Places.{SameDirection-decided}
-use Rattle.law_sphere.proofs.Shot.{dir-at, arc-at}
-use Rattle.law_sphere.proofs.Around.{triple-turned}
-use Rattle.law_sphere.proofs.Compare.{SameDirection-turned, SameDirection-trans, normals-not_opposite}
-use Rattle.law_sphere.proofs.Arcs.{at-arc, Ends, ends-of}
-use Rattle.law_complex.specs.Complexes.{Vertex, Edge, Complex, Corner, HasEnds, IsCorner}
-use Rattle.law_complex.specs.Shows.{Shows}
-use Rattle.law_complex.specs.Skeleton.{item_plane}
-use Rattle.law_complex.proofs.Joining.{svertex-edge}
-use Rattle.law_complex.proofs.FacetSides.{level-way}
-use Rattle.law_complex.proofs.FacetAngles.{through-at}
-use Rattle.law_complex.proofs.FacetEdges.{ahead-back}
-use Rattle.law_links.specs.Links.{FacetLink}
-use Rattle.law_links.proofs.EdgeEnds.{EndsOnSide, end-level, corner_of, right-turn}
-use Rattle.nef_conn.specs.Items.{EndsAt, way_inward, ItemsName}
-use Rattle.law_cyclic.proofs.Directions.{level-of_opposite}
+use Rattle.nef_conn.proofs.Prelude.{◌≡◌, ℕ, ◌<◌, ◌≤◌, ◌+◌, suc, zero, pos, ◌<ℤ◌, List, length, arith, refl, sym, ◌∙◌, ◌⊎◌, inl, inr, ⊎_elim, ◌∷◌, subst, [], ints, Place, form_at, toward, IsPlaceBelow, Set, Vector, opposite, dot, triple, IsDirection, IsNormal, SameDirection, plane_dir, Decided, At, MapVertex, Arc, arc_item, sloop_item, dir_of, OnItem, normal-is, OnItem-decided, SameDirection-decided, dir-at, arc-at, normals-not_opposite, at-arc, Ends, ends-of, Vertex, Edge, Complex, Corner, HasEnds, IsCorner, Shows, item_plane, svertex-edge, through-at, ahead-back, FacetLink, EndsOnSide, end-level, corner_of, EndsAt, way_inward, ItemsName, level-of_opposite, triple-turned, SameDirection-turned, SameDirection-trans, opposite-same, level-way, opposite-twice, from-opposite, right-turn}
 use Rattle.nef_conn.proofs.Onward.{EdgeAway, from-low, from-high, arc-there, goes-on, link-up, link-down}
-use Rattle.law_complex.proofs.Ways.{opposite-same}
 use Rattle.nef_conn.proofs.WayInward.{dir-level, dir-some, dir-same}
-use Rattle.nef_conn.proofs.Named.{twice, Reaches, carried, onward-named, edge-named, side-same}
+use Rattle.nef_conn.proofs.Named.{Reaches, carried, onward-named, edge-named, side-same}
 use Rattle.nef_conn.proofs.Faces.{leads-away}
 
 pub within : {A : Type 0} (xs : List A) (k : ℕ) (x : A) → At xs k x → k < length xs
@@ -68,10 +42,10 @@ module _ (s : Set) (C : Complex) (S : Shows s C) (j : Corner) (v : Vertex) (c : 
   n-some = normal-is (S.cones j.vertex v K.vertex).valid.shaped j.item (arc_item c) K.item
 
   level-f : dot c.normal f ≡ pos 0
-  level-f = subst (λ (r : Vector). dot c.normal r ≡ pos 0) (sym (twice (plane_dir c.normal))) (dir-level c.normal)
+  level-f = subst (λ (r : Vector). dot c.normal r ≡ pos 0) (sym (opposite-twice (plane_dir c.normal))) (dir-level c.normal)
 
   f-some : IsDirection f
-  f-some = subst IsDirection (sym (twice (plane_dir c.normal))) (dir-some c.normal n-some)
+  f-some = subst IsDirection (sym (opposite-twice (plane_dir c.normal))) (dir-some c.normal n-some)
 
   level-d : dot c.normal d ≡ pos 0
   level-d = level-of_opposite c.normal (plane_dir c.normal) (dir-level c.normal)
@@ -192,15 +166,6 @@ toward-normal p q (inl h) = record { first = omega (arith, ints); second = λ e.
 toward-normal p q (inr (e, inl h)) = record { first = omega (arith, ints); second = λ z. omega (arith, ints); third = λ z w. absurd (omega (arith, ints)) }
 toward-normal p q (inr (e, inr (f, inl h))) = record { first = omega (arith, ints); second = λ z. omega (arith, ints); third = λ z w. omega (arith, ints) }
 toward-normal p q (inr (e, inr (f, inr h))) = absurd h.1
-
-from-opposite : (d e : Vector) → SameDirection (opposite d) e → IsOpposite d e
-from-opposite d e o = record {
-  parallel = (each d.y d.z e.y e.z o.parallel.0, each d.z d.x e.z e.x o.parallel.1, each d.x d.y e.x e.y o.parallel.2);
-  backward = let h = o.forward in let r : dot (opposite d) e ≡ neg_ℤ (dot d e) = ring (d.x ∷ d.y ∷ d.z ∷ e.x ∷ e.y ∷ e.z ∷ []) (neg (at 0) ⊗ at 3 ⊕ neg (at 1) ⊗ at 4 ⊕ neg (at 2) ⊗ at 5) (neg (at 0 ⊗ at 3 ⊕ at 1 ⊗ at 4 ⊕ at 2 ⊗ at 5)) tt in omega (arith, ints);
-}
-  where
-    each : (a b c d : ℤ) → neg_ℤ a *ℤ d -ℤ neg_ℤ b *ℤ c ≡ pos 0 → a *ℤ d -ℤ b *ℤ c ≡ pos 0
-    each a b c d e = ring (a ∷ b ∷ c ∷ d ∷ []) (at 0 ⊗ at 3 ⊖ at 1 ⊗ at 2) (neg (neg (at 0) ⊗ at 3 ⊖ neg (at 1) ⊗ at 2)) tt ∙ ap neg_ℤ e
 
 -- the direction, or its opposite, is the same as one in normal form
 abbrev pub Rises : Vector → Type 0

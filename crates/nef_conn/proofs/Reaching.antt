@@ -1,19 +1,5 @@
 -- A point in a facet is joined to a point at the item of its corner, and a point in a volume to one at the side that it has.
-use Rattle.std.proofs.Common.{inl, inr}
-use Rattle.nef_space.specs.Vectors.{opposite, up}
-use Rattle.law_near.proofs.Between.{between-turned}
-use Rattle.law_near.proofs.Decisions.{ahead}
-use Rattle.law_near.proofs.Rays.{same-place_sym}
-use Rattle.law_complex.proofs.FacetEdges.{ahead-back}
-use Rattle.law_complex.proofs.FacetNames.{facet-of}
-use Rattle.law_complex.proofs.FacetWays.{dim-same}
-use Rattle.law_complex.proofs.Skeletons.{free-flat}
-use Rattle.law_links.specs.Components.{IsEvenAfter}
-use Rattle.law_links.proofs.Across.{corner-across}
-use Rattle.law_links.proofs.Down.{above-tied, facet-at}
-use Rattle.law_links.proofs.ItemPoints.{at-item}
-use Rattle.law_links.proofs.Ties.{tied-both, tied-ray}
-use Rattle.nef_conn.specs.Reach.{CornersReached, SidesReached}
+use Rattle.nef_conn.proofs.Prelude.{inl, inr, opposite, up, between-turned, ahead, same-place_sym, ahead-back, facet-of, dim-same, free-flat, IsEvenAfter, corner-across, above-tied, facet-at, at-item, tied-both, tied-ray, CornersReached, SidesReached}
 
 pub corners-reached : CornersReached
 corners-reached s C p k S H =

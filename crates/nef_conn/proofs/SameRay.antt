@@ -1,24 +1,5 @@
 -- Points along a ray within a facet name the same corners.
-use Rattle.std.proofs.Common.{◌≡◌, pos, ◌<ℤ◌, ◌-ℤ◌, arith, ◌⊎◌, inl, inr, ⊎_elim, [], ◌∷◌}
-use Rattle.std.proofs.lemmas.Int.{ints}
-use Rattle.nef_space.proofs.Order.{by_order}
-use Rattle.nef_space.proofs.Ring.{ring, at, num, ◌⊕◌, ◌⊖◌, ◌⊗◌}
-use Rattle.nef_space.specs.Local.{IsEven}
-use Rattle.nef_space.specs.Place.{Place, Form, SamePlace, toward, IsBetween}
-use Rattle.nef_space.specs.Sets.{Set}
-use Rattle.nef_space.specs.Vectors.{Vector, dot, cross, IsZero, IsDirection, SameDirection}
-use Rattle.law_near.proofs.Rays.{same-place_sym}
-use Rattle.law_near.proofs.Mixed.{toward-place}
-use Rattle.law_near.proofs.Directions.{direction-left}
-use Rattle.law_sphere.proofs.Vectors.{nought-if}
-use Rattle.law_sphere.proofs.Compare.{SameDirection-turned, SameDirection-trans}
-use Rattle.law_complex.specs.Complexes.{Complex}
-use Rattle.law_complex.specs.Shows.{Shows}
-use Rattle.law_complex.specs.Skeleton.{PlaneMeet, Meets, IsFirstInPlane}
-use Rattle.law_complex.proofs.Ways.{between-way, between-cases, between-outer}
-use Rattle.law_complex.proofs.FacetWays.{two-off, meets-on}
-use Rattle.law_complex.proofs.FacetAngles.{aligned, cross-back}
-use Rattle.nef_conn.specs.Items.{NamesAlong}
+use Rattle.nef_conn.proofs.Prelude.{◌≡◌, pos, ◌<ℤ◌, ◌-ℤ◌, arith, ◌⊎◌, inl, inr, ⊎_elim, ◌∷◌, [], ints, by_order, ring, at, num, ◌⊕◌, ◌⊖◌, ◌⊗◌, IsEven, Place, Form, SamePlace, toward, IsBetween, Set, Vector, dot, cross, IsZero, IsDirection, SameDirection, same-place_sym, toward-place, Complex, Shows, PlaneMeet, Meets, IsFirstInPlane, between-way, between-cases, between-outer, two-off, meets-on, aligned, cross-back, NamesAlong, nought-if, SameDirection-turned, SameDirection-trans, direction-left}
 
 -- of two points ahead on one ray one lies before the other, or they are one
 pub on-ray : (v p q : Place) → SameDirection (toward v p) (toward v q) → IsBetween v p q ⊎ (SamePlace p q ⊎ IsBetween v q p)

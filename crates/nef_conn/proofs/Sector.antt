@@ -1,25 +1,12 @@
 -- Turning from a direction on an item to another of its plane, by less than half a turn, one stays on the item, or its end comes first.
-use Rattle.std.proofs.Common.{◌≡◌, ℕ, zero, suc, ℤ, pos, negsuc, ◌<ℤ◌, true, cond, arith, refl, sym, ◌⊎◌, inl, inr, ⊎_elim, subst}
-use Rattle.std.proofs.lemmas.Int.{ints}
+use Rattle.nef_conn.proofs.Prelude.{◌≡◌, ℕ, zero, suc, ℤ, pos, negsuc, ◌<ℤ◌, true, cond, arith, refl, sym, ◌⊎◌, inl, inr, ⊎_elim, subst, ints, Vector, opposite, dot, triple, IsDirection, SameDirection, IsOnCircle, IsStrictlyOn, Passes, AboutThree, AboutFour, At, MapVertex, Arc, Item, arc_item, sloop_item, items, item_normal, Map, OnItem, dir_of, Shaped, Decided, normal-is, same-plus, same-minus, positive-or, negative-or, Ends, ends-of, on-direction, on-level, arc-at, dir-at, turn-last, IsStrictlyOn-same, triple-turned, SameDirection-turned, SameDirection-trans, dir-self, opposite-same, opposite-twice}
 use lib.Dec.{T}
-use Rattle.nef_space.specs.Vectors.{Vector, opposite, dot, triple, IsDirection, SameDirection}
-use Rattle.law_cyclic.specs.Arcs.{IsOnCircle, IsStrictlyOn, Passes, AboutThree, AboutFour}
 use Rattle.law_cyclic.proofs.Signs.{sgn, is_plus, is_minus, both, one_of, rule, plus_is, is_plus_if}
 use Rattle.law_cyclic.proofs.StrictlyOn.{same_test}
 use Rattle.law_cyclic.proofs.Cyclic.{Says, says_both, says_one, says_passes, says_same, implied, FourTest, every_four, holds_at_four}
-use Rattle.law_cyclic.proofs.Directions.{way_back_passes_the_same, level-opposite}
-use Rattle.nef_conn.proofs.Named.{twice}
-use Rattle.law_sphere.specs.Maps.{At, MapVertex, Arc, Item, arc_item, sloop_item, items, item_normal, Map, OnItem, dir_of, Shaped}
-use Rattle.law_near.proofs.Decided.{Decided}
-use Rattle.law_sphere.proofs.Vectors.{normal-is, same-plus, same-minus, positive-or, negative-or}
-use Rattle.law_sphere.proofs.Around.{triple-turned}
-use Rattle.law_sphere.proofs.Arcs.{Ends, ends-of}
-use Rattle.law_sphere.proofs.Compare.{SameDirection-turned, SameDirection-trans, dir-self}
-use Rattle.law_sphere.proofs.Forms.{on-direction, on-level}
-use Rattle.law_sphere.proofs.Shot.{arc-at, dir-at}
-use Rattle.law_sphere.proofs.Turn.{turn-last, IsStrictlyOn-same}
+use Rattle.law_cyclic.proofs.Directions.{way_back_passes_the_same}
 use Rattle.nef_conn.proofs.Onward.{level-kept}
-use Rattle.law_complex.proofs.Ways.{opposite-same}
+use Rattle.nef_space.proofs.Vectors.{level-opposite}
 
 -- ---- laws of four directions
 says_plus : (z : ℤ) → Says (pos 0 <ℤ z) (is_plus (sgn z))
@@ -84,15 +71,12 @@ end_of n m (inr w) c = c.source
 
 pub seen-level : (n m d : Vector) → Seen n m → dot n d ≡ pos 0 → dot m d ≡ pos 0
 seen-level n m d (inl w) z = level-kept n m d w z
-seen-level n m d (inr w) z = level-kept (opposite n) m d w (back n d z)
-  where
-    back : (n d : Vector) → dot n d ≡ pos 0 → dot (opposite n) d ≡ pos 0
-    back n d z = level-opposite n d z
+seen-level n m d (inr w) z = level-kept (opposite n) m d w (level-opposite n d z)
 
 -- the other way round
 abbrev pub seen-back : (n m : Vector) → Seen n m → Seen n (opposite m)
 seen-back n m (inl w) = inr (opposite-same n m w)
-seen-back n m (inr w) = inl (subst (λ (r : Vector). SameDirection r (opposite m)) (twice n) (opposite-same (opposite n) m w))
+seen-back n m (inr w) = inl (subst (λ (r : Vector). SameDirection r (opposite m)) (opposite-twice n) (opposite-same (opposite n) m w))
 
 module _ (n m : Vector) (O : Seen n m) (m-some : IsDirection m) (M : Map) (V : Shaped M) where
   abbrev way : ℕ → Vector
@@ -248,5 +232,5 @@ module _ (n m : Vector) (O : Seen n m) (m-some : IsDirection m) (M : Map) (V : S
   pub turned : (k : ℕ) (x : Item) → At (items M) k x → SameDirection (item_normal x) n → OnItem M x f → Through M x n m f g ⊎ Stops M x n m f g O
   turned k (arc_item c) listed same on = arc-turned k c listed same on
   turned k (sloop_item l) listed same on =
-      let back = SameDirection-turned l.normal n same in
-      inl (record { on = record { direction = g-some; level = level-kept n l.normal g back level }; between = λ e i z p q. record { direction = i; level = level-kept n l.normal e back z } })
+      let level-opposite = SameDirection-turned l.normal n same in
+      inl (record { on = record { direction = g-some; level = level-kept n l.normal g level-opposite level }; between = λ e i z p q. record { direction = i; level = level-kept n l.normal e level-opposite z } })

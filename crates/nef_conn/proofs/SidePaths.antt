@@ -1,30 +1,6 @@
 -- Along a path of even segments of points with three flat directions, the ends of each segment in its turn: so the converse comes to single segments, and to one point at each side.
-use Rattle.std.proofs.Common.{◌≡◌, ℕ, refl, sym, ◌∙◌, ◌⊎◌, inl, inr, ⊎_elim, List, [], ◌∷◌, subst}
-use Rattle.nef_space.specs.Lists.{Chained}
-use Rattle.nef_space.specs.Local.{HasLabel, FlatDim, Joined, IsEven, IsEvenPath}
-use Rattle.nef_space.specs.Place.{Place, InFrame}
-use Rattle.nef_space.specs.Sets.{Set}
-use Rattle.nef_space.specs.declared.label.Label.{Label}
-use Rattle.nef_space.specs.declared.label.Label.TheVariants.{Out, Not, In}
-use Rattle.law_near.proofs.Alike.{FlatDim-one}
-use Rattle.law_near.proofs.Decided.{label_of}
-use Rattle.law_near.proofs.Germs.{label-one}
-use Rattle.law_near.proofs.Decisions.{ahead, near-ahead}
-use Rattle.law_near.proofs.Even.{even-germs, joined-germs, labels-by_germs, joined-both}
-use Rattle.law_near.proofs.Rays.{Germ-zero}
-use Rattle.law_near.proofs.Topology.{near-germ_zero}
-use Rattle.nef_space.specs.Vectors.{zero_vector}
-use Rattle.law_sphere.specs.Maps.{HasSide, seen}
-use Rattle.law_complex.specs.Complexes.{Complex}
-use Rattle.law_complex.specs.Shows.{Shows}
-use Rattle.law_complex.specs.Rays.{VertexSide, RayDown}
-use Rattle.law_complex.proofs.Cones.{label-germ}
-use Rattle.law_complex.proofs.Ways.{same-itself}
-use Rattle.law_links.specs.Links.{VolumeLink}
-use Rattle.law_links.specs.Components.{IsAtSide, IsUpright}
-use Rattle.law_links.proofs.SideSight.{side-sees}
-use Rattle.law_links.proofs.SidePoints.{at-side, one-side}
-use Rattle.nef_conn.specs.Sides.{SidesName, NamesOfFreeSegments, ConverseBySegments}
+use Rattle.nef_conn.proofs.Prelude.{◌≡◌, ℕ, refl, sym, ◌∙◌, ◌⊎◌, inl, inr, ⊎_elim, List, ◌∷◌, subst, [], Chained, HasLabel, FlatDim, Joined, IsEven, IsEvenPath, Place, InFrame, Set, Label, Out, Not, In, FlatDim-one, label_of, label-one, ahead, near-ahead, even-germs, joined-germs, labels-by_germs, joined-both, Germ-zero, near-germ_zero, zero_vector, HasSide, seen, Complex, Shows, VertexSide, RayDown, label-germ, same-itself, VolumeLink, IsAtSide, IsUpright, side-sees, at-side, one-side, SidesName, NamesOfFreeSegments}
+use Rattle.nef_conn.specs.Sides.{ConverseBySegments}
 use Rattle.nef_conn.proofs.Chain.{chain-both, chain-one, chain-back}
 use Rattle.nef_conn.proofs.RaysEnd.{rays-end}
 

@@ -1,58 +1,5 @@
 -- Each side that isn't outside has a point at it that names, by the ray down, a side of its class; so where items whose points are joined are linked, sides are.
-use Rattle.std.proofs.Common.{◌≡◌, pos, ◌<ℤ◌, arith, refl, sym, ◌∙◌, inl, inr, ⊎_elim, List, [], ◌∷◌, subst}
-use Rattle.std.proofs.lemmas.Int.{ints}
-use Rattle.nef_space.specs.Signs.{Lies}
-use Rattle.nef_space.proofs.Lists.{each, lies-each}
-use Rattle.nef_space.proofs.Ring.{ring, at, num, ◌⊕◌, ◌⊖◌, ◌⊗◌}
-use Rattle.nef_space.proofs.Order.{nought-is, sign-plus, sign-minus, plus-is, minus-is}
-use Rattle.nef_space.specs.Lists.{Chained}
-use Rattle.nef_space.specs.Local.{FlatDim}
-use Rattle.nef_space.specs.Place.{Place, Form, form_at, normal_of, slope, plane_through, SamePlace, InFrame, toward, IsBetween}
-use Rattle.nef_space.specs.Sets.{Set}
-use Rattle.nef_space.specs.Vectors.{Vector, opposite, cross, triple, IsDirection, SameDirection, up}
-use Rattle.nef_space.specs.declared.label.Label.{Label}
-use Rattle.nef_space.specs.declared.label.Label.TheVariants.{Out}
-use Rattle.law_near.specs.Cells.{carriers}
-use Rattle.law_near.proofs.Between.{between-turned, between-inner, ray-cell}
-use Rattle.law_near.proofs.Cells.{keeps-all}
-use Rattle.law_near.proofs.Alike.{germs-by_cell}
-use Rattle.law_near.proofs.Even.{even-germs}
-use Rattle.law_near.proofs.Decisions.{ahead}
-use Rattle.law_near.proofs.Edges.{start, start-close, start-between}
-use Rattle.law_near.proofs.Rays.{signs-same, same-place_sym}
-use Rattle.law_near.proofs.Vertices.{all-vertices}
-use Rattle.law_near.proofs.Near.{reach_all}
-use Rattle.law_near.proofs.Mixed.{place-toward}
-use Rattle.law_near.proofs.Directions.{zero-decided, dot-zero, self-pos, direction-left, direction-right}
-use Rattle.law_sphere.specs.Maps.{At, HasSide, Sees, here}
-use Rattle.law_sphere.proofs.Lists.{at-one}
-use Rattle.law_sphere.proofs.Around.{Beside, same_way, other_way, beside}
-use Rattle.law_sphere.proofs.Compare.{SameDirection-turned, SameDirection-trans, dir-self}
-use Rattle.law_sphere.proofs.Direct.{cross-self}
-use Rattle.law_sphere.proofs.Turn.{turn-last, turn-same}
-use Rattle.law_sphere.proofs.Vectors.{same-plus}
-use Rattle.law_complex.specs.Complexes.{Vertex, Complex}
-use Rattle.law_complex.specs.Shows.{Shows}
-use Rattle.law_complex.specs.Skeleton.{at_vertex}
-use Rattle.law_complex.specs.Rays.{VertexSide, RayDown}
-use Rattle.law_complex.proofs.FacetAngles.{through-at}
-use Rattle.law_complex.proofs.FacetEdges.{ahead-back}
-use Rattle.law_complex.proofs.FacetNames.{facet-of, through-level}
-use Rattle.law_complex.proofs.FacetTriangle.{plane-between}
-use Rattle.law_complex.proofs.FacetWays.{dim-same, plane-ahead, even-by}
-use Rattle.law_complex.proofs.Skeletons.{skeleton-not_flat, skeleton-or_flat}
-use Rattle.law_complex.proofs.Ways.{between-way, between-cases, same-itself}
-use Rattle.law_links.specs.Links.{VolumeLink}
-use Rattle.law_links.specs.Components.{IsUpright, IsEvenAfter, IsAtSide}
-use Rattle.law_links.proofs.Across.{through-same}
-use Rattle.law_links.proofs.EdgeEnds.{opposite-way}
-use Rattle.law_links.proofs.NearVertex.{free-dim}
-use Rattle.law_links.proofs.SideSight.{side-sees, sees-way, seen-free}
-use Rattle.law_links.proofs.Ties.{ahead-close, ahead-toward, dim-cell, even-after}
-use Rattle.law_links.proofs.Down.{facet-at}
-use Rattle.nef_conn.specs.Items.{AreLinkedWhereJoined}
-use Rattle.nef_conn.specs.Sides.{SidesName, NamesOfFreeSegments, ConverseByItems, ConverseForAll}
-use Rattle.nef_conn.specs.Slices.{sliced}
+use Rattle.nef_conn.proofs.Prelude.{◌≡◌, pos, ◌<ℤ◌, arith, refl, sym, ◌∙◌, inl, inr, ⊎_elim, List, ◌∷◌, subst, [], each, ring, at, num, ◌⊕◌, ◌⊖◌, ◌⊗◌, Chained, FlatDim, Place, Form, form_at, normal_of, slope, plane_through, InFrame, toward, IsBetween, Set, Vector, opposite, cross, triple, IsDirection, SameDirection, up, Label, Out, carriers, between-turned, between-inner, ray-cell, germs-by_cell, even-germs, ahead, start, start-close, start-between, signs-same, same-place_sym, all-vertices, reach_all, place-toward, At, HasSide, Sees, here, at-one, Beside, same_way, other_way, beside, cross-self, turn-last, turn-same, same-plus, Vertex, Complex, Shows, at_vertex, VertexSide, RayDown, through-at, ahead-back, facet-of, through-level, plane-between, dim-same, plane-ahead, even-by, skeleton-not_flat, skeleton-or_flat, between-way, between-cases, same-itself, VolumeLink, IsUpright, IsEvenAfter, IsAtSide, through-same, free-dim, side-sees, sees-way, seen-free, ahead-close, ahead-toward, dim-cell, even-after, facet-at, AreLinkedWhereJoined, SidesName, NamesOfFreeSegments, ConverseByItems, ConverseForAll, sliced, zero-decided, dot-zero, self-pos, SameDirection-turned, SameDirection-trans, dir-self, opposite-way, direction-left, direction-right}
 use Rattle.nef_conn.proofs.Chain.{chain-here}
 use Rattle.nef_conn.proofs.SidePaths.{side-label, label-inside, converse-by_segments}
 use Rattle.nef_conn.proofs.Downs.{vertex-falls}
@@ -62,7 +9,7 @@ use Rattle.nef_conn.proofs.Good.{all-good}
 use Rattle.nef_conn.proofs.NearOver.{up-some}
 use Rattle.nef_conn.proofs.RaysEnd.{ray-down}
 use Rattle.nef_conn.proofs.Silhouettes.{sliced-signs, sliced-ahead, germs-inside, two-of}
-use Rattle.nef_conn.proofs.SliceStrip.{lam, up_line, lam-at, lam-turned, Clear}
+use Rattle.nef_conn.proofs.SliceStrip.{lam, up_line, Clear, clear-close}
 use Rattle.nef_conn.proofs.Touch.{bound, no-way}
 
 module _ (s : Set) (C : Complex) (S : Shows s C) (upright : IsUpright C) (linked : AreLinkedWhereJoined s C) where
@@ -262,25 +209,7 @@ module _ (s : Set) (C : Complex) (S : Shows s C) (upright : IsUpright C) (linked
             same-plus (triple m up (toward v.point b)) (lam n v.point b) (turn-same m n up up (toward v.point b) (toward v.point b) (through-same m v.point slanted) (dir-self up up-some) (dir-self (toward v.point b) (direction-left (toward v.point b) d to-b))) p'
 
         clear : Clear (sliced s h) h hn level v.point b
-        clear r vertex on g i = by ((all-vertices (sliced s h)).2 r vertex)
-          where
-            by : (p : Place) × Lies (all-vertices (sliced s h)).0 p × SamePlace p r → ⊥
-            by (p, lies, same) =
-                let g1 = lam-at n v.point r in
-                let g2 = lam-at n v.point p in
-                let p1 = plus-is (form_at (up_line n v.point) p) (signs-same (up_line n v.point ∷ []) p r same (up_line n v.point) (inl refl) ∙ sign-plus (form_at (up_line n v.point) r) (omega (arith, ints))) in
-                let t1 = lam-turned n v.point p in
-                let c = lam-at n p v.point in
-                let low : form_at (up_line n p) v.point <ℤ pos 0 = omega (arith, ints) in
-                let f = keeps-all hs v.point b (start-close (reach_all hs v.point) v.point q) (up_line n p) (lies-each (λ p. up_line n p) (all-vertices (sliced s h)).0 p lies) (λ z. let z' = nought-is (form_at (up_line n p) v.point) z in omega (arith, ints)) in
-                let j = minus-is (form_at (up_line n p) b) (f ∙ sign-minus (form_at (up_line n p) v.point) low) in
-                let c' = lam-at n p b in
-                let t2 = lam-turned n p b in
-                let k1 = lam-at n b p in
-                let k2 = lam-at n b r in
-                let p2 = plus-is (form_at (up_line n b) r) (sym (signs-same (up_line n b ∷ []) p r same (up_line n b) (inl refl)) ∙ sign-plus (form_at (up_line n b) p) (omega (arith, ints))) in
-                let t3 = lam-turned n b r in
-                omega (arith, ints)
+        clear = clear-close (sliced s h) h hn level v.point b (start-close (reach_all hs v.point) v.point q)
 
         by-slant : Named
         by-slant =

@@ -1,48 +1,8 @@
 -- What falls from a point b names a side of the class of what lies above the point at which the fall beside it ends: on an edge of the plane at once; at a vertex of the plane by what leaves it, or, where nothing does, by what lies below it.
-use Rattle.std.proofs.Common.{◌≡◌, ℕ, zero, suc, ◌<◌, pos, ◌<ℤ◌, arith, sym, ◌⊎◌, inl, inr, ⊎_elim, subst}
-use Rattle.nef_space.specs.Signs.{Lies}
-use Rattle.nef_space.proofs.Lists.{lies-left, lies-right, lies-append}
-use Rattle.nef_space.specs.Local.{Germ, FlatDim, IsEven}
-use Rattle.nef_space.specs.declared.label.Label.{Label}
-use Rattle.law_near.specs.Cones.{label_not}
-use Rattle.law_near.proofs.Germs.{Germ-unique}
-use Rattle.law_links.proofs.SideLinks.{both-opposite}
-use Rattle.law_links.proofs.Down.{facet-at}
+use Rattle.nef_conn.proofs.Prelude.{◌≡◌, ℕ, zero, suc, ◌<◌, pos, ◌<ℤ◌, arith, sym, ◌⊎◌, inl, inr, ⊎_elim, subst, Lies, lies-left, lies-right, lies-append, Germ, FlatDim, IsEven, Label, label_not, Germ-unique, facet-at, Place, Form, form_at, normal_of, slope, SamePlace, InFrame, toward, IsBetween, Set, halves, Vector, opposite, IsDirection, SameDirection, up, frame, carriers, SameGerms, FlatDim-one, FlatDim-by_germs, between-turned, between-inner, label_of, germ_of, ahead, start-close, even-germs, labels-by_germs, flat-toward, flat_dim-of, Flat-from_cone, same-place_sym, reach_all, toward-place, place-toward, between-same, Complex, Shows, VertexSide, RayDown, IsFlatIn, near_point, near-between, facet-of, plane-between, dim-same, even-by, skeleton-not_flat, skeleton-or_flat, between-outer, same-itself, same-place_trans, IsUpright, IsEvenAfter, beside-ahead, beside-cell, AreLinkedWhereJoined, plane_set, sliced, nought-or, SameDirection-turned, SameDirection-trans, opposite-same, direction-left}
 use Rattle.nef_conn.proofs.Leaves.{toward-same}
-use Rattle.nef_space.specs.Place.{Place, Form, form_at, normal_of, slope, SamePlace, InFrame, toward, IsBetween}
-use Rattle.nef_space.specs.Sets.{Set, halves}
-use Rattle.nef_space.specs.Vectors.{Vector, opposite, IsDirection, SameDirection, up}
-use Rattle.law_near.specs.Cells.{frame, carriers, SameSigns}
-use Rattle.law_near.specs.Laws.{SameGerms}
-use Rattle.law_near.proofs.Alike.{FlatDim-one, FlatDim-by_germs}
-use Rattle.law_near.proofs.Between.{between-turned, between-inner}
-use Rattle.law_near.proofs.Decided.{label_of, germ_of}
-use Rattle.law_near.proofs.Decisions.{ahead}
-use Rattle.law_near.proofs.Edges.{start-close}
-use Rattle.law_near.proofs.Even.{even-germs, labels-by_germs, flat-toward}
-use Rattle.law_near.proofs.FlatDecided.{flat_dim-of}
-use Rattle.law_near.proofs.Flats.{Flat-from_cone}
-use Rattle.law_near.proofs.Rays.{same-place_sym}
-use Rattle.law_near.proofs.Near.{reach_all}
-use Rattle.law_near.proofs.Mixed.{toward-place, place-toward, between-same}
-use Rattle.law_near.proofs.Directions.{direction-left}
-use Rattle.law_near.proofs.Far.{nought-or}
-use Rattle.law_sphere.proofs.Compare.{SameDirection-turned, SameDirection-trans}
-use Rattle.law_complex.specs.Complexes.{Complex}
-use Rattle.law_complex.specs.Shows.{Shows}
-use Rattle.law_complex.specs.Rays.{VertexSide, RayDown}
-use Rattle.law_complex.specs.Laws.{IsFlatIn}
-use Rattle.law_complex.proofs.Edges.{near_point, near-between}
-use Rattle.law_complex.proofs.FacetNames.{facet-of}
-use Rattle.law_complex.proofs.FacetTriangle.{plane-between}
-use Rattle.law_complex.proofs.FacetWays.{dim-same, even-by}
-use Rattle.law_complex.proofs.Skeletons.{skeleton-not_flat, skeleton-or_flat}
-use Rattle.law_complex.proofs.Ways.{between-outer, same-itself, same-place_trans}
-use Rattle.law_links.specs.Components.{IsUpright, IsEvenAfter}
-use Rattle.law_links.proofs.Ties.{beside-ahead, beside-cell}
-use Rattle.nef_conn.specs.Items.{AreLinkedWhereJoined}
+use Rattle.law_near.specs.Cells.{SameSigns}
 use Rattle.nef_conn.proofs.SameRay.{on-ray}
-use Rattle.nef_conn.specs.Slices.{plane_set, sliced}
 use Rattle.nef_conn.proofs.SidePaths.{label-inside, inside-label}
 use Rattle.nef_conn.proofs.Fans.{IsOff}
 use Rattle.nef_conn.proofs.Land.{Landing}
@@ -85,7 +45,7 @@ resliced s h p q on-p on-q same v l = (there s h p q on-p on-q same v l, there s
 pub toward-end : (y p c : Place) → SamePlace p c → IsDirection (toward y c) → SameDirection (toward y p) (toward y c)
 toward-end y p c e i =
     subst (λ (v : Vector). SameDirection v (toward y c)) (sym (back-way p y)) (subst (λ (v : Vector). SameDirection (opposite (toward p y)) v) (sym (back-way c y))
-    (both-opposite (toward p y) (toward c y) (toward-same p c y e (λ z. i (place-toward y c (same-place_trans y p c (same-place_sym p y (toward-place p y z)) e))))))
+    (opposite-same (toward p y) (toward c y) (toward-same p c y e (λ z. i (place-toward y c (same-place_trans y p c (same-place_sym p y (toward-place p y z)) e))))))
 
 module _ (s : Set) (h : Form) (hn : IsDirection (normal_of h)) where
   abbrev t : Set

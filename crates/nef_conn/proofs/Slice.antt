@@ -1,28 +1,8 @@
 -- The labels and germs of a set with the points of a plane exchanged: off the plane they are those of the set, in it they are the others.
-use Rattle.std.proofs.Common.{◌≡◌, pos, ◌+ℤ◌, ◌*ℤ◌, neg_ℤ, arith, refl, ap, sym, ◌∙◌, ⊎_elim, [], ◌∷◌, subst}
-use Rattle.std.proofs.lemmas.Int.{ints}
-use Rattle.nef_space.specs.Signs.{Sign, sign}
-use Rattle.nef_space.proofs.Ring.{ring, at, num, neg, ◌⊕◌, ◌⊗◌}
-use Rattle.nef_space.proofs.Order.{by_order, sign-plus, sign-minus}
-use Rattle.nef_space.specs.Local.{HasLabel, Germ, FlatDim}
-use Rattle.nef_space.specs.Place.{Place, Form, form_at, normal_of, slope, Ratio, step, InFrame}
-use Rattle.nef_space.specs.Sets.{Set, Holds}
-use Rattle.nef_space.specs.Vectors.{Vector, IsDirection}
-use Rattle.nef_space.specs.declared.label.Label.{Label}
-use Rattle.nef_space.specs.declared.label.Label.TheVariants.{Out, Not, In}
-use Rattle.law_near.specs.Cones.{label_not}
-use Rattle.law_near.specs.Laws.{SameGerms}
-use Rattle.law_near.proofs.Alike.{flat-germ}
+use Rattle.nef_conn.proofs.Prelude.{◌≡◌, pos, ◌+ℤ◌, ◌*ℤ◌, neg_ℤ, arith, refl, ap, sym, ◌∙◌, ⊎_elim, ◌∷◌, subst, [], ints, Sign, sign, ring, at, num, neg, ◌⊕◌, ◌⊗◌, by_order, sign-plus, sign-minus, nought-or, HasLabel, Germ, FlatDim, Place, Form, form_at, normal_of, slope, Ratio, step, InFrame, Set, Vector, IsDirection, Label, Out, Not, In, label_not, SameGerms, flat-germ, germ_of, Germ-unique, sign-along, same-nought, form-step, by_side, IsFlatIn, IsSided, sided-dim, sided-flats, minus_form, plane_set, sliced}
+use Rattle.nef_space.specs.Sets.{Holds}
 use Rattle.law_near.proofs.Combine.{one_of-label}
-use Rattle.law_near.proofs.Decided.{germ_of}
-use Rattle.law_near.proofs.Germs.{Germ-unique, sign-along}
-use Rattle.law_near.proofs.Far.{nought-or, same-nought}
-use Rattle.law_near.proofs.Near.{form-step}
-use Rattle.law_sphere.specs.Least.{by_side}
-use Rattle.law_complex.specs.Laws.{IsFlatIn}
-use Rattle.law_complex.proofs.FacetSides.{IsSided, sided-dim, sided-flats}
 use Rattle.nef_conn.proofs.FirstMet.{all-flat}
-use Rattle.nef_conn.specs.Slices.{minus_form, plane_set, sliced}
 
 -- ---- labels
 minus-at : (h : Form) (q : Place) → form_at (minus_form h) q ≡ neg_ℤ (form_at h q)

@@ -1,27 +1,5 @@
 -- Triangles that lie between two lines along up, beside which no vertex lies: what falls from the one side comes down to what leaves the other.
-use Rattle.std.proofs.Common.{◌≡◌, ℕ, ◌+◌, ℤ, pos, ◌+ℤ◌, ◌-ℤ◌, ◌*ℤ◌, ◌<ℤ◌, ◌≤ℤ◌, neg_ℤ, arith, ap, sym, ◌∙◌, ◌⊎◌, inl, inr, ⊎_elim, [], ◌∷◌}
-use Rattle.std.proofs.lemmas.Int.{ints}
-use Rattle.nef_space.specs.Signs.{sign}
-use Rattle.nef_space.proofs.Ring.{ring, at, num, neg, ◌⊕◌, ◌⊖◌, ◌⊗◌, Poly}
-use Rattle.nef_space.proofs.Order.{by_order, mul_pos, mul_nonneg, cancel_lt}
-use Rattle.nef_space.specs.Local.{FlatDim, IsVertex}
-use Rattle.nef_space.specs.Place.{Place, Form, form_at, normal_of, slope, plane_through, SamePlace, toward, IsBetween}
-use Rattle.nef_space.specs.Sets.{Set}
-use Rattle.nef_space.specs.Vectors.{Vector, opposite, cross, triple, IsDirection, SameDirection, up}
-use Rattle.law_near.proofs.FlatDecided.{triple-dot}
-use Rattle.law_near.proofs.Alike.{FlatDim-one}
-use Rattle.law_near.proofs.Flats.{vector-same}
-use Rattle.law_near.proofs.Far.{same-nought}
-use Rattle.law_complex.proofs.Ways.{between-way}
-use Rattle.law_complex.proofs.FacetWays.{dim-same}
-use Rattle.law_sphere.proofs.Around.{triple-turned}
-use Rattle.law_sphere.proofs.Compare.{SameDirection-turned, SameDirection-trans}
-use Rattle.law_sphere.proofs.Turn.{turn-last}
-use Rattle.law_sphere.proofs.Turning.{turns}
-use Rattle.law_sphere.proofs.Vectors.{same-plus, same-minus}
-use Rattle.law_complex.specs.Laws.{IsFlatIn}
-use Rattle.law_complex.proofs.FacetAngles.{through-at, angle, turn-at, angle-turned, angle-inside, between-plus}
-use Rattle.nef_conn.specs.Items.{IsInTriangle, LiesAlong}
+use Rattle.nef_conn.proofs.Prelude.{◌≡◌, ℕ, ◌+◌, ℤ, pos, ◌+ℤ◌, ◌-ℤ◌, ◌*ℤ◌, ◌<ℤ◌, ◌≤ℤ◌, neg_ℤ, arith, ap, sym, ◌∙◌, ◌⊎◌, inl, inr, ⊎_elim, ◌∷◌, List, refl, [], ints, sign, Lies, ring, at, num, neg, ◌⊕◌, ◌⊖◌, ◌⊗◌, Poly, by_order, mul_pos, mul_nonneg, cancel_lt, plus-is, minus-is, nought-is, sign-plus, sign-minus, plus-of, FlatDim, IsVertex, Place, Form, form_at, normal_of, slope, plane_through, SamePlace, toward, IsBetween, Within, Set, Vector, opposite, cross, triple, IsDirection, SameDirection, up, FlatDim-one, same-nought, between-way, dim-same, turn-last, turns, same-plus, same-minus, IsFlatIn, through-at, angle, turn-at, angle-turned, angle-inside, between-plus, IsInTriangle, LiesAlong, vector-same, triple-dot, triple-turned, SameDirection-turned, SameDirection-trans, apart, right-turn, each, lies-each, keeps-all, signs-same, all-vertices, reach_all}
 use Rattle.nef_conn.proofs.Triangles.{on-second, at-corner, never-passes, third-side}
 
 -- ---- signs of products
@@ -40,7 +18,6 @@ sum-nonneg t u b c d e q ht hb hd hc he =
 -- where that is nought, so are c and e
 sum-zero : (t b c d e : ℤ) → pos 0 *ℤ t ≡ b *ℤ c -ℤ d *ℤ e → pos 0 <ℤ b → pos 0 <ℤ d → pos 0 ≤ℤ c → e ≤ℤ pos 0 → (c ≡ pos 0) × (e ≡ pos 0)
 sum-zero t b c d e q hb hd hc he =
-    let o = ring (t ∷ []) (num (pos 0) ⊗ at 0) (num (pos 0)) tt in
     let z = ring (d ∷ e ∷ []) (at 0 ⊗ (num (pos 0) ⊖ at 1)) (num (pos 0) ⊖ at 0 ⊗ at 1) tt in (
       by_order c (pos 0) (λ l. absurd (omega (arith, ints))) (λ k. k)
           (λ l. absurd (let x = mul_pos b c hb l in let y = mul_nonneg d (pos 0 -ℤ e) (omega (arith, ints)) (omega (arith, ints)) in omega (arith, ints))),
@@ -67,11 +44,6 @@ up_line n p = plane_through (cross n up) p
 pub lam-at : (n : Vector) (p q : Place) → form_at (up_line n p) q ≡ lam n p q
 lam-at n p q = through-at (cross n up) p q ∙ sym (triple-dot n up (toward p q))
 
-triple-back : (n u v : Vector) → triple n u (opposite v) ≡ neg_ℤ (triple n u v)
-triple-back n u v = ring (n.x ∷ n.y ∷ n.z ∷ u.x ∷ u.y ∷ u.z ∷ v.x ∷ v.y ∷ v.z ∷ [])
-    (at 0 ⊗ (at 4 ⊗ neg (at 8) ⊖ at 5 ⊗ neg (at 7)) ⊕ at 1 ⊗ (at 5 ⊗ neg (at 6) ⊖ at 3 ⊗ neg (at 8)) ⊕ at 2 ⊗ (at 3 ⊗ neg (at 7) ⊖ at 4 ⊗ neg (at 6)))
-    (neg (at 0 ⊗ (at 4 ⊗ at 8 ⊖ at 5 ⊗ at 7) ⊕ at 1 ⊗ (at 5 ⊗ at 6 ⊖ at 3 ⊗ at 8) ⊕ at 2 ⊗ (at 3 ⊗ at 7 ⊖ at 4 ⊗ at 6))) tt
-
 pub back-way : (p q : Place) → toward q p ≡ opposite (toward p q)
 back-way p q = vector-same (toward q p) (opposite (toward p q)) (one p.x q.x) (one p.y q.y) (one p.z q.z)
   where
@@ -79,7 +51,7 @@ back-way p q = vector-same (toward q p) (opposite (toward p q)) (one p.x q.x) (o
     one a b = ring (a ∷ b ∷ pos p.w ∷ pos q.w ∷ []) (at 0 ⊗ at 3 ⊖ at 1 ⊗ at 2) (neg (at 1 ⊗ at 2 ⊖ at 0 ⊗ at 3)) tt
 
 pub lam-turned : (n : Vector) (p q : Place) → lam n q p ≡ neg_ℤ (lam n p q)
-lam-turned n p q = ap (λ (v : Vector). triple n up v) (back-way p q) ∙ triple-back n up (toward p q)
+lam-turned n p q = ap (λ (v : Vector). triple n up v) (back-way p q) ∙ right-turn n up (toward p q)
 
 -- the differences add up
 pub lam-sum : (n : Vector) (y b c : Place) → pos b.w *ℤ lam n y c ≡ pos c.w *ℤ lam n y b +ℤ pos y.w *ℤ lam n b c
@@ -89,12 +61,22 @@ lam-sum n y b c = ring (n.x ∷ n.y ∷ n.z ∷ up.x ∷ up.y ∷ up.z ∷ y.x �
 -- the turn from v to a way down
 pub down-turn : (n v d : Vector) → SameDirection d (opposite up) → sign (triple n v d) ≡ sign (triple n up v)
 down-turn n v d w =
-    let e = triple-back n v up in
+    let e = right-turn n v up in
     let f = triple-turned n up v in
     turn-last n v (opposite up) d (SameDirection-turned d (opposite up) w) ∙ ap sign (omega (arith, ints))
 
 triple-self : (n v : Vector) → triple n v v ≡ pos 0
 triple-self n v = let e = triple-turned n v v in omega (arith, ints)
+
+-- sums of differences
+pub lam-plus : (n : Vector) (a b c : Place) → pos 0 ≤ℤ lam n a b → pos 0 <ℤ lam n b c → pos 0 <ℤ lam n a c
+lam-plus n a b c l m = plain (lam n a c) (lam n a b) (lam n b c) (lam-sum n a b c) l m
+  where
+    plain : (g d e : ℤ) → pos b.w *ℤ g ≡ pos c.w *ℤ d +ℤ pos a.w *ℤ e → pos 0 ≤ℤ d → pos 0 <ℤ e → pos 0 <ℤ g
+    plain g d e q l m =
+        let u = mul_nonneg (pos c.w) d (let k = c.proper in omega (arith, ints)) l in
+        let v = mul_pos (pos a.w) e (let k = a.proper in omega (arith, ints)) m in
+        plus-of (pos b.w) g (let j = b.proper in omega (arith, ints)) (omega (arith, ints))
 
 -- to a point of the line of b, from y before it
 pub slope-to : (n : Vector) (y b c : Place) → pos 0 <ℤ lam n y b → lam n b c ≡ pos 0 → pos 0 <ℤ lam n y c
@@ -104,10 +86,12 @@ slope-to n y b c l e = plain (lam n y b) (lam n b c) (lam n y c) (lam-sum n y b 
     plain a d g q l e =
         let p = mul_pos (pos c.w) a (let k = c.proper in omega (arith, ints)) l in
         let o = ap (λ r. pos y.w *ℤ r) e in
-        let z = ring (pos y.w ∷ []) (at 0 ⊗ num (pos 0)) (num (pos 0)) tt in
-        let m = ring (g ∷ pos b.w ∷ []) (at 1 ⊗ at 0) (at 0 ⊗ at 1) tt in
-        let k = ring (pos b.w ∷ []) (num (pos 0) ⊗ at 0) (num (pos 0)) tt in
-        cancel_lt (pos 0) g (pos b.w) (let i = b.proper in omega (arith, ints)) (omega (arith, ints))
+        plus-of (pos b.w) g (let i = b.proper in omega (arith, ints)) (omega (arith, ints))
+
+-- the same with the opposite numbers
+products : (u v t c ry y rc : ℤ) → u ≡ neg_ℤ v → v *ℤ t ≡ c *ℤ ry -ℤ y *ℤ rc → u *ℤ t ≡ neg_ℤ c *ℤ ry -ℤ neg_ℤ y *ℤ rc
+products u v t c ry y rc e f = ap (λ r. r *ℤ t) e ∙ ring (v ∷ t ∷ []) (neg (at 0) ⊗ at 1) (neg (at 0 ⊗ at 1)) tt ∙ ap neg_ℤ f
+    ∙ ring (c ∷ ry ∷ y ∷ rc ∷ []) (neg (at 0 ⊗ at 1 ⊖ at 2 ⊗ at 3)) (neg (at 0) ⊗ at 1 ⊖ neg (at 2) ⊗ at 3) tt
 
 -- from the angle at one corner to that at the next, where it may be nought
 
@@ -128,6 +112,31 @@ module _ (t : Set) (h : Form) (hn : IsDirection (normal_of h)) (level : slope h 
   -- no vertex of the plane lies between the lines of y and z, or on that of z
   abbrev pub Clear : Place → Place → Type 0
   Clear y z = (r : Place) → IsVertex t r → form_at h r ≡ pos 0 → pos 0 <ℤ lam n y r → pos 0 ≤ℤ lam n r z → ⊥
+
+  -- the lines along up of all vertices: none lies between p and what is close to it
+  abbrev pub lines : List Form
+  lines = each (λ q. up_line n q) (all-vertices t).0
+
+  pub clear-close : (p b : Place) → Within (reach_all lines p) p b → Clear p b
+  clear-close p b near r vertex on l i = by ((all-vertices t).2 r vertex)
+    where
+      by : (z : Place) × Lies (all-vertices t).0 z × SamePlace z r → ⊥
+      by (z, lies, same) =
+          let g = lam-at n p r in
+          let g' = lam-at n p z in
+          let k = plus-is (form_at (up_line n p) z) (signs-same (up_line n p ∷ []) z r same (up_line n p) (inl refl) ∙ sign-plus (form_at (up_line n p) r) (omega (arith, ints))) in
+          let t1 = lam-turned n p z in
+          let c = lam-at n z p in
+          let low : form_at (up_line n z) p <ℤ pos 0 = omega (arith, ints) in
+          let f = keeps-all lines p b near (up_line n z) (lies-each (λ q. up_line n q) (all-vertices t).0 z lies) (λ o. let o' = nought-is (form_at (up_line n z) p) o in omega (arith, ints)) in
+          let j = minus-is (form_at (up_line n z) b) (f ∙ sign-minus (form_at (up_line n z) p) low) in
+          let c' = lam-at n z b in
+          let t2 = lam-turned n z b in
+          let k1 = lam-at n b z in
+          let k2 = lam-at n b r in
+          let p2 = plus-is (form_at (up_line n b) r) (sym (signs-same (up_line n b ∷ []) z r same (up_line n b) (inl refl)) ∙ sign-plus (form_at (up_line n b) z) (omega (arith, ints))) in
+          let t3 = lam-turned n b r in
+          omega (arith, ints)
 
   -- ---- a triangle with one side on the line of its start
   module _ (y b c : Place) (on-y : form_at h y ≡ pos 0) (on-b : form_at h b ≡ pos 0) (on-c : form_at h c ≡ pos 0) (down : SameDirection (toward y c) (opposite up)) (side : pos 0 <ℤ lam n y b) (clear : Clear y b)
@@ -187,19 +196,13 @@ module _ (t : Set) (h : Form) (hn : IsDirection (normal_of h)) (level : slope h 
             before-start yc bc q e =
                 let p = mul_pos (pos c.w) (lam n y b) (let k = c.proper in omega (arith, ints)) side in
                 let o = ap (λ r. pos b.w *ℤ r) e in
-                let z = ring (pos b.w ∷ []) (at 0 ⊗ num (pos 0)) (num (pos 0)) tt in
                 let m = ring (bc ∷ pos y.w ∷ []) (at 1 ⊗ (num (pos 0) ⊖ at 0)) (num (pos 0) ⊖ at 1 ⊗ at 0) tt in
                 let i = ring (bc ∷ pos y.w ∷ []) ((num (pos 0) ⊖ at 0) ⊗ at 1) (at 1 ⊗ (num (pos 0) ⊖ at 0)) tt in
-                let k = ring (pos y.w ∷ []) (num (pos 0) ⊗ at 0) (num (pos 0)) tt in
                 let f = cancel_lt (pos 0) (pos 0 -ℤ bc) (pos y.w) (let j = y.proper in omega (arith, ints)) (omega (arith, ints)) in
                 omega (arith, ints)
 
             beyond : lam n b c <ℤ pos 0
             beyond = before-start (lam n y c) (lam n b c) (lam-sum n y b c) level-c
-
-            products : (u v t c ry y rc : ℤ) → u ≡ neg_ℤ v → v *ℤ t ≡ c *ℤ ry -ℤ y *ℤ rc → u *ℤ t ≡ neg_ℤ c *ℤ ry -ℤ neg_ℤ y *ℤ rc
-            products u v t c ry y rc e f = ap (λ r. r *ℤ t) e ∙ ring (v ∷ t ∷ []) (neg (at 0) ⊗ at 1) (neg (at 0 ⊗ at 1)) tt ∙ ap neg_ℤ f
-                ∙ ring (c ∷ ry ∷ y ∷ rc ∷ []) (neg (at 0 ⊗ at 1 ⊖ at 2 ⊗ at 3)) (neg (at 0) ⊗ at 1 ⊖ neg (at 2) ⊗ at 3) tt
 
     pub along-start : (r : Place) → IsBetween b r c → FlatDim t r 2
     along-start = third-side t h hn y b c on-y on-b on-c turn first second F (never-passes t y b c corner) none
@@ -319,10 +322,6 @@ module _ (t : Set) (h : Form) (hn : IsDirection (normal_of h)) (level : slope h 
             let rq' : triple n (toward b r) (toward b q) ≤ℤ pos 0 = (let f = triple-turned n (toward b r) (toward b q) in omega (arith, ints)) in
             sum-nonneg (triple n (toward b q) (toward b y)) (lam n r b) (neg_ℤ (lam n b q)) (triple n (toward b r) (toward b y)) (neg_ℤ (lam n b y)) (triple n (toward b r) (toward b q))
             (products (lam n r b) (lam n b r) (triple n (toward b q) (toward b y)) (lam n b q) (triple n (toward b r) (toward b y)) (lam n b y) (triple n (toward b r) (toward b q)) k V) tri-turn (omega (arith, ints)) (omega (arith, ints)) ry rq'
-          where
-            products : (u v t c ry y rc : ℤ) → u ≡ neg_ℤ v → v *ℤ t ≡ c *ℤ ry -ℤ y *ℤ rc → u *ℤ t ≡ neg_ℤ c *ℤ ry -ℤ neg_ℤ y *ℤ rc
-            products u v t c ry y rc e f = ap (λ r. r *ℤ t) e ∙ ring (v ∷ t ∷ []) (neg (at 0) ⊗ at 1) (neg (at 0 ⊗ at 1)) tt ∙ ap neg_ℤ f
-                ∙ ring (c ∷ ry ∷ y ∷ rc ∷ []) (neg (at 0 ⊗ at 1 ⊖ at 2 ⊗ at 3)) (neg (at 0) ⊗ at 1 ⊖ neg (at 2) ⊗ at 3) tt
 
     pub along-back : (r : Place) → IsBetween q r y → FlatDim t r 2
     along-back = third-side t h hn b q y on-b on-q on-y tri-turn first (inl second) F (never-passes t b q y corner) none-back

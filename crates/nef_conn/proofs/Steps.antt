@@ -10,45 +10,14 @@
 --   too (AlongEdge). Where the item goes on to d and further, k is linked across the facet with the corner that a point of y's line close to w names, from which the way to z
 --   is clear (AcrossFacet); so it is the same again from there.
 -- Each step leads to a vertex further along d, where the number of the vertex is greater, or smaller for each; so it comes to an end.
-use Rattle.std.proofs.Common.{◌≡◌, ℤ, pos, neg_ℤ, ◌<ℤ◌, arith, ap, sym, ◌∙◌, inl, inr, ⊎_elim, [], ◌∷◌, subst}
-use Rattle.std.proofs.lemmas.Int.{ints}
-use Rattle.nef_space.proofs.Ring.{ring, at, neg, ◌⊕◌, ◌⊗◌}
-use Rattle.nef_space.specs.Signs.{sign}
-use Rattle.nef_space.proofs.Order.{by_order, sign-plus, sign-minus, plus-is, minus-is}
-use Rattle.nef_space.specs.Lists.{Chained}
-use Rattle.nef_space.specs.Local.{FlatDim, IsEven}
-use Rattle.nef_space.specs.Place.{Place, Form, form, form_at, normal_of, slope, SamePlace, toward, IsBetween}
-use Rattle.nef_space.specs.Sets.{Set}
-use Rattle.nef_space.specs.Vectors.{Vector, opposite, cross, triple, IsDirection, IsNormal, SameDirection, plane_dir}
-use Rattle.law_near.proofs.Between.{between-turned}
-use Rattle.law_near.proofs.FlatDecided.{triple-dot}
-use Rattle.law_near.proofs.Mixed.{toward-place, between-same}
-use Rattle.law_near.proofs.Directions.{zero-decided, direction-right}
-use Rattle.law_sphere.proofs.Around.{triple-turned, Beside, same_way, other_way, beside}
-use Rattle.law_sphere.proofs.Parallel.{parallel-in_plane}
-use Rattle.law_sphere.proofs.Compare.{dir-self}
-use Rattle.law_sphere.proofs.Vectors.{normal-direction}
-use Rattle.law_complex.specs.Complexes.{Vertex, Complex, Corner}
-use Rattle.law_complex.specs.Shows.{Shows}
-use Rattle.law_complex.specs.Skeleton.{IsFirstInPlane, RayNames}
-use Rattle.law_complex.specs.Laws.{IsFlatIn}
-use Rattle.law_complex.proofs.Planes.{plane-way}
-use Rattle.law_complex.proofs.Ways.{same-itself}
-use Rattle.law_complex.proofs.FacetSides.{level-way}
-use Rattle.law_complex.proofs.FacetAngles.{through-at}
-use Rattle.law_complex.proofs.FacetEdges.{ahead-back, ahead-same}
-use Rattle.law_links.specs.Links.{FacetLink}
-use Rattle.law_links.proofs.EdgeEnds.{opposite-way, right-turn}
-use Rattle.nef_conn.specs.Items.{line_form, HasClearStrip, NamesOfSteps, JoinedItemsAreLinked}
-use Rattle.law_cyclic.proofs.Directions.{level-of_opposite}
+use Rattle.nef_conn.proofs.Prelude.{◌≡◌, ℤ, pos, neg_ℤ, ◌<ℤ◌, arith, ap, sym, ◌∙◌, inl, inr, ⊎_elim, ◌∷◌, subst, [], ints, ring, at, neg, ◌⊕◌, ◌⊗◌, sign, by_order, sign-plus, sign-minus, plus-is, minus-is, Chained, FlatDim, IsEven, Place, Form, form, form_at, normal_of, slope, SamePlace, toward, IsBetween, Set, Vector, opposite, cross, triple, IsDirection, IsNormal, SameDirection, plane_dir, between-turned, toward-place, between-same, Beside, same_way, other_way, beside, normal-direction, Vertex, Complex, Corner, Shows, IsFirstInPlane, RayNames, IsFlatIn, plane-way, same-itself, through-at, ahead-back, ahead-same, FacetLink, line_form, HasClearStrip, NamesOfSteps, JoinedItemsAreLinked, zero-decided, triple-dot, level-of_opposite, triple-turned, dir-self, parallel-in_plane, level-way, opposite-way, opposite-twice, direction-right, right-turn, toward-turned}
 use Rattle.nef_conn.proofs.WayInward.{dir-level}
 use Rattle.nef_conn.proofs.Chain.{chain-here}
-use Rattle.nef_conn.proofs.Named.{twice}
 use Rattle.nef_conn.proofs.SameRay.{names-along}
 use Rattle.nef_conn.proofs.ItemPaths.{even-on, even-flat}
 use Rattle.nef_conn.proofs.Sweep.{converse-by_steps}
 use Rattle.nef_conn.proofs.OneNamed.{one-named}
-use Rattle.nef_conn.proofs.FacetStrip.{Strip, toward-turned}
+use Rattle.nef_conn.proofs.FacetStrip.{Strip}
 use Rattle.nef_conn.proofs.AlongEdge.{opposite-normal}
 use Rattle.nef_conn.proofs.Ahead.{strip-names}
 
@@ -148,7 +117,7 @@ module _ (s : Set) (C : Complex) (S : Shows s C) (h : Form) (d : Vector) (y z : 
       first : IsFirstInPlane C h z d b.0 → IsFirstInPlane C h y d b.0
       first I = record {
         place = I.place;
-        ahead = subst (λ (r : Vector). SameDirection (toward y I.place) r) (twice d) (ahead-back I.place y (opposite d) (ahead-same I.place z y (opposite d) e (ahead-back z I.place d I.ahead)));
+        ahead = subst (λ (r : Vector). SameDirection (toward y I.place) r) (opposite-twice d) (ahead-back I.place y (opposite d) (ahead-same I.place z y (opposite d) e (ahead-back z I.place d I.ahead)));
         meets = I.meets;
         first = λ q m c o. I.first q m (between-same y q I.place z q I.place e (same-itself q) (same-itself I.place) c) o;
       }

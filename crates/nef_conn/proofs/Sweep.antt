@@ -1,33 +1,5 @@
 -- A segment is cut where a line along the way inward, through a vertex of the plane, crosses it; so the converse comes to segments beside which, but on the line of their start, no vertex lies.
-use Rattle.std.proofs.Common.{◌≡◌, ℕ, zero, suc, pos, ◌<ℤ◌, ◌≤ℤ◌, arith, refl, sym, ◌∙◌, ◌⊎◌, inl, inr, ⊎_elim, List, [], ◌∷◌, subst}
-use Rattle.std.proofs.lemmas.Int.{ints}
-use Rattle.nef_space.specs.Signs.{sign}
-use Rattle.nef_space.proofs.Order.{by_order, sign-plus, sign-minus, minus-is}
-use Rattle.nef_space.specs.Lists.{Chained}
-use Rattle.nef_space.specs.Local.{FlatDim, IsEven}
-use Rattle.nef_space.specs.Place.{Place, Form, form_at, normal_of, slope, SamePlace, toward, IsBetween}
-use Rattle.nef_space.specs.Sets.{Set}
-use Rattle.nef_space.specs.Vectors.{Vector, opposite, IsZero, IsDirection, IsNormal, SameDirection, plane_dir}
-use Rattle.law_near.proofs.Rays.{signs-same}
-use Rattle.law_near.proofs.Between.{between-turned, between-inner}
-use Rattle.law_near.proofs.Mixed.{toward-place}
-use Rattle.law_near.proofs.Directions.{zero-decided, direction-right}
-use Rattle.law_sphere.specs.Maps.{At}
-use Rattle.law_complex.specs.Complexes.{Vertex, Complex, Corner}
-use Rattle.law_complex.specs.Shows.{Shows}
-use Rattle.law_complex.specs.Skeleton.{RayNames}
-use Rattle.law_complex.specs.Laws.{IsFlatIn}
-use Rattle.law_complex.proofs.Ways.{between-outer, same-itself}
-use Rattle.law_complex.proofs.Edges.{near_point, near-between}
-use Rattle.law_complex.proofs.FacetSides.{level-way}
-use Rattle.law_complex.proofs.FacetWays.{even-by}
-use Rattle.law_complex.proofs.FacetEnds.{facet-behind}
-use Rattle.law_complex.proofs.FacetAngles.{between-plus, between-minus, cut-at, Cut}
-use Rattle.law_complex.proofs.FacetTriangle.{below-or}
-use Rattle.law_links.specs.Links.{FacetLink}
-use Rattle.law_links.proofs.Ties.{same-between}
-use Rattle.nef_conn.specs.Items.{line_form, NamesOfSteps, ConverseBySteps}
-use Rattle.law_cyclic.proofs.Directions.{level-of_opposite}
+use Rattle.nef_conn.proofs.Prelude.{◌≡◌, ℕ, zero, suc, pos, ◌<ℤ◌, ◌≤ℤ◌, arith, refl, sym, ◌∙◌, ◌⊎◌, inl, inr, ⊎_elim, List, ◌∷◌, subst, [], ints, sign, by_order, sign-plus, sign-minus, minus-is, Chained, FlatDim, IsEven, Place, Form, form_at, normal_of, slope, SamePlace, toward, IsBetween, Set, Vector, opposite, IsZero, IsDirection, IsNormal, SameDirection, plane_dir, signs-same, between-turned, between-inner, toward-place, At, Vertex, Complex, Corner, Shows, RayNames, IsFlatIn, between-outer, same-itself, near_point, near-between, even-by, facet-behind, between-plus, between-minus, cut-at, Cut, below-or, FacetLink, same-between, line_form, NamesOfSteps, ConverseBySteps, zero-decided, level-of_opposite, level-way, direction-right}
 use Rattle.nef_conn.proofs.WayInward.{dir-level}
 use Rattle.nef_conn.proofs.Chain.{chain-both, chain-back}
 use Rattle.nef_conn.proofs.ItemPaths.{even-on, even-flat, converse-by_segments}

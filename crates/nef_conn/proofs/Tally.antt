@@ -1,7 +1,5 @@
 -- How many elements of a list have a decided property.
-use Rattle.std.proofs.Common.{ℕ, ◌+◌, ◌<◌, ◌≤◌, arith, refl, sym, inl, inr, List, [], ◌∷◌, subst}
-use Rattle.nef_space.specs.Signs.{Lies}
-use Rattle.law_near.proofs.Decided.{Decided}
+use Rattle.nef_conn.proofs.Prelude.{ℕ, ◌+◌, ◌<◌, ◌≤◌, arith, refl, sym, inl, inr, List, ◌∷◌, subst, [], Lies, Decided}
 
 abbrev pub one-if : {A : Type 0} → Decided A → ℕ
 one-if (inl a) = 1

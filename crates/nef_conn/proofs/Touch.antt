@@ -1,34 +1,7 @@
 -- The sides of a vertex that lie beside a point in a direction: the point is the vertex, or lies close to it, on an edge or in a facet. Directions that a free way joins have linked sides.
-use Rattle.std.proofs.Common.{◌≡◌, ℕ, ◌+◌, ◌<◌, ◌≤◌, ℤ, pos, ◌+ℤ◌, ◌*ℤ◌, neg_ℤ, arith, refl, ap, sym, ◌∙◌, inl, ⊎_elim, [], ◌∷◌, subst}
-use Rattle.nef_space.specs.Signs.{sign}
-use Rattle.nef_space.proofs.Ring.{ring, at, num, neg, ◌⊕◌, ◌⊗◌}
-use Rattle.nef_space.specs.Lists.{Chained}
-use Rattle.nef_space.specs.Local.{FlatDim}
-use Rattle.nef_space.specs.Place.{Place, SamePlace, IsBetween}
-use Rattle.nef_space.specs.Sets.{Set}
-use Rattle.nef_space.specs.Vectors.{Vector, opposite, blend, dot, zero_vector, IsZero, IsOpposite}
-use Rattle.nef_space.specs.declared.label.Label.{Label}
-use Rattle.law_near.specs.Cells.{carriers}
-use Rattle.law_near.proofs.Decisions.{ahead}
-use Rattle.law_near.proofs.Flats.{vector-same}
-use Rattle.law_near.proofs.NearGerms.{steep}
-use Rattle.law_near.proofs.Rays.{signs-same, same-place_sym}
-use Rattle.law_near.proofs.Far.{nought-or}
-use Rattle.law_near.proofs.Directions.{same-factor}
-use Rattle.law_sphere.specs.Forms.{forms, SameSigns}
-use Rattle.law_sphere.specs.Maps.{At, Map, IsFree, HasSide, IsClear, Sees, here, link, Shaped}
-use Rattle.law_sphere.proofs.Forms.{free-by_signs}
-use Rattle.law_sphere.proofs.Generic.{amount, far-keeps, far-level, far-same}
+use Rattle.nef_conn.proofs.Prelude.{◌≡◌, ℕ, ◌+◌, ◌<◌, ◌≤◌, ℤ, pos, ◌+ℤ◌, ◌*ℤ◌, neg_ℤ, arith, refl, ap, sym, ◌∙◌, inl, ⊎_elim, ◌∷◌, subst, [], sign, ring, at, num, neg, ◌⊕◌, ◌⊗◌, Chained, FlatDim, Place, SamePlace, IsBetween, Set, Vector, opposite, blend, dot, zero_vector, IsZero, IsOpposite, Label, carriers, ahead, steep, signs-same, same-place_sym, same-factor, forms, SameSigns, At, Map, IsFree, HasSide, IsClear, Sees, here, link, Shaped, free-by_signs, amount, far-keeps, far-level, far-same, dot-comb, Vertex, Edge, Complex, HasEnds, Shows, VertexSide, VolumeLink, edge-ways, tied-low, tied-turn, seen-free, ahead-cells, IsTied, tied-cell, tied-both, tied-ahead, nought-or, vector-same, opposite-way}
 use Rattle.law_sphere.proofs.Labels.{same-clear, mixed-sign}
 use Rattle.law_sphere.proofs.Sight.{sees_both}
-use Rattle.law_sphere.proofs.Vectors.{dot-comb}
-use Rattle.law_complex.specs.Complexes.{Vertex, Edge, Complex, HasEnds}
-use Rattle.law_complex.specs.Shows.{Shows}
-use Rattle.law_complex.specs.Rays.{VertexSide}
-use Rattle.law_links.specs.Links.{VolumeLink}
-use Rattle.law_links.proofs.EdgeEnds.{edge-ways, tied-low, tied-turn, opposite-way}
-use Rattle.law_links.proofs.SideSight.{seen-free}
-use Rattle.law_links.proofs.Ties.{ahead-cells, IsTied, tied-cell, tied-both, tied-ahead}
 use Rattle.nef_conn.proofs.Chain.{chain-both, chain-one}
 use Rattle.nef_conn.proofs.RaysEnd.{tied-dim, seen-toward}
 

@@ -1,56 +1,5 @@
 -- Where an edge runs down from a vertex of a plane, along up, nothing else is at that svertex, nor at the lower end of the edge; what falls beside the vertex falls beside the edge to its lower end.
-use Rattle.std.proofs.Common.{◌≡◌, ℕ, ◌+◌, ◌<◌, ◌≤◌, ℤ, pos, ◌+ℤ◌, ◌-ℤ◌, ◌*ℤ◌, ◌<ℤ◌, ◌≤ℤ◌, arith, refl, ap, sym, ◌∙◌, ◌⊎◌, inl, inr, [], ◌∷◌, subst}
-use Rattle.std.proofs.lemmas.Int.{ints}
-use Rattle.nef_space.specs.Signs.{sign}
-use Rattle.nef_space.proofs.Ring.{ring, at, num, ◌⊕◌, ◌⊖◌, ◌⊗◌}
-use Rattle.nef_space.proofs.Order.{by_order, nought-is, mul_pos, mul_nonneg, cancel_lt, sign-scaled, sign-plus, plus-is}
-use Rattle.law_sphere.proofs.Turn.{turn-last}
-use Rattle.law_sphere.proofs.Vectors.{same-plus, same-minus}
-use Rattle.law_complex.proofs.FacetSides.{level-way}
-use Rattle.law_complex.proofs.Planes.{plane-way}
-use Rattle.nef_space.specs.Lists.{Chained}
-use Rattle.nef_space.specs.Local.{FlatDim, IsEven}
-use Rattle.nef_space.specs.Place.{Place, Form, form_at, normal_of, slope, plane_through, SamePlace, InFrame, toward, IsBetween}
-use Rattle.nef_space.specs.Sets.{Set}
-use Rattle.nef_space.specs.Vectors.{Vector, blend, dot, cross, opposite, IsZero, IsDirection, SameDirection, up}
-use Rattle.law_near.specs.Cells.{carriers}
-use Rattle.law_near.proofs.Alike.{germs-by_cell}
-use Rattle.law_near.proofs.Between.{between-turned, between-inner}
-use Rattle.law_near.proofs.Decisions.{ahead}
-use Rattle.law_near.proofs.Edges.{start-close}
-use Rattle.law_near.proofs.Even.{even-germs, joined-germs}
-use Rattle.law_near.proofs.FlatDecided.{triple-dot, cross-turned}
-use Rattle.law_near.proofs.Rays.{signs-same, same-place_sym}
-use Rattle.law_near.proofs.Near.{reach_all, slope-toward}
-use Rattle.law_near.proofs.Mixed.{place-toward, between-same}
-use Rattle.law_near.proofs.Directions.{direction-left, direction-right}
-use Rattle.law_sphere.specs.Forms.{forms, SameSigns}
-use Rattle.law_sphere.specs.Maps.{At, MapVertex, arc_item, HasArc, Shaped}
-use Rattle.law_sphere.proofs.Arcs.{at-arc}
-use Rattle.law_sphere.proofs.Compare.{SameDirection-turned, SameDirection-trans, dir-self}
-use Rattle.law_sphere.proofs.Generic.{amount}
-use Rattle.law_sphere.proofs.KindFlats.{in-span}
-use Rattle.law_sphere.proofs.Parallel.{parallel-trans}
-use Rattle.law_sphere.proofs.Lone.{free-close}
-use Rattle.law_complex.specs.Complexes.{Vertex, Edge, Complex, HasEnds, IsCorner}
-use Rattle.law_complex.specs.Shows.{Shows}
-use Rattle.law_complex.specs.Rays.{VertexSide, RayDown}
-use Rattle.law_complex.specs.Laws.{IsFlatIn}
-use Rattle.law_complex.proofs.Edges.{near_point, near-between, edge-points}
-use Rattle.law_complex.proofs.FacetAngles.{through-at, through-slope, between-plus}
-use Rattle.law_complex.proofs.FacetEdges.{ahead-back}
-use Rattle.law_complex.proofs.FacetTriangle.{plane-between}
-use Rattle.law_complex.proofs.FacetWays.{dim-same, plane-ahead, even-by}
-use Rattle.law_complex.proofs.Ways.{between-way, between-outer, same-itself}
-use Rattle.law_links.specs.Links.{VolumeLink}
-use Rattle.law_links.specs.Components.{IsUpright, IsEvenAfter}
-use Rattle.law_links.proofs.EdgeEnds.{EdgeWays, edge-ways, ends-tied, tied-turn, end-level, corner_of, opposite-way, dot-opposite}
-use Rattle.law_links.proofs.NearVertex.{free-dim}
-use Rattle.law_links.proofs.SideLinks.{both-opposite}
-use Rattle.law_links.proofs.Ties.{even-fan, dim-cell, ahead-cells, tied-cell, tied-both, tied-ahead, tied-ray, tied-turned}
-use Rattle.nef_conn.specs.Items.{AreLinkedWhereJoined}
-use Rattle.nef_conn.proofs.Named.{twice}
-use Rattle.nef_conn.specs.Slices.{sliced}
+use Rattle.nef_conn.proofs.Prelude.{◌≡◌, ℕ, ◌+◌, ◌<◌, ◌≤◌, ℤ, pos, ◌-ℤ◌, ◌*ℤ◌, ◌<ℤ◌, ◌≤ℤ◌, arith, refl, ap, sym, ◌∙◌, ◌⊎◌, inl, inr, ◌∷◌, subst, [], ints, sign, ring, at, num, ◌⊕◌, ◌⊖◌, ◌⊗◌, by_order, nought-is, sign-scaled, sign-plus, plus-is, turn-last, same-plus, same-minus, plane-way, Chained, FlatDim, IsEven, Place, Form, form_at, normal_of, slope, plane_through, SamePlace, InFrame, toward, IsBetween, Set, Vector, blend, dot, cross, opposite, IsZero, IsDirection, SameDirection, up, carriers, germs-by_cell, between-turned, between-inner, ahead, start-close, even-germs, joined-germs, signs-same, same-place_sym, reach_all, slope-toward, place-toward, between-same, forms, SameSigns, At, MapVertex, arc_item, HasArc, Shaped, at-arc, amount, free-close, Vertex, Edge, Complex, HasEnds, IsCorner, Shows, VertexSide, RayDown, IsFlatIn, near_point, near-between, edge-points, through-at, through-slope, between-plus, ahead-back, plane-between, dim-same, plane-ahead, even-by, between-way, between-outer, same-itself, VolumeLink, IsUpright, IsEvenAfter, EdgeWays, edge-ways, ends-tied, tied-turn, end-level, corner_of, free-dim, even-fan, dim-cell, ahead-cells, tied-cell, tied-both, tied-ahead, tied-ray, tied-turned, AreLinkedWhereJoined, sliced, triple-dot, cross-turned, SameDirection-turned, SameDirection-trans, dir-self, in-span, parallel-trans, opposite-same, dot-opposite, level-way, opposite-way, opposite-twice, direction-left, direction-right}
 use Rattle.nef_conn.proofs.Chain.{chain-both}
 use Rattle.nef_conn.proofs.Claims.{Claim}
 use Rattle.nef_conn.proofs.EdgeFalls.{ways-toward, vertex-slice, edge-slice}
@@ -62,22 +11,11 @@ use Rattle.nef_conn.proofs.Near.{Wedge, wedge-way, wedge-on}
 use Rattle.nef_conn.proofs.NearOver.{up-some, blend-rises}
 use Rattle.nef_conn.proofs.RaysEnd.{tied-dim}
 use Rattle.nef_conn.proofs.Silhouettes.{germs-inside, toward-end, sliced-ahead, two-of, three-of}
-use Rattle.nef_conn.proofs.SliceStrip.{lam, up_line, lam-at, lam-sum, Clear, along-start}
+use Rattle.nef_conn.proofs.SliceStrip.{lam, up_line, lam-at, Clear, along-start, lam-plus}
 use Rattle.nef_conn.proofs.Touch.{Seer, bound, Touch, edge-frame, vertex-frame, same-seers, touched, no-way}
 
 pub up-square : (m : Vector) → dot (cross m up) up ≡ pos 0
 up-square m = ring (m.x ∷ m.y ∷ m.z ∷ up.x ∷ up.y ∷ up.z ∷ []) ((at 1 ⊗ at 5 ⊖ at 2 ⊗ at 4) ⊗ at 3 ⊕ (at 2 ⊗ at 3 ⊖ at 0 ⊗ at 5) ⊗ at 4 ⊕ (at 0 ⊗ at 4 ⊖ at 1 ⊗ at 3) ⊗ at 5) (num (pos 0)) tt
-
-lam-plus : (n : Vector) (a b c : Place) → pos 0 ≤ℤ lam n a b → pos 0 <ℤ lam n b c → pos 0 <ℤ lam n a c
-lam-plus n a b c l m = plain (lam n a c) (lam n a b) (lam n b c) (lam-sum n a b c) l m
-  where
-    plain : (g d e : ℤ) → pos b.w *ℤ g ≡ pos c.w *ℤ d +ℤ pos a.w *ℤ e → pos 0 ≤ℤ d → pos 0 <ℤ e → pos 0 <ℤ g
-    plain g d e q l m =
-        let u = mul_nonneg (pos c.w) d (let k = c.proper in omega (arith, ints)) l in
-        let v = mul_pos (pos a.w) e (let k = a.proper in omega (arith, ints)) m in
-        let i = ring (g ∷ pos b.w ∷ []) (at 1 ⊗ at 0) (at 0 ⊗ at 1) tt in
-        let k = ring (pos b.w ∷ []) (num (pos 0) ⊗ at 0) (num (pos 0)) tt in
-        cancel_lt (pos 0) g (pos b.w) (let j = b.proper in omega (arith, ints)) (omega (arith, ints))
 
 module _ (s : Set) (C : Complex) (S : Shows s C) (upright : IsUpright C) (linked : AreLinkedWhereJoined s C) where
   -- no arc ends at a svertex along up
@@ -200,7 +138,7 @@ module _ (s : Set) (C : Complex) (S : Shows s C) (upright : IsUpright C) (linked
         free-y = tied-dim s b (ahead s y f) 3 (tied-ray s 3 y b f (dir-self f some-b) (λ r c. part-three r c)) three
 
         to-high : SameDirection (opposite up) W.high.dir
-        to-high = SameDirection-trans (opposite up) (opposite W.low.dir) W.high.dir (both-opposite up W.low.dir (SameDirection-turned W.low.dir up along)) (opposite-way W.low.dir W.high.dir W.back)
+        to-high = SameDirection-trans (opposite up) (opposite W.low.dir) W.high.dir (opposite-same up W.low.dir (SameDirection-turned W.low.dir up along)) (opposite-way W.low.dir W.high.dir W.back)
 
         high-level : dot (cross n up) W.high.dir ≡ pos 0
         high-level = level-way (cross n up) (opposite up) W.high.dir to-high (let g = dot-opposite (cross n up) up in let c = up-square n in omega (arith, ints))
@@ -334,7 +272,7 @@ module _ (s : Set) (C : Complex) (S : Shows s C) (upright : IsUpright C) (linked
         touch-a = touched s C S v.point (vertex-frame s C e.low v v.point H.low (same-itself v.point)) a' (free-to r' (inl amid-r'))
 
         up-way : SameDirection W.low.dir (toward v.point y)
-        up-way = SameDirection-trans W.low.dir up (toward v.point y) along (SameDirection-turned (toward v.point y) up (subst (λ (g : Vector). SameDirection (toward v.point y) g) (twice up) (ahead-back y v.point (opposite up) down)))
+        up-way = SameDirection-trans W.low.dir up (toward v.point y) along (SameDirection-turned (toward v.point y) up (subst (λ (g : Vector). SameDirection (toward v.point y) g) (opposite-twice up) (ahead-back y v.point (opposite up) down)))
 
         first-link : Chained (VolumeLink C) o touch-a.0
         first-link =

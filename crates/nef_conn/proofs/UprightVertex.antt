@@ -1,40 +1,7 @@
 -- What falls beside a vertex of a plane from which an edge runs down along up: it falls beside the edge.
-use Rattle.std.proofs.Common.{◌≡◌, ℕ, ◌+◌, ℤ, pos, ◌<ℤ◌, arith, refl, ap, sym, inl, inr, ⊎_elim, subst}
-use Rattle.std.proofs.lemmas.Int.{ints}
-use Rattle.law_complex.proofs.FacetSides.{level-way}
-use Rattle.nef_space.specs.Lists.{Chained}
-use Rattle.nef_space.specs.Local.{FlatDim, IsVertex}
-use Rattle.nef_space.specs.Place.{Place, Form, form_at, normal_of, slope, SamePlace, InFrame, toward, IsBetween, IsPlaceBelow}
-use Rattle.nef_space.specs.Sets.{Set}
-use Rattle.nef_space.specs.Vectors.{Vector, blend, dot, cross, opposite, IsZero, IsDirection, SameDirection, up}
-use Rattle.law_near.proofs.Decisions.{ahead}
-use Rattle.law_near.proofs.FlatDecided.{triple-dot}
-use Rattle.law_near.proofs.Rays.{same-place_sym}
-use Rattle.law_near.proofs.Directions.{direction-left}
-use Rattle.law_sphere.specs.Forms.{forms}
-use Rattle.law_sphere.specs.Maps.{At, MapVertex, around_svertex, HasArc, Shaped}
-use Rattle.law_sphere.proofs.Compare.{SameDirection-turned, SameDirection-trans, dir-self}
-use Rattle.law_sphere.proofs.Generic.{amount}
-use Rattle.law_sphere.proofs.Lists.{at-one}
-use Rattle.law_sphere.proofs.NearItems.{opposite-turned}
-use Rattle.law_sphere.proofs.Lone.{sees-around}
-use Rattle.law_complex.specs.Complexes.{Vertex, Edge, Complex, HasEnds}
-use Rattle.law_complex.specs.Shows.{Shows}
-use Rattle.law_complex.specs.Rays.{VertexSide, RayDown}
-use Rattle.law_complex.proofs.FacetEdges.{ahead-back}
-use Rattle.law_complex.proofs.FacetWays.{dim-same, plane-ahead}
-use Rattle.law_complex.proofs.Joining.{svertex-edge}
-use Rattle.law_links.specs.Links.{VolumeLink, around_ends}
-use Rattle.law_links.specs.Components.{IsUpright, IsEvenAfter}
-use Rattle.law_links.proofs.EdgeEnds.{EdgeWays, edge-ways, opposite-way, dot-opposite}
-use Rattle.law_links.proofs.SideLinks.{both-opposite}
-use Rattle.law_links.proofs.Ties.{tied-ray}
-use Rattle.nef_conn.specs.Items.{AreLinkedWhereJoined}
-use Rattle.nef_conn.proofs.Named.{twice}
-use Rattle.nef_conn.specs.Slices.{sliced}
+use Rattle.nef_conn.proofs.Prelude.{◌≡◌, ℕ, ◌+◌, ℤ, pos, ◌<ℤ◌, arith, refl, ap, sym, inl, inr, ⊎_elim, subst, ints, Chained, FlatDim, IsVertex, Place, Form, form_at, normal_of, slope, SamePlace, InFrame, toward, IsBetween, IsPlaceBelow, Set, Vector, blend, dot, cross, opposite, IsZero, IsDirection, SameDirection, up, ahead, same-place_sym, forms, At, MapVertex, around_svertex, HasArc, Shaped, amount, at-one, sees-around, Vertex, Edge, Complex, HasEnds, Shows, VertexSide, RayDown, ahead-back, dim-same, plane-ahead, svertex-edge, VolumeLink, around_ends, IsUpright, IsEvenAfter, EdgeWays, edge-ways, tied-ray, AreLinkedWhereJoined, sliced, place_below-same, triple-dot, SameDirection-turned, SameDirection-trans, dir-self, opposite-turned, opposite-same, dot-opposite, level-way, opposite-way, opposite-twice, direction-left}
 use Rattle.nef_conn.proofs.Chain.{chain-both, chain-back, chain-one}
 use Rattle.nef_conn.proofs.Claims.{Claim}
-use Rattle.law_near.proofs.PlaceOrder.{place_below-same}
 use Rattle.nef_conn.proofs.Downs.{along-up}
 use Rattle.nef_conn.proofs.Fall.{lam-zero}
 use Rattle.nef_conn.proofs.Leaves.{toward-same}
@@ -121,9 +88,9 @@ module _ (s : Set) (C : Complex) (S : Shows s C) (upright : IsUpright C) (linked
           along : SameDirection W.low.dir up
           along =
               let g = subst (λ (q : MapVertex). SameDirection q.dir (opposite up)) (sym high-is) runs in
-              let p = both-opposite W.high.dir (opposite up) g in
+              let p = opposite-same W.high.dir (opposite up) g in
               let q = opposite-way W.high.dir W.low.dir (opposite-turned W.low.dir W.high.dir W.back) in
-              subst (λ (r : Vector). SameDirection W.low.dir r) (twice up) (SameDirection-trans W.low.dir (opposite W.high.dir) (opposite (opposite up)) (SameDirection-turned (opposite W.high.dir) W.low.dir q) p)
+              subst (λ (r : Vector). SameDirection W.low.dir r) (opposite-twice up) (SameDirection-trans W.low.dir (opposite W.high.dir) (opposite (opposite up)) (SameDirection-turned (opposite W.high.dir) W.low.dir q) p)
 
           top : SamePlace w.point y
           top = subst (λ (q : Vertex). SamePlace q.point y) (sym one) same

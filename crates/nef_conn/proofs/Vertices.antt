@@ -1,40 +1,5 @@
 -- What falls from a point beside a vertex of a plane names a side of the class of what touches the vertex toward it: by what leaves the vertex first, or, where nothing does, by what lies below.
-use Rattle.std.proofs.Common.{◌≡◌, ℤ, pos, ◌<ℤ◌, arith, sym, ◌⊎◌, inl, inr, ⊎_elim, subst}
-use Rattle.std.proofs.lemmas.Int.{ints}
-use Rattle.nef_space.specs.Lists.{Chained}
-use Rattle.nef_space.specs.Local.{FlatDim, IsEven}
-use Rattle.nef_space.specs.Place.{Place, Form, form_at, normal_of, slope, SamePlace, InFrame, toward, IsBetween}
-use Rattle.nef_space.specs.Sets.{Set}
-use Rattle.nef_space.specs.Vectors.{Vector, opposite, cross, IsDirection, SameDirection, up}
-use Rattle.law_near.specs.Cells.{carriers}
-use Rattle.law_near.specs.Laws.{SameGerms}
-use Rattle.law_near.proofs.Alike.{FlatDim-by_germs, germs-by_cell}
-use Rattle.law_near.proofs.Between.{between-turned, between-inner, ray-cell}
-use Rattle.law_near.proofs.Decisions.{ahead}
-use Rattle.law_near.proofs.Even.{even-germs}
-use Rattle.law_near.proofs.FlatDecided.{triple-dot}
-use Rattle.law_near.proofs.Rays.{signs-same, same-place_sym}
-use Rattle.law_near.proofs.Directions.{direction-left}
-use Rattle.law_sphere.proofs.Around.{triple-turned}
-use Rattle.law_complex.proofs.FacetSides.{level-way}
-use Rattle.law_sphere.proofs.Compare.{SameDirection-turned, SameDirection-trans, dir-self}
-use Rattle.law_complex.specs.Complexes.{Complex}
-use Rattle.law_complex.specs.Shows.{Shows}
-use Rattle.law_complex.specs.Rays.{VertexSide, RayDown}
-use Rattle.law_complex.specs.Laws.{IsFlatIn}
-use Rattle.law_complex.proofs.FacetNames.{facet-of}
-use Rattle.law_complex.proofs.FacetTriangle.{plane-between}
-use Rattle.law_complex.proofs.FacetWays.{dim-same, plane-ahead, even-by}
-use Rattle.law_complex.proofs.Planes.{plane-way}
-use Rattle.law_complex.proofs.Skeletons.{skeleton-not_flat, skeleton-or_flat}
-use Rattle.law_complex.proofs.Ways.{between-way, between-cases, between-outer, between-start}
-use Rattle.law_links.specs.Links.{VolumeLink}
-use Rattle.law_links.specs.Components.{IsUpright, IsEvenAfter}
-use Rattle.law_links.proofs.EdgeEnds.{dot-opposite}
-use Rattle.law_links.proofs.Ties.{ahead-close, dim-cell, tied-ray}
-use Rattle.law_links.proofs.Down.{facet-at}
-use Rattle.nef_conn.specs.Items.{AreLinkedWhereJoined}
-use Rattle.nef_conn.specs.Slices.{sliced}
+use Rattle.nef_conn.proofs.Prelude.{◌≡◌, ℤ, pos, ◌<ℤ◌, arith, sym, ◌⊎◌, inl, inr, ⊎_elim, subst, ints, Chained, FlatDim, IsEven, Place, Form, form_at, normal_of, slope, SamePlace, InFrame, toward, IsBetween, Set, Vector, opposite, cross, IsDirection, SameDirection, up, carriers, SameGerms, FlatDim-by_germs, germs-by_cell, between-turned, between-inner, ray-cell, ahead, even-germs, signs-same, same-place_sym, Complex, Shows, VertexSide, RayDown, IsFlatIn, facet-of, plane-between, dim-same, plane-ahead, even-by, plane-way, skeleton-not_flat, skeleton-or_flat, between-way, between-cases, between-outer, between-start, VolumeLink, IsUpright, IsEvenAfter, ahead-close, dim-cell, tied-ray, facet-at, AreLinkedWhereJoined, sliced, triple-dot, triple-turned, SameDirection-turned, SameDirection-trans, dir-self, dot-opposite, level-way, direction-left}
 use Rattle.nef_conn.proofs.Chain.{chain-both}
 use Rattle.nef_conn.proofs.Fall.{lam-zero}
 use Rattle.nef_conn.proofs.Fans.{off-between}

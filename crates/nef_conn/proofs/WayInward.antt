@@ -1,30 +1,8 @@
 -- The forms of one plane: the same ray names the same corners in each, and there is one way inward.
-use Rattle.std.proofs.Common.{◌≡◌, ℕ, ℤ, pos, ◌+ℤ◌, ◌*ℤ◌, neg_ℤ, Bool, true, false, cond, ◌&&◌, ◌<◌, arith, refl, ap, sym, ◌∙◌, inl, inr, ⊎_elim, [], ◌∷◌, subst, Decides}
-use Rattle.std.proofs.lemmas.Int.{ints}
+use Rattle.nef_conn.proofs.Prelude.{◌≡◌, ℕ, ℤ, pos, ◌+ℤ◌, ◌*ℤ◌, neg_ℤ, Bool, true, false, cond, ◌&&◌, ◌<◌, arith, refl, ap, sym, ◌∙◌, inl, inr, ⊎_elim, ◌∷◌, subst, Decides, [], ints, sign, given, none, follows, cancel_eq, ring, at, num, neg, ◌⊕◌, ◌⊗◌, axis_factor, Place, Form, form_at, normal_of, toward, Vector, opposite, dot, cross, triple, blend, IsDirection, SameDirection, plane_dir, beside_x, beside_y, beside_z, SameUpToFactor, of_direction, same-factor, factor-same, some-pos, item_normal, Arc, dir_of, turn-last, same-plus, same-minus, Vertex, Complex, Corner, PlaneMeet, meets_vertex, meets_edge, LiesIn, Meets, IsFirstInPlane, IsArcOnSide, IsCornerAt, RayNames, plane-onward, plane-way, opposed, on_item-way, dot-comm, SameDirection-turned, SameDirection-trans, dir-signs, opposite-same, direction-left, level-blend}
 use Rattle.std.specs.Bool.{one_answer}
 use Rattle.std.specs.Ordering.{int_eq}
 use Rattle.std.proofs.lemmas.Bool.Decides.{Decides-int_eq}
-use Rattle.nef_space.specs.Signs.{sign}
-use Rattle.nef_space.proofs.Combination.{given, none, follows}
-use Rattle.nef_space.proofs.Order.{cancel_eq}
-use Rattle.nef_space.proofs.Ring.{ring, at, num, neg, ◌⊕◌, ◌⊗◌}
-use Rattle.nef_space.specs.Limits.{axis_factor}
-use Rattle.nef_space.specs.Place.{Place, Form, form_at, normal_of, toward}
-use Rattle.nef_space.specs.Vectors.{Vector, opposite, dot, cross, triple, blend, IsDirection, SameDirection, plane_dir, beside_x, beside_y, beside_z}
-use Rattle.law_near.specs.Homogeneous.{SameUpToFactor, of_direction}
-use Rattle.law_near.proofs.Directions.{dot-comm, direction-left, same-factor, factor-same}
-use Rattle.law_near.proofs.Sums.{some-pos}
-use Rattle.law_sphere.specs.Maps.{item_normal, Arc, dir_of}
-use Rattle.law_sphere.proofs.Compare.{SameDirection-turned, SameDirection-trans}
-use Rattle.law_sphere.proofs.Labels.{dir-signs}
-use Rattle.law_sphere.proofs.Turn.{turn-last}
-use Rattle.law_sphere.proofs.Vectors.{dot-comb, same-plus, same-minus}
-use Rattle.law_complex.specs.Complexes.{Vertex, Complex, Corner}
-use Rattle.law_complex.specs.Skeleton.{PlaneMeet, meets_vertex, meets_edge, LiesIn, Meets, IsFirstInPlane, IsArcOnSide, IsCornerAt, RayNames}
-use Rattle.law_complex.proofs.FacetWays.{plane-onward}
-use Rattle.law_complex.proofs.Planes.{plane-way}
-use Rattle.law_complex.proofs.Ways.{opposed, opposite-same}
-use Rattle.law_links.proofs.ItemPoints.{on_item-way}
 use Rattle.nef_conn.proofs.Onward.{level-kept}
 
 -- ---- points of two forms of one plane
@@ -82,20 +60,14 @@ level-y n = ring (n.x ∷ n.y ∷ n.z ∷ []) (at 0 ⊗ neg (at 2) ⊕ at 1 ⊗ 
 level-z : (n : Vector) → dot n (beside_z n) ≡ pos 0
 level-z n = ring (n.x ∷ n.y ∷ n.z ∷ []) (at 0 ⊗ at 1 ⊕ at 1 ⊗ neg (at 0) ⊕ at 2 ⊗ num (pos 0)) (num (pos 0)) tt
 
-both-level : (n a b : Vector) → dot n a ≡ pos 0 → dot n b ≡ pos 0 → dot n (blend axis_factor a 1 b) ≡ pos 0
-both-level n a b p q = dot-comb n (pos axis_factor) a (pos 1) b ∙ zero (dot n a) (dot n b) p q
-  where
-    zero : (x y : ℤ) → x ≡ pos 0 → y ≡ pos 0 → pos axis_factor *ℤ x +ℤ pos 1 *ℤ y ≡ pos 0
-    zero x y p q = follows (x ∷ y ∷ pos axis_factor ∷ []) (at 2 ⊗ at 0 ⊕ num (pos 1) ⊗ at 1) (num (pos 0)) (given (at 2) (at 0) (num (pos 0)) p (given (num (pos 1)) (at 1) (num (pos 0)) q none)) tt
-
 -- it is a direction of the plane
 pub dir-level : (n : Vector) → dot n (plane_dir n) ≡ pos 0
 dir-level n = by (int_eq n.z (pos 0)) (int_eq n.y (pos 0))
   where
     by : (a b : Bool) → dot n (dir_by a b n) ≡ pos 0
-    by true true = both-level n (beside_y n) (beside_z n) (level-y n) (level-z n)
-    by true false = both-level n (beside_x n) (beside_z n) (level-x n) (level-z n)
-    by false b = both-level n (beside_x n) (beside_y n) (level-x n) (level-y n)
+    by true true = level-blend n (beside_y n) (beside_z n) axis_factor 1 (level-y n) (level-z n)
+    by true false = level-blend n (beside_x n) (beside_z n) axis_factor 1 (level-x n) (level-z n)
+    by false b = level-blend n (beside_x n) (beside_y n) axis_factor 1 (level-x n) (level-y n)
 
 pub dir-some : (n : Vector) → IsDirection n → IsDirection (plane_dir n)
 dir-some n i = by (int_eq n.z (pos 0)) (int_eq n.y (pos 0)) (Decides-int_eq n.z (pos 0)) (Decides-int_eq n.y (pos 0))

@@ -1,33 +1,27 @@
--- What leads from joined points at items back to links: arcs go on along edges, and each facet has a point that names, by the ray inward, a corner of the class of a given item.
-use Rattle.std.specs.Prelude.{◌≡◌, ℕ, pos, ◌<ℤ◌, ◌≤ℤ◌, ◌⊎◌, ◌↔◌}
-use Rattle.nef_space.specs.Signs.{sign}
-use Rattle.nef_space.specs.Lists.{Chained}
-use Rattle.nef_space.specs.Local.{FlatDim, IsVertex, IsEven, Joined}
-use Rattle.nef_space.specs.Place.{Place, Form, form_at, normal_of, plane_through, toward, SamePlace, IsBetween}
-use Rattle.nef_space.specs.Sets.{Set}
-use Rattle.nef_space.specs.Vectors.{Vector, opposite, cross, triple, IsNormal, SameDirection, plane_dir}
+-- Steps from joined points at items back to links: arcs along edges, and points whose rays inward name linked corners.
+use Rattle.std.specs.Prelude.{◌≡◌, ◌<ℤ◌, ◌≤ℤ◌, ◌⊎◌, ◌↔◌}
+use Rattle.nef_space.specs.Prelude.{ℕ, pos, sign, Chained, FlatDim, IsVertex, IsEven, Joined, Place, Form, form_at, normal_of, plane_through, toward, SamePlace, IsBetween, Set, Vector, opposite, cross, triple, IsNormal, SameDirection, plane_dir}
 use Rattle.law_sphere.specs.Maps.{At, Arc, arc_item, Item, item_normal}
-use Rattle.law_complex.specs.Complexes.{Vertex, Edge, Complex, Corner, IsCorner}
+use Rattle.law_complex.specs.Prelude.{Vertex, Edge, Complex, Corner, IsCorner, Shows}
 use Rattle.law_complex.specs.Laws.{IsFlatIn}
-use Rattle.law_complex.specs.Shows.{Shows}
 use Rattle.law_complex.specs.Skeleton.{item_plane, RayNames}
 use Rattle.law_links.specs.Links.{LinkAlong, FacetLink}
 use Rattle.law_links.specs.Components.{IsAtItem}
 
--- the arc ends at the svertex, or begins there
+-- the arc begins or ends at the svertex s
 abbrev pub EndsAt : Arc → ℕ → Type 0
 EndsAt a s = (a.source ≡ s) ⊎ (a.target ≡ s)
 
--- an arc that ends at one end of an edge is linked along it with one at the other end
+-- an arc at one end of an edge is linked along the edge with an arc at the other end
 abbrev pub ArcsGoOn : Type 0
 ArcsGoOn = (s : Set) (C : Complex) (n : ℕ) (e : Edge) (j : Corner) (v : Vertex) (a : Arc) → Shows s C → At C.edges n e → IsCorner C j v (arc_item a)
     → (j.vertex ≡ e.low → EndsAt a e.low_svertex → (k : Corner) × LinkAlong C j k) × (j.vertex ≡ e.high → EndsAt a e.high_svertex → (k : Corner) × LinkAlong C k j)
 
--- the way inward from an item, along its plane: the one of the link across a facet
+-- the direction inward from an item in its plane, which the link across a facet takes
 abbrev pub way_inward : Item → Vector
 way_inward x = opposite (plane_dir (item_normal x))
 
--- the point has two flat directions in the plane of the item at corner j, is joined with all points at the item, and names the corner k by the ray inward
+-- q lies in the facet beside item j, is joined with all points at this item, and names corner k by the ray inward
 pub record NamesFor (s : Set) (C : Complex) (j : Corner) (v : Vertex) (x : Item) (q : Place) (k : Corner) : Type 0 where
   pub on_plane : form_at (item_plane v x) q ≡ pos 0
   pub flat : IsFlatIn s (item_plane v x) q
@@ -43,51 +37,52 @@ ItemsName = (s : Set) (C : Complex) (j : Corner) (v : Vertex) (x : Item) → Sho
 abbrev pub NamesAlong : Type 0
 NamesAlong = (s : Set) (C : Complex) (h : Form) (y z : Place) (d : Vector) (k : Corner) → Shows s C → SameDirection (toward y z) d → IsEven s 2 y z → RayNames C h y d k ↔ RayNames C h z d k
 
--- items whose points are joined are of one class of links
+-- items with points that are joined are of one class of links
 abbrev pub AreLinkedWhereJoined : Set → Complex → Type 0
 AreLinkedWhereJoined s C = (j k : Corner) (p q : Place) → IsAtItem s C j p → IsAtItem s C k q → Joined s p q → Chained (FacetLink C) j k
 
--- so they are where the complex shows the set
+-- in a complex that shows the set, items with points that are joined are of one class of links
 abbrev pub JoinedItemsAreLinked : Type 0
 JoinedItemsAreLinked = (s : Set) (C : Complex) → Shows s C → AreLinkedWhereJoined s C
 
--- the rays inward from the ends of a segment of points with two flat directions, in their plane h, name corners of one class
+-- from both ends of a segment in a facet of the plane h, the rays inward name corners of one class
 abbrev pub NamesOfSegments : Set → Complex → Type 0
 NamesOfSegments s C = (h : Form) (d : Vector) (y z : Place) (k l : Corner) → IsNormal (normal_of h) → form_at h y ≡ pos 0 → IsFlatIn s h y → SameDirection (opposite (plane_dir (normal_of h))) d → IsEven s 2 y z
     → RayNames C h y d k → RayNames C h z d l → Chained (FacetLink C) k l
 
--- where that is so of each segment, items whose points are joined are linked
+-- if both ends of each segment in a facet name corners of one class, items with joined points are linked
 abbrev pub ConverseBySegments : Type 0
 ConverseBySegments = (s : Set) (C : Complex) → Shows s C → NamesOfSegments s C → AreLinkedWhereJoined s C
 
--- nought on the line through p along d in the plane with the normal n, and of one sign on each side of it
+-- the form that is nought on the line through p along d, in the plane of the normal n, and of one sign on each side
 abbrev pub line_form : Vector → Vector → Place → Form
 line_form n d p = plane_through (cross n d) p
 
--- from the start y, whose own line is left out, the segment to z comes to no line along d on which a vertex of the plane lies
+-- y and z lie strictly on one side of each line along d through a vertex of the plane, unless y lies on this line
 abbrev pub HasClearStrip : Complex → Form → Vector → Place → Place → Type 0
 HasClearStrip C h d y z = (i : ℕ) (u : Vertex) → At C.vertices i u → form_at h u.point ≡ pos 0 → (form_at (line_form (normal_of h) d u.point) y ≡ pos 0 → ⊥)
     → sign (form_at (line_form (normal_of h) d u.point) z) ≡ sign (form_at (line_form (normal_of h) d u.point) y)
 
--- the ends of each such segment name corners of one class
+-- both ends of each segment in a facet with a clear strip name corners of one class
 abbrev pub NamesOfSteps : Set → Complex → Type 0
 NamesOfSteps s C = (h : Form) (d : Vector) (y z : Place) (k l : Corner) → IsNormal (normal_of h) → form_at h y ≡ pos 0 → IsFlatIn s h y → SameDirection (opposite (plane_dir (normal_of h))) d → IsEven s 2 y z → HasClearStrip C h d y z
     → RayNames C h y d k → RayNames C h z d l → Chained (FacetLink C) k l
 
--- where that is so, items whose points are joined are linked
+-- if both ends of each segment with a clear strip name corners of one class, items with joined points are linked
 abbrev pub ConverseBySteps : Type 0
 ConverseBySteps = (s : Set) (C : Complex) → Shows s C → NamesOfSteps s C → AreLinkedWhereJoined s C
 
 -- ---- triangles
--- r lies in the triangle of a, b and c, which is counterclockwise about n; b, c and what lies on their line but between them left out
+-- r lies in the triangle a, b, c, counterclockwise about n, but on the line of b and c only strictly between the two
 abbrev pub IsInTriangle : Vector → Place → Place → Place → Place → Type 0
 IsInTriangle n a b c r = (pos 0 ≤ℤ triple n (toward a b) (toward a r)) × (triple n (toward a c) (toward a r) ≤ℤ pos 0) × ((pos 0 <ℤ triple n (toward b c) (toward b r)) ⊎ IsBetween b r c)
 
--- from a to c, both left out, the points lie within a facet, or on an edge
+-- all points strictly between a and c lie in a facet, or all lie on an edge
 abbrev pub LiesAlong : Set → Place → Place → Type 0
 LiesAlong s a c = ((r : Place) → IsBetween a r c → FlatDim s r 2) ⊎ ((r : Place) → IsBetween a r c → FlatDim s r 1)
 
--- where one side of a triangle lies within a facet, and one within it or on an edge, no edge leads from the third side to the corner between both, and no other vertex lies in the triangle, the third side lies within the facet
+-- if one side of a triangle lies in a facet, another in the facet or on an edge, no edge leads from the third side to
+-- the corner of these two, and no other vertex lies in the triangle, the third side lies in the facet
 abbrev pub ThirdSides : Type 0
 ThirdSides = (s : Set) (h : Form) (a b c : Place) → IsNormal (normal_of h) → form_at h a ≡ pos 0 → form_at h b ≡ pos 0 → form_at h c ≡ pos 0
     → pos 0 <ℤ triple (normal_of h) (toward a b) (toward a c) → IsFlatIn s h b → ((r : Place) → IsBetween a r b → FlatDim s r 2) → LiesAlong s a c

@@ -1,11 +1,6 @@
--- Each point off the skeleton reaches some side of a complex, and each point in a facet some item: the side and the item that it has.
-use Rattle.nef_space.specs.Place.{Place}
-use Rattle.nef_space.specs.Sets.{Set}
-use Rattle.nef_space.specs.Local.{FlatDim, Joined}
-use Rattle.law_complex.specs.Complexes.{Complex, Corner}
-use Rattle.law_complex.specs.Shows.{Shows}
-use Rattle.law_complex.specs.Rays.{VertexSide, HasVolumeSide}
-use Rattle.law_complex.specs.Skeleton.{HasCorner}
+-- The side that each point off the skeleton reaches, and the item that each point in a facet reaches.
+use Rattle.nef_space.specs.Prelude.{Place, Set, FlatDim, Joined}
+use Rattle.law_complex.specs.Prelude.{Complex, Corner, Shows, VertexSide, HasVolumeSide, HasCorner}
 use Rattle.law_links.specs.Components.{IsAtSide, IsAtItem, IsUpright}
 
 -- each point with three flat directions is joined to a point at some side
@@ -16,10 +11,10 @@ PointsReachSides = (s : Set) (C : Complex) (p : Place) → Shows s C → FlatDim
 abbrev pub PointsReachItems : Type 0
 PointsReachItems = (s : Set) (C : Complex) (p : Place) → Shows s C → FlatDim s p 2 → (k : Corner) × (q : Place) × IsAtItem s C k q × Joined s p q
 
--- a point in a facet is joined to a point at the item of its corner
+-- a point in a facet is joined to a point at the item of the facet point's corner
 abbrev pub CornersReached : Type 0
 CornersReached = (s : Set) (C : Complex) (p : Place) (k : Corner) → Shows s C → HasCorner C p k → (q : Place) × IsAtItem s C k q × Joined s p q
 
--- a point in a volume is joined to a point at the side that it has, where up is above each item
+-- a point in a volume is joined to a point at the point's volume side, if up is above each item
 abbrev pub SidesReached : Type 0
 SidesReached = (s : Set) (C : Complex) (p : Place) (x : VertexSide) → Shows s C → IsUpright C → HasVolumeSide C p x → (q : Place) × IsAtSide s C x q × Joined s p q

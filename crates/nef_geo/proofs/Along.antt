@@ -1,16 +1,6 @@
 -- The order of points on one ray.
-use Rattle.std.proofs.Common.{◌≡◌, ◌≢◌, ℕ, ◌*◌, ℤ, pos, ◌+ℤ◌, ◌-ℤ◌, ◌*ℤ◌, ◌<ℤ◌, nat_abs, [], ◌∷◌, Ordering, Less, Equal, Greater, arith, ap, sym, ◌∙◌, subst}
-use Rattle.std.proofs.lemmas.Int.{ints}
-use Rattle.std.specs.Ordering.{MatchOrdering}
-use Rattle.nef_space.specs.Place.{Place, toward, SamePlace, IsAhead}
-use Rattle.nef_space.specs.Vectors.{Vector, dot, IsDirection, SameDirection}
-use Rattle.nef_space.proofs.Combination.{none, given, follows}
-use Rattle.nef_space.proofs.Order.{mul_pos, cancel_lt, sub_pos}
-use Rattle.nef_space.proofs.Ring.{at, num, neg, ◌⊕◌, ◌⊖◌, ◌⊗◌}
-use Rattle.nef_geo.specs.Hits.{IsReached}
+use Rattle.nef_geo.proofs.Prelude.{◌≡◌, ◌≢◌, ℕ, ◌*◌, ℤ, pos, ◌+ℤ◌, ◌-ℤ◌, ◌*ℤ◌, ◌<ℤ◌, nat_abs, [], ◌∷◌, Ordering, Less, Equal, Greater, arith, ap, sym, ◌∙◌, subst, ints, MatchOrdering, Place, toward, SamePlace, IsAhead, Vector, dot, IsDirection, SameDirection, none, given, follows, mul_pos, cancel_lt, sub_pos, pos-abs, at, num, neg, ◌⊕◌, ◌⊖◌, ◌⊗◌, IsReached, self-pos}
 use Rattle.nef_geo.proofs.Cramer.{cancel, difference}
-use Rattle.nef_geo.proofs.Directions.{dot-itself}
-use Rattle.nef_geo.proofs.Places.{pos_size}
 
 -- k a = l b, with k and l positive
 record IsScaled (k l : ℤ) (a b : Vector) : Type 0 where
@@ -35,7 +25,7 @@ SameDirection-scaled k l a b pk pl some s =
           (given (neg (at 5)) (at 0 ⊗ at 2) (at 1 ⊗ at 5) s.x_is
           (given (neg (at 6)) (at 0 ⊗ at 3) (at 1 ⊗ at 6) s.y_is
           (given (neg (at 7)) (at 0 ⊗ at 4) (at 1 ⊗ at 7) s.z_is none))) tt in
-          let p = mul_pos l (dot b b) pl (dot-itself b some) in
+          let p = mul_pos l (dot b b) pl (self-pos b some) in
           cancel_lt (pos 0) (dot a b) k pk (let z : pos 0 *ℤ k ≡ pos 0 = omega (arith, ints) in subst (λ (i : ℤ). i <ℤ (dot a b *ℤ k)) (sym z) (subst (λ (i : ℤ). pos 0 <ℤ i) e p));
     }
 
@@ -59,7 +49,7 @@ positive_weight s = let p = s.proper in omega (arith, ints)
 
 on_ray : (s : Place) (d : Vector) (n m : ℤ) (p : pos 0 <ℤ m) (q : Place) → IsReached s d n m p q → IsOnRay s d n m q
 on_ray s d n m p q r =
-    let eb : pos (nat_abs m * s.w) ≡ m *ℤ pos s.w = times (nat_abs m) s.w ∙ ap (λ (k : ℤ). k *ℤ pos s.w) (pos_size m p) in
+    let eb : pos (nat_abs m * s.w) ≡ m *ℤ pos s.w = times (nat_abs m) s.w ∙ ap (λ (k : ℤ). k *ℤ pos s.w) (pos-abs m p) in
     let el : pos (s.w * (nat_abs m * s.w)) ≡ pos s.w *ℤ pos (nat_abs m * s.w) = times s.w (nat_abs m * s.w) in
     record {
       along_x = plain s.x d.x n m (pos s.w) q.x (pos q.w) _ _ (positive_weight s) eb el r.along_x;

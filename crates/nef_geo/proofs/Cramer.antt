@@ -1,14 +1,5 @@
 -- Cramer's rule for three planes.
-use Rattle.std.proofs.Common.{◌≡◌, ◌≢◌, ℕ, zero, suc, ◌+◌, ℤ, pos, negsuc, neg_ℤ, ◌+ℤ◌, ◌-ℤ◌, ◌*ℤ◌, ◌<ℤ◌, nat_abs, List, [], ◌∷◌, arith, refl, sym, ap, ◌∙◌}
-use Rattle.std.proofs.lemmas.Int.{ints}
-use Rattle.nef_space.specs.Vectors.{Vector, vector, dot, cross, triple}
-use Rattle.nef_space.specs.Place.{Form, form_at, normal_of, SamePlace}
-use Rattle.nef_space.proofs.Combination.{none, given, follows}
-use Rattle.nef_space.proofs.Ring.{Poly, at, num, neg, ◌⊕◌, ◌⊖◌, ◌⊗◌, ring}
-use Rattle.nef_geo.specs.Numbers.{IsSameRatios}
-use Rattle.nef_geo.specs.Meet.{IsOnlyCommon}
-use Rattle.nef_geo.specs.Shapes.{place_at}
-use Rattle.nef_geo.proofs.Places.{pos_size}
+use Rattle.nef_geo.proofs.Prelude.{◌≡◌, ◌≢◌, ℕ, zero, suc, ◌+◌, ℤ, pos, negsuc, neg_ℤ, ◌+ℤ◌, ◌-ℤ◌, ◌*ℤ◌, ◌<ℤ◌, nat_abs, List, [], ◌∷◌, arith, refl, sym, ap, ◌∙◌, ints, Vector, vector, dot, cross, triple, Form, form_at, normal_of, SamePlace, none, given, follows, Poly, at, num, neg, ◌⊕◌, ◌⊖◌, ◌⊗◌, ring, IsSameRatios, IsOnlyCommon, place_at, pos-abs}
 
 abbrev pub constants : Form → Form → Form → Vector
 constants p q r = vector p.d q.d r.d
@@ -120,7 +111,7 @@ same_from v d k l x w n s e =
 
 -- at a place
 at_place : (h : Form) (x y z w : ℤ) (positive : pos 0 <ℤ w) → form_value h x y z w ≡ pos 0 → form_at h (place_at x y z w positive) ≡ pos 0
-at_place h x y z w positive e = ap (λ (n : ℤ). form_value h x y z n) (pos_size w positive) ∙ e
+at_place h x y z w positive e = ap (λ (n : ℤ). form_value h x y z n) (pos-abs w positive) ∙ e
 
 pub IsOnlyCommon-from_ratios : (p q r : Form) (x y z w : ℤ) (positive : pos 0 <ℤ w) → meet_w p q r ≢ pos 0 → IsSameRatios (neg_ℤ (meet_x p q r)) (neg_ℤ (meet_y p q r)) (neg_ℤ (meet_z p q r)) (meet_w p q r) x y z w → IsOnlyCommon p q r (place_at x y z w positive)
 IsOnlyCommon-from_ratios p q r x y z w positive some s = record {
@@ -129,7 +120,7 @@ IsOnlyCommon-from_ratios p q r x y z w positive some s = record {
   on_r = at_place r x y z w positive (on_ratios r _ _ _ _ x y z w some s (solves_r p q r));
   only = λ n a b c.
       let h : IsCommon p q r n.x n.y n.z (pos n.w) = record { on_p = a; on_q = b; on_r = c } in
-      let k = pos_size w positive in
+      let k = pos-abs w positive in
       record {
         along_x = ap (λ (m : ℤ). n.x *ℤ m) k ∙ same_from (meet_x p q r) (meet_w p q r) n.x (pos n.w) x w some s.along_x (solved_x p q r n.x n.y n.z (pos n.w) h);
         along_y = ap (λ (m : ℤ). n.y *ℤ m) k ∙ same_from (meet_y p q r) (meet_w p q r) n.y (pos n.w) y w some s.along_y (solved_y p q r n.x n.y n.z (pos n.w) h);
@@ -156,7 +147,7 @@ IsSameRatios-from_place x y z w x' y' z' w' p q s = record {
 }
   where
     plain : (n n' : ℤ) → n *ℤ pos (nat_abs w') ≡ n' *ℤ pos (nat_abs w) → n *ℤ w' ≡ n' *ℤ w
-    plain n n' e = ap (λ (m : ℤ). n *ℤ m) (sym (pos_size w' q)) ∙ e ∙ ap (λ (m : ℤ). n' *ℤ m) (pos_size w p)
+    plain n n' e = ap (λ (m : ℤ). n *ℤ m) (sym (pos-abs w' q)) ∙ e ∙ ap (λ (m : ℤ). n' *ℤ m) (pos-abs w p)
 
 pub IsSameRatios-turned : (x y z w x' y' z' w' : ℤ) → IsSameRatios (neg_ℤ x) (neg_ℤ y) (neg_ℤ z) (neg_ℤ w) x' y' z' w' → IsSameRatios x y z w x' y' z' w'
 IsSameRatios-turned x y z w x' y' z' w' s = record {

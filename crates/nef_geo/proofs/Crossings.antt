@@ -1,17 +1,6 @@
 -- Where a ray crosses a plane.
-use Rattle.std.proofs.Common.{◌≡◌, ◌≢◌, ℕ, ◌+◌, ◌*◌, ℤ, pos, ◌+ℤ◌, ◌-ℤ◌, ◌*ℤ◌, ◌<ℤ◌, nat_abs, List, [], ◌∷◌, inl, inr, arith, ap, ◌∙◌}
-use Rattle.std.proofs.lemmas.Int.{ints}
-use Rattle.nef_space.specs.Place.{Place, Form, form_at, slope, toward, IsAhead}
-use Rattle.nef_space.specs.Vectors.{Vector, dot, IsDirection}
-use Rattle.nef_space.proofs.Combination.{none, given, follows}
-use Rattle.nef_space.proofs.Order.{mul_pos, mul_neg, by_order}
-use Rattle.nef_space.proofs.Ring.{Poly, at, num, neg, ◌⊕◌, ◌⊖◌, ◌⊗◌, ring}
-use Rattle.nef_geo.specs.Hits.{IsCrossing, IsReached, IsReachedBy}
-use Rattle.nef_geo.specs.Meet.{IsStretched}
-use Rattle.nef_geo.specs.Shapes.{place_at}
-use Rattle.nef_geo.specs.Steps.{HasOppositeSigns}
-use Rattle.nef_geo.proofs.Directions.{SameDirection-stretched, dot-itself}
-use Rattle.nef_geo.proofs.Places.{pos_size}
+use Rattle.nef_geo.proofs.Prelude.{◌≡◌, ◌≢◌, ℕ, ◌+◌, ◌*◌, ℤ, pos, ◌+ℤ◌, ◌-ℤ◌, ◌*ℤ◌, ◌<ℤ◌, nat_abs, List, [], ◌∷◌, inl, inr, arith, ap, ◌∙◌, ints, Place, Form, form_at, slope, toward, IsAhead, Vector, dot, IsDirection, none, given, follows, mul_pos, mul_neg, by_order, pos-abs, Poly, at, num, neg, ◌⊕◌, ◌⊖◌, ◌⊗◌, ring, IsCrossing, IsReached, IsReachedBy, IsStretched, place_at, HasOppositeSigns, self-pos}
+use Rattle.nef_geo.proofs.Directions.{SameDirection-stretched}
 
 -- variables: 0 to 3 the form, 4 to 7 the start, 8 to 10 the direction, 11 and 12 the step, 13 to 16 the point
 abbrev all : Form → Place → Vector → (n m x y z w : ℤ) → List ℤ
@@ -30,7 +19,7 @@ reach_poly i j = at i ⊗ at 12 ⊕ at 11 ⊗ at j
 pub form_at-reached : (h : Form) (s : Place) (d : Vector) (n m x y z w : ℤ) (positive : pos 0 <ℤ w) → IsReachedBy s d n m x y z w
     → form_at h (place_at x y z w positive) ≡ n *ℤ slope h d +ℤ m *ℤ form_at h s
 form_at-reached h s d n m x y z w positive r =
-    ap (λ (k : ℤ). h.a *ℤ x +ℤ h.b *ℤ y +ℤ h.c *ℤ z +ℤ h.d *ℤ k) (pos_size w positive)
+    ap (λ (k : ℤ). h.a *ℤ x +ℤ h.b *ℤ y +ℤ h.c *ℤ z +ℤ h.d *ℤ k) (pos-abs w positive)
     ∙ follows (all h s d n m x y z w) (form_poly 13) (at 11 ⊗ slope_poly ⊕ at 12 ⊗ form_poly 4)
     (given (at 0) (at 13) (reach_poly 4 8) r.x_is
     (given (at 1) (at 14) (reach_poly 5 9) r.y_is
@@ -50,7 +39,7 @@ way c d n m w sw x k e ex ew =
 
 pub IsAhead-reached : (s : Place) (d : Vector) (n m x y z w : ℤ) (positive : pos 0 <ℤ w) → IsDirection d → pos 0 <ℤ n → IsReachedBy s d n m x y z w → IsAhead s d (place_at x y z w positive)
 IsAhead-reached s d n m x y z w positive some p r =
-    let k = pos_size w positive in
+    let k = pos-abs w positive in
     let stretched : IsStretched (toward s (place_at x y z w positive)) d = record {
       factor = n *ℤ pos s.w;
       positive = mul_pos n (pos s.w) p (positive_weight s);
@@ -70,7 +59,7 @@ IsCrossing-reached h s d n m x y z w positive some p r balance passes = record {
 
 -- ---- the step
 pos_times : (m : ℤ) (k : ℕ) → pos 0 <ℤ m → pos (nat_abs m * k) ≡ m *ℤ pos k
-pos_times m k p = times (nat_abs m) k ∙ ap (λ (n : ℤ). n *ℤ pos k) (pos_size m p)
+pos_times m k p = times (nat_abs m) k ∙ ap (λ (n : ℤ). n *ℤ pos k) (pos-abs m p)
   where
     times : (i j : ℕ) → pos (i * j) ≡ pos i *ℤ pos j
     times i j = omega (arith, ints)
@@ -83,7 +72,7 @@ at_step c d n m w sw x k b l ek eb el ex ew =
 
 pub IsReached-by : (s : Place) (d : Vector) (n m x y z w : ℤ) (positive : pos 0 <ℤ w) (below : pos 0 <ℤ m) → IsReachedBy s d n m x y z w → IsReached s d n m below (place_at x y z w positive)
 IsReached-by s d n m x y z w positive below r =
-    let ek = pos_size w positive in
+    let ek = pos-abs w positive in
     let eb = pos_times m s.w below in
     let el : pos (s.w * (nat_abs m * s.w)) ≡ pos s.w *ℤ pos (nat_abs m * s.w) = omega (arith, ints) in
     record {
@@ -128,7 +117,7 @@ opposite-crossing h s d q some c =
     let cy : t.z *ℤ d.x -ℤ t.x *ℤ d.z ≡ pos 0 = c.ahead.parallel.1 in
     let cz : t.x *ℤ d.y -ℤ t.y *ℤ d.x ≡ pos 0 = c.ahead.parallel.2 in
     let o = num (pos 0) in
-    balanced_signs (dot t d) (dot d d *ℤ pos q.w) (form_at h s) (slope h d) c.ahead.forward (mul_pos (dot d d) (pos q.w) (dot-itself d some) (positive_weight q))
+    balanced_signs (dot t d) (dot d d *ℤ pos q.w) (form_at h s) (slope h d) c.ahead.forward (mul_pos (dot d d) (pos q.w) (self-pos d some) (positive_weight q))
     (follows (h.a ∷ h.b ∷ h.c ∷ h.d ∷ s.x ∷ s.y ∷ s.z ∷ pos s.w ∷ d.x ∷ d.y ∷ d.z ∷ q.x ∷ q.y ∷ q.z ∷ pos q.w ∷ [])
     (forward_poly ⊗ slope_poly ⊕ (square_poly ⊗ at 14) ⊗ form_poly 4) o
     (given (square_poly ⊗ at 7) (form_poly 11) o c.on

@@ -1,14 +1,5 @@
 -- Directions: positive multiples of one another, and their opposites.
-use Rattle.std.proofs.Common.{◌≡◌, ℕ, zero, suc, ◌≤◌, ℤ, pos, negsuc, neg_ℤ, ◌-ℤ◌, ◌*ℤ◌, ◌<ℤ◌, nat_abs, List, [], ◌∷◌, inl, inr, ◌⊎◌, arith, refl, ap, ◌∙◌, subst, w64, to_z, of_z}
-use Rattle.std.specs.Int.{◌∣◌}
-use Rattle.std.proofs.lemmas.Int.{ints}
-use Rattle.nef_space.specs.Limits.{direction_limit}
-use Rattle.nef_space.specs.Numbers.{IsLowest}
-use Rattle.nef_space.specs.Vectors.{Vector, vector, dot, IsAtMost, IsDirection, SameDirection}
-use Rattle.nef_space.proofs.Machine.{load, const, wrap, ◌⊟◌, exact_of}
-use Rattle.nef_space.proofs.Order.{mul_pos, square_nonneg}
-use Rattle.nef_space.proofs.Ring.{at, num, ◌⊕◌, ◌⊖◌, ◌⊗◌, ring}
-use Rattle.nef_geo.specs.Meet.{IsStretched}
+use Rattle.nef_geo.proofs.Prelude.{◌≡◌, ℕ, zero, suc, ◌≤◌, ℤ, pos, negsuc, neg_ℤ, ◌-ℤ◌, ◌*ℤ◌, ◌<ℤ◌, nat_abs, List, [], ◌∷◌, inl, inr, ◌⊎◌, arith, refl, ap, ◌∙◌, subst, w64, to_z, of_z, ◌∣◌, ints, direction_limit, IsLowest, Vector, vector, dot, IsAtMost, IsDirection, SameDirection, load, const, wrap, ◌⊟◌, exact_of, mul_pos, at, num, ◌⊕◌, ◌⊖◌, ◌⊗◌, ring, IsStretched, self-pos}
 use Rattle.nef_geo.proofs.Divisors.{part_small, whole_zero}
 
 -- ---- the product of a direction with itself is positive
@@ -16,17 +7,6 @@ square_positive : (n : ℤ) → (n ≡ pos 0) ⊎ (pos 0 <ℤ (n *ℤ n))
 square_positive (pos zero) = inl refl
 square_positive (pos (suc n)) = inr (omega (arith, ints))
 square_positive (negsuc n) = inr (omega (arith, ints))
-
-pub dot-itself : (v : Vector) → IsDirection v → pos 0 <ℤ dot v v
-dot-itself v some =
-    let sx = square_nonneg v.x in let sy = square_nonneg v.y in let sz = square_nonneg v.z in
-    elim (square_positive v.x) [
-      | inr p ↦ omega (arith, ints)
-      | inl ex ↦ elim (square_positive v.y) [
-        | inr p ↦ omega (arith, ints)
-        | inl ey ↦ elim (square_positive v.z) [ inr p ↦ omega (arith, ints) | inl ez ↦ absurd (some (ex, ey, ez)) ]
-      ]
-    ]
 
 -- ---- positive multiples
 pub IsDirection-part : (a b : Vector) → IsStretched a b → IsDirection a → IsDirection b
@@ -45,17 +25,7 @@ SameDirection-stretched a b s some = record {
   forward =
       let e : s.factor *ℤ dot b b ≡ dot a b = rw (s.x_is, s.y_is, s.z_is)
       (ring (env a b s) (at 0 ⊗ (at 1 ⊗ at 1 ⊕ at 2 ⊗ at 2 ⊕ at 3 ⊗ at 3)) (at 0 ⊗ at 1 ⊗ at 1 ⊕ at 0 ⊗ at 2 ⊗ at 2 ⊕ at 0 ⊗ at 3 ⊗ at 3) tt) in
-      subst (λ (n : ℤ). pos 0 <ℤ n) e (mul_pos s.factor (dot b b) s.positive (dot-itself b some));
-}
-
-pub SameDirection-itself : (a : Vector) → IsDirection a → SameDirection a a
-SameDirection-itself a some = record {
-  parallel = (
-    ring (a.y ∷ a.z ∷ []) (at 0 ⊗ at 1 ⊖ at 1 ⊗ at 0) (num (pos 0)) tt,
-    ring (a.z ∷ a.x ∷ []) (at 0 ⊗ at 1 ⊖ at 1 ⊗ at 0) (num (pos 0)) tt,
-    ring (a.x ∷ a.y ∷ []) (at 0 ⊗ at 1 ⊖ at 1 ⊗ at 0) (num (pos 0)) tt,
-  );
-  forward = dot-itself a some;
+      subst (λ (n : ℤ). pos 0 <ℤ n) e (mul_pos s.factor (dot b b) s.positive (self-pos b some));
 }
 
 pub IsAtMost-part : (k : ℕ) (a b : Vector) → IsStretched a b → IsAtMost k a → IsAtMost k b

@@ -1,14 +1,7 @@
 -- Greatest common divisors of four numbers, and what is left after a division by one.
-use Rattle.std.proofs.Common.{◌≡◌, ℕ, zero, suc, ◌*◌, ◌/◌, ◌<◌, ◌≤◌, ℤ, pos, negsuc, neg_ℤ, ◌∙◌, [], ◌∷◌, ◌<ℤ◌, ◌≤ℤ◌, ◌*ℤ◌, nat_abs, arith, sym, ap, subst, inl, inr, ◌⊎◌, refl, to_z, of_z, w64, FitsSigned}
-use Rattle.std.specs.Int.{◌∣◌, IsGcd}
+use Rattle.nef_geo.proofs.Prelude.{◌≡◌, ℕ, zero, suc, ◌*◌, ◌/◌, ◌<◌, ◌≤◌, ℤ, pos, negsuc, neg_ℤ, ◌∙◌, [], ◌∷◌, ◌<ℤ◌, ◌≤ℤ◌, ◌*ℤ◌, nat_abs, arith, sym, ap, subst, inl, inr, ◌⊎◌, refl, to_z, of_z, w64, FitsSigned, ◌∣◌, IsGcd, ints, unsigned_abs-mul, to_z-of_z, dvd_trans, dvd-zero, le_of_dvd, mul-le, DividesAll, IsLowest, at, neg, ◌⊗◌, ring, IsAtMostFour, IsSomeOfFour, IsGcdOfFour, IsReduced}
 use Rattle.std.specs.Int.RustNames.{int_div}
-use Rattle.std.proofs.lemmas.Int.{ints, unsigned_abs-mul, to_z-of_z}
-use Rattle.std.proofs.lemmas.Nat.Gcd.{dvd_trans, dvd-zero, le_of_dvd}
-use Rattle.std.proofs.lemmas.Nat.{mul-le}
 use native.Mathlib.Nat.{dvd-one, mul-dvd-mul_left, dvd_of_mul-dvd-mul_left, mul-one, pos_of_dvd_of_pos, mul-div_cancel'}
-use Rattle.nef_space.specs.Numbers.{DividesAll, IsLowest}
-use Rattle.nef_space.proofs.Ring.{at, neg, ◌⊗◌, ring}
-use Rattle.nef_geo.specs.Numbers.{IsAtMostFour, IsSomeOfFour, IsGcdOfFour, IsReduced}
 
 -- the last number is taken first: it is mostly the least
 pub divides_all : (x y z w : ℤ) (f g h : ℕ) → IsGcd (nat_abs w) (nat_abs x) f → IsGcd f (nat_abs y) g → IsGcd g (nat_abs z) h → DividesAll h (x ∷ y ∷ z ∷ w ∷ [])

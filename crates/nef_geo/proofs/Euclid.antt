@@ -1,12 +1,7 @@
 -- A number that divides the same multiple of numbers in lowest terms divides the factor.
-use Rattle.std.proofs.Common.{◌≡◌, ℕ, zero, suc, ◌+◌, ◌-◌, ◌*◌, ◌≤◌, ℤ, [], ◌∷◌, ◌*ℤ◌, nat_abs, arith, sym, ap, ◌∙◌, subst, inl, inr}
-use Rattle.std.specs.Int.{◌∣◌, IsGcd}
+use Rattle.nef_geo.proofs.Prelude.{◌≡◌, ℕ, zero, suc, ◌+◌, ◌-◌, ◌*◌, ◌≤◌, ℤ, [], ◌∷◌, ◌*ℤ◌, nat_abs, arith, sym, ap, ◌∙◌, subst, inl, inr, ◌∣◌, IsGcd, unsigned_abs-mul, IsGcd-from_zero, IsGcd-from_sub, IsGcd-swap, dvd_trans, cases_lt, IsLowest}
 use Rattle.std.proofs.Math.Nat.{mul-le-mul_left, mul-sub}
-use Rattle.std.proofs.lemmas.Int.{unsigned_abs-mul}
-use Rattle.std.proofs.lemmas.Nat.Gcd.{IsGcd-from_zero, IsGcd-from_sub, IsGcd-swap, dvd_trans}
-use Rattle.std.proofs.lemmas.Bool.{cases_lt}
 use native.Mathlib.Nat.{mul-one, mul-zero, one-mul, dvd-mul_right}
-use Rattle.nef_space.specs.Numbers.{IsLowest}
 
 -- a greatest common divisor, which every factor scales
 record Scaled (a b : ℕ) : Type 0 where

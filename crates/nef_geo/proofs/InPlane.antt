@@ -1,21 +1,6 @@
 -- The stated directions.
-use Rattle.std.proofs.Common.{◌≡◌, ◌≢◌, ℕ, zero, suc, ◌+◌, ◌*◌, ◌^◌, ◌≤◌, ℤ, pos, negsuc, neg_ℤ, ◌+ℤ◌, ◌*ℤ◌, ◌<ℤ◌, ◌≤ℤ◌, nat_abs, true, false, List, [], ◌∷◌, inl, inr, ◌⊎◌, arith, refl, ap, sym, ◌∙◌, subst}
-use Rattle.std.specs.Cmp.{signed_Decides}
-use Rattle.std.specs.Ordering.{int_eq}
-use Rattle.std.proofs.lemmas.Int.{ints}
+use Rattle.nef_geo.proofs.Prelude.{◌≡◌, ◌≢◌, ℕ, zero, suc, ◌+◌, ◌*◌, ◌^◌, ◌≤◌, ℤ, pos, negsuc, neg_ℤ, ◌+ℤ◌, ◌*ℤ◌, ◌<ℤ◌, ◌≤ℤ◌, nat_abs, true, false, List, [], ◌∷◌, inl, inr, ◌⊎◌, arith, refl, ap, sym, ◌∙◌, subst, of_z, signed_Decides, int_eq, ints, normal_limit, axis_factor, IsLowest, Form, form, normal_of, slope, Vector, vector, dot, IsAtMost, IsZero, IsDirection, IsParallel, IsNormal, beside_x, beside_y, beside_z, plane_axis, plane_dir, up, none, given, follows, abs_plus, abs_times, at, num, neg, ◌⊕◌, ◌⊖◌, ◌⊗◌, ring, IsPlaneDirSized, IsStretched, form_of, second_beside, Plane}
 use native.Mathlib.Nat.{dvd-one}
-use Rattle.nef_space.specs.Limits.{normal_limit, axis_factor}
-use Rattle.nef_space.specs.Numbers.{IsLowest}
-use Rattle.nef_space.specs.Place.{Form, form, normal_of, slope}
-use Rattle.nef_space.specs.Vectors.{Vector, vector, dot, IsAtMost, IsZero, IsDirection, IsParallel, IsNormal, beside_x, beside_y, beside_z, plane_axis, plane_dir, up}
-use Rattle.nef_space.proofs.Combination.{none, given, follows}
-use Rattle.nef_space.proofs.Order.{abs_plus, abs_times}
-use Rattle.nef_space.proofs.Ring.{at, num, neg, ◌⊕◌, ◌⊖◌, ◌⊗◌, ring}
-use Rattle.nef_geo.specs.Hits.{IsPlaneDirSized}
-use Rattle.nef_geo.specs.Meet.{IsStretched}
-use Rattle.nef_geo.specs.Shapes.{form_of}
-use Rattle.nef_geo.specs.Ways.{second_beside}
-use Rattle.nef_geo.specs.declared.plane.Plane.{Plane}
 use Rattle.nef_geo.proofs.Cramer.{cancel}
 use Rattle.nef_geo.proofs.Divisors.{part_small}
 use Rattle.nef_geo.proofs.Products.{normal_within, dot_size}

@@ -1,3 +1,4 @@
+pub mod Prelude
 pub mod Divisors
 pub mod Places
 pub mod Normals

@@ -1,13 +1,5 @@
 -- The first nonzero number of a normal, and positive multiples of forms.
-use Rattle.std.proofs.Common.{◌≡◌, zero, suc, ℤ, pos, negsuc, neg_ℤ, ◌-ℤ◌, ◌*ℤ◌, ◌<ℤ◌, nat_abs, ◌≤◌, arith, refl, ◌∙◌, [], ◌∷◌, to_z, of_z, w64}
-use Rattle.std.proofs.lemmas.Int.{ints}
-use Rattle.nef_space.specs.Limits.{offset_limit}
-use Rattle.nef_space.specs.Place.{Place, Form, form_at}
-use Rattle.nef_space.specs.Vectors.{vector, opposite, IsDirection, IsNormal}
-use Rattle.nef_space.proofs.Machine.{load, const, wrap, ◌⊟◌, exact_of}
-use Rattle.nef_space.proofs.Ring.{at, neg, ◌⊕◌, ◌⊗◌, ring}
-use Rattle.nef_geo.specs.Shapes.{turned_form}
-use Rattle.nef_geo.specs.Reading.{IsPositiveMultiple}
+use Rattle.nef_geo.proofs.Prelude.{◌≡◌, zero, suc, ℤ, pos, negsuc, neg_ℤ, ◌-ℤ◌, ◌*ℤ◌, ◌<ℤ◌, nat_abs, ◌≤◌, arith, refl, ◌∙◌, [], ◌∷◌, to_z, of_z, w64, ints, offset_limit, Place, Form, form_at, vector, opposite, IsDirection, IsNormal, load, const, wrap, ◌⊟◌, exact_of, at, neg, ◌⊕◌, ◌⊗◌, ring, turned_form, IsPositiveMultiple}
 use Rattle.nef_geo.proofs.Divisors.{part_not_negative, part_positive, whole_zero}
 
 pub IsNormal-parts : (g a b c a' b' c' : ℤ) → pos 0 <ℤ g → a ≡ g *ℤ a' → b ≡ g *ℤ b' → c ≡ g *ℤ c' → IsNormal (vector a b c) → IsNormal (vector a' b' c')

@@ -1,19 +1,5 @@
 -- The orders of points, directions and planes, number by number; the last two are total.
-use Rattle.std.proofs.Common.{◌≡◌, ◌≤◌, ℤ, pos, ◌*ℤ◌, ◌<ℤ◌, nat_abs, List, [], ◌∷◌, inl, inr, arith, ap, sym, subst, ◌∙◌, w64, to_z, of_z}
-use Rattle.std.proofs.Common.{Ordering, Less, Equal, Greater}
-use Rattle.std.specs.Cmp.{IsTotalOrder, int_ranks}
-use Rattle.std.specs.Ordering.{MatchOrdering, int_cmp, ordering_then}
-use Rattle.std.proofs.lemmas.Int.{ints}
-use Rattle.std.proofs.lemmas.Cmp.{int_ranked, int_cmp_total, on_total, then_total}
-use Rattle.nef_space.specs.Limits.{point_limit, weight_limit}
-use Rattle.nef_space.specs.Numbers.{IsBelow}
-use Rattle.nef_space.specs.Place.{Place, form_numbers, SamePlace, IsPlaceBelow}
-use Rattle.nef_space.specs.Vectors.{triple_of}
-use Rattle.nef_geo.specs.declared.dir.Dir.{Dir}
-use Rattle.nef_geo.specs.declared.plane.Plane.{Plane}
-use Rattle.nef_geo.specs.declared.point.Point.{Point}
-use Rattle.nef_geo.specs.Shapes.{form_of, place_of, vector_of}
-use Rattle.nef_geo.proofs.Places.{pos_size}
+use Rattle.nef_geo.proofs.Prelude.{◌≡◌, ◌≤◌, ℤ, pos, ◌*ℤ◌, ◌<ℤ◌, nat_abs, List, [], ◌∷◌, inl, inr, arith, ap, sym, subst, ◌∙◌, w64, to_z, of_z, Ordering, Less, Equal, Greater, IsTotalOrder, int_ranks, MatchOrdering, int_cmp, ordering_then, ints, int_ranked, int_cmp_total, on_total, then_total, point_limit, weight_limit, IsBelow, Place, form_numbers, SamePlace, IsPlaceBelow, triple_of, Dir, Plane, Point, form_of, place_of, vector_of, pos-abs}
 use Rattle.nef_geo.proofs.Products.{kept}
 use Rattle.nef_geo.proofs.Unique.{direction_equal, plane_equal}
 
@@ -30,7 +16,7 @@ IsRanked-from_cmp x p y q o sx sy e =
     ∙ ap (λ (n : ℤ). int_cmp (x *ℤ pos (nat_abs q.w)) n) (numbers y p.w sy (wide p.w p.w_small) p.proper))
   where
     numbers : (n w : ℤ) → nat_abs n ≤ point_limit → nat_abs w ≤ point_limit → pos 0 <ℤ w → to_z w64 (of_z w64 n) *ℤ to_z w64 (of_z w64 w) ≡ n *ℤ pos (nat_abs w)
-    numbers n w sn sw positive = ap (λ (m : ℤ). m *ℤ to_z w64 (of_z w64 w)) (kept n sn) ∙ ap (λ (m : ℤ). n *ℤ m) (kept w sw ∙ sym (pos_size w positive))
+    numbers n w sn sw positive = ap (λ (m : ℤ). m *ℤ to_z w64 (of_z w64 w)) (kept n sn) ∙ ap (λ (m : ℤ). n *ℤ m) (kept w sw ∙ sym (pos-abs w positive))
 
 -- points that agree in x and y are in the order of their z
 order-from_last : (p q : Place) (o : Ordering) → p.x *ℤ pos q.w ≡ q.x *ℤ pos p.w → p.y *ℤ pos q.w ≡ q.y *ℤ pos p.w → IsRanked p.z p q.z q o → MatchOrdering o (IsPlaceBelow p q) (SamePlace p q) (IsPlaceBelow q p)

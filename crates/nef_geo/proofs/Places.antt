@@ -1,18 +1,9 @@
 -- Points by their numbers.
-use Rattle.std.proofs.Common.{◌≡◌, ◌+ℤ◌, ℤ, pos, ◌*ℤ◌, ◌<ℤ◌, nat_abs, arith, ap, [], ◌∷◌}
-use Rattle.std.proofs.lemmas.Int.{ints}
-use Rattle.nef_space.specs.Place.{Form, form_at, SamePlace}
-use Rattle.nef_space.proofs.Ring.{at, ◌⊗◌, ring}
-use Rattle.nef_geo.specs.Numbers.{IsReduced}
-use Rattle.nef_geo.specs.Shapes.{place_at, place_of}
-use Rattle.nef_geo.specs.declared.point.Point.{Point}
-
-pub pos_size : (w : ℤ) → pos 0 <ℤ w → pos (nat_abs w) ≡ w
-pos_size w h = omega (arith, ints)
+use Rattle.nef_geo.proofs.Prelude.{◌≡◌, ◌+ℤ◌, ℤ, pos, ◌*ℤ◌, ◌<ℤ◌, nat_abs, ap, [], ◌∷◌, Form, form_at, SamePlace, at, ◌⊗◌, ring, IsReduced, place_at, place_of, Point, pos-abs}
 
 -- one coordinate of numbers and of their parts
 along : (g x x' w w' : ℤ) → pos 0 <ℤ w → pos 0 <ℤ w' → x ≡ g *ℤ x' → w ≡ g *ℤ w' → x *ℤ pos (nat_abs w') ≡ x' *ℤ pos (nat_abs w)
-along g x x' w w' p q ex ew = rw (pos_size w p, pos_size w' q, ex, ew) (ring (g ∷ x' ∷ w' ∷ []) (at 0 ⊗ at 1 ⊗ at 2) (at 1 ⊗ (at 0 ⊗ at 2)) tt)
+along g x x' w w' p q ex ew = rw (pos-abs w p, pos-abs w' q, ex, ew) (ring (g ∷ x' ∷ w' ∷ []) (at 0 ⊗ at 1 ⊗ at 2) (at 1 ⊗ (at 0 ⊗ at 2)) tt)
 
 pub SamePlace-reduced : (x y z w x' y' z' w' : ℤ) (p : pos 0 <ℤ w) (q : pos 0 <ℤ w') → IsReduced x y z w x' y' z' w' → SamePlace (place_at x y z w p) (place_at x' y' z' w' q)
 SamePlace-reduced x y z w x' y' z' w' p q r = record {
@@ -23,4 +14,4 @@ SamePlace-reduced x y z w x' y' z' w' p q r = record {
 
 -- the form by the point's numbers
 pub form_at-place_of : (h : Form) (p : Point) → form_at h (place_of p) ≡ h.a *ℤ p.x +ℤ h.b *ℤ p.y +ℤ h.c *ℤ p.z +ℤ h.d *ℤ p.w
-form_at-place_of h p = ap (λ (n : ℤ). h.a *ℤ p.x +ℤ h.b *ℤ p.y +ℤ h.c *ℤ p.z +ℤ h.d *ℤ n) (pos_size p.w p.proper)
+form_at-place_of h p = ap (λ (n : ℤ). h.a *ℤ p.x +ℤ h.b *ℤ p.y +ℤ h.c *ℤ p.z +ℤ h.d *ℤ n) (pos-abs p.w p.proper)

@@ -1,16 +1,6 @@
 -- Products of vectors, their sizes, and how the machine computes them.
-use Rattle.std.proofs.Common.{◌≡◌, ℕ, ◌+◌, ◌*◌, ◌^◌, ◌≤◌, ℤ, neg_ℤ, ◌+ℤ◌, ◌-ℤ◌, ◌*ℤ◌, nat_abs, List, [], ◌∷◌, w64, to_z, of_z, arith, refl, ap, ◌∙◌}
-use Rattle.std.proofs.lemmas.Int.{ints}
+use Rattle.nef_geo.proofs.Prelude.{◌≡◌, ℕ, ◌+◌, ◌*◌, ◌^◌, ◌≤◌, ℤ, ◌+ℤ◌, ◌-ℤ◌, ◌*ℤ◌, nat_abs, List, [], ◌∷◌, w64, to_z, of_z, arith, refl, ap, ◌∙◌, point_limit, normal_limit, svertex_limit, direction_limit, Vector, vector, dot, cross, IsAtMost, normal_of, Dir, Plane, form_of, vector_of, Code, load, wrap, ◌⊞◌, ◌⊟◌, ◌⊠◌, Limited, exact_of, abs_plus, abs_times, abs_minors, ◌⊕◌, ◌⊖◌, ◌⊗◌}
 use mir.Syntax.{Width, w128}
-use Rattle.nef_space.specs.Limits.{point_limit, normal_limit, svertex_limit, direction_limit}
-use Rattle.nef_space.specs.Vectors.{Vector, vector, opposite, dot, cross, IsAtMost}
-use Rattle.nef_space.specs.Place.{normal_of}
-use Rattle.nef_geo.specs.declared.dir.Dir.{Dir}
-use Rattle.nef_geo.specs.declared.plane.Plane.{Plane}
-use Rattle.nef_geo.specs.Shapes.{form_of, vector_of}
-use Rattle.nef_space.proofs.Machine.{Code, load, wrap, ◌⊞◌, ◌⊟◌, ◌⊠◌, Limited, exact_of}
-use Rattle.nef_space.proofs.Order.{abs_plus, abs_times, abs_minors}
-use Rattle.nef_space.proofs.Ring.{at, neg, ◌⊕◌, ◌⊖◌, ◌⊗◌, ring}
 
 -- ---- two vectors as six variables
 abbrev pub bounds : ℕ → ℕ → List ℕ
@@ -72,18 +62,6 @@ cross_size m n a b h k = record {
   of_y = abs_minors a.z a.x b.z b.x m n h.of_z h.of_x k.of_z k.of_x;
   of_z = abs_minors a.x a.y b.x b.y m n h.of_x h.of_y k.of_x k.of_y;
 }
-
-pub dot_comm : (a b : Vector) → dot a b ≡ dot b a
-dot_comm a b = ring (numbers a b) (at 0 ⊗ at 3 ⊕ at 1 ⊗ at 4 ⊕ at 2 ⊗ at 5) (at 3 ⊗ at 0 ⊕ at 4 ⊗ at 1 ⊕ at 5 ⊗ at 2) tt
-
-pub cross-opposite : (a e : Vector) → cross (opposite a) e ≡ opposite (cross a e)
-cross-opposite a e = same_vector _ _ _ _ _ _ (one a.y e.z a.z e.y) (one a.z e.x a.x e.z) (one a.x e.y a.y e.x)
-  where
-    one : (p q r s : ℤ) → neg_ℤ p *ℤ q -ℤ neg_ℤ r *ℤ s ≡ neg_ℤ (p *ℤ q -ℤ r *ℤ s)
-    one p q r s = ring (p ∷ q ∷ r ∷ s ∷ []) (neg (at 0) ⊗ at 1 ⊖ neg (at 2) ⊗ at 3) (neg (at 0 ⊗ at 1 ⊖ at 2 ⊗ at 3)) tt
-
-pub opposite-twice : (v : Vector) → opposite (opposite v) ≡ v
-opposite-twice v = same_vector _ _ _ _ _ _ (omega (arith, ints)) (omega (arith, ints)) (omega (arith, ints))
 
 pub dir_within : (d : Dir) → IsAtMost direction_limit (vector_of d)
 dir_within d = record { of_x = d.x_small; of_y = d.y_small; of_z = d.z_small }

@@ -1,20 +1,7 @@
 -- Hits: their numbers and their sizes.
-use Rattle.std.proofs.Common.{◌≡◌, ◌≢◌, ℕ, ◌+◌, ◌*◌, ◌^◌, ◌≤◌, ℤ, pos, ◌+ℤ◌, ◌*ℤ◌, ◌<ℤ◌, nat_abs, Option, Some, arith, ap, sym, ◌∙◌, subst, to_z, of_z, lit≤}
-use Rattle.std.specs.Prelude.{IfSome}
-use Rattle.std.proofs.lemmas.Int.{ints}
+use Rattle.nef_geo.proofs.Prelude.{◌≡◌, ◌≢◌, ℕ, ◌+◌, ◌*◌, ◌^◌, ◌≤◌, ℤ, pos, ◌+ℤ◌, ◌*ℤ◌, ◌<ℤ◌, nat_abs, Option, Some, arith, ap, sym, ◌∙◌, subst, to_z, of_z, lit≤, IfSome, ints, normal_limit, point_limit, weight_limit, Place, form_at, slope, Vector, vector, IsAtMost, abs_plus, abs_times, pos-abs, IsReachedBy, IsUpright, IsPlaneDirSized, IsPlaceAtMost, form_of, place_at, place_of, IsZeroStep, point_form_limit, upright_limit, upright_weight_limit, plane_dir_limit, plane_dir_sum_limit, plane_dir_hit_limit, plane_dir_form_limit, Plane, Point, numbers}
 use mir.Syntax.{w128}
-use Rattle.nef_space.specs.Limits.{normal_limit, point_limit, weight_limit}
-use Rattle.nef_space.specs.Place.{Place, form_at, slope}
-use Rattle.nef_space.specs.Vectors.{Vector, vector, IsAtMost}
-use Rattle.nef_space.proofs.Order.{abs_plus, abs_times}
-use Rattle.nef_geo.specs.Hits.{IsReachedBy, IsUpright, IsPlaneDirSized, IsPlaceAtMost}
-use Rattle.nef_geo.specs.Shapes.{form_of, place_at, place_of}
-use Rattle.nef_geo.specs.Steps.{IsZeroStep}
-use Rattle.nef_geo.specs.Widths.{point_form_limit, upright_limit, upright_weight_limit, plane_dir_limit, plane_dir_sum_limit, plane_dir_hit_limit, plane_dir_form_limit}
-use Rattle.nef_geo.specs.declared.plane.Plane.{Plane}
-use Rattle.nef_geo.specs.declared.point.Point.{Point}
 use Rattle.nef_geo.proofs.Crossings.{form_at-reached}
-use Rattle.nef_geo.proofs.Places.{pos_size}
 use Rattle.nef_geo.proofs.Products.{kept_wide}
 use Rattle.nef_geo.proofs.Sizes.{weaken_place, slope_size, reach_size, point_form_size, point_within, upright_sum, upright_sized}
 
@@ -29,7 +16,7 @@ step_meant v g v' g' n m n' m' sv sg ev eg en em h = rw (en, em) (rw (kept_wide 
 -- the numbers of a hit, by the step that it keeps
 pub reached_by : (sx sy sz sw : ℤ) (positive : pos 0 <ℤ sw) (d : Vector) (n m n' m' x y z w : ℤ) → n' ≡ n → m' ≡ m
     → x ≡ sx *ℤ m +ℤ n *ℤ d.x → y ≡ sy *ℤ m +ℤ n *ℤ d.y → z ≡ sz *ℤ m +ℤ n *ℤ d.z → w ≡ sw *ℤ m → IsReachedBy (place_at sx sy sz sw positive) d n' m' x y z w
-reached_by sx sy sz sw positive d n m n' m' x y z w en em ex ey ez ew = rw (en, em) (record { x_is = ex; y_is = ey; z_is = ez; w_is = ew ∙ ap (λ (k : ℤ). k *ℤ m) (sym (pos_size sw positive)) })
+reached_by sx sy sz sw positive d n m n' m' x y z w en em ex ey ez ew = rw (en, em) (record { x_is = ex; y_is = ey; z_is = ez; w_is = ew ∙ ap (λ (k : ℤ). k *ℤ m) (sym (pos-abs sw positive)) })
 
 -- a growth whose size is that of a positive number isn't zero
 pub growth_some : (g m : ℤ) → nat_abs m ≡ nat_abs g → pos 0 <ℤ m → g ≢ pos 0

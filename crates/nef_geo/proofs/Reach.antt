@@ -1,11 +1,6 @@
 -- The numbers of the point at a step from a start, as the machine computes them.
-use Rattle.std.proofs.Common.{ℕ, ◌≤◌, ℤ, pos, ◌<ℤ◌, nat_abs, List, [], ◌∷◌, w64}
+use Rattle.nef_geo.proofs.Prelude.{ℕ, ◌≤◌, ℤ, pos, ◌<ℤ◌, nat_abs, List, [], ◌∷◌, w64, IsAtMost, Code, load, wrap, ◌⊞◌, ◌⊠◌, Limited, IsPlaceAtMost, vector_of, place_at, Dir}
 use mir.Syntax.{w128}
-use Rattle.nef_space.specs.Vectors.{IsAtMost}
-use Rattle.nef_space.proofs.Machine.{Code, load, wrap, ◌⊞◌, ◌⊠◌, Limited}
-use Rattle.nef_geo.specs.Hits.{IsPlaceAtMost}
-use Rattle.nef_geo.specs.Shapes.{vector_of, place_at}
-use Rattle.nef_geo.specs.declared.dir.Dir.{Dir}
 
 -- the bounds of the start's four numbers, the direction's three and the step's two
 abbrev pub sizes : (m n k a b : ℕ) → List ℕ

@@ -1,16 +1,9 @@
 -- Signs of products, of sums and of forms.
-use Rattle.std.proofs.Common.{◌≡◌, zero, suc, ℤ, pos, negsuc, neg_ℤ, ◌*ℤ◌, ◌<ℤ◌, Bool, true, false, arith, refl, sym, ap, ◌∙◌, subst, [], ◌∷◌, FitsSigned, to_z, of_z}
-use Rattle.std.proofs.lemmas.Int.{ints, to_z-of_z}
+use Rattle.nef_geo.proofs.Prelude.{◌≡◌, zero, suc, ℤ, pos, negsuc, neg_ℤ, ◌*ℤ◌, ◌<ℤ◌, Bool, true, false, arith, refl, sym, ap, ◌∙◌, subst, [], ◌∷◌, FitsSigned, to_z, of_z, ints, to_z-of_z, Place, Form, form_at, at, ◌⊕◌, ◌⊗◌, ring, Minus, Zero, Plus, IsPositiveMultiple, form_of, given_form, sign_of}
 use lib.Dec.{T}
 use mir.Syntax.{w128}
 use Rattle.nef_geo.specs.declared.sign.Sign.{Sign}
-use Rattle.nef_space.specs.Place.{Place, Form, form_at}
-use Rattle.nef_space.proofs.Ring.{at, ◌⊕◌, ◌⊗◌, ring}
 use Rattle.nef_geo.specs.declared.plane.Oriented.{Oriented}
-use Rattle.nef_geo.specs.declared.sign.Sign.TheVariants.{Minus, Zero, Plus}
-use Rattle.nef_geo.specs.Reading.{IsPositiveMultiple}
-use Rattle.nef_geo.specs.Shapes.{form_of, given_form}
-use Rattle.nef_geo.specs.Signs.{sign_of}
 use Rattle.nef_geo.proofs.Normals.{form_at-turned}
 
 pub sign_of-positive : (z : ℤ) → pos 0 <ℤ z → sign_of z ≡ Plus

@@ -1,16 +1,5 @@
 -- Sizes of forms and of points on rays.
-use Rattle.std.proofs.Common.{ℕ, ◌+◌, ◌*◌, ◌^◌, ◌≤◌, ℤ, pos, ◌+ℤ◌, ◌*ℤ◌, nat_abs, arith, sym, subst, inl, inr, lit≤}
-use Rattle.nef_space.specs.Limits.{normal_limit, offset_limit, point_limit, weight_limit}
-use Rattle.nef_space.specs.Place.{Place, form_at, slope}
-use Rattle.nef_space.specs.Vectors.{Vector, opposite, up, IsAtMost}
-use Rattle.nef_space.proofs.Order.{abs_plus, abs_times}
-use Rattle.nef_geo.specs.Hits.{IsUpright, IsPlaceAtMost}
-use Rattle.nef_geo.specs.Shapes.{form_of, place_of, hit_place, far_place}
-use Rattle.nef_geo.specs.Widths.{point_form_limit, hit_limit, hit_weight_limit, far_limit, far_weight_limit}
-use Rattle.nef_geo.specs.declared.hit.FarHit.{FarHit}
-use Rattle.nef_geo.specs.declared.hit.Hit.{Hit}
-use Rattle.nef_geo.specs.declared.plane.Plane.{Plane}
-use Rattle.nef_geo.specs.declared.point.Point.{Point}
+use Rattle.nef_geo.proofs.Prelude.{ℕ, ◌+◌, ◌*◌, ◌^◌, ◌≤◌, ℤ, pos, ◌+ℤ◌, ◌*ℤ◌, nat_abs, arith, sym, subst, inl, inr, lit≤, of_z, normal_limit, offset_limit, point_limit, weight_limit, Place, form_at, slope, Vector, opposite, up, IsAtMost, abs_plus, abs_times, IsUpright, IsPlaceAtMost, form_of, place_of, hit_place, far_place, point_form_limit, hit_limit, hit_weight_limit, far_limit, far_weight_limit, FarHit, Hit, Plane, Point, numbers}
 
 -- ---- forms
 pub form_size : (h : Plane) (m n : ℕ) (q : Place) → IsPlaceAtMost m n q → nat_abs (form_at (form_of h) q) ≤ normal_limit * m + normal_limit * m + normal_limit * m + offset_limit * n

@@ -1,29 +1,11 @@
 -- Normal forms are unique.
-use Rattle.std.proofs.Common.{◌≡◌, zero, suc, ◌≤◌, ℤ, pos, negsuc, ◌-ℤ◌, ◌*ℤ◌, ◌<ℤ◌, ◌≤ℤ◌, nat_abs, Bool, true, false, List, [], ◌∷◌, inl, inr, ◌⊎◌, arith, refl, sym, ap, ◌∙◌, subst}
+use Rattle.nef_geo.proofs.Prelude.{◌≡◌, zero, suc, ◌≤◌, ℤ, pos, negsuc, ◌-ℤ◌, ◌*ℤ◌, ◌<ℤ◌, ◌≤ℤ◌, nat_abs, Bool, true, false, List, [], ◌∷◌, inl, inr, ◌⊎◌, arith, refl, sym, ap, ◌∙◌, subst, ◌∣◌, int_eq, ◌&&◌, ints, dvd_antisymm, normal_limit, offset_limit, point_limit, weight_limit, direction_limit, IsLowest, Vector, vector, dot, IsDirection, IsNormal, SameDirection, none, given, follows, cancel_eq, at, num, ◌⊕◌, ◌⊖◌, ◌⊗◌, ring, IsSamePlane, IsSameRatios, form_of, vector_of, Dir, Plane, Point, self-pos, dir-self}
 use Rattle.std.specs.Bool.{IsTrue}
-use Rattle.std.specs.Int.{◌∣◌}
-use Rattle.std.specs.Ordering.{int_eq}
-use Rattle.std.specs.Prelude.{◌&&◌}
 use Rattle.std.proofs.Props.{props}
 use Rattle.std.proofs.lemmas.Bool.Decides.{Decides-int_eq}
-use Rattle.std.proofs.lemmas.Int.{ints}
 use lib.Dec.{T}
-use Rattle.std.proofs.lemmas.Nat.Gcd.{dvd_antisymm}
-use Rattle.nef_space.specs.Limits.{normal_limit, offset_limit, point_limit, weight_limit, direction_limit}
-use Rattle.nef_space.specs.Numbers.{IsLowest}
-use Rattle.nef_space.specs.Vectors.{Vector, vector, dot, IsDirection, IsNormal, SameDirection}
-use Rattle.nef_space.proofs.Combination.{none, given, follows}
-use Rattle.nef_space.proofs.Order.{cancel_eq}
-use Rattle.nef_space.proofs.Ring.{at, num, ◌⊕◌, ◌⊖◌, ◌⊗◌, ring}
 use Rattle.nef_geo.specs.Laws.{SamePlacesAreEqual, SameDirectionsAreEqual, SamePlanesAreEqual}
-use Rattle.nef_geo.specs.Meet.{IsSamePlane}
-use Rattle.nef_geo.specs.Numbers.{IsSameRatios}
-use Rattle.nef_geo.specs.Shapes.{form_of, vector_of}
-use Rattle.nef_geo.specs.declared.dir.Dir.{Dir}
-use Rattle.nef_geo.specs.declared.plane.Plane.{Plane}
-use Rattle.nef_geo.specs.declared.point.Point.{Point}
 use Rattle.nef_geo.proofs.Cramer.{IsSameRatios-from_place, difference}
-use Rattle.nef_geo.proofs.Directions.{dot-itself, SameDirection-itself}
 use Rattle.nef_geo.proofs.Euclid.{divides_same}
 
 turn_left : (a b c d : ℤ) → a *ℤ b ≡ c *ℤ d → b *ℤ a ≡ c *ℤ d
@@ -169,7 +151,7 @@ same_triple a b h k some s =
     let aa = at 0 ⊗ at 0 ⊕ at 1 ⊗ at 1 ⊕ at 2 ⊗ at 2 in
     let x = at 1 ⊗ at 5 ⊖ at 2 ⊗ at 4 in let y = at 2 ⊗ at 3 ⊖ at 0 ⊗ at 5 in let z = at 0 ⊗ at 4 ⊖ at 1 ⊗ at 3 in
     let o = num (pos 0) in
-    let positive = dot-itself a some in
+    let positive = self-pos a some in
     record {
       of_x = same_sign a.x b.x (dot a b) (dot a a) s.forward positive sizes.of_x
           (follows (six a b) (at 0 ⊗ ab) (at 3 ⊗ aa) (given (at 1) z o cz (given (num (negsuc 0) ⊗ at 2) y o cy none)) tt);
@@ -290,7 +272,7 @@ all_three false q r h = absurd (subst T h tt)
 pub same_if_equal : (d e : Dir) → true ≡ equal_test d e → SameDirection (vector_of d) (vector_of e)
 same_if_equal d e h =
     let tests = all_three (int_eq d.x e.x) (int_eq d.y e.y) (int_eq d.z e.z) h in
-    subst (SameDirection (vector_of d)) (same_vector d.x d.y d.z e.x e.y e.z ((Decides-int_eq d.x e.x).0 tests.0) ((Decides-int_eq d.y e.y).0 tests.1) ((Decides-int_eq d.z e.z).0 tests.2)) (SameDirection-itself (vector_of d) d.some)
+    subst (SameDirection (vector_of d)) (same_vector d.x d.y d.z e.x e.y e.z ((Decides-int_eq d.x e.x).0 tests.0) ((Decides-int_eq d.y e.y).0 tests.1) ((Decides-int_eq d.z e.z).0 tests.2)) (dir-self (vector_of d) d.some)
   where
     same_vector : (x y z x' y' z' : ℤ) → x ≡ x' → y ≡ y' → z ≡ z' → vector x y z ≡ vector x' y' z'
     same_vector x y z x' y' z' p q r = rw (p, q, r) refl

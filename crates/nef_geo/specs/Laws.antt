@@ -1,7 +1,6 @@
 -- Normal forms are unique.
 use Rattle.std.specs.Prelude.{◌≡◌}
-use Rattle.nef_space.specs.Vectors.{SameDirection}
-use Rattle.nef_space.specs.Place.{SamePlace}
+use Rattle.nef_space.specs.Prelude.{SameDirection, SamePlace}
 use Rattle.nef_geo.specs.declared.plane.Plane.{Plane}
 use Rattle.nef_geo.specs.declared.point.Point.{Point}
 use Rattle.nef_geo.specs.declared.dir.Dir.{Dir}

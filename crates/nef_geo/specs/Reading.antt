@@ -1,16 +1,15 @@
 -- Planes as they are read from four numbers.
-use Rattle.std.specs.Prelude.{◌≡◌, ◌≤◌, ℤ, pos, ◌*ℤ◌, neg_ℤ, ◌<ℤ◌, nat_abs, List, [], ◌∷◌}
-use Rattle.nef_space.specs.Limits.{half_side, normal_limit, offset_limit}
-use Rattle.nef_space.specs.Place.{Form, form}
+use Rattle.std.specs.Prelude.{◌≡◌, ◌≤◌, ◌*ℤ◌, ◌<ℤ◌, ◌∷◌}
+use Rattle.nef_space.specs.Prelude.{ℤ, pos, neg_ℤ, nat_abs, List, [], half_side, normal_limit, offset_limit, Form, form}
 
--- no coefficient is past its limit
+-- no coefficient of the form is past its limit
 pub record IsInRange (h : Form) : Type 0 where
   pub a_small : nat_abs h.a ≤ normal_limit
   pub b_small : nat_abs h.b ≤ normal_limit
   pub c_small : nat_abs h.c ≤ normal_limit
   pub d_small : nat_abs h.d ≤ offset_limit
 
--- h is g times a positive number
+-- h is a positive multiple of g
 pub record IsPositiveMultiple (h g : Form) : Type 0 where
   pub factor : ℤ
   pub positive : pos 0 <ℤ factor

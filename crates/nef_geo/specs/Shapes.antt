@@ -1,9 +1,8 @@
--- What planes, points and directions stand for.
-use Rattle.std.specs.Prelude.{◌<◌, ℤ, pos, ◌<ℤ◌, neg_ℤ, nat_abs, cond}
+-- Planes, points, directions and hits as forms, places and vectors.
+use Rattle.std.specs.Prelude.{◌<◌, ◌<ℤ◌, ℤ, pos, neg_ℤ, nat_abs, cond}
 use Rattle.std.proofs.Common.{arith}
 use Rattle.std.proofs.lemmas.Int.{ints}
-use Rattle.nef_space.specs.Vectors.{Vector, vector}
-use Rattle.nef_space.specs.Place.{Place, Form, form}
+use Rattle.nef_space.specs.Prelude.{Vector, vector, Place, Form, form}
 use Rattle.nef_geo.specs.declared.plane.Plane.{Plane}
 use Rattle.nef_geo.specs.declared.plane.Oriented.{Oriented}
 use Rattle.nef_geo.specs.declared.point.Point.{Point}
@@ -20,7 +19,7 @@ form_of h = form h.a h.b h.c h.d
 abbrev pub turned_form : Form → Form
 turned_form h = form (neg_ℤ h.a) (neg_ℤ h.b) (neg_ℤ h.c) (neg_ℤ h.d)
 
--- the form as it was given, which may point the other way
+-- the form of the numbers as they were given: the plane's own form, or its negative
 abbrev pub given_form : Oriented → Form
 given_form o = cond o.flipped (turned_form (form_of o.plane)) (form_of o.plane)
 

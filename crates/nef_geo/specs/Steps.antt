@@ -4,7 +4,7 @@ use Rattle.std.specs.Prelude.{◌≡◌, ℤ, pos, ◌+ℤ◌, ◌*ℤ◌, ◌<�
 abbrev pub HasOppositeSigns : ℤ → ℤ → Type 0
 HasOppositeSigns v g = ((v <ℤ pos 0) × (pos 0 <ℤ g)) ⊎ ((pos 0 <ℤ v) × (g <ℤ pos 0))
 
--- the step num/den is positive, v + (num/den) g is zero, and its numbers have the sizes of v and g
+-- num/den is positive, v + (num/den) g is zero, and num and den have the sizes of v and g
 pub record IsZeroStep (v g num den : ℤ) : Type 0 where
   pub num_positive : pos 0 <ℤ num
   pub den_positive : pos 0 <ℤ den

@@ -1,6 +1,5 @@
 -- Triples of machine integers as vectors.
-use Rattle.std.specs.Prelude.{ℤ}
-use Rattle.nef_space.specs.Vectors.{Vector, vector}
+use Rattle.nef_space.specs.Prelude.{ℤ, Vector, vector}
 use Rattle.nef_geo.specs.declared.sign.Wide.{Wide}
 
 abbrev pub triple_vector : (ℤ × ℤ × ℤ) → Vector

@@ -1,4 +1,4 @@
--- The second of two directions in a plane, which its stated direction is made of.
+-- The second of the two directions of which a plane's stated direction is made.
 use Rattle.std.specs.Prelude.{pos, cond}
 use Rattle.std.specs.Ordering.{int_eq}
 use Rattle.nef_space.specs.Vectors.{Vector, beside_y, beside_z}

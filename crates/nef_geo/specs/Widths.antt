@@ -1,34 +1,34 @@
--- Bounds on the sizes of computed values.
+-- Limits on the sizes of computed values.
 use Rattle.std.specs.Prelude.{ℕ, ◌+◌, ◌*◌, ◌^◌}
 
--- a plane's form at a point
+-- the limit on the form of a plane at a point
 abbrev pub point_form_limit : ℕ
 point_form_limit = 12 * 2 ^ 56
 
--- the product of a plane's normal with a direction
+-- the limit on the product of a plane's normal with a direction
 abbrev pub slope_limit : ℕ
 slope_limit = 3 * 2 ^ 48
 
--- the dot product of two directions
+-- the limit on the dot product of two directions
 abbrev pub dot_limit : ℕ
 dot_limit = 3 * 2 ^ 74
 
--- the triple product of three directions
+-- the limit on the triple product of three directions
 abbrev pub triple_limit : ℕ
 triple_limit = 2 ^ 114
 
--- the dot product of two cross products of directions, of which three have the size of an svertex's
+-- the limit on the dot product of two cross products of directions, of which three have a svertex's size
 abbrev pub quad_limit : ℕ
 quad_limit = 2 ^ 110
 
--- the size of a direction's numbers in a ray from a point, and of the product of a normal with it
+-- limits on the numbers of a direction for a ray from a point, and on a plane's normal times this direction
 abbrev pub ray_limit : ℕ
 ray_limit = 2 ^ 36
 
 abbrev pub ray_slope_limit : ℕ
 ray_slope_limit = 3 * 2 ^ 47
 
--- the numbers of a hit on a ray from a point: the first three, w, and a plane's form there
+-- limits on a hit on a ray from a point: its first three numbers, its w, and a plane's form at the hit
 abbrev pub hit_limit : ℕ
 hit_limit = 21 * 2 ^ 92
 
@@ -38,7 +38,7 @@ hit_weight_limit = 9 * 2 ^ 81
 abbrev pub hit_form_limit : ℕ
 hit_form_limit = 9 * 2 ^ 106
 
--- the same where the ray goes upward or downward
+-- limits on a hit on an upward or downward ray from a point: its first three numbers, its w, and a plane's form there
 abbrev pub upright_limit : ℕ
 upright_limit = 2 ^ 86
 
@@ -48,25 +48,25 @@ upright_weight_limit = 2 ^ 73
 abbrev pub upright_form_limit : ℕ
 upright_form_limit = 2 ^ 99
 
--- a point's coordinate times such a hit's w, less the hit's coordinate times the point's w
+-- the limit on a point's number times an upward or downward hit's w, less the hit's number times the point's w
 abbrev pub ratio_limit : ℕ
 ratio_limit = 15 * 2 ^ 118
 
--- the numbers of the second direction of a plane, and the sum of their sizes
+-- limits on the numbers of a plane's second direction, and on the sum of their sizes
 abbrev pub plane_dir_limit : ℕ
 plane_dir_limit = 2 ^ 35 + 2 ^ 11
 
 abbrev pub plane_dir_sum_limit : ℕ
 plane_dir_sum_limit = 2 ^ 36 + 2 ^ 12
 
--- a hit where the ray goes along such a direction, and a plane's form there
+-- limits on a hit on a ray along a plane's second direction: its first three numbers, and a plane's form at the hit
 abbrev pub plane_dir_hit_limit : ℕ
 plane_dir_hit_limit = 2 ^ 96
 
 abbrev pub plane_dir_form_limit : ℕ
 plane_dir_form_limit = 2 ^ 108
 
--- the numbers of a hit on a ray from a hit: the first three, w, the step's two numbers, and a plane's form there
+-- limits on a hit on a ray from a hit: its first three numbers, its w, the step's two numbers, and a plane's form there
 abbrev pub far_limit : ℕ
 far_limit = 2 ^ 111
 
@@ -82,6 +82,6 @@ far_den_limit = 3 * 2 ^ 22
 abbrev pub far_form_limit : ℕ
 far_form_limit = 2 ^ 124
 
--- the two products that compare the steps of such hits
+-- the limit on the two products that compare the steps of two hits on a ray from a hit
 abbrev pub far_product_limit : ℕ
 far_product_limit = 2 ^ 123

@@ -8,7 +8,7 @@ use crate::sign::{Sign, dot, is_normal};
 
 /// The direction `(x, y, z)`. The three numbers aren't all zero, have no common divisor but 1, and are
 /// at most `2^37` in size.
-#[derive(Debug, Clone, Copy, PartialEq, Eq, PartialOrd, Ord)]
+#[derive(Clone, Copy, PartialEq, Eq, PartialOrd, Ord)]
 pub struct Dir {
     pub(crate) x: i64,
     pub(crate) y: i64,
@@ -26,8 +26,7 @@ impl Dir {
     ghost use Rattle.nef_geo.specs.Meet.{IsStretched};
     ghost use Rattle.nef_geo.specs.Shapes.{vector_of};
 
-    /// The direction of three numbers, of at most `2^37` in size, that aren't all zero: they are its own times a positive
-    /// number.
+    /// The direction along `(x, y, z)`, for numbers of at most `2^37` in size that aren't all zero.
     pub fn reduced(x: i64, y: i64, z: i64) -> Dir
         requires small { IsAtMost direction_limit (vector x y z) }
         requires some { IsDirection (vector x y z) }
@@ -64,7 +63,7 @@ impl Dir {
         }
     }
 
-    /// Whether both are one direction. Since directions stand in normal form, that is whether their numbers are equal.
+    /// Whether both are one direction. Directions stand in normal form, so one direction has equal numbers.
     pub fn is_same(&self, other: &Dir) -> bool
         ensures same { IsTrue result ↔ (self.now ≡ other.now) }
         ensures direction { IsTrue result ↔ SameDirection (vector_of self.now) (vector_of other.now) }
@@ -72,35 +71,31 @@ impl Dir {
         self == other
     }
 
-    /// Whether the first of its numbers that isn't zero is positive: along it lie later points.
+    /// Whether the first nonzero number of the direction is positive: then later points lie along it.
     pub fn is_normal(&self) -> bool
         ensures normal { IsTrue result ↔ IsNormal (vector_of self.now) }
     {
         is_normal(self.x, self.y, self.z)
     }
 
-    /// Whether the two are perpendicular.
     pub fn is_perpendicular(&self, other: &Dir) -> bool
         ensures perpendicular { IsTrue result ↔ (dot (vector_of self.now) (vector_of other.now) ≡ pos 0) }
     {
         dot(self, other) == Sign::Zero
     }
 
-    /// The first number.
     pub fn x(&self) -> i64
         ensures x { result ≡ self.now.x }
     {
         self.x
     }
 
-    /// The second number.
     pub fn y(&self) -> i64
         ensures y { result ≡ self.now.y }
     {
         self.y
     }
 
-    /// The third number.
     pub fn z(&self) -> i64
         ensures z { result ≡ self.now.z }
     {

@@ -1,8 +1,8 @@
 //! Greatest common divisors, and numbers in lowest terms.
 
 ghost use Rattle.std.specs.Prelude.{◌≡◌, ◌<ℤ◌, ◌*ℤ◌};
-ghost use Rattle.nef_space.specs.Prelude.{pos, nat_abs, ◌∣◌, IsGcd, point_limit};
-ghost use Rattle.nef_geo.specs.Numbers.{IsAtMostFour, IsSomeOfFour, IsGcdOfFour, IsReduced};
+ghost use Rattle.nef_geo.specs.Prelude.{pos, nat_abs, IsGcd, point_limit, IsAtMostFour, IsSomeOfFour, IsGcdOfFour, IsReduced};
+ghost use Rattle.nef_space.specs.Prelude.{◌∣◌};
 
 // Euclid's algorithm.
 fn gcd(a: u64, b: u64) -> u64
@@ -29,7 +29,7 @@ fn gcd_of_four(x: i64, y: i64, z: i64, w: i64) -> i64
     gcd(of_three, z.unsigned_abs()) as i64
 }
 
-// The quotient by a number that divides x.
+// The quotient x/divisor, where the divisor divides x.
 fn part(x: i64, divisor: i64) -> i64
     requires positive { pos 0 <ℤ divisor }
     requires divides { nat_abs divisor ∣ nat_abs x }
@@ -42,7 +42,7 @@ fn part(x: i64, divisor: i64) -> i64
     x / divisor
 }
 
-// The four numbers, of which three may be a direction's, divided by their greatest common divisor.
+// The four numbers, divided by their greatest common divisor. For three numbers the last is 0.
 pub(crate) fn lowest_terms(x: i64, y: i64, z: i64, w: i64) -> (i64, i64, i64, i64)
     requires small { IsAtMostFour point_limit x y z w }
     requires some { IsSomeOfFour x y z w }

@@ -1,13 +1,13 @@
-//! Points on rays, with the steps at which they lie.
+//! Hits: points on rays, with the steps at which they lie.
 
 ghost use Rattle.std.specs.Prelude.{◌≡◌, ◌≤◌, ◌≤ℤ◌, ◌<ℤ◌};
 ghost use Rattle.nef_space.specs.Prelude.{pos, nat_abs};
 ghost use Rattle.nef_geo.specs.Widths.{point_form_limit, ray_slope_limit, hit_limit, hit_weight_limit, far_limit, far_weight_limit, far_num_limit, far_den_limit};
 
-/// A point on a ray from a point. Its numbers are `(x/w, y/w, z/w)`, and its step is `num/den`: the
-/// point is the start's first three numbers plus the step times the direction, over the start's w.
-/// w and den are positive, and num is positive but where the hit is the start itself.
-#[derive(Debug, Clone, Copy)]
+/// A point on a ray from a point: the point `(x/w, y/w, z/w)`, at the step `num/den`. Its first three coordinates are
+/// the start's first three numbers plus the step times the direction, over the start's w. w and den are positive, and
+/// num is positive but where the hit is the start itself.
+#[derive(Clone, Copy)]
 pub struct Hit {
     pub(crate) x: i128,
     pub(crate) y: i128,
@@ -26,8 +26,8 @@ pub struct Hit {
     pub ghost den_sign: { pos 0 <ℤ den },
 }
 
-/// A point on a ray from a hit, with the same meaning. w, num and den are positive.
-#[derive(Debug, Clone, Copy)]
+/// A point on a ray from a hit: `(x/w, y/w, z/w)`, at the step `num/den`, as in [`Hit`]. w, num and den are positive.
+#[derive(Clone, Copy)]
 pub struct FarHit {
     pub(crate) x: i128,
     pub(crate) y: i128,
@@ -47,42 +47,36 @@ pub struct FarHit {
 }
 
 impl Hit {
-    /// The first number.
     pub fn x(&self) -> i128
         ensures x { result ≡ self.now.x }
     {
         self.x
     }
 
-    /// The second number.
     pub fn y(&self) -> i128
         ensures y { result ≡ self.now.y }
     {
         self.y
     }
 
-    /// The third number.
     pub fn z(&self) -> i128
         ensures z { result ≡ self.now.z }
     {
         self.z
     }
 
-    /// The number that the other three are divided by.
     pub fn w(&self) -> i128
         ensures w { result ≡ self.now.w }
     {
         self.w
     }
 
-    /// The number above in the step.
     pub fn num(&self) -> i128
         ensures num { result ≡ self.now.num }
     {
         self.num
     }
 
-    /// The number below in the step.
     pub fn den(&self) -> i128
         ensures den { result ≡ self.now.den }
     {
@@ -91,42 +85,36 @@ impl Hit {
 }
 
 impl FarHit {
-    /// The first number.
     pub fn x(&self) -> i128
         ensures x { result ≡ self.now.x }
     {
         self.x
     }
 
-    /// The second number.
     pub fn y(&self) -> i128
         ensures y { result ≡ self.now.y }
     {
         self.y
     }
 
-    /// The third number.
     pub fn z(&self) -> i128
         ensures z { result ≡ self.now.z }
     {
         self.z
     }
 
-    /// The number that the other three are divided by.
     pub fn w(&self) -> i128
         ensures w { result ≡ self.now.w }
     {
         self.w
     }
 
-    /// The number above in the step.
     pub fn num(&self) -> i128
         ensures num { result ≡ self.now.num }
     {
         self.num
     }
 
-    /// The number below in the step.
     pub fn den(&self) -> i128
         ensures den { result ≡ self.now.den }
     {

@@ -1,4 +1,4 @@
-//! Lists that contracts see as lists.
+//! A list that contracts see as the list of its elements.
 
 ghost use Rattle.std.specs.Prelude.{◌≡◌, ◌<◌, ◌↔◌, ◌∷◌, ◌++◌};
 ghost use Rattle.nef_space.specs.Prelude.{[], length, slice_get, Some, OnOk, OnErr, IsTrue, None};
@@ -6,8 +6,8 @@ ghost use Rattle.nef_space.specs.Prelude.{[], length, slice_get, Some, OnOk, OnE
 use std::alloc::{AllocError, Global};
 use std::marker::Model;
 
-/// A growing list, kept in a `Vec`, that contracts see as the list of its elements.
-#[derive(Debug, Drop)]
+/// A growing list, kept in a `Vec`; contracts see the list of its elements.
+#[derive(Drop)]
 pub struct List<T> {
     items: Vec<T>,
 }
@@ -21,7 +21,7 @@ impl<T> Model for List<T> {
 }
 
 impl<T> List<T> {
-    /// An empty list. It takes no memory yet.
+    /// An empty list. No memory is taken yet.
     pub fn new(alloc: Global) -> List<T>
         ensures empty { result ≡ [] }
     {
@@ -30,28 +30,24 @@ impl<T> List<T> {
         }
     }
 
-    /// The list of the elements of a `Vec`.
     pub fn from_vec(items: Vec<T>) -> List<T>
         ensures all { result ≡ items.items }
     {
         List { items }
     }
 
-    /// The elements as a `Vec`.
     pub fn into_vec(self) -> Vec<T>
         ensures all { result.items ≡ self }
     {
         self.items
     }
 
-    /// How many elements the list has.
     pub fn len(&self) -> usize
         ensures len { result ≡ length self.now }
     {
         self.items.len()
     }
 
-    /// Whether the list has no element.
     pub fn is_empty(&self) -> bool
         ensures empty { IsTrue result ↔ (self.now ≡ []) }
     {

@@ -1,18 +1,14 @@
-//! The orders of points, of directions and of hits, and what normal forms are good for.
+//! The orders of points, of directions and of hits, and the laws of normal forms.
 
 ghost use Rattle.std.specs.Prelude.{◌≡◌, ◌≤◌, ◌*ℤ◌, ◌<ℤ◌};
-ghost use Rattle.nef_space.specs.Prelude.{nat_abs, int_cmp, MatchOrdering, IsBelow, Place, IsAhead, form_numbers, SamePlace, IsPlaceBelow, Vector, IsDirection, triple_of};
-ghost use Rattle.nef_geo.specs.Shapes.{form_of, place_of, vector_of, hit_place, far_place};
-ghost use Rattle.nef_geo.specs.Hits.{IsReached};
-ghost use Rattle.nef_geo.specs.Widths.{far_product_limit};
-ghost use Rattle.nef_geo.specs.Laws.{SamePlacesAreEqual, SameDirectionsAreEqual, SamePlanesAreEqual};
+ghost use Rattle.nef_geo.specs.Prelude.{nat_abs, int_cmp, MatchOrdering, IsBelow, Place, IsAhead, form_numbers, SamePlace, IsPlaceBelow, Vector, IsDirection, triple_of, form_of, place_of, vector_of, hit_place, far_place, IsReached, far_product_limit, SamePlacesAreEqual, SameDirectionsAreEqual, SamePlanesAreEqual};
 
 use crate::dir::Dir;
 use crate::hit::{FarHit, Hit};
 use crate::point::Point;
 use std::cmp::Ordering;
 
-/// The product of the two.
+/// The product `a b`.
 pub fn wide_product(a: i64, b: i64) -> i128
     ensures product { result ≡ a *ℤ b }
 {
@@ -25,7 +21,7 @@ fn ratio_cmp(x: i64, w: i64, other_x: i64, other_w: i64) -> Ordering
     wide_product(x, other_w).cmp(&wide_product(other_x, w))
 }
 
-/// Compares x/w, then y/w, then z/w.
+/// Compares two points by x/w, then by y/w, then by z/w.
 pub fn lex_cmp(p: &Point, q: &Point) -> Ordering
     ensures order { MatchOrdering result (IsPlaceBelow (place_of p.now) (place_of q.now)) (SamePlace (place_of p.now) (place_of q.now)) (IsPlaceBelow (place_of q.now) (place_of p.now)) }
 {
@@ -41,7 +37,7 @@ pub fn dir_cmp(a: &Dir, b: &Dir) -> Ordering
     a.cmp(b)
 }
 
-/// Compares the steps of two hits from one start along one direction: on the ray, which is nearer.
+/// Compares the steps of two hits from one start along one direction: which hit is nearer on the ray.
 pub fn hit_order(p: &Hit, q: &Hit) -> Ordering
     ensures steps { MatchOrdering result ((p.now.num *ℤ q.now.den) <ℤ (q.now.num *ℤ p.now.den)) (p.now.num *ℤ q.now.den ≡ q.now.num *ℤ p.now.den) ((q.now.num *ℤ p.now.den) <ℤ (p.now.num *ℤ q.now.den)) }
     ensures along { (s : Place) (d : Vector) → IsDirection d → IsReached s d p.now.num p.now.den p.now.den_sign (hit_place p.now) → IsReached s d q.now.num q.now.den q.now.den_sign (hit_place q.now) → MatchOrdering result (IsAhead (hit_place p.now) d (hit_place q.now)) (SamePlace (hit_place p.now) (hit_place q.now)) (IsAhead (hit_place q.now) d (hit_place p.now)) }
@@ -49,7 +45,7 @@ pub fn hit_order(p: &Hit, q: &Hit) -> Ordering
     (p.num * q.den).cmp(&(q.num * p.den))
 }
 
-/// Compares the steps of two far hits from one start along one direction: on the ray, which is nearer.
+/// Compares the steps of two far hits from one start along one direction: which far hit is nearer on the ray.
 pub fn far_order(p: &FarHit, q: &FarHit) -> Ordering
     ensures steps { MatchOrdering result ((p.now.num *ℤ q.now.den) <ℤ (q.now.num *ℤ p.now.den)) (p.now.num *ℤ q.now.den ≡ q.now.num *ℤ p.now.den) ((q.now.num *ℤ p.now.den) <ℤ (p.now.num *ℤ q.now.den)) }
     ensures width { (nat_abs (p.now.num *ℤ q.now.den) ≤ far_product_limit) × (nat_abs (q.now.num *ℤ p.now.den) ≤ far_product_limit) }
@@ -58,8 +54,7 @@ pub fn far_order(p: &FarHit, q: &FarHit) -> Ordering
     (p.num * q.den).cmp(&(q.num * p.den))
 }
 
-/// Normal forms are unique: points of one place, directions that are the same and forms of one plane
-/// are equal.
+/// Normal forms are unique: equal are points at one place, directions that are the same, and forms of one plane.
 pub fn normal_form_laws()
     ensures places { SamePlacesAreEqual }
     ensures directions { SameDirectionsAreEqual }

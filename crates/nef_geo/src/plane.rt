@@ -10,7 +10,7 @@ use nef_space::{HALF_SIDE, NORMAL_LIMIT, OFFSET_LIMIT};
 
 /// The plane where `a x + b y + c z + d = 0`. The four numbers have no common divisor but 1, the
 /// first nonzero one of a, b and c is positive, and `|a|, |b|, |c| <= 2048`, `|d| <= 4194304`.
-#[derive(Debug, Clone, Copy, PartialEq, Eq, PartialOrd, Ord)]
+#[derive(Clone, Copy, PartialEq, Eq, PartialOrd, Ord)]
 pub struct Plane {
     pub(crate) a: i64,
     pub(crate) b: i64,
@@ -24,16 +24,15 @@ pub struct Plane {
     pub ghost normal: { IsNormal (vector a b c) },
 }
 
-/// A plane as it was given by four numbers: its normal form, and whether the numbers point the other
-/// way than the normal form.
-#[derive(Debug, Clone, Copy, PartialEq, Eq)]
+/// A plane given by four numbers: its normal form, and whether the given numbers are a negative multiple of this form.
+#[derive(Clone, Copy)]
 pub struct Oriented {
     pub(crate) plane: Plane,
     pub(crate) flipped: bool,
 }
 
 /// Why four numbers are no plane.
-#[derive(Debug, Clone, Copy, PartialEq, Eq)]
+#[derive(Debug, Clone, Copy)]
 pub enum PlaneFault {
     /// One of a, b and c is more than 2048 in size, or d is more than 4194304 in size.
     OutOfRange,
@@ -61,9 +60,8 @@ impl Plane {
     ghost use Rattle.nef_geo.specs.Shapes.{form_of, given_form};
     ghost use Rattle.nef_geo.specs.Signs.{sign_of};
 
-    /// The plane where `a x + b y + c z + d = 0`, with the side on which the given numbers are
-    /// positive. `OutOfRange` comes exactly where a number is past its limit, and `ZeroNormal` exactly
-    /// where none is and a, b and c are zero.
+    /// The plane where `a x + b y + c z + d = 0`, with the side on which the form is positive. `OutOfRange` comes
+    /// exactly where a number is past its limit, and `ZeroNormal` exactly where none is and a, b and c are zero.
     pub fn read(a: i64, b: i64, c: i64, d: i64) -> Result<Oriented, PlaneFault>
         ensures out_of_range { (result ≡ Err PlaneFault.OutOfRange) ↔ (¬ IsInRange (form a b c d)) }
         ensures zero_normal { (result ≡ Err PlaneFault.ZeroNormal) ↔ (IsInRange (form a b c d) × IsZero (vector a b c)) }
@@ -93,7 +91,7 @@ impl Plane {
         }
     }
 
-    // The plane of numbers whose first nonzero one is positive.
+    // The plane of four numbers of which the first nonzero one is positive.
     fn reduced(a: i64, b: i64, c: i64, d: i64) -> Plane
         requires in_range { IsInRange (form a b c d) }
         requires normal { IsNormal (vector a b c) }
@@ -124,7 +122,7 @@ impl Plane {
         self.c
     }
 
-    /// The number that stands alone.
+    /// The coefficient of no coordinate.
     pub fn d(&self) -> i64
         ensures d { result ≡ self.now.d }
     {
@@ -135,8 +133,8 @@ impl Plane {
 impl Oriented {
     ghost use Rattle.nef_geo.specs.Shapes.{given_form};
 
-    /// The plane where `a x + b y + c z + d = 0`, with the side on which the given numbers are positive. No number is past
-    /// its limit, and a, b and c aren't all zero.
+    /// The plane where `a x + b y + c z + d = 0`, with the side on which the form is positive. No number is past its
+    /// limit, and a, b and c aren't all zero.
     pub fn of(a: i64, b: i64, c: i64, d: i64) -> Oriented
         requires in_range { IsInRange (form a b c d) }
         requires some { IsDirection (vector a b c) }
@@ -163,7 +161,7 @@ impl Oriented {
         self.plane
     }
 
-    /// Whether the given numbers are a negative multiple of the plane's.
+    /// Whether the given numbers are a negative multiple of the normal form's.
     pub fn flipped(&self) -> bool
         ensures flipped { result ≡ self.now.flipped }
     {

@@ -6,9 +6,9 @@ ghost use Rattle.nef_space.specs.Prelude.{pos, nat_abs, IsTrue, [], point_limit,
 use crate::gcd::lowest_terms;
 use nef_space::HALF_SIDE;
 
-/// The point `(x/w, y/w, z/w)`. The four numbers have no common divisor but 1, w is positive, and
-/// `|x|, |y|, |z| <= 3*2^45`, `w <= 3*2^34`: each common point of three planes has such numbers.
-#[derive(Debug, Clone, Copy, PartialEq, Eq)]
+/// The point `(x/w, y/w, z/w)`. The four numbers have no common divisor but 1, w is positive, and `|x|, |y|, |z| <=
+/// 3*2^45`, `w <= 3*2^34`: each common point of three planes has such numbers.
+#[derive(Clone, Copy, PartialEq, Eq)]
 pub struct Point {
     pub(crate) x: i64,
     pub(crate) y: i64,
@@ -53,28 +53,25 @@ impl Point {
         is_below(self.x, limit) && is_below(self.y, limit) && is_below(self.z, limit)
     }
 
-    /// The first number.
     pub fn x(&self) -> i64
         ensures x { result ≡ self.now.x }
     {
         self.x
     }
 
-    /// The second number.
     pub fn y(&self) -> i64
         ensures y { result ≡ self.now.y }
     {
         self.y
     }
 
-    /// The third number.
     pub fn z(&self) -> i64
         ensures z { result ≡ self.now.z }
     {
         self.z
     }
 
-    /// The number that the other three are divided by.
+    /// The weight: the number that the other three are divided by.
     pub fn w(&self) -> i64
         ensures w { result ≡ self.now.w }
     {

@@ -1,12 +1,7 @@
 //! Where rays cross planes.
 
 ghost use Rattle.std.specs.Prelude.{◌≡◌, ◌↔◌, ◌≤◌, ◌^◌, ◌<ℤ◌};
-ghost use Rattle.nef_space.specs.Prelude.{pos, nat_abs, IsNone, IfSome, normal_limit, Place, form_at, slope, SamePlace, Vector, vector, IsAtMost};
-ghost use Rattle.nef_geo.specs.Hits.{IsCrossing, IsReached, IsReachedBy, IsUpright, IsPlaneDirSized, IsPlaceAtMost};
-ghost use Rattle.nef_geo.specs.Shapes.{form_of, vector_of, place_of, hit_place, far_place};
-ghost use Rattle.nef_geo.specs.declared.plane.Plane.{Plane};
-ghost use Rattle.nef_geo.specs.Steps.{HasOppositeSigns, IsZeroStep};
-ghost use Rattle.nef_geo.specs.Widths.{point_form_limit, ray_limit, ray_slope_limit, upright_limit, upright_weight_limit, plane_dir_hit_limit, plane_dir_form_limit, far_limit, far_weight_limit, far_num_limit, far_den_limit};
+ghost use Rattle.nef_geo.specs.Prelude.{pos, nat_abs, IsNone, IfSome, normal_limit, Place, form_at, slope, SamePlace, Vector, vector, IsAtMost, IsCrossing, IsReached, IsReachedBy, IsUpright, IsPlaneDirSized, IsPlaceAtMost, form_of, vector_of, place_of, hit_place, far_place, Plane, HasOppositeSigns, IsZeroStep, point_form_limit, ray_limit, ray_slope_limit, upright_limit, upright_weight_limit, plane_dir_hit_limit, plane_dir_form_limit, far_limit, far_weight_limit, far_num_limit, far_den_limit};
 
 use crate::dir::Dir;
 use crate::hit::{FarHit, Hit};
@@ -15,8 +10,8 @@ use crate::point::Point;
 use crate::sides::{form, hit_form};
 use crate::sign::slope;
 
-// The positive step at which a form that has this value and grows by `growth` a step is zero: the two numbers of its
-// fraction, both positive.
+// The positive step at which a form is zero, as a fraction of two positive numbers. The form has this value at the
+// start and grows by `growth` a step.
 fn zero_step(value: i128, growth: i128) -> Option<(i128, i128)>
     requires value_small { nat_abs value ≤ 2 ^ 126 }
     requires growth_small { nat_abs growth ≤ 2 ^ 126 }
@@ -32,7 +27,7 @@ fn zero_step(value: i128, growth: i128) -> Option<(i128, i128)>
     }
 }
 
-// The point at the step num/den from p.
+// The point at the step num/den from p along d.
 fn reached(p: &Point, d: &Dir, num: i128, den: i128) -> Hit
     requires d_small { IsAtMost ray_limit (vector_of d.now) }
     requires num_small { nat_abs num ≤ point_form_limit }
@@ -53,7 +48,7 @@ fn reached(p: &Point, d: &Dir, num: i128, den: i128) -> Hit
     }
 }
 
-// The same from a hit.
+// The point at the step num/den from the hit p along d.
 fn reached_far(p: &Hit, d: &Dir, num: i128, den: i128) -> FarHit
     requires p_small { IsPlaceAtMost upright_limit upright_weight_limit (hit_place p.now) }
     requires d_small { IsAtMost normal_limit (vector_of d.now) }
@@ -75,8 +70,8 @@ fn reached_far(p: &Hit, d: &Dir, num: i128, den: i128) -> FarHit
     }
 }
 
-/// Where the ray from p along d crosses the plane strictly ahead of p, for entries of d of at most
-/// `2^36` in size. `None` comes exactly where it doesn't, which includes a ray that lies in the plane.
+/// Where the ray from p along d crosses the plane strictly ahead of p, for entries of d of at most `2^36` in size.
+/// `None` comes exactly where the ray crosses no point of the plane, as a ray within the plane.
 pub fn ray_hit(p: &Point, d: &Dir, h: &Plane) -> Option<Hit>
     requires d_small { IsAtMost ray_limit (vector_of d.now) }
     ensures none { IsNone result ↔ ((q : Place) → ¬ IsCrossing (place_of p.now) (vector_of d.now) (form_of h.now) q) }
@@ -91,9 +86,9 @@ pub fn ray_hit(p: &Point, d: &Dir, h: &Plane) -> Option<Hit>
     Some(reached(p, d, num, den))
 }
 
-/// Where the ray from the hit p along d crosses the plane strictly ahead of p. The first three numbers
-/// of p are at most `2^86` in size, its w is at most `2^73`, and the entries of d are at most `2^11` in
-/// size. `None` comes exactly where the ray doesn't cross the plane.
+/// Where the ray from the hit p along d crosses the plane strictly ahead of p. The first three numbers of p are at most
+/// `2^86` in size, its w is at most `2^73`, and the entries of d are at most `2^11` in size. `None` comes exactly where
+/// the ray doesn't cross the plane.
 pub fn far_hit(p: &Hit, d: &Dir, h: &Plane) -> Option<FarHit>
     requires p_small { IsPlaceAtMost upright_limit upright_weight_limit (hit_place p.now) }
     requires d_small { IsAtMost normal_limit (vector_of d.now) }
@@ -106,7 +101,7 @@ pub fn far_hit(p: &Hit, d: &Dir, h: &Plane) -> Option<FarHit>
     Some(reached_far(p, d, num, den))
 }
 
-/// The point itself, as a hit at the step 0.
+/// The point as a hit, at the step 0.
 pub fn hit_at(p: &Point) -> Hit
     ensures same { SamePlace (hit_place result) (place_of p.now) }
     ensures step { result.num ≡ pos 0 }

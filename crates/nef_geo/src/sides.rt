@@ -1,21 +1,14 @@
-//! On which side of a plane a point lies, and the common point of three planes.
+//! The side of a plane on which a point lies, and the common point of three planes.
 
 ghost use Rattle.std.specs.Prelude.{◌≡◌, ◌≢◌, ◌≤◌, ◌↔◌, ◌+ℤ◌, ◌*ℤ◌};
-ghost use Rattle.nef_space.specs.Prelude.{pos, nat_abs, IsNone, IfSome, form_at, normal_of, normal_limit, point_limit, weight_limit, vector, IsAtMost};
-ghost use Rattle.nef_geo.specs.Shapes.{form_of, given_form, place_of, hit_place, far_place};
-ghost use Rattle.nef_geo.specs.Hits.{IsPlaceAtMost};
-ghost use Rattle.nef_geo.specs.Signs.{sign_of};
-ghost use Rattle.nef_geo.specs.Widths.{point_form_limit, hit_form_limit, upright_limit, upright_weight_limit, upright_form_limit, far_limit, far_weight_limit, far_form_limit};
-ghost use Rattle.nef_geo.specs.Meet.{HasDependentNormals, IsOnlyCommon};
-ghost use Rattle.nef_geo.specs.Numbers.{IsSameRatios};
-ghost use Rattle.nef_geo.specs.Triples.{triple_vector};
+ghost use Rattle.nef_geo.specs.Prelude.{pos, nat_abs, IsNone, IfSome, form_at, normal_of, normal_limit, point_limit, weight_limit, vector, IsAtMost, form_of, given_form, place_of, hit_place, far_place, IsPlaceAtMost, sign_of, point_form_limit, hit_form_limit, upright_limit, upright_weight_limit, upright_form_limit, far_limit, far_weight_limit, far_form_limit, HasDependentNormals, IsOnlyCommon, IsSameRatios, triple_vector};
 
 use crate::hit::{FarHit, Hit};
 use crate::plane::{Oriented, Plane};
 use crate::point::Point;
 use crate::sign::{Sign, cross_narrow, dot_narrow};
 
-// The plane's form at the point.
+// The value of the plane's form at the point.
 pub(crate) fn form(h: &Plane, p: &Point) -> i128
     ensures value { result ≡ form_at (form_of h.now) (place_of p.now) }
     ensures width { nat_abs result ≤ point_form_limit }
@@ -23,7 +16,7 @@ pub(crate) fn form(h: &Plane, p: &Point) -> i128
     (h.a * p.x + h.b * p.y + h.c * p.z + h.d * p.w) as i128
 }
 
-// The plane's form at the point `(x/w, y/w, z/w)`, times w.
+// The value of the plane's form at the point `(x/w, y/w, z/w)`, times w.
 fn wide_form(h: &Plane, x: i128, y: i128, z: i128, w: i128) -> i128
     requires x_small { nat_abs x ≤ far_limit }
     requires y_small { nat_abs y ≤ far_limit }
@@ -34,7 +27,6 @@ fn wide_form(h: &Plane, x: i128, y: i128, z: i128, w: i128) -> i128
     h.a as i128 * x + h.b as i128 * y + h.c as i128 * z + h.d as i128 * w
 }
 
-// The plane's form at the hit.
 pub(crate) fn hit_form(h: &Plane, p: &Hit) -> i128
     ensures value { result ≡ form_at (form_of h.now) (hit_place p.now) }
 {
@@ -67,7 +59,7 @@ pub fn side(h: &Plane, p: &Point) -> Sign
 }
 
 impl Oriented {
-    /// The sign of the given `a x + b y + c z + d w` at the point's numbers.
+    /// The sign of the given form `a x + b y + c z + d w` at the point.
     pub fn side(&self, p: &Point) -> Sign
         ensures side { result ≡ sign_of (form_at (given_form self.now) (place_of p.now)) }
         ensures width { nat_abs (form_at (given_form self.now) (place_of p.now)) ≤ point_form_limit }
@@ -84,7 +76,7 @@ fn normal(h: &Plane) -> (i64, i64, i64)
     (h.a, h.b, h.c)
 }
 
-// The point with these numbers, of which the last may be negative.
+// The point with these numbers, of which the last may be negative, but isn't zero.
 fn turned(x: i64, y: i64, z: i64, w: i64) -> Point
     requires small { IsAtMost point_limit (vector x y z) }
     requires w_small { nat_abs w ≤ weight_limit }

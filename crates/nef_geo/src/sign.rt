@@ -1,19 +1,14 @@
-//! Signs of whole numbers, triples of these, and the signs of products of directions and of planes' normals.
+//! Signs of whole numbers, triples of wide numbers, and the signs of products of directions and of planes' normals.
 
 ghost use Rattle.std.specs.Prelude.{◌≡◌, ◌↔◌, ◌*◌, ◌^◌, ◌≤◌, ◌*ℤ◌, ◌<ℤ◌};
-ghost use Rattle.nef_space.specs.Prelude.{ℕ, ℤ, pos, neg_ℤ, nat_abs, IsTrue, IsNone, IfSome, normal_limit, offset_limit, svertex_limit, direction_limit, slope, vector, dot, cross, triple, IsAtMost, IsNormal, IsParallel, SameDirection};
-ghost use Rattle.nef_geo.specs.Signs.{sign_number, sign_of};
-ghost use Rattle.nef_geo.specs.Steps.{HasOppositeSigns};
-ghost use Rattle.nef_geo.specs.Shapes.{form_of, vector_of};
-ghost use Rattle.nef_geo.specs.Triples.{triple_vector, wide_vector};
-ghost use Rattle.nef_geo.specs.Widths.{slope_limit, dot_limit, triple_limit, quad_limit};
+ghost use Rattle.nef_geo.specs.Prelude.{ℕ, ℤ, pos, neg_ℤ, nat_abs, IsTrue, IsNone, IfSome, normal_limit, offset_limit, svertex_limit, direction_limit, slope, vector, dot, cross, triple, IsAtMost, IsNormal, IsParallel, SameDirection, sign_number, sign_of, HasOppositeSigns, form_of, vector_of, triple_vector, wide_vector, slope_limit, dot_limit, triple_limit, quad_limit};
 
 use crate::dir::Dir;
 use crate::plane::Plane;
 use crate::ways::wide;
 
 /// The sign of a whole number.
-#[derive(Debug, Clone, Copy, PartialEq, Eq)]
+#[derive(Clone, Copy, PartialEq, Eq)]
 pub enum Sign {
     Minus,
     Zero,
@@ -45,14 +40,14 @@ impl Sign {
         }
     }
 
-    /// Whether it is that of a positive number.
+    /// Whether the sign is that of a positive number.
     pub fn is_plus(self) -> bool
         ensures plus { (n : ℤ) → self ≡ sign_of n → IsTrue result ↔ pos 0 <ℤ n }
     {
         matches!(self, Sign::Plus)
     }
 
-    /// Whether one of the two is that of a negative number and the other that of a positive one.
+    /// Whether one sign is that of a negative number and the other that of a positive number.
     pub fn is_opposite_to(self, other: Sign) -> bool
         ensures opposite { (m n : ℤ) → self ≡ sign_of m → other ≡ sign_of n → IsTrue result ↔ HasOppositeSigns m n }
         ensures product { (m n : ℤ) → self ≡ sign_of m → other ≡ sign_of n → IsTrue result ↔ (m *ℤ n) <ℤ pos 0 }
@@ -76,15 +71,15 @@ impl Sign {
     }
 }
 
-/// Three numbers of 128 bits.
-#[derive(Debug, Clone, Copy)]
+/// A triple of numbers of 128 bits.
+#[derive(Clone, Copy)]
 pub struct Wide {
     pub(crate) x: i128,
     pub(crate) y: i128,
     pub(crate) z: i128,
 }
 
-// Whether the first nonzero number is there and is positive.
+// Whether the first nonzero number of the three is there and is positive.
 pub(crate) fn is_normal(x: i64, y: i64, z: i64) -> bool
     ensures normal { IsTrue result ↔ IsNormal (vector x y z) }
 {
@@ -191,8 +186,8 @@ pub fn quad(a: &Dir, b: &Dir, c: &Dir, d: &Dir) -> Sign
     Sign::of(dot_wide(&left, &right))
 }
 
-/// The direction of the cross product, for entries of at most `2^11` in size. `None` comes exactly
-/// where the two are parallel.
+/// The direction of the cross product of two directions, for entries of at most `2^11` in size. `None` comes exactly
+/// where the directions are parallel.
 pub fn cross(a: &Dir, b: &Dir) -> Option<Dir>
     requires a_small { IsAtMost normal_limit (vector_of a.now) }
     requires b_small { IsAtMost normal_limit (vector_of b.now) }
@@ -204,7 +199,7 @@ pub fn cross(a: &Dir, b: &Dir) -> Option<Dir>
     Dir::of(product.0, product.1, product.2)
 }
 
-/// The direction of the cross product of two that aren't parallel, for entries of at most `2^11` in size.
+/// The direction of the cross product of two directions that aren't parallel, for entries of at most `2^11` in size.
 pub fn common_perpendicular(a: &Dir, b: &Dir) -> Dir
     requires a_small { IsAtMost normal_limit (vector_of a.now) }
     requires b_small { IsAtMost normal_limit (vector_of b.now) }

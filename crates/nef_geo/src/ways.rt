@@ -1,21 +1,15 @@
-//! The stated directions: upward, along the coordinate axes, and for each plane its normal and two in it; and the numbers
-//! of a direction as wide ones.
+//! The stated directions: upward, along the coordinate axes, and for each plane its normal and two directions within
+//! it; and directions as triples of wide numbers.
 
 ghost use Rattle.std.specs.Prelude.{◌≡◌, ◌≤◌, ◌<ℤ◌};
-ghost use Rattle.nef_space.specs.Prelude.{ℕ, pos, normal_limit, normal_of, slope, vector, up, plane_axis, plane_dir, IsAtMost, IsDirection, IsParallel, SameDirection, IsNormal};
-ghost use Rattle.nef_geo.specs.Hits.{IsPlaneDirSized};
-ghost use Rattle.nef_geo.specs.Shapes.{form_of, vector_of};
-ghost use Rattle.nef_geo.specs.Triples.{triple_vector, wide_vector};
-ghost use Rattle.nef_geo.specs.Ways.{second_beside};
-ghost use Rattle.nef_geo.specs.declared.plane.Plane.{Plane};
+ghost use Rattle.nef_geo.specs.Prelude.{ℕ, pos, normal_limit, normal_of, slope, vector, up, plane_axis, plane_dir, IsAtMost, IsDirection, IsParallel, SameDirection, IsNormal, IsPlaneDirSized, form_of, vector_of, triple_vector, wide_vector, second_beside, Plane};
 
 use crate::dir::Dir;
 use crate::plane::Plane;
 use crate::sign::Wide;
 use nef_space::{AXIS_FACTOR, UP_X, UP_Y};
 
-/// The upward direction `(2^26, 2^13, 1)`, which lies on the positive side of every normal form and so
-/// is parallel to no plane.
+/// The upward direction `(2^26, 2^13, 1)`, on the positive side of every normal form and so parallel to no plane.
 pub fn up() -> Dir
     ensures up { vector_of result ≡ up }
     ensures positive { (h : Plane) → pos 0 <ℤ slope (form_of h) (vector_of result) }
@@ -51,7 +45,7 @@ pub fn axis_z() -> Dir
     Dir { x: 0, y: 0, z: 1 }
 }
 
-/// The direction's numbers.
+/// The direction's numbers as wide numbers.
 pub fn wide(d: &Dir) -> Wide
     ensures wide { wide_vector result ≡ vector_of d.now }
 {
@@ -62,7 +56,7 @@ pub fn wide(d: &Dir) -> Wide
     }
 }
 
-// The axis of the plane before it is divided.
+// The plane's axis before it is divided by a common divisor.
 fn axis(h: &Plane) -> (i64, i64, i64)
     ensures axis { triple_vector result ≡ plane_axis (normal_of (form_of h.now)) }
 {
@@ -73,7 +67,7 @@ fn axis(h: &Plane) -> (i64, i64, i64)
     }
 }
 
-// Another direction in the plane.
+// A direction in the plane that isn't along the plane's axis.
 fn beside(h: &Plane) -> (i64, i64, i64)
     ensures beside { triple_vector result ≡ second_beside (normal_of (form_of h.now)) }
 {
@@ -93,8 +87,8 @@ pub fn plane_normal(h: &Plane) -> Dir
     Dir::reduced(h.a, h.b, h.c)
 }
 
-/// A direction in the plane: for the normal (a, b, c) it is (0, c, -b), or (-c, 0, a) where b and c
-/// are zero, divided by the common divisor of its numbers.
+/// A direction in the plane: for the normal (a, b, c) it is (0, c, -b), or (-c, 0, a) where b and c are zero, divided
+/// by the common divisor of its numbers.
 pub fn plane_axis(h: &Plane) -> Dir
     ensures axis { SameDirection (plane_axis (normal_of (form_of h.now))) (vector_of result) }
     ensures in_plane { slope (form_of h.now) (vector_of result) ≡ pos 0 }
@@ -104,8 +98,8 @@ pub fn plane_axis(h: &Plane) -> Dir
     Dir::reduced(numbers.0, numbers.1, numbers.2)
 }
 
-/// Another direction in the plane, parallel to no plane but those parallel to it: `2^24` times the
-/// axis plus (-c, 0, a), or (b, -a, 0) where c is zero, divided by the common divisor of its numbers.
+/// A direction in the plane that is parallel to no other plane, except to parallel ones: `2^24` times the axis plus
+/// (-c, 0, a), or plus (b, -a, 0) where c is zero, divided by the common divisor of its numbers.
 pub fn plane_dir(h: &Plane) -> Dir
     ensures dir { SameDirection (plane_dir (normal_of (form_of h.now))) (vector_of result) }
     ensures in_plane { slope (form_of h.now) (vector_of result) ≡ pos 0 }

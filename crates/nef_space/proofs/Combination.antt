@@ -1,6 +1,5 @@
 -- Equations that follow from other equations: the difference is a combination of them.
-use Rattle.std.proofs.Common.{◌≡◌, ℤ, pos, ◌-ℤ◌, ◌*ℤ◌, ◌<ℤ◌, arith, refl, ap, ◌∙◌, List}
-use Rattle.std.proofs.lemmas.Int.{ints}
+use Rattle.nef_space.proofs.Prelude.{◌≡◌, ℤ, pos, ◌-ℤ◌, ◌*ℤ◌, ◌<ℤ◌, arith, refl, ap, ◌∙◌, List, ints}
 use lib.IntN.{*ℤ-zero}
 use Rattle.nef_space.proofs.Ring.{is_zero, IsNought, value, ◌⊖◌, ◌⊗◌, Poly}
 pub use Rattle.nef_space.specs.Polynomial.{Given, none, given, combined}

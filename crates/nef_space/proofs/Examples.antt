@@ -1,6 +1,5 @@
 -- The small facts on the definitions.
-use Rattle.std.proofs.Common.{◌≡◌, ℕ, ◌+◌, ◌*◌, ◌<◌, pos, negsuc, ◌+ℤ◌, ◌-ℤ◌, ◌*ℤ◌, nat_abs, arith, ap}
-use Rattle.std.proofs.lemmas.Int.{ints}
+use Rattle.nef_space.proofs.Prelude.{◌≡◌, ℕ, ◌+◌, ◌*◌, ◌<◌, pos, negsuc, ◌+ℤ◌, ◌-ℤ◌, ◌*ℤ◌, nat_abs, arith, ap, ints}
 use Rattle.nef_space.specs.Limits.{half_side}
 use Rattle.nef_space.specs.Place.{Place}
 use Rattle.nef_space.specs.Sets.{Holds}

@@ -1,6 +1,5 @@
 -- Fractions with positive denominators, compared by cross products.
-use Rattle.std.proofs.Common.{◌≡◌, ℤ, pos, ◌-ℤ◌, ◌*ℤ◌, ◌≤ℤ◌, ◌<ℤ◌, arith, ap, sym, ◌∙◌, [], ◌∷◌}
-use Rattle.std.proofs.lemmas.Int.{ints}
+use Rattle.nef_space.proofs.Prelude.{◌≡◌, ℤ, pos, ◌-ℤ◌, ◌*ℤ◌, ◌≤ℤ◌, ◌<ℤ◌, arith, ap, sym, ◌∙◌, [], ◌∷◌, ints}
 use Rattle.nef_space.proofs.Ring.{ring, at, ◌⊖◌, ◌⊗◌}
 use Rattle.nef_space.proofs.Combination.{follows, follows_times, given, none}
 use Rattle.nef_space.proofs.Order.{sign, sign-scaled, mul_lt_right, mul_le_right, cancel_lt, cancel_le}

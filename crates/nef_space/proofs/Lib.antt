@@ -1,7 +1,9 @@
+pub mod Prelude
 pub mod Products
 pub mod Ring
 pub mod Order
 pub mod Combination
+pub mod Vectors
 pub mod Fractions
 pub mod Sizes
 pub mod Machine

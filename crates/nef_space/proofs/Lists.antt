@@ -1,5 +1,5 @@
 -- The elements of lists that are put together or made one by one.
-use Rattle.std.proofs.Common.{◌⊎◌, inl, inr, ⊎_elim, ap, List, [], ◌∷◌, ◌++◌, subst}
+use Rattle.nef_space.proofs.Prelude.{◌⊎◌, inl, inr, ⊎_elim, ap, List, [], ◌∷◌, ◌++◌, subst}
 use Rattle.nef_space.specs.Signs.{Lies}
 
 abbrev pub each : {A B : Type 0} → (A → B) → List A → List B

@@ -1,13 +1,11 @@
 -- A computation on machine integers, read as one on whole numbers: where the sizes of its variables
 -- are bounded, a test that computes shows that no step leaves its type.
-use Rattle.std.proofs.Common.{◌≡◌, ℕ, zero, suc, ◌+◌, ◌*◌, ◌^◌, ◌≤◌, ℤ, ◌+ℤ◌, ◌*ℤ◌, neg_ℤ, Bool, true, false, cond, ltb, List, [], ◌∷◌, arith, refl, ap, ◌∙◌, FitsSigned, to_z, of_z}
+use Rattle.nef_space.proofs.Prelude.{◌≡◌, ℕ, zero, suc, ◌+◌, ◌*◌, ◌^◌, ◌≤◌, ℤ, ◌+ℤ◌, ◌*ℤ◌, neg_ℤ, Bool, true, false, cond, ltb, List, [], ◌∷◌, arith, refl, ap, ◌∙◌, FitsSigned, to_z, of_z, ints, to_z-of_z, fits_signed_from_abs, unsigned_abs-mul, entry, value}
 use Rattle.std.specs.Prelude.{◌-ℤ◌}
 use Rattle.std.specs.Int.RustNames.{unsigned_abs}
-use Rattle.std.proofs.lemmas.Int.{ints, to_z-of_z, fits_signed_from_abs, unsigned_abs-mul}
 use lib.Dec.{T, ltb→lt, leb, leb→le}
 use mir.Syntax.{Width}
 use mir.Val.{hbits}
-use Rattle.nef_space.specs.Polynomial.{entry, value}
 pub use Rattle.nef_space.specs.Machine.{Code, load, const, wrap, negate, ◌⊞◌, ◌⊟◌, ◌⊠◌, run, meant, limit, fits, Limited}
 use Rattle.nef_space.specs.Machine.{limit_at}
 

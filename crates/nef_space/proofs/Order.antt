@@ -1,7 +1,5 @@
 -- Orders and signs of whole numbers, beyond what is linear.
-use Rattle.std.proofs.Common.{◌≡◌, ℕ, zero, suc, ◌+◌, ◌*◌, ◌≤◌, ℤ, pos, negsuc, ◌+ℤ◌, ◌-ℤ◌, ◌*ℤ◌, neg_ℤ, ◌≤ℤ◌, ◌<ℤ◌, arith, refl, ap, sym, ◌∙◌, nat_abs, List, [], ◌∷◌, ◌↔◌}
-use Rattle.std.proofs.lemmas.Int.{ints, unsigned_abs-mul, by_lt_z}
-use Rattle.std.proofs.lemmas.Nat.{mul-le}
+use Rattle.nef_space.proofs.Prelude.{◌≡◌, ℕ, zero, suc, ◌+◌, ◌*◌, ◌≤◌, ℤ, pos, negsuc, ◌+ℤ◌, ◌-ℤ◌, ◌*ℤ◌, neg_ℤ, ◌≤ℤ◌, ◌<ℤ◌, arith, refl, ap, sym, ◌∙◌, nat_abs, List, [], ◌∷◌, ◌↔◌, ◌⊎◌, inl, inr, ◌<◌, ints, unsigned_abs-mul, by_lt_z, mul-le}
 use lib.IntN.{zero-*ℤ, *ℤ-zero, *ℤ_comm}
 pub use Rattle.nef_space.specs.Signs.{Sign, minus, nought, plus, sign, sign_times, Lies}
 use Rattle.nef_space.proofs.Ring.{ring, is_zero, IsNought, value, at, num, ◌⊖◌, ◌⊗◌, Poly}
@@ -43,6 +41,20 @@ mul_le_right a b c h k = le_by (a ∷ b ∷ c ∷ []) (at 0 ⊗ at 2) (at 1 ⊗ 
 -- one of three
 pub by_order : {P : Type 0} (a b : ℤ) → (a <ℤ b → P) → (a ≡ b → P) → (b <ℤ a → P) → P
 by_order {P} a b f g h = by_lt_z a b f (λ k. by_lt_z b a h (λ l. g (omega (arith, ints))))
+
+pub nought-or : (z : ℤ) → (z ≡ pos 0) ⊎ (z ≡ pos 0 → ⊥)
+nought-or z = by_order z (pos 0) (λ b. inr (λ e. omega (arith, ints))) (λ e. inl e) (λ b. inr (λ e. omega (arith, ints)))
+
+pub square_pos : (a : ℤ) → (a ≡ pos 0 → ⊥) → pos 0 <ℤ (a *ℤ a)
+square_pos a f = by_order a (pos 0)
+    (λ b. let p = mul_pos (pos 0 -ℤ a) (pos 0 -ℤ a) (omega (arith, ints)) (omega (arith, ints)) in let e = ring (a ∷ []) ((num (pos 0) ⊖ at 0) ⊗ (num (pos 0) ⊖ at 0)) (at 0 ⊗ at 0) tt in omega (arith, ints))
+    (λ e. absurd (f e)) (λ b. mul_pos a a b b)
+
+pub pos-abs : (z : ℤ) → pos 0 <ℤ z → pos (nat_abs z) ≡ z
+pos-abs z h = omega (arith, ints)
+
+pub abs-pos : (z : ℤ) → pos 0 <ℤ z → 0 < nat_abs z
+abs-pos z h = omega (arith, ints)
 
 pub mul_neg : (a b : ℤ) → pos 0 <ℤ a → b <ℤ pos 0 → (a *ℤ b) <ℤ pos 0
 mul_neg a b h k = let p = mul_pos a (pos 0 -ℤ b) h (sub_pos b (pos 0) k) in let e = ring (a ∷ b ∷ []) (at 0 ⊗ (num (pos 0) ⊖ at 1)) (num (pos 0) ⊖ at 0 ⊗ at 1) tt in omega (arith, ints)
@@ -109,6 +121,16 @@ sign_of_product (negsuc a) (negsuc b) = sign-plus (negsuc a *ℤ negsuc b) (mul_
 -- a positive factor leaves the sign
 pub sign-scaled : (k x : ℤ) → pos 0 <ℤ k → sign (k *ℤ x) ≡ sign x
 sign-scaled k x h = sign_of_product k x ∙ ap (λ r. sign_times r (sign x)) (sign-plus k h)
+
+-- what a positive factor times it says
+pub plus-of : (k x : ℤ) → pos 0 <ℤ k → pos 0 <ℤ (k *ℤ x) → pos 0 <ℤ x
+plus-of k x h p = plus-is x (sym (sign-scaled k x h) ∙ sign-plus (k *ℤ x) p)
+
+pub minus-of : (k x : ℤ) → pos 0 <ℤ k → (k *ℤ x) <ℤ pos 0 → x <ℤ pos 0
+minus-of k x h p = minus-is x (sym (sign-scaled k x h) ∙ sign-minus (k *ℤ x) p)
+
+pub nonneg-of : (k x : ℤ) → pos 0 <ℤ k → pos 0 ≤ℤ (k *ℤ x) → pos 0 ≤ℤ x
+nonneg-of k x h p = by_order x (pos 0) (λ l. let m = mul_neg k x h l in omega (arith, ints)) (λ e. omega (arith, ints)) (λ l. omega (arith, ints))
 
 -- ---- the opposite sign
 abbrev pub sign_turned : Sign → Sign

@@ -1,6 +1,5 @@
 -- The laws of a ring for the integers that the library leaves out: the product is associative and distributes over the sum.
-use Rattle.std.proofs.Common.{◌≡◌, ◌*◌, ℤ, ◌+ℤ◌, ◌*ℤ◌, neg_ℤ, arith, ap}
-use Rattle.std.proofs.lemmas.Int.{ints}
+use Rattle.nef_space.proofs.Prelude.{◌≡◌, ◌*◌, ℤ, ◌+ℤ◌, ◌*ℤ◌, neg_ℤ, arith, ap, ints}
 use borrow.Author.Differences.{up, down, product_is, sum_is_lem, neg_is}
 
 pub *ℤ_distribute : (a b c : ℤ) → a *ℤ (b +ℤ c) ≡ a *ℤ b +ℤ a *ℤ c

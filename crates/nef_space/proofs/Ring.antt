@@ -1,10 +1,8 @@
 -- Equations between polynomials with whole coefficients, decided by computation.
-use Rattle.std.proofs.Common.{◌≡◌, ℕ, ℤ, pos, negsuc, ◌+ℤ◌, ◌*ℤ◌, neg_ℤ, arith, refl, ap, sym, ◌∙◌, Bool, true, false, ◌&&◌, T, ltb, eqb, List, [], ◌∷◌, ◌++◌}
-use Rattle.std.proofs.lemmas.Int.{ints}
+use Rattle.nef_space.proofs.Prelude.{◌≡◌, ℕ, ℤ, pos, negsuc, ◌+ℤ◌, ◌*ℤ◌, neg_ℤ, arith, refl, ap, sym, ◌∙◌, Bool, true, false, ◌&&◌, T, ltb, eqb, List, [], ◌∷◌, ◌++◌, ints, put, put_all, Term, times_term, times, negated, terms, Tree, leaf, node, KeyOrder, key_less, key_same, key_more, order, gather_term, gather, is_nought, all_nought}
 use Rattle.std.proofs.lemmas.Bool.{eqb-true}
 use Rattle.nef_space.proofs.Products.{*ℤ_distribute, *ℤ_assoc, neg-*ℤ}
 pub use Rattle.nef_space.specs.Polynomial.{Poly, at, num, neg, ◌⊕◌, ◌⊖◌, ◌⊗◌, entry, value, IsNought}
-use Rattle.nef_space.specs.Polynomial.{put, put_all, Term, times_term, times, negated, terms, Tree, leaf, node, KeyOrder, key_less, key_same, key_more, order, gather_term, gather, is_nought, all_nought}
 use lib.Dec.{eqb→eq}
 use lib.IntN.{*ℤ_comm, zero-*ℤ, *ℤ-zero}
 

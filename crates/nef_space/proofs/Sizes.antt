@@ -1,8 +1,5 @@
 -- Sizes of sums of products, and numbers that are small beside others.
-use Rattle.std.proofs.Common.{◌≡◌, ℕ, ◌+◌, ◌*◌, ◌<◌, ◌≤◌, ℤ, pos, ◌+ℤ◌, ◌*ℤ◌, neg_ℤ, ◌<ℤ◌, nat_abs, arith, ap, inl, inr, refl, List, [], ◌∷◌, length, ◌↔◌}
-use Rattle.std.proofs.lemmas.Int.{ints, unsigned_abs-mul}
-use Rattle.std.proofs.lemmas.Nat.{mul-le}
-use Rattle.std.proofs.Math.Nat.{mul-lt-mul_of_pos_right, lt_of_mul-lt-mul_right}
+use Rattle.nef_space.proofs.Prelude.{◌≡◌, ℕ, ◌+◌, ◌*◌, ◌<◌, ◌≤◌, ℤ, pos, ◌+ℤ◌, ◌*ℤ◌, neg_ℤ, ◌<ℤ◌, nat_abs, arith, ap, inl, inr, refl, List, [], ◌∷◌, length, ◌↔◌, ints, unsigned_abs-mul, mul-le, mul-lt-mul_of_pos_right, lt_of_mul-lt-mul_right}
 use Rattle.nef_space.specs.ArithmeticLaws.{IsSmall}
 use Rattle.nef_space.specs.Linear.{dot}
 use Rattle.nef_space.proofs.Order.{Lies, abs_plus, abs_times}

@@ -1,4 +1,4 @@
--- Small facts that show the definitions mean what they should.
+-- Closed examples, which show what the definitions mean.
 use Rattle.std.specs.Prelude.{pos, negsuc, false, true}
 use Rattle.std.proofs.Common.{lit<}
 use Rattle.nef_space.specs.Vectors.{Vector, vector}
@@ -8,7 +8,7 @@ use Rattle.nef_space.specs.Local.{Germ, HasLabel}
 use Rattle.nef_space.specs.Limits.{half_side}
 use Rattle.nef_space.specs.declared.label.Label.TheVariants.{Out, Not, In}
 
--- x < 0
+-- the half-space x < 0
 abbrev pub left : Form
 left = form (pos 1) (pos 0) (pos 0) (pos 0)
 
@@ -26,22 +26,22 @@ backward = vector (negsuc 0) (pos 0) (pos 0)
 abbrev pub InteriorOfWhole : Type 0
 InteriorOfWhole = (p : Place) → Holds (Set.inside Set.full) p
 
--- x < 0 doesn't hold at the origin
+-- the half-space x < 0 doesn't hold at the origin
 abbrev pub OpenHalfAtBoundary : Type 0
 OpenHalfAtBoundary = Holds (Set.half left false) origin → ⊥
 
--- and its closure does
+-- the closure of the half-space x < 0 holds at the origin
 abbrev pub ClosureAtBoundary : Type 0
 ClosureAtBoundary = Holds (Set.closed (Set.half left false)) origin
 
--- the whole without the closed half x <= 0 is not at the origin
+-- the whole without the half-space x <= 0 has the label Not at the origin
 abbrev pub MissingPoint : Type 0
 MissingPoint = HasLabel (Set.less Set.full (Set.half left true)) origin Not
 
--- a point of the frame's side is in the closed frame and isn't in the frame: its label is Out
+-- a point on the frame's side is in the closed frame but not in the frame: its label is Out
 abbrev pub FrameIsOpen : Type 0
 FrameIsOpen = InClosedFrame side_middle × HasLabel Set.full side_middle Out
 
--- from the origin toward negative x the label is In
+-- from the origin toward negative x the germ of the half-space x < 0 is In
 abbrev pub GermBesideHalf : Type 0
 GermBesideHalf = Germ (Set.half left false) origin backward In

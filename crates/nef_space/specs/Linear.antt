@@ -1,13 +1,13 @@
 -- Linear forms as lists of coefficients, at vectors as lists of numbers.
 use Rattle.std.specs.Prelude.{ℕ, zero, suc, ℤ, pos, ◌+ℤ◌, ◌*ℤ◌, ◌<ℤ◌, List, [], ◌∷◌}
 
--- the form f at the vector u
+-- the value of the form f at the vector u
 abbrev pub dot : List ℤ → List ℤ → ℤ
 dot [] u = pos 0
 dot (a ∷ f) [] = pos 0
 dot (a ∷ f) (x ∷ u) = a *ℤ x +ℤ dot f u
 
--- a vector of n numbers and a last one that is positive
+-- the list has n numbers, and then a last one that is positive
 abbrev pub IsPoint : ℕ → List ℤ → Type 0
 IsPoint n [] = ⊥
 IsPoint zero (w ∷ []) = pos 0 <ℤ w

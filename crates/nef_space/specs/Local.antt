@@ -6,29 +6,29 @@ use Rattle.nef_space.specs.Sets.{Set, Holds}
 use Rattle.nef_space.specs.declared.label.Label.{Label}
 use Rattle.nef_space.specs.declared.label.Label.TheVariants.{Out, Not, In}
 
--- the point has the label
+-- the point has the label for the set
 abbrev pub HasLabel : Set → Place → Label → Type 0
 HasLabel s p Out = InFrame p → ⊥
 HasLabel s p Not = InFrame p × (Holds s p → ⊥)
 HasLabel s p In = InFrame p × Holds s p
 
--- the label agrees at every point
+-- the two sets have the same label at every point
 abbrev pub SameSet : Set → Set → Type 0
 SameSet s t = (p : Place) (l : Label) → HasLabel s p l ↔ HasLabel t p l
 
--- 0 < t < 1/n
+-- the number t lies between 0 and 1/n
 abbrev pub IsShort : ℕ → Ratio → Type 0
 IsShort n t = (pos 0 <ℤ t.a) × (pos n *ℤ t.a) <ℤ pos t.b
 
--- the label along the direction d, close to p
+-- close to p the label along the direction d is l
 abbrev pub Germ : Set → Place → Vector → Label → Type 0
 Germ s p d l = (n : ℕ) × (0 < n) × ((t : Ratio) → IsShort n t → HasLabel s (step p t d) l)
 
--- close to p the set does not change along d
+-- close to p the set doesn't change along d
 abbrev pub Flat : Set → Place → Vector → Type 0
 Flat s p d = (n : ℕ) × (0 < n) × ((q : Place) (t : Ratio) → Within n p q → Within n p (step q t d) → (l : Label) → HasLabel s q l ↔ HasLabel s (step q t d) l)
 
--- so many independent directions are flat
+-- k independent directions are flat
 abbrev pub HasFlat : Set → Place → ℕ → Type 0
 HasFlat s p zero = Unit {0}
 HasFlat s p (suc zero) = (d : Vector) × IsDirection d × Flat s p d
@@ -36,14 +36,14 @@ HasFlat s p (suc (suc zero)) = (d : Vector) × (e : Vector) × IsDirection (cros
 HasFlat s p (suc (suc (suc zero))) = (d : Vector) × (e : Vector) × (f : Vector) × (triple d e f ≡ pos 0 → ⊥) × Flat s p d × Flat s p e × Flat s p f
 HasFlat s p (suc (suc (suc (suc k)))) = ⊥
 
--- the greatest number of independent flat directions
+-- k is the greatest number of independent flat directions
 abbrev pub FlatDim : Set → Place → ℕ → Type 0
 FlatDim s p k = HasFlat s p k × (HasFlat s p (suc k) → ⊥)
 
 abbrev pub IsVertex : Set → Place → Type 0
 IsVertex s p = FlatDim s p 0
 
--- each point of the segment, ends included, has as many flat directions
+-- each point of the segment from p to q, ends included, has k independent flat directions
 abbrev pub IsEven : Set → ℕ → Place → Place → Type 0
 IsEven s k p q = (r : Place) → SamePlace r p ⊎ IsBetween p r q ⊎ SamePlace r q → FlatDim s r k
 
@@ -52,6 +52,6 @@ abbrev pub IsEvenPath : Set → ℕ → Place → List Place → Place → Type 
 IsEvenPath s k p [] q = IsEven s k p q
 IsEvenPath s k p (r ∷ rs) q = IsEven s k p r × IsEvenPath s k r rs q
 
--- some finite list of points leads from p to q through points that are as flat as p
+-- finitely many segments lead from p to q through points that have as many flat directions as p
 abbrev pub Joined : Set → Place → Place → Type 0
 Joined s p q = (k : ℕ) × (rs : List Place) × FlatDim s p k × IsEvenPath s k p rs q

@@ -1,12 +1,12 @@
--- A computation on machine integers, the polynomial that it is meant to be, and a test that computes
--- from bounds on the variables whether every step stays in its type.
+-- A computation on machine integers, the polynomial that it is meant to be, and a test that computes from bounds on the
+-- variables whether every step stays in its type.
 use Rattle.std.specs.Prelude.{ℕ, zero, suc, ◌+◌, ◌*◌, ◌^◌, ◌≤◌, ℤ, ◌+ℤ◌, ◌-ℤ◌, ◌*ℤ◌, neg_ℤ, Bool, true, false, cond, ltb, List, [], ◌∷◌, unsigned_abs}
 use Rattle.std.proofs.Common.{to_z, of_z}
 use mir.Syntax.{Width}
 use mir.Val.{hbits}
 use Rattle.nef_space.specs.Polynomial.{Poly, at, num, neg, ◌⊕◌, ◌⊖◌, ◌⊗◌, entry}
 
--- wrap w e is e kept in the signed type of width w, shown in goals as to_z w (of_z w e)
+-- `wrap w e` is e kept in the signed type of width w, shown in goals as to_z w (of_z w e)
 infixl 6 ◌⊞◌ ◌⊟◌
 infixl 7 ◌⊠◌
 pub data Code : Type 0 where
@@ -43,7 +43,7 @@ limit_at [] n = 0
 limit_at (x ∷ xs) zero = x
 limit_at (x ∷ xs) (suc n) = limit_at xs n
 
--- a bound on the size of the result, from the bounds on the variables
+-- a bound on the size of the result, computed from the bounds on the variables
 abbrev pub limit : List ℕ → Code → ℕ
 limit bs (load n) = limit_at bs n
 limit bs (const z) = unsigned_abs z
@@ -53,7 +53,7 @@ limit bs (a ⊞ b) = limit bs a + limit bs b
 limit bs (a ⊟ b) = limit bs a + limit bs b
 limit bs (a ⊠ b) = limit bs a * limit bs b
 
--- the test: the bound of each wrapped step is below the type's
+-- the test: the bound of each wrapped step is below that of its type
 abbrev pub fits : List ℕ → Code → Bool
 fits bs (load n) = true
 fits bs (const z) = true

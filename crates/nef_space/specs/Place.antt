@@ -1,4 +1,4 @@
--- Points with rational coordinates, forms, the frame, and how points lie to one another.
+-- Points with rational coordinates, linear forms, the frame, and how points lie to one another.
 use Rattle.std.specs.Prelude.{◌≡◌, ℕ, ◌*◌, ◌<◌, ◌≤◌, ℤ, pos, ◌+ℤ◌, ◌-ℤ◌, ◌*ℤ◌, neg_ℤ, nat_abs, List, [], ◌∷◌}
 use Rattle.std.proofs.Math.Nat.{mul-pos}
 use Rattle.nef_space.specs.Limits.{half_side}
@@ -33,7 +33,7 @@ form_at h p = h.a *ℤ p.x +ℤ h.b *ℤ p.y +ℤ h.c *ℤ p.z +ℤ h.d *ℤ pos
 abbrev pub normal_of : Form → Vector
 normal_of h = vector h.a h.b h.c
 
--- the product of the form's normal with a vector
+-- the product of the form's normal with the vector
 abbrev pub slope : Form → Vector → ℤ
 slope h d = dot (normal_of h) d
 
@@ -47,7 +47,7 @@ pub record Ratio : Type 0 where
   pub b : ℕ
   pub proper : 0 < b
 
--- p + t d
+-- the point p + t d
 abbrev pub step : Place → Ratio → Vector → Place
 step p t d = record {
   x = p.x *ℤ pos t.b +ℤ t.a *ℤ pos p.w *ℤ d.x;
@@ -61,7 +61,7 @@ step p t d = record {
 abbrev pub Near : ℕ → ℤ → ℕ → ℤ → ℕ → Type 0
 Near n s v t w = n * nat_abs (s *ℤ pos w -ℤ t *ℤ pos v) < v * w
 
--- q is within 1/n of p
+-- each coordinate of q differs from the same coordinate of p by less than 1/n
 pub record Within (n : ℕ) (p q : Place) : Type 0 where
   pub along_x : Near n q.x q.w p.x p.w
   pub along_y : Near n q.y q.w p.y p.w
@@ -82,17 +82,17 @@ pub record InClosedFrame (p : Place) : Type 0 where
   pub along_y : nat_abs p.y ≤ half_side * p.w
   pub along_z : nat_abs p.z ≤ half_side * p.w
 
--- the order of points by x/w, then y/w, then z/w
+-- the order of points by x/w, then by y/w, then by z/w
 abbrev pub IsPlaceBelow : Place → Place → Type 0
 IsPlaceBelow p q = IsBelow
     ((p.x *ℤ pos q.w) ∷ (p.y *ℤ pos q.w) ∷ (p.z *ℤ pos q.w) ∷ [])
     ((q.x *ℤ pos p.w) ∷ (q.y *ℤ pos p.w) ∷ (q.z *ℤ pos p.w) ∷ [])
 
--- a positive multiple of q - p
+-- a positive multiple of the vector from p to q
 abbrev pub toward : Place → Place → Vector
 toward p q = vector (q.x *ℤ pos p.w -ℤ p.x *ℤ pos q.w) (q.y *ℤ pos p.w -ℤ p.y *ℤ pos q.w) (q.z *ℤ pos p.w -ℤ p.z *ℤ pos q.w)
 
--- q = p + t d for some t > 0
+-- q is p + t d for some t > 0
 abbrev pub IsAhead : Place → Vector → Place → Type 0
 IsAhead p d q = SameDirection (toward p q) d
 

@@ -1,7 +1,7 @@
--- Polynomials with whole coefficients, their value, and a test that computes whether one is nought whatever its variables are.
+-- Polynomials with whole coefficients, their values, and a computed test whether a polynomial is nought for all values.
 use Rattle.std.specs.Prelude.{◌≡◌, ℕ, zero, suc, ℤ, pos, negsuc, ◌+ℤ◌, ◌-ℤ◌, ◌*ℤ◌, neg_ℤ, Bool, true, false, ◌&&◌, T, ltb, eqb, List, [], ◌∷◌, ◌++◌}
 
--- a variable by its place in the list of values, a number, and what is made of these
+-- a variable by its number in the list of values, a number, and sums, differences, products and negatives
 infixl 6 ◌⊕◌ ◌⊖◌
 infixl 7 ◌⊗◌
 pub data Poly : Type 0 where
@@ -12,13 +12,13 @@ pub data Poly : Type 0 where
   ◌⊖◌ : Poly → Poly → Poly
   ◌⊗◌ : Poly → Poly → Poly
 
--- the n-th number of a list, nought past its end
+-- number n of the list, or nought past its end
 abbrev pub entry : List ℤ → ℕ → ℤ
 entry [] n = pos zero
 entry (x ∷ xs) zero = x
 entry (x ∷ xs) (suc n) = entry xs n
 
--- what the polynomial is at the values xs
+-- the value of the polynomial where the variables have the values xs
 abbrev pub value : List ℤ → Poly → ℤ
 value xs (at n) = entry xs n
 value xs (num z) = z
@@ -60,7 +60,7 @@ terms (p ⊕ q) = terms p ++ terms q
 terms (p ⊖ q) = terms p ++ negated (terms q)
 terms (p ⊗ q) = times (terms p) (terms q)
 
--- the terms gathered in a search tree by their variables, the coefficients of equal ones added
+-- the terms in a search tree by their variables, where coefficients of equal variables are added
 pub data Tree : Type 0 where
   leaf : Tree
   node : Tree → List ℕ → ℤ → Tree → Tree
@@ -94,12 +94,12 @@ all_nought (node l k w r) = is_nought w && (all_nought l && all_nought r)
 abbrev pub IsNought : Poly → Type 0
 IsNought p = T (all_nought (gather (terms p)))
 
--- ---- equations l = r that are given, each with the polynomial m that it is multiplied by
+-- ---- equations l = r that are given, each with a polynomial m by which it is multiplied
 pub data Given (xs : List ℤ) : Type 0 where
   none : Given xs
   given : (m l r : Poly) → value xs l ≡ value xs r → Given xs → Given xs
 
--- the combination of the given equations, right sides subtracted
+-- the sum of all m (l - r)
 abbrev pub combined : {xs : List ℤ} → Given xs → Poly
 combined none = num (pos 0)
 combined (given m l r e g) = m ⊗ (l ⊖ r) ⊕ combined g

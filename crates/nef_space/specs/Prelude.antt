@@ -7,8 +7,11 @@ pub use Rattle.std.specs.Option.{IsSomeAnd}
 pub use Rattle.std.specs.Ordering.{MatchOrdering, int_cmp}
 pub use Rattle.std.specs.Prelude.{All, Bool, IfErr, IfOk, IfSome, IsErrAnd, IsNone, IsOkAnd, IsTrue, List, MatchOption, MatchResult, None, OnErr, OnOk, Some, [], drop, false, filter, length, map, nat_abs, neg_ℤ, pos, slice_get, string_bytes, true, vec_len, ℕ, ℤ}
 pub use Rattle.std.specs.declared.io.ErrorKind.TheVariants.{InvalidData}
-pub use Rattle.nef_space.specs.Limits.{direction_limit, most_stairs, normal_limit, number_limit, offset_limit, point_limit, svertex_limit, weight_limit}
+pub use Rattle.nef_space.specs.Limits.{direction_limit, half_side, most_stairs, normal_limit, number_limit, offset_limit, point_limit, svertex_limit, weight_limit}
 pub use Rattle.nef_space.specs.Numbers.{IsBelow, IsLowest}
-pub use Rattle.nef_space.specs.Place.{IsAhead, IsPlaceBelow, Place, SamePlace, form, form_at, form_numbers, normal_of, slope}
-pub use Rattle.nef_space.specs.Sets.{Set}
-pub use Rattle.nef_space.specs.Vectors.{IsAtMost, IsDirection, IsNormal, IsParallel, IsZero, SameDirection, Vector, cross, dot, opposite, plane_axis, plane_dir, triple, triple_of, up, vector}
+pub use Rattle.nef_space.specs.Place.{Form, InClosedFrame, InFrame, IsAhead, IsBetween, IsPlaceBelow, Place, Ratio, SamePlace, Within, form, form_at, form_numbers, normal_of, plane_through, slope, step, toward}
+pub use Rattle.nef_space.specs.Sets.{Holds, Set, halves}
+pub use Rattle.nef_space.specs.Vectors.{IsAtMost, IsDirection, IsNormal, IsOpposite, IsParallel, IsZero, SameDirection, Vector, blend, cross, dot, opposite, plane_axis, plane_dir, triple, triple_of, up, vector}
+pub use Rattle.nef_space.specs.Lists.{Chained, IsAt, IsInTable, NumbersClasses}
+pub use Rattle.nef_space.specs.Local.{Flat, FlatDim, Germ, HasLabel, IsEven, IsVertex, Joined, SameSet}
+pub use Rattle.nef_space.specs.Signs.{Lies, Sign, minus, nought, plus, sign}

@@ -1,8 +1,8 @@
--- What a set means: where it holds.
+-- Sets as trees of operations, and where sets hold.
 use Rattle.std.specs.Prelude.{ℕ, ◌<◌, pos, ◌≤ℤ◌, ◌<ℤ◌, List, [], ◌∷◌, ◌++◌, ◌⊎◌, Bool, true, false}
 use Rattle.nef_space.specs.Place.{Place, Form, form_at, Within, InFrame}
 
--- a node with its operands written out
+-- a set: a half-space, the empty set, the whole, or an operation on sets
 pub data Set : Type 0 where
   half : Form → Bool → Set
   empty : Set
@@ -17,11 +17,11 @@ pub data Set : Type 0 where
   border : Set → Set
   regular : Set → Set
 
--- some neighbourhood of p lies in P, as far as the frame goes
+-- some neighbourhood of p lies in P, within the frame
 abbrev pub Interior : (Place → Type 0) → Place → Type 0
 Interior P p = (n : ℕ) × (0 < n) × ((q : Place) → InFrame q → Within n p q → P q)
 
--- each neighbourhood of p meets P in the frame
+-- each neighbourhood of p meets P within the frame
 abbrev pub Closure : (Place → Type 0) → Place → Type 0
 Closure P p = (n : ℕ) → 0 < n → (q : Place) × InFrame q × Within n p q × P q
 
@@ -29,7 +29,7 @@ abbrev pub InHalf : Form → Bool → Place → Type 0
 InHalf h false p = form_at h p <ℤ pos 0
 InHalf h true p = form_at h p ≤ℤ pos 0
 
--- the set holds at p, a point of the frame
+-- the set holds at the point p of the frame
 unfoldable pub Holds : Set → Place → Type 0
 Holds (Set.half h c) p = InHalf h c p
 Holds Set.empty p = ⊥
@@ -44,7 +44,7 @@ Holds (Set.closed a) p = Closure (Holds a) p
 Holds (Set.border a) p = Closure (Holds a) p × (Interior (Holds a) p → ⊥)
 Holds (Set.regular a) p = Closure (Interior (Holds a)) p
 
--- the given forms of the halves that the set is made of, at any depth
+-- the given forms of all halves in the set's tree
 abbrev pub halves : Set → List Form
 halves (Set.half h c) = h ∷ []
 halves Set.empty = []

@@ -1,5 +1,4 @@
-//! The laws: exact arithmetic in proofs, grouped by subject, and what shows on closed examples that the definitions mean
-//! what they should.
+//! Laws of exact arithmetic in proofs, and closed examples that show what the definitions mean.
 
 ghost use Rattle.nef_space.specs.ArithmeticLaws.{
   EqualFractionsCompareAlike,
@@ -39,7 +38,7 @@ pub fn machine_laws()
     ensures size { EverySizeIsBounded }
 {}
 
-/// The sign of a number, of a product and of a sum.
+/// The signs of a number, of a product and of a sum.
 pub fn sign_laws()
     ensures orders { SignsAreOrders }
     ensures product { SignOfProduct }
@@ -67,8 +66,8 @@ pub fn sample_laws()
     ensures vectors { FinitelyManyVectors }
 {}
 
-/// Small facts on the definitions: the interior of the whole is the whole; an open half-space
-/// doesn't hold on its boundary and its closure does; the frame is open.
+/// Closed examples: the interior of the whole is the whole; an open half-space doesn't hold on its boundary and its
+/// closure does; the frame is open.
 pub fn definition_examples()
     ensures interior_of_whole { InteriorOfWhole }
     ensures open_half { OpenHalfAtBoundary }

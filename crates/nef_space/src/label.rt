@@ -3,8 +3,7 @@
 ghost use Rattle.std.specs.Prelude.{◌≡◌};
 ghost use Rattle.nef_space.specs.Labels.{label_number};
 
-/// What a set says of a point: `Out` outside the frame, `In` where the set holds in the frame,
-/// `Not` where it doesn't.
+/// What a set says of a point: `Out` outside the frame, `In` where the set holds in the frame, `Not` where it doesn't.
 #[derive(Debug, Clone, Copy, PartialEq, Eq)]
 pub enum Label {
     Out,

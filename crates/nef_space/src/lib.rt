@@ -1,10 +1,9 @@
-//! The definitions that the other crates cite: vectors, points, the frame, planes as linear forms,
-//! sets and where they hold, labels, and what a set looks like near a point.
+//! The definitions that the other crates cite: vectors, points, the frame, planes as linear forms, sets and where they
+//! hold, labels, and what a set looks like near a point.
 //!
-//! The definitions stand in specs/, over whole numbers of any size. Beside them stands exact arithmetic in proofs:
-//! polynomial identities and bounds of machine arithmetic, both by computation, and facts on signs, fractions and sizes.
-//! No law runs; each is a clause of a function with an empty body, and the lemmas that prove it are cited by the crates
-//! above.
+//! The definitions stand in specs/, over whole numbers of any size. Beside them stand laws of exact arithmetic in
+//! proofs: polynomial identities and bounds of machine arithmetic, both by computation, and facts on signs, fractions
+//! and sizes. A law is a clause of a function with an empty body; the crates above cite the lemmas that prove it.
 #![tactic(auto)]
 
 mod arithmetic;

@@ -1,5 +1,6 @@
 use Rattle.law_complex.proofs.FacetNames.{facet-at, facet-of}
 use Rattle.law_complex.proofs.Skeletons.{skeleton-not_flat, skeleton-or_flat, spot-mark, spot-toward, free-way, belongs-holds}
+use Rattle.law_complex.proofs.Prelude.{apart}
 use Rattle.law_complex.proofs.laws.skeleton_laws.Goals as goal
 
 pub returns-clause-points : goal.returns-clause-points

@@ -1,5 +1,4 @@
-use Rattle.nef_space.proofs.Order.{nought-is}
-use Rattle.nef_space.specs.Place.{form_at}
+use Rattle.law_near.proofs.Prelude.{nought-is, form_at}
 use Rattle.law_near.proofs.Near.{keeps, keeps-all, form-step, ray-keeps, ray-level, difference, slope-toward}
 use Rattle.law_near.proofs.Far.{far-keeps, far-level}
 use Rattle.law_near.proofs.forms.near_form_laws.Goals as goal

@@ -1,7 +1,7 @@
 use Rattle.law_near.proofs.Germs.{Label-cells}
 use Rattle.law_near.proofs.Rays.{signs-same, Holds-same, Germ-same}
 use Rattle.law_near.proofs.Alike.{germs-by_cell, Flat-by_germs, FlatDim-by_germs}
-use Rattle.law_near.specs.Cells.{carriers}
+use Rattle.law_near.proofs.Prelude.{carriers}
 use Rattle.law_near.proofs.laws.cell_laws.Goals as goal
 
 pub returns-clause-holds_by_cell : goal.returns-clause-holds_by_cell

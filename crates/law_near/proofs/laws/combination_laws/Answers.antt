@@ -1,5 +1,4 @@
-use Rattle.nef_space.specs.Sets.{Set}
-use Rattle.law_near.specs.Cones.{label_and, label_or, label_less, label_one_of}
+use Rattle.law_near.proofs.Prelude.{Set, label_and, label_or, label_less, label_one_of}
 use Rattle.law_near.proofs.Combine.{and-label, or-label, less-label, one_of-label, not-label, germ-combines, near_germ-combines}
 use Rattle.law_near.proofs.FlatOperations.{flat-of_two, flat-of, flat-not, flat-inside, flat-closed, flat-border, flat-regular}
 use Rattle.law_near.proofs.laws.combination_laws.Goals as goal

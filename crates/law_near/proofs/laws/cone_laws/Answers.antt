@@ -1,4 +1,4 @@
-use Rattle.law_near.specs.Cells.{carriers}
+use Rattle.law_near.proofs.Prelude.{carriers}
 use Rattle.law_near.proofs.Cells.{reach-some}
 use Rattle.law_near.proofs.Near.{reach_all}
 use Rattle.law_near.proofs.Germs.{label-one, Germ-unique}

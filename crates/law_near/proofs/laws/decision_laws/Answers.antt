@@ -1,5 +1,5 @@
 use Rattle.law_near.proofs.Decisions.{holds-decided, label-decided, germ-decided, near-germ_decided, representatives, germ-representatives, all-germs, all-directions, all-near_germs, same-cone_decided}
-use Rattle.std.proofs.Common.{inl, inr, ⊎_elim}
+use Rattle.law_near.proofs.Prelude.{inl, inr, ⊎_elim}
 use Rattle.law_near.proofs.Flats.{Flat-from_cone, FlatCone-from_flat}
 use Rattle.law_near.proofs.FlatDecided.{flat-decided, flat_dim-of}
 use Rattle.law_near.proofs.laws.decision_laws.Goals as goal

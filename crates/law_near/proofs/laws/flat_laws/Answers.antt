@@ -3,8 +3,7 @@ use Rattle.law_near.proofs.FlatOperations.{flat-combination}
 use Rattle.law_near.proofs.Frames.{flat-outside, flat_dim-outside}
 use Rattle.law_near.proofs.Alike.{FlatDim-one}
 use Rattle.law_near.proofs.Meets.{vertex-meets}
-use Rattle.nef_space.specs.Place.{toward}
-use Rattle.law_near.specs.Cells.{carriers}
+use Rattle.law_near.proofs.Prelude.{toward, carriers}
 use Rattle.law_near.proofs.Cells.{reach-some}
 use Rattle.law_near.proofs.Near.{reach_all}
 use Rattle.law_near.proofs.FlatDecided.{near-of_flat, flat-of_near, flat-by_signs}

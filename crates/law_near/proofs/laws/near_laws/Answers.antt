@@ -1,9 +1,8 @@
-use Rattle.std.proofs.Common.{arith}
+use Rattle.law_near.proofs.Prelude.{arith, carriers}
 use Rattle.law_near.proofs.Germs.{short_enough}
 use Rattle.law_near.proofs.NearGerms.{near-from_there, there-from_near}
 use Rattle.law_near.proofs.Decisions.{near-germ_of, near-germ_one}
 use Rattle.law_near.proofs.Topology.{near-germ_zero}
-use Rattle.law_near.specs.Cells.{carriers}
 use Rattle.law_near.proofs.Cells.{reach-some}
 use Rattle.law_near.proofs.Near.{reach_all}
 use Rattle.law_near.proofs.FlatDecided.{near-by_signs}

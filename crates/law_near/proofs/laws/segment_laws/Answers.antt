@@ -1,8 +1,7 @@
-use Rattle.nef_space.specs.Local.{HasLabel, FlatDim}
+use Rattle.law_near.proofs.Prelude.{HasLabel, FlatDim, carriers}
 use Rattle.law_near.proofs.Cells.{reach-some}
 use Rattle.law_near.proofs.Near.{reach_all}
 use Rattle.law_near.proofs.Skeleton.{flat_dim-nearby, flat-below_first}
-use Rattle.law_near.specs.Cells.{carriers}
 use Rattle.law_near.proofs.Germs.{Label-cells}
 use Rattle.law_near.proofs.Alike.{germs-by_cell, FlatDim-by_germs}
 use Rattle.law_near.proofs.Decisions.{label-decided}

@@ -1,6 +1,5 @@
 -- The laws of sphere maps, from the lemmas.
-use Rattle.law_sphere.specs.Maps.{directly}
-use Rattle.law_sphere.specs.Forms.{forms}
+use Rattle.law_sphere.proofs.Prelude.{directly, forms}
 use Rattle.law_sphere.proofs.Generic.{amount}
 use Rattle.law_sphere.proofs.Direct.{direct}
 use Rattle.law_sphere.proofs.Sight.{sees_both, free-seen}

@@ -1,6 +1,5 @@
 -- The laws of least maps, from the lemmas.
-use Rattle.nef_space.specs.Vectors.{Vector}
-use Rattle.law_sphere.specs.Kinds.{IsInVolume, IsInFacet, IsOnEdge}
+use Rattle.law_sphere.proofs.Prelude.{Vector, IsInVolume, IsInFacet, IsOnEdge}
 use Rattle.law_sphere.proofs.Unique.{svertex-neither, neither-svertex}
 use Rattle.law_sphere.proofs.Equal.{least-unique, cone-unique}
 use Rattle.law_sphere.proofs.Kind.{flat-parallel}

@@ -1,7 +1,5 @@
 -- The laws of sphere maps, from the lemmas.
-use Rattle.std.proofs.Common.{ℕ, ◌⊎◌, inl, inr}
-use Rattle.nef_space.specs.Vectors.{SameDirection}
-use Rattle.law_sphere.specs.Maps.{At, MapVertex, Item, items, OnItem, IsFree}
+use Rattle.law_sphere.proofs.Prelude.{ℕ, ◌⊎◌, inl, inr, SameDirection, At, MapVertex, Item, items, OnItem, IsFree}
 use Rattle.law_sphere.proofs.Generic.{generic}
 use Rattle.law_sphere.proofs.Forms.{PlaceOf, svertex_place, item_place, free_place, place_of, direction-by_signs, at_svertex-by_signs, on_item-by_signs, free-by_signs}
 use Rattle.law_sphere.proofs.laws.place_laws.Goals as goal

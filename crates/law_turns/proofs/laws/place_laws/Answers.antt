@@ -1,4 +1,4 @@
-use Rattle.law_turns.specs.Turned.{unturned_place}
+use Rattle.law_turns.proofs.Prelude.{unturned_place}
 use Rattle.law_turns.proofs.Places.{form-turned, slope-turned, step-turned, toward-turned, ahead-turned, between-turned, same_place-turned, within-turned, frame-turned, place-back}
 use Rattle.law_turns.proofs.laws.place_laws.Goals as goal
 

@@ -1,4 +1,4 @@
-use Rattle.law_turns.specs.Turned.{turned_vector, unturned_vector, is_odd}
+use Rattle.law_turns.proofs.Prelude.{turned_vector, unturned_vector, is_odd}
 use Rattle.law_turns.proofs.Turning.{arc-there}
 use Rattle.law_turns.proofs.Vectors.{dot-turned, cross-turned, triple-turned, direction-turned, same_direction-turned, opposite-turned, turning, vector-back}
 use Rattle.law_turns.proofs.laws.vector_laws.Goals as goal

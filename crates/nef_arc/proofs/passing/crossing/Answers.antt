@@ -1,6 +1,4 @@
-use Rattle.std.proofs.Common.{refl, sym, subst, inl, inr}
-use Rattle.nef_geo.specs.Shapes.{vector_of}
-use Rattle.nef_arc.specs.Arcs.{IsCrossing}
+use Rattle.nef_arc.proofs.Prelude.{refl, sym, subst, inl, inr, vector_of, IsCrossing}
 use Rattle.nef_arc.proofs.SignNumbers.{not_true}
 use Rattle.nef_arc.proofs.Candidates.{Candidates, none_on, first_on, second_on, both_on, both_on_turned}
 use Rattle.nef_arc.proofs.passing.crossing.Goals as goal

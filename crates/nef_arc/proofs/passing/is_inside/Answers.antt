@@ -1,7 +1,4 @@
-use Rattle.std.proofs.Common.{refl, sym, subst, ◌∙◌, inl, inr}
-use Rattle.nef_geo.specs.Shapes.{vector_of}
-use Rattle.nef_geo.specs.declared.sign.Sign.{Sign}
-use Rattle.nef_arc.specs.Arcs.{OnWay, IsPastSource, IsBeforeTarget}
+use Rattle.nef_arc.proofs.Prelude.{refl, sym, subst, ◌∙◌, inl, inr, vector_of, Sign, OnWay, IsPastSource, IsBeforeTarget}
 use Rattle.nef_arc.proofs.SignNumbers.{not_true}
 use Rattle.nef_arc.proofs.passing.is_inside.Goals as goal
 

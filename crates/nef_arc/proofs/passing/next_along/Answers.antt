@@ -1,6 +1,4 @@
-use Rattle.std.proofs.Common.{rules, sym, ◌∙◌}
-use Rattle.nef_geo.specs.Shapes.{vector_of}
-use Rattle.nef_arc.specs.Arcs.{IsOnBefore}
+use Rattle.nef_arc.proofs.Prelude.{rules, sym, ◌∙◌, vector_of, IsOnBefore}
 use Rattle.nef_arc.proofs.SignNumbers.{not_true}
 use Rattle.nef_arc.proofs.Ways.{ranked_equal, ranked_less, ranked_greater}
 use Rattle.nef_arc.proofs.passing.next_along.Goals as goal

@@ -1,7 +1,4 @@
-use Rattle.std.proofs.Common.{◌≡◌, pos, sym, subst, rules}
-use Rattle.nef_space.specs.Vectors.{Vector, dot, opposite}
-use Rattle.law_cyclic.proofs.Directions.{level-opposite}
-use Rattle.nef_arc.specs.Arcs.{normal_vector, source_vector, target_vector}
+use Rattle.nef_arc.proofs.Prelude.{◌≡◌, pos, sym, subst, rules, Vector, dot, opposite, normal_vector, source_vector, target_vector, level-opposite}
 use Rattle.nef_arc.proofs.Ends.{source_on, target_on}
 use Rattle.nef_arc.proofs.Ways.{back_passes_the_same}
 use Rattle.nef_arc.proofs.passing.reverse.Goals as goal

@@ -1,8 +1,5 @@
-use Rattle.std.proofs.Common.{◌≡◌, pos, rules, sym, ◌∙◌}
-use Rattle.nef_space.specs.Vectors.{dot}
-use Rattle.nef_geo.specs.Shapes.{vector_of}
+use Rattle.nef_arc.proofs.Prelude.{◌≡◌, pos, rules, sym, ◌∙◌, dot, vector_of, normal_vector}
 use Rattle.nef_geo.specs.declared.sign.Sign.TheVariants.{Zero}
-use Rattle.nef_arc.specs.Arcs.{normal_vector}
 use Rattle.nef_geo.proofs.Signs.{zero_sign}
 use Rattle.nef_arc.proofs.Ends.{level_on}
 use Rattle.nef_arc.proofs.OnWays.{passed_is_on}

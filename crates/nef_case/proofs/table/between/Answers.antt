@@ -1,4 +1,4 @@
-use Rattle.std.proofs.Common.{◌≡◌, length, false, rules}
+use Rattle.nef_case.proofs.Prelude.{◌≡◌, length, false, rules}
 use Rattle.nef_case.specs.Between.{between_of}
 use Rattle.nef_case.proofs.Tables.{same_bool, bool_tests, row_is_plain}
 use Rattle.nef_case.proofs.table.between.Goals as goal

@@ -1,5 +1,4 @@
-use Rattle.std.proofs.Common.{◌≡◌, length, pos, rules}
-use Rattle.nef_case.specs.Labels.{xor_of}
+use Rattle.nef_case.proofs.Prelude.{◌≡◌, length, pos, rules, xor_of}
 use Rattle.nef_case.proofs.Tables.{number_is_plain}
 use Rattle.nef_case.proofs.table.op_xor.Goals as goal
 

@@ -1,5 +1,4 @@
-use Rattle.std.proofs.Common.{ℕ, ◌<◌, ◌≤◌, ◌∙◌, sym, ap, subst, arith}
-use Rattle.nef_case.specs.Turns.{numbered, turned}
+use Rattle.nef_case.proofs.Prelude.{ℕ, ◌<◌, ◌≤◌, ◌∙◌, sym, ap, subst, arith, numbered, turned}
 use Rattle.nef_case.proofs.TurnLemmas.{number_by, number_by-turned, same_number, size_read, sign_read, falls_read, at_most-one}
 use Rattle.nef_case.proofs.TurnTables.{turn-entries}
 use Rattle.nef_case.proofs.turns.number_of.Goals as goal

@@ -1,5 +1,4 @@
-use Rattle.std.proofs.Common.{rules, ◌≡◌, ◌∙◌, pos, sym, subst, length, arith}
-use Rattle.nef_case.specs.Turns.{turned, numbered, IsTurnRow}
+use Rattle.nef_case.proofs.Prelude.{rules, ◌≡◌, ◌∙◌, pos, sym, subst, length, arith, turned, numbered, IsTurnRow}
 use Rattle.nef_case.proofs.TurnLemmas.{composition-turns, composed-row, composed-by_numbers, composed-only, composed-undone, wide-small}
 use Rattle.nef_case.proofs.TurnTables.{turn-entries, words-are}
 use Rattle.nef_case.proofs.turns.turn_compose.Goals as goal

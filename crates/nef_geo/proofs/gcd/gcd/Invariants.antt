@@ -1,5 +1,4 @@
-use Rattle.std.proofs.Common.{ℕ}
-use Rattle.std.specs.Int.{IsGcd}
+use Rattle.nef_geo.proofs.Prelude.{ℕ, IsGcd}
 use Rattle.nef_geo.proofs.gcd.gcd.Given as goal
 
 abbrev pub invariant-loop-y : goal.invariant-loop-y

@@ -1,7 +1,4 @@
-use Rattle.std.proofs.Common.{to_z, of_z, ◌≡◌, ℕ, ◌^◌, ◌<◌, ℤ, arith, w64, FitsSigned, ap, ◌∙◌, nat_abs}
-use Rattle.std.specs.Int.{IsGcd}
-use Rattle.std.proofs.lemmas.Int.{ints, to_z_pos, to_z-of_z}
-use Rattle.nef_space.specs.Limits.{point_limit}
+use Rattle.nef_geo.proofs.Prelude.{to_z, of_z, ◌≡◌, ℕ, ◌^◌, ◌<◌, ℤ, arith, w64, FitsSigned, ap, ◌∙◌, nat_abs, IsGcd, ints, to_z_pos, to_z-of_z, point_limit}
 use Rattle.nef_geo.proofs.Divisors.{IsGcdOfFour-from_steps, divides_all, divisor_small}
 use Rattle.nef_geo.proofs.gcd.gcd_of_four.Goals as goal
 

@@ -1,5 +1,4 @@
-use Rattle.std.proofs.Common.{rules, ℤ, w64, ◌≡◌, ◌<◌, ◌^◌, sym, ap, ◌∙◌, to_z, of_z, ◌*ℤ◌, FitsSigned}
-use Rattle.std.proofs.lemmas.Int.{to_z-of_z}
+use Rattle.nef_geo.proofs.Prelude.{rules, ℤ, w64, ◌≡◌, ◌<◌, ◌^◌, sym, ap, ◌∙◌, to_z, of_z, ◌*ℤ◌, FitsSigned, to_z-of_z}
 use lib.Signed.{mag}
 use Rattle.nef_geo.proofs.Divisors.{IsReduced-from_parts}
 use Rattle.nef_geo.proofs.gcd.lowest_terms.Goals as goal

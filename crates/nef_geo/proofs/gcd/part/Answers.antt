@@ -1,5 +1,4 @@
-use Rattle.std.proofs.Common.{w64}
-use Rattle.std.proofs.lemmas.Int.{quot_is, quot_fits}
+use Rattle.nef_geo.proofs.Prelude.{w64, quot_is, quot_fits}
 use Rattle.nef_geo.proofs.Divisors.{quot_exact}
 use Rattle.nef_geo.proofs.gcd.part.Goals as goal
 

@@ -1,12 +1,5 @@
-use Rattle.std.proofs.Common.{◌≡◌, ◌≤◌, ℤ, ◌*ℤ◌, nat_abs, [], ◌∷◌, arith, ap, ◌∙◌, to_z, of_z, ◌<ℤ◌, Ordering, FitsSigned}
+use Rattle.nef_geo.proofs.Prelude.{◌≡◌, ◌≤◌, ℤ, ◌*ℤ◌, nat_abs, [], ◌∷◌, arith, ap, ◌∙◌, to_z, of_z, ◌<ℤ◌, Ordering, FitsSigned, MatchOrdering, int_cmp, int_ranked, load, wrap, ◌⊠◌, exact_of, fits_of, abs_times, far_num_limit, far_den_limit, far_product_limit, far_place, FarHit}
 use mir.Syntax.{w128}
-use Rattle.std.specs.Ordering.{MatchOrdering, int_cmp}
-use Rattle.std.proofs.lemmas.Cmp.{int_ranked}
-use Rattle.nef_space.proofs.Machine.{load, wrap, ◌⊠◌, exact_of, fits_of}
-use Rattle.nef_space.proofs.Order.{abs_times}
-use Rattle.nef_geo.specs.Widths.{far_num_limit, far_den_limit, far_product_limit}
-use Rattle.nef_geo.specs.Shapes.{far_place}
-use Rattle.nef_geo.specs.declared.hit.FarHit.{FarHit}
 use Rattle.nef_geo.proofs.Along.{along-ray}
 use Rattle.nef_geo.proofs.order.far_order.Goals as goal
 

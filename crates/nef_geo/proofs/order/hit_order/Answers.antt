@@ -1,11 +1,5 @@
-use Rattle.std.proofs.Common.{◌≡◌, ◌≤◌, ℤ, ◌*ℤ◌, nat_abs, [], ◌∷◌, ap, ◌∙◌, to_z, of_z, ◌<ℤ◌, Ordering, FitsSigned}
+use Rattle.nef_geo.proofs.Prelude.{◌≡◌, ◌≤◌, ℤ, ◌*ℤ◌, nat_abs, [], ◌∷◌, ap, ◌∙◌, to_z, of_z, ◌<ℤ◌, Ordering, FitsSigned, MatchOrdering, int_cmp, int_ranked, load, wrap, ◌⊠◌, exact_of, fits_of, point_form_limit, ray_slope_limit, hit_place, Hit}
 use mir.Syntax.{w128}
-use Rattle.std.specs.Ordering.{MatchOrdering, int_cmp}
-use Rattle.std.proofs.lemmas.Cmp.{int_ranked}
-use Rattle.nef_space.proofs.Machine.{load, wrap, ◌⊠◌, exact_of, fits_of}
-use Rattle.nef_geo.specs.Widths.{point_form_limit, ray_slope_limit}
-use Rattle.nef_geo.specs.Shapes.{hit_place}
-use Rattle.nef_geo.specs.declared.hit.Hit.{Hit}
 use Rattle.nef_geo.proofs.Along.{along-ray}
 use Rattle.nef_geo.proofs.order.hit_order.Goals as goal
 

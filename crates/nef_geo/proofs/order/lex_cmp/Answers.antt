@@ -1,6 +1,4 @@
-use Rattle.std.proofs.Common.{rules, refl, ap, ◌∙◌, ◌*ℤ◌, Ordering, w64, to_z, of_z}
-use Rattle.std.specs.Ordering.{int_cmp, ordering_then}
-use Rattle.nef_geo.specs.Shapes.{place_of}
+use Rattle.nef_geo.proofs.Prelude.{rules, refl, ap, ◌∙◌, ◌*ℤ◌, Ordering, w64, to_z, of_z, int_cmp, ordering_then, place_of}
 use Rattle.nef_geo.proofs.Orders.{IsRanked-from_cmp, order-in_turn, then-is}
 use Rattle.nef_geo.proofs.order.lex_cmp.Goals as goal
 

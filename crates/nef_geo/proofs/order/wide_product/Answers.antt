@@ -1,7 +1,5 @@
-use Rattle.std.proofs.Common.{◌≤◌, ◌^◌, ℤ, nat_abs, [], ◌∷◌, arith, w64, FitsSigned}
-use Rattle.std.proofs.lemmas.Int.{ints, to_z-of_z}
+use Rattle.nef_geo.proofs.Prelude.{◌≤◌, ◌^◌, ℤ, nat_abs, [], ◌∷◌, arith, w64, FitsSigned, ints, to_z-of_z, load, wrap, ◌⊠◌, exact_of, fits_of}
 use mir.Syntax.{w128}
-use Rattle.nef_space.proofs.Machine.{load, wrap, ◌⊠◌, exact_of, fits_of}
 use Rattle.nef_geo.proofs.order.wide_product.Goals as goal
 
 word_small : (n : ℤ) → FitsSigned w64 n → nat_abs n ≤ 2 ^ 63

@@ -1,14 +1,4 @@
-use Rattle.std.proofs.Common.{rules, ◌≡◌, ℕ, ◌≤◌, ℤ, nat_abs, lit≤, refl, arith, sym, ◌∙◌, subst}
-use Rattle.nef_space.specs.Limits.{normal_limit}
-use Rattle.nef_space.specs.Place.{normal_of, form_at, slope}
-use Rattle.nef_space.specs.Vectors.{IsAtMost}
-use Rattle.nef_geo.specs.Hits.{IsPlaceAtMost, IsReachedBy}
-use Rattle.nef_geo.specs.Shapes.{form_of, vector_of, hit_place, far_place}
-use Rattle.nef_geo.specs.Steps.{HasOppositeSigns, IsZeroStep}
-use Rattle.nef_geo.specs.Widths.{upright_limit, upright_weight_limit, far_num_limit, far_den_limit}
-use Rattle.nef_geo.specs.declared.plane.Plane.{Plane}
-use Rattle.nef_geo.specs.declared.dir.Dir.{Dir}
-use Rattle.nef_geo.specs.declared.hit.Hit.{Hit}
+use Rattle.nef_geo.proofs.Prelude.{rules, ◌≡◌, ℕ, ◌≤◌, ℤ, nat_abs, lit≤, refl, arith, sym, ◌∙◌, subst, normal_limit, normal_of, form_at, slope, IsAtMost, IsPlaceAtMost, IsReachedBy, form_of, vector_of, hit_place, far_place, HasOppositeSigns, IsZeroStep, upright_limit, upright_weight_limit, far_num_limit, far_den_limit, Plane, Dir, Hit}
 use Rattle.nef_geo.proofs.Crossings.{IsCrossing-reached, IsReached-by, opposite-crossing}
 use Rattle.nef_geo.proofs.Products.{kept_wide, kept_small, wide_enough, dot_size, normal_within}
 use Rattle.nef_geo.proofs.Rays.{step_is, step_meant, growth_some}

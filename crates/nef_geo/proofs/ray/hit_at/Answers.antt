@@ -1,12 +1,6 @@
-use Rattle.std.proofs.Common.{◌≡◌, ◌≤◌, ℤ, pos, ◌+ℤ◌, ◌*ℤ◌, nat_abs, [], ◌∷◌, arith, ◌∙◌, w64, to_z, of_z}
-use Rattle.std.proofs.lemmas.Int.{ints}
+use Rattle.nef_geo.proofs.Prelude.{◌≡◌, ◌≤◌, ℤ, pos, ◌+ℤ◌, ◌*ℤ◌, nat_abs, [], ◌∷◌, arith, ◌∙◌, w64, to_z, of_z, ints, point_limit, load, wrap, exact_of, IsReachedBy, place_of, pos-abs}
 use mir.Syntax.{w128}
-use Rattle.nef_space.specs.Limits.{point_limit}
-use Rattle.nef_space.proofs.Machine.{load, wrap, exact_of}
-use Rattle.nef_geo.specs.Hits.{IsReachedBy}
-use Rattle.nef_geo.specs.Shapes.{place_of}
 use Rattle.nef_geo.proofs.Crossings.{IsReached-by}
-use Rattle.nef_geo.proofs.Places.{pos_size}
 use Rattle.nef_geo.proofs.ray.hit_at.Goals as goal
 
 -- a number that was cast
@@ -31,6 +25,6 @@ returns-clause-reached c d =
       x_is = at_start p.x _ d.x (cast_is p.x p.x_small);
       y_is = at_start p.y _ d.y (cast_is p.y p.y_small);
       z_is = at_start p.z _ d.z (cast_is p.z p.z_small);
-      w_is = weight_once p.w (pos (nat_abs p.w)) _ (cast_is p.w sw) (pos_size p.w p.proper);
+      w_is = weight_once p.w (pos (nat_abs p.w)) _ (cast_is p.w sw) (pos-abs p.w p.proper);
     } in
     IsReached-by (place_of p) d (pos 0) (pos 1) _ _ _ _ _ _ by

@@ -1,13 +1,4 @@
-use Rattle.std.proofs.Common.{rules, ◌≡◌, ℕ, ◌≤◌, ℤ, nat_abs, lit≤, refl, arith, sym, ◌∙◌, subst}
-use Rattle.nef_space.specs.Limits.{normal_limit}
-use Rattle.nef_space.specs.Place.{normal_of, form_at, slope}
-use Rattle.nef_space.specs.Vectors.{IsAtMost}
-use Rattle.nef_geo.specs.Hits.{IsReachedBy}
-use Rattle.nef_geo.specs.Shapes.{form_of, vector_of, place_of, hit_place}
-use Rattle.nef_geo.specs.Steps.{HasOppositeSigns, IsZeroStep}
-use Rattle.nef_geo.specs.Widths.{point_form_limit, ray_limit, ray_slope_limit}
-use Rattle.nef_geo.specs.declared.plane.Plane.{Plane}
-use Rattle.nef_geo.specs.declared.dir.Dir.{Dir}
+use Rattle.nef_geo.proofs.Prelude.{rules, ◌≡◌, ℕ, ◌≤◌, ℤ, nat_abs, lit≤, refl, arith, sym, ◌∙◌, subst, normal_limit, normal_of, form_at, slope, IsAtMost, IsReachedBy, form_of, vector_of, place_of, hit_place, HasOppositeSigns, IsZeroStep, point_form_limit, ray_limit, ray_slope_limit, Plane, Dir}
 use Rattle.nef_geo.proofs.Crossings.{IsCrossing-reached, IsReached-by, opposite-crossing}
 use Rattle.nef_geo.proofs.Products.{kept_wide, kept_small, wide_enough, dot_size, normal_within}
 use Rattle.nef_geo.proofs.Rays.{step_is, step_meant, growth_some, upright-within, plane_dir-within, plane_dir-form}

@@ -1,14 +1,5 @@
-use Rattle.std.proofs.Common.{ℕ, ◌≤◌, ℤ, pos, ◌<ℤ◌, ◌≤ℤ◌, arith, nat_abs, List, w64, sym, subst}
-use Rattle.std.proofs.lemmas.Int.{ints}
+use Rattle.nef_geo.proofs.Prelude.{ℕ, ◌≤◌, ℤ, pos, ◌<ℤ◌, ◌≤ℤ◌, arith, nat_abs, List, w64, sym, subst, ints, point_limit, weight_limit, IsAtMost, Code, load, wrap, Limited, exact_of, fits_of, size_of, mul_pos, vector_of, point_form_limit, ray_limit, ray_slope_limit, hit_limit, hit_weight_limit, Dir, Point}
 use mir.Syntax.{w128}
-use Rattle.nef_space.specs.Limits.{point_limit, weight_limit}
-use Rattle.nef_space.specs.Vectors.{IsAtMost}
-use Rattle.nef_space.proofs.Machine.{Code, load, wrap, Limited, exact_of, fits_of, size_of}
-use Rattle.nef_space.proofs.Order.{mul_pos}
-use Rattle.nef_geo.specs.Shapes.{vector_of}
-use Rattle.nef_geo.specs.Widths.{point_form_limit, ray_limit, ray_slope_limit, hit_limit, hit_weight_limit}
-use Rattle.nef_geo.specs.declared.dir.Dir.{Dir}
-use Rattle.nef_geo.specs.declared.point.Point.{Point}
 use Rattle.nef_geo.proofs.Rays.{reached_by}
 use Rattle.nef_geo.proofs.Reach.{sizes, numbers, limited, start, stretch, sum}
 use Rattle.nef_geo.proofs.Sizes.{point_within}

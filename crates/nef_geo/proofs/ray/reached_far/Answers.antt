@@ -1,14 +1,5 @@
-use Rattle.std.proofs.Common.{ℕ, ◌≤◌, ℤ, pos, ◌<ℤ◌, nat_abs, List, sym, subst}
+use Rattle.nef_geo.proofs.Prelude.{ℕ, ◌≤◌, ℤ, pos, ◌<ℤ◌, nat_abs, List, sym, subst, normal_limit, IsAtMost, Code, load, wrap, Limited, exact_of, fits_of, size_of, mul_pos, IsPlaceAtMost, vector_of, hit_place, upright_limit, upright_weight_limit, far_limit, far_weight_limit, far_num_limit, far_den_limit, Dir, Hit}
 use mir.Syntax.{w128}
-use Rattle.nef_space.specs.Limits.{normal_limit}
-use Rattle.nef_space.specs.Vectors.{IsAtMost}
-use Rattle.nef_space.proofs.Machine.{Code, load, wrap, Limited, exact_of, fits_of, size_of}
-use Rattle.nef_space.proofs.Order.{mul_pos}
-use Rattle.nef_geo.specs.Hits.{IsPlaceAtMost}
-use Rattle.nef_geo.specs.Shapes.{vector_of, hit_place}
-use Rattle.nef_geo.specs.Widths.{upright_limit, upright_weight_limit, far_limit, far_weight_limit, far_num_limit, far_den_limit}
-use Rattle.nef_geo.specs.declared.dir.Dir.{Dir}
-use Rattle.nef_geo.specs.declared.hit.Hit.{Hit}
 use Rattle.nef_geo.proofs.Rays.{reached_by}
 use Rattle.nef_geo.proofs.Reach.{sizes, numbers, limited, start, stretch, sum}
 use Rattle.nef_geo.proofs.ray.reached_far.Goals as goal

@@ -1,7 +1,5 @@
-use Rattle.std.proofs.Common.{rules, arith, ◌∙◌, FitsSigned}
+use Rattle.nef_geo.proofs.Prelude.{rules, arith, ◌∙◌, FitsSigned, far_place, far_limit, far_weight_limit}
 use mir.Syntax.{w128}
-use Rattle.nef_geo.specs.Shapes.{far_place}
-use Rattle.nef_geo.specs.Widths.{far_limit, far_weight_limit}
 use Rattle.nef_geo.proofs.Signs.{sign_through}
 use Rattle.nef_geo.proofs.Sizes.{form_size, far_within}
 use Rattle.nef_geo.proofs.WideForms.{passed_x, passed_y, passed_z, passed_w, form_at-passed}

@@ -1,11 +1,5 @@
-use Rattle.std.proofs.Common.{ℕ, ℤ, List, [], ◌∷◌, w64, sym, ◌∙◌}
+use Rattle.nef_geo.proofs.Prelude.{ℕ, ℤ, List, [], ◌∷◌, w64, sym, ◌∙◌, normal_limit, offset_limit, point_limit, weight_limit, Code, load, wrap, ◌⊞◌, ◌⊠◌, Limited, exact_of, fits_of, size_of, form_of, point_form_limit, Plane, Point}
 use mir.Syntax.{w128}
-use Rattle.nef_space.specs.Limits.{normal_limit, offset_limit, point_limit, weight_limit}
-use Rattle.nef_space.proofs.Machine.{Code, load, wrap, ◌⊞◌, ◌⊠◌, Limited, exact_of, fits_of, size_of}
-use Rattle.nef_geo.specs.Shapes.{form_of}
-use Rattle.nef_geo.specs.Widths.{point_form_limit}
-use Rattle.nef_geo.specs.declared.plane.Plane.{Plane}
-use Rattle.nef_geo.specs.declared.point.Point.{Point}
 use Rattle.nef_geo.proofs.Places.{form_at-place_of}
 use Rattle.nef_geo.proofs.sides.form.Goals as goal
 

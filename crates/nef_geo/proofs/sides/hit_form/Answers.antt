@@ -1,5 +1,4 @@
-use Rattle.std.proofs.Common.{rules, ◌∙◌, FitsSigned}
-use Rattle.std.proofs.lemmas.Int.{to_z-of_z}
+use Rattle.nef_geo.proofs.Prelude.{rules, ◌∙◌, FitsSigned, to_z-of_z}
 use mir.Syntax.{w128}
 use Rattle.nef_geo.proofs.Sizes.{hit_far}
 use Rattle.nef_geo.proofs.WideForms.{passed_x, passed_y, passed_z, passed_w, form_at-passed}

@@ -1,6 +1,4 @@
-use Rattle.std.proofs.Common.{arith}
-use Rattle.nef_geo.specs.Shapes.{hit_place}
-use Rattle.nef_geo.specs.Widths.{hit_limit, hit_weight_limit, upright_limit, upright_weight_limit}
+use Rattle.nef_geo.proofs.Prelude.{arith, hit_place, hit_limit, hit_weight_limit, upright_limit, upright_weight_limit}
 use Rattle.nef_geo.proofs.Sizes.{form_size, hit_within}
 use Rattle.nef_geo.proofs.sides.hit_side.Goals as goal
 

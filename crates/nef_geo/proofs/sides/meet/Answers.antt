@@ -1,10 +1,4 @@
-use Rattle.std.proofs.Common.{rules, ◌≡◌, ◌≢◌, ℕ, ◌≤◌, ℤ, pos, nat_abs, to_z, of_z, w64, arith, refl, sym, ap, subst, ◌∙◌, lit≤}
-use Rattle.nef_space.specs.Limits.{normal_limit, offset_limit, svertex_limit, point_limit, weight_limit}
-use Rattle.nef_space.specs.Place.{Form, normal_of}
-use Rattle.nef_space.specs.Vectors.{Vector, vector, dot, cross, IsAtMost}
-use Rattle.nef_geo.specs.Shapes.{form_of}
-use Rattle.nef_geo.specs.Triples.{triple_vector}
-use Rattle.nef_geo.specs.declared.plane.Plane.{Plane}
+use Rattle.nef_geo.proofs.Prelude.{rules, ◌≡◌, ◌≢◌, ℕ, ◌≤◌, ℤ, pos, nat_abs, to_z, of_z, w64, arith, refl, sym, ap, subst, ◌∙◌, lit≤, normal_limit, offset_limit, svertex_limit, point_limit, weight_limit, Form, normal_of, Vector, vector, dot, cross, IsAtMost, form_of, triple_vector, Plane}
 use Rattle.nef_geo.proofs.Products.{kept, dot_kept, dot_size, cross_is, IsAtMost-weaken}
 use Rattle.nef_geo.proofs.Cramer.{constants, meet_w, Steps, steps_x, steps_y, steps_z, IsOnlyCommon-from_ratios}
 use Rattle.nef_geo.proofs.sides.meet.Goals as goal

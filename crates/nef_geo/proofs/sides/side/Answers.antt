@@ -1,5 +1,4 @@
-use Rattle.std.proofs.Common.{◌≤◌, ℤ, nat_abs, subst}
-use Rattle.nef_geo.specs.Widths.{point_form_limit}
+use Rattle.nef_geo.proofs.Prelude.{◌≤◌, ℤ, nat_abs, subst, point_form_limit}
 use Rattle.nef_geo.proofs.sides.side.Goals as goal
 
 pub returns-clause-width : goal.returns-clause-width

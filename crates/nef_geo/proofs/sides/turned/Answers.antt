@@ -1,7 +1,4 @@
-use Rattle.std.proofs.Common.{◌≡◌, ◌≤◌, ℤ, pos, neg_ℤ, ◌-ℤ◌, ◌<ℤ◌, nat_abs, arith, w64, to_z, of_z, ◌∙◌, ◌∷◌, [], rules}
-use Rattle.std.proofs.lemmas.Int.{ints, to_z-of_z}
-use Rattle.nef_space.specs.Limits.{point_limit}
-use Rattle.nef_space.proofs.Machine.{load, const, wrap, ◌⊟◌, exact_of}
+use Rattle.nef_geo.proofs.Prelude.{◌≡◌, ◌≤◌, ℤ, pos, neg_ℤ, ◌-ℤ◌, ◌<ℤ◌, nat_abs, arith, w64, to_z, of_z, ◌∙◌, ◌∷◌, [], rules, ints, to_z-of_z, point_limit, load, const, wrap, ◌⊟◌, exact_of}
 use Rattle.nef_geo.proofs.Cramer.{IsSameRatios-from_place, IsSameRatios-turned}
 use Rattle.nef_geo.proofs.sides.turned.Goals as goal
 

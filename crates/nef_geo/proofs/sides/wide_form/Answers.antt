@@ -1,9 +1,5 @@
-use Rattle.std.proofs.Common.{ℕ, ◌≤◌, ℤ, nat_abs, List, [], ◌∷◌, w64}
+use Rattle.nef_geo.proofs.Prelude.{ℕ, ◌≤◌, ℤ, nat_abs, List, [], ◌∷◌, w64, normal_limit, offset_limit, Code, load, wrap, ◌⊞◌, ◌⊠◌, Limited, exact_of, fits_of, far_limit, far_weight_limit, Plane}
 use mir.Syntax.{w128}
-use Rattle.nef_space.specs.Limits.{normal_limit, offset_limit}
-use Rattle.nef_space.proofs.Machine.{Code, load, wrap, ◌⊞◌, ◌⊠◌, Limited, exact_of, fits_of}
-use Rattle.nef_geo.specs.Widths.{far_limit, far_weight_limit}
-use Rattle.nef_geo.specs.declared.plane.Plane.{Plane}
 use Rattle.nef_geo.proofs.sides.wide_form.Goals as goal
 
 -- the bounds of a, b, c, d, x, y, z, w

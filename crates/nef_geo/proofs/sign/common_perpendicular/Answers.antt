@@ -1,8 +1,4 @@
-use Rattle.std.proofs.Common.{arith, sym, subst}
-use Rattle.nef_space.specs.Limits.{svertex_limit, direction_limit}
-use Rattle.nef_space.specs.Vectors.{Vector, IsDirection, SameDirection}
-use Rattle.nef_geo.specs.Shapes.{vector_of}
-use Rattle.nef_geo.specs.Triples.{triple_vector}
+use Rattle.nef_geo.proofs.Prelude.{arith, sym, subst, svertex_limit, direction_limit, Vector, IsDirection, SameDirection, cross, vector_of, triple_vector}
 use Rattle.nef_geo.proofs.Products.{passed, passed_small, IsAtMost-weaken}
 use Rattle.nef_geo.proofs.sign.common_perpendicular.Goals as goal
 

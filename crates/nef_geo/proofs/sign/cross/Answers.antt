@@ -1,9 +1,5 @@
-use Rattle.std.proofs.Common.{ℕ, refl, sym, ◌∙◌, subst, ◌↔◌, IsNone, IfSome, Option, Some, None}
-use Rattle.nef_space.specs.Limits.{svertex_limit}
-use Rattle.nef_space.specs.Vectors.{Vector, cross, IsAtMost, IsZero, SameDirection}
-use Rattle.nef_geo.specs.declared.dir.Dir.{Dir}
-use Rattle.nef_geo.specs.Shapes.{vector_of}
-use Rattle.nef_geo.specs.Triples.{triple_vector}
+use Rattle.nef_geo.proofs.Prelude.{ℕ, refl, sym, ◌∙◌, subst, ◌↔◌, IsNone, Option, Some, None, svertex_limit, Vector, cross, IsAtMost, IsZero, SameDirection, Dir, vector_of, triple_vector}
+use Rattle.std.proofs.Common.{IfSome}
 use Rattle.nef_geo.proofs.Products.{passed}
 use Rattle.nef_geo.proofs.sign.cross.Goals as goal
 

@@ -1,7 +1,4 @@
-use Rattle.std.proofs.Common.{w64}
-use Rattle.nef_space.specs.Limits.{normal_limit, svertex_limit}
-use Rattle.nef_space.proofs.Machine.{Code, wrap, exact_of, fits_of, size_of}
-use Rattle.nef_geo.specs.Triples.{triple_vector}
+use Rattle.nef_geo.proofs.Prelude.{w64, of_z, normal_limit, svertex_limit, Code, wrap, exact_of, fits_of, size_of, triple_vector}
 use Rattle.nef_geo.proofs.Products.{bounds, numbers, limited, factor, minor, same_vector}
 use Rattle.nef_geo.proofs.sign.cross_narrow.Goals as goal
 

@@ -1,9 +1,5 @@
-use Rattle.std.proofs.Common.{◌*◌, subst, sym}
+use Rattle.nef_geo.proofs.Prelude.{◌*◌, subst, sym, direction_limit, IsAtMost, Code, wrap, exact_of, fits_of, wide_vector}
 use mir.Syntax.{w128}
-use Rattle.nef_space.specs.Limits.{direction_limit}
-use Rattle.nef_space.specs.Vectors.{IsAtMost}
-use Rattle.nef_space.proofs.Machine.{Code, wrap, exact_of, fits_of}
-use Rattle.nef_geo.specs.Triples.{wide_vector}
 use Rattle.nef_geo.proofs.Products.{bounds, numbers, limited, factor, minor, same_vector, cross_size}
 use Rattle.nef_geo.proofs.sign.cross_wide.Goals as goal
 

@@ -1,8 +1,5 @@
-use Rattle.std.proofs.Common.{rules, FitsSigned}
+use Rattle.nef_geo.proofs.Prelude.{rules, FitsSigned, normal_limit, direction_limit, normal_of, form_of, vector_of}
 use mir.Syntax.{w128}
-use Rattle.nef_space.specs.Limits.{normal_limit, direction_limit}
-use Rattle.nef_space.specs.Place.{normal_of}
-use Rattle.nef_geo.specs.Shapes.{form_of, vector_of}
 use Rattle.nef_geo.proofs.Products.{dot_size, dir_within, normal_within}
 use Rattle.nef_geo.proofs.Signs.{sign_through}
 use Rattle.nef_geo.proofs.sign.dir_side.Goals as goal

@@ -1,9 +1,5 @@
-use Rattle.std.proofs.Common.{rules, ◌^◌, sym, ap, ◌∙◌, subst, FitsSigned, lit≤}
+use Rattle.nef_geo.proofs.Prelude.{rules, ◌^◌, sym, ap, ◌∙◌, subst, FitsSigned, lit≤, direction_limit, Vector, dot, IsAtMost, vector_of, wide_vector}
 use mir.Syntax.{w128}
-use Rattle.nef_space.specs.Limits.{direction_limit}
-use Rattle.nef_space.specs.Vectors.{Vector, dot, IsAtMost}
-use Rattle.nef_geo.specs.Shapes.{vector_of}
-use Rattle.nef_geo.specs.Triples.{wide_vector}
 use Rattle.nef_geo.proofs.Products.{IsAtMost-weaken, dot_size, dir_within}
 use Rattle.nef_geo.proofs.Signs.{sign_through}
 use Rattle.nef_geo.proofs.sign.dot.Goals as goal

@@ -1,7 +1,4 @@
-use Rattle.std.proofs.Common.{w64}
-use Rattle.nef_space.specs.Limits.{offset_limit, svertex_limit}
-use Rattle.nef_space.proofs.Machine.{wrap, exact_of, fits_of}
-use Rattle.nef_geo.specs.Triples.{triple_vector}
+use Rattle.nef_geo.proofs.Prelude.{w64, offset_limit, svertex_limit, wrap, exact_of, fits_of, triple_vector}
 use Rattle.nef_geo.proofs.Products.{bounds, numbers, limited, factor, two, three}
 use Rattle.nef_geo.proofs.sign.dot_narrow.Goals as goal
 

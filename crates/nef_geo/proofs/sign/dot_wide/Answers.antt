@@ -1,7 +1,5 @@
-use Rattle.std.proofs.Common.{◌^◌}
+use Rattle.nef_geo.proofs.Prelude.{◌^◌, wrap, exact_of, fits_of, wide_vector}
 use mir.Syntax.{w128}
-use Rattle.nef_space.proofs.Machine.{wrap, exact_of, fits_of}
-use Rattle.nef_geo.specs.Triples.{wide_vector}
 use Rattle.nef_geo.proofs.Products.{bounds, numbers, limited, factor, two, three}
 use Rattle.nef_geo.proofs.sign.dot_wide.Goals as goal
 

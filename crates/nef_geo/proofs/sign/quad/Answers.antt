@@ -1,9 +1,5 @@
-use Rattle.std.proofs.Common.{rules, ◌≡◌, ◌*◌, ◌^◌, arith, sym, ap, ◌∙◌, subst, FitsSigned, lit≤}
+use Rattle.nef_geo.proofs.Prelude.{rules, ◌≡◌, ◌*◌, ◌^◌, arith, sym, ap, ◌∙◌, subst, FitsSigned, lit≤, svertex_limit, direction_limit, Vector, dot, cross, IsAtMost, vector_of, wide_vector}
 use mir.Syntax.{w128}
-use Rattle.nef_space.specs.Limits.{svertex_limit, direction_limit}
-use Rattle.nef_space.specs.Vectors.{Vector, dot, cross, IsAtMost}
-use Rattle.nef_geo.specs.Shapes.{vector_of}
-use Rattle.nef_geo.specs.Triples.{wide_vector}
 use Rattle.nef_geo.proofs.Products.{IsAtMost-weaken, dot_size, cross_size, dir_within}
 use Rattle.nef_geo.proofs.Signs.{sign_through}
 use Rattle.nef_geo.proofs.sign.quad.Goals as goal

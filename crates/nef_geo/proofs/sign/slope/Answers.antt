@@ -1,11 +1,5 @@
-use Rattle.std.proofs.Common.{List, ℕ, ℤ, w64}
+use Rattle.nef_geo.proofs.Prelude.{List, ℕ, ℤ, w64, normal_limit, direction_limit, normal_of, Limited, wrap, exact_of, fits_of, form_of, vector_of, Dir, Plane}
 use mir.Syntax.{w128}
-use Rattle.nef_space.specs.Limits.{normal_limit, direction_limit}
-use Rattle.nef_space.specs.Place.{normal_of}
-use Rattle.nef_space.proofs.Machine.{Limited, wrap, exact_of, fits_of}
-use Rattle.nef_geo.specs.Shapes.{form_of, vector_of}
-use Rattle.nef_geo.specs.declared.dir.Dir.{Dir}
-use Rattle.nef_geo.specs.declared.plane.Plane.{Plane}
 use Rattle.nef_geo.proofs.Products.{bounds, numbers as both, limited, factor, two, three, dir_within, normal_within}
 use Rattle.nef_geo.proofs.sign.slope.Goals as goal
 

@@ -1,10 +1,6 @@
-use Rattle.std.proofs.Common.{rules, ◌≡◌, ◌*◌, ◌^◌, arith, sym, ap, ◌∙◌, subst, FitsSigned, lit≤}
+use Rattle.nef_geo.proofs.Prelude.{rules, ◌≡◌, ◌*◌, ◌^◌, arith, sym, ap, ◌∙◌, subst, FitsSigned, lit≤, direction_limit, Vector, dot, cross, IsAtMost, vector_of, wide_vector, dot-comm}
 use mir.Syntax.{w128}
-use Rattle.nef_space.specs.Limits.{direction_limit}
-use Rattle.nef_space.specs.Vectors.{Vector, dot, cross, IsAtMost}
-use Rattle.nef_geo.specs.Shapes.{vector_of}
-use Rattle.nef_geo.specs.Triples.{wide_vector}
-use Rattle.nef_geo.proofs.Products.{IsAtMost-weaken, dot_size, cross_size, dot_comm, dir_within}
+use Rattle.nef_geo.proofs.Products.{IsAtMost-weaken, dot_size, cross_size, dir_within}
 use Rattle.nef_geo.proofs.Signs.{sign_through}
 use Rattle.nef_geo.proofs.sign.triple.Goals as goal
 
@@ -36,7 +32,7 @@ returns-clause-triple c =
     (c.dot_wide.ensures.dot
     ∙ ap (λ (v : Vector). dot v (wide_vector c.wide-3.result)) (cross_is b d _ _ _ c.wide.ensures.wide c.wide-2.ensures.wide c.cross_wide.ensures.cross)
     ∙ ap (dot (cross b d)) c.wide-3.ensures.wide
-    ∙ dot_comm (cross b d) a)
+    ∙ dot-comm (cross b d) a)
 
 pub returns-clause-width : goal.returns-clause-width
 returns-clause-width c =

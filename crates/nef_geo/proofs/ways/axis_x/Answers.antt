@@ -1,4 +1,4 @@
-use Rattle.std.proofs.Common.{◌≡◌, pos, refl, lit≤}
+use Rattle.nef_geo.proofs.Prelude.{◌≡◌, pos, refl, lit≤, of_z}
 use native.Mathlib.Nat.{dvd-one}
 use Rattle.nef_geo.proofs.ways.axis_x.Goals as goal
 

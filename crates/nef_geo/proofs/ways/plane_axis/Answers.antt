@@ -1,10 +1,4 @@
-use Rattle.std.proofs.Common.{◌≡◌, arith, subst, sym, to_z, of_z, w64}
-use Rattle.nef_space.specs.Limits.{normal_limit, direction_limit}
-use Rattle.nef_space.specs.Place.{normal_of}
-use Rattle.nef_space.specs.Vectors.{Vector, vector, plane_axis, IsAtMost, IsDirection}
-use Rattle.nef_geo.specs.Meet.{IsStretched}
-use Rattle.nef_geo.specs.Shapes.{form_of, vector_of}
-use Rattle.nef_geo.specs.Triples.{triple_vector}
+use Rattle.nef_geo.proofs.Prelude.{◌≡◌, arith, subst, sym, to_z, of_z, w64, normal_limit, direction_limit, normal_of, Vector, vector, plane_axis, IsAtMost, IsDirection, IsStretched, form_of, vector_of, triple_vector}
 use Rattle.nef_geo.proofs.Directions.{SameDirection-stretched, IsAtMost-part}
 use Rattle.nef_geo.proofs.InPlane.{pair_small, axis-direction, axis-in_plane, slope-whole}
 use Rattle.nef_geo.proofs.Products.{kept, same_vector, IsAtMost-weaken}

@@ -1,15 +1,4 @@
-use Rattle.std.proofs.Common.{◌≡◌, ◌≤◌, ℤ, pos, ◌+ℤ◌, ◌*ℤ◌, nat_abs, [], ◌∷◌, arith, subst, sym, ap, ◌∙◌, FitsSigned, to_z, of_z, w64}
-use Rattle.std.proofs.lemmas.Int.{ints}
-use Rattle.nef_space.specs.Limits.{normal_limit, direction_limit, axis_factor}
-use Rattle.nef_space.specs.Place.{normal_of}
-use Rattle.nef_space.specs.Vectors.{Vector, vector, plane_axis, plane_dir, IsAtMost, IsDirection}
-use Rattle.nef_space.proofs.Machine.{load, const, wrap, ◌⊞◌, ◌⊠◌, exact_of, fits_of}
-use Rattle.nef_geo.specs.Meet.{IsStretched}
-use Rattle.nef_geo.specs.Shapes.{form_of, vector_of}
-use Rattle.nef_geo.specs.Triples.{triple_vector}
-use Rattle.nef_geo.specs.Ways.{second_beside}
-use Rattle.nef_geo.specs.Widths.{plane_dir_limit}
-use Rattle.nef_geo.specs.declared.plane.Plane.{Plane}
+use Rattle.nef_geo.proofs.Prelude.{◌≡◌, ◌≤◌, ℤ, pos, ◌+ℤ◌, ◌*ℤ◌, nat_abs, [], ◌∷◌, arith, subst, sym, ap, ◌∙◌, FitsSigned, to_z, of_z, w64, ints, normal_limit, direction_limit, axis_factor, normal_of, Vector, vector, plane_axis, plane_dir, IsAtMost, IsDirection, load, const, wrap, ◌⊞◌, ◌⊠◌, exact_of, fits_of, IsStretched, form_of, vector_of, triple_vector, second_beside, plane_dir_limit, Plane}
 use Rattle.nef_geo.proofs.Directions.{SameDirection-stretched}
 use Rattle.nef_geo.proofs.InPlane.{pair_small, dir-direction, dir-in_plane, dir-alone, dir-size, slope-part, slope-whole, size-part}
 use Rattle.nef_geo.proofs.Products.{same_vector, IsAtMost-weaken}

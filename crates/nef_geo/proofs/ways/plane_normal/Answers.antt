@@ -1,11 +1,4 @@
-use Rattle.std.proofs.Common.{◌≡◌, pos, ◌<ℤ◌, arith, sym, subst, to_z, of_z, w64, lit≤}
-use Rattle.std.proofs.lemmas.Int.{ints}
-use Rattle.nef_space.specs.Limits.{normal_limit, direction_limit}
-use Rattle.nef_space.specs.Place.{normal_of}
-use Rattle.nef_space.specs.Vectors.{Vector, vector, IsAtMost, IsDirection, IsNormal, SameDirection}
-use Rattle.nef_geo.specs.Meet.{IsStretched}
-use Rattle.nef_geo.specs.Shapes.{form_of, vector_of}
-use Rattle.nef_geo.specs.declared.plane.Plane.{Plane}
+use Rattle.nef_geo.proofs.Prelude.{◌≡◌, pos, ◌<ℤ◌, arith, sym, subst, to_z, of_z, w64, lit≤, ints, normal_limit, direction_limit, normal_of, Vector, vector, IsAtMost, IsDirection, IsNormal, SameDirection, IsStretched, form_of, vector_of, Plane}
 use Rattle.nef_geo.proofs.Normals.{IsNormal-parts}
 use Rattle.nef_geo.proofs.Products.{kept, same_vector, normal_within, IsAtMost-weaken}
 use Rattle.nef_geo.proofs.ways.plane_normal.Goals as goal

@@ -1,4 +1,4 @@
-use Rattle.std.proofs.Common.{refl, lit≤}
+use Rattle.nef_geo.proofs.Prelude.{refl, lit≤}
 use Rattle.nef_geo.proofs.InPlane.{up-positive, up-lowest, up-direction}
 use Rattle.nef_geo.proofs.ways.up.Goals as goal
 

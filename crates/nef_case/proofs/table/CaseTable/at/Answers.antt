@@ -1,8 +1,4 @@
-use Rattle.std.proofs.Common.{ap, ◌∙◌, take, ◌≡◌, ◌^◌, ◌<◌, length, rules, arith, pos, slice_index_or}
-use Rattle.std.proofs.lemmas.Int.{ints}
-use Rattle.std.proofs.lemmas.Grind.{common_steps}
-use Rattle.std.proofs.lemmas.Option.{slice_get-get_or}
-use Rattle.nef_case.specs.Keys.{IsSign, row_of}
+use Rattle.nef_case.proofs.Prelude.{ap, ◌∙◌, take, ◌≡◌, ◌^◌, ◌<◌, length, rules, arith, pos, slice_index_or, ints, common_steps, slice_get-get_or, IsSign, row_of}
 use Rattle.nef_case.proofs.Rows.{row_step}
 use Rattle.nef_case.proofs.table.CaseTable.at.Goals as goal
 

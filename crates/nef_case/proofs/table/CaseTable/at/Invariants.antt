@@ -1,5 +1,4 @@
-use Rattle.std.proofs.Common.{◌≡◌, ◌^◌, ◌<◌, take}
-use Rattle.nef_case.specs.Keys.{row_of}
+use Rattle.nef_case.proofs.Prelude.{◌≡◌, ◌^◌, ◌<◌, take, row_of}
 use Rattle.nef_case.proofs.table.CaseTable.at.Given as goal
 
 abbrev pub invariant-loop-sign : goal.invariant-loop-sign

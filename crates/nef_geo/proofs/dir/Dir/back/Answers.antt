@@ -1,4 +1,4 @@
-use Rattle.nef_space.specs.Limits.{direction_limit}
+use Rattle.nef_geo.proofs.Prelude.{direction_limit}
 use Rattle.nef_geo.proofs.Products.{same_vector}
 use Rattle.nef_geo.proofs.Directions.{negated, small-neg, IsDirection-opposite, IsLowest-opposite}
 use Rattle.nef_geo.proofs.dir.Dir.back.Goals as goal

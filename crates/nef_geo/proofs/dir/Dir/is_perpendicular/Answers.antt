@@ -1,8 +1,5 @@
-use Rattle.std.proofs.Common.{◌≡◌, IsTrue, rules, sym, ap, ◌∙◌}
-use Rattle.nef_space.specs.Vectors.{dot}
-use Rattle.nef_geo.specs.Shapes.{vector_of}
-use Rattle.nef_geo.specs.Signs.{sign_of}
-use Rattle.nef_geo.specs.declared.sign.Sign.TheVariants.{Zero}
+use Rattle.nef_geo.proofs.Prelude.{◌≡◌, rules, sym, ap, ◌∙◌, dot, vector_of, sign_of, Zero}
+use Rattle.std.proofs.Common.{IsTrue}
 use Rattle.nef_geo.proofs.Signs.{zero_sign}
 use Rattle.nef_geo.proofs.dir.Dir.is_perpendicular.Goals as goal
 

@@ -1,4 +1,4 @@
-use Rattle.std.proofs.Common.{ap, sym, ◌∙◌}
+use Rattle.nef_geo.proofs.Prelude.{ap, sym, ◌∙◌}
 use Rattle.nef_geo.proofs.Unique.{equal_test, equal_to_itself, same_if_equal, same_directions_equal}
 use Rattle.nef_geo.proofs.dir.Dir.is_same.Goals as goal
 

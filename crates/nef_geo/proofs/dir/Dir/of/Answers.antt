@@ -1,5 +1,4 @@
-use Rattle.std.proofs.Common.{w64}
-use Rattle.std.proofs.lemmas.Int.{to_z-of_z}
+use Rattle.nef_geo.proofs.Prelude.{w64, to_z-of_z}
 use Rattle.nef_geo.proofs.dir.Dir.of.Goals as goal
 
 pub returns-clause-same : goal.returns-clause-same

@@ -1,7 +1,4 @@
-use Rattle.std.proofs.Common.{rules, pos, w64, to_z, of_z, FitsSigned}
-use Rattle.nef_space.specs.Limits.{direction_limit}
-use Rattle.nef_space.specs.Vectors.{vector}
-use Rattle.nef_geo.specs.Meet.{IsStretched}
+use Rattle.nef_geo.proofs.Prelude.{rules, pos, w64, to_z, of_z, FitsSigned, direction_limit, vector, IsStretched}
 use Rattle.nef_geo.proofs.Divisors.{IsReduced-kept, part_small, lowest_three}
 use Rattle.nef_geo.proofs.Directions.{IsDirection-part, SameDirection-stretched, IsAtMost-part}
 use Rattle.nef_geo.proofs.dir.Dir.reduced.Goals as goal

@@ -1,9 +1,4 @@
-use Rattle.std.proofs.Common.{◌≡◌, ◌≤◌, ℤ, nat_abs, true, false, refl, arith, w64}
-use Rattle.std.proofs.lemmas.Int.{to_z-of_z}
-use Rattle.nef_space.specs.Limits.{normal_limit, offset_limit}
-use Rattle.nef_space.specs.Place.{form}
-use Rattle.nef_space.specs.Vectors.{vector, IsNormal}
-use Rattle.nef_geo.specs.Shapes.{form_of}
+use Rattle.nef_geo.proofs.Prelude.{◌≡◌, ◌≤◌, ℤ, nat_abs, true, false, refl, arith, w64, to_z-of_z, normal_limit, offset_limit, form, vector, IsNormal, form_of}
 use Rattle.nef_geo.proofs.Normals.{IsNormal-opposite, IsNormal-not_both, IsPositiveMultiple-turned, negated}
 use Rattle.nef_geo.proofs.plane.Oriented.of.Goals as goal
 

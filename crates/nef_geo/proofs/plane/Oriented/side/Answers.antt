@@ -1,8 +1,4 @@
-use Rattle.std.proofs.Common.{rules, ap, sym, ◌∙◌}
-use Rattle.nef_space.specs.Place.{form_at}
-use Rattle.nef_geo.specs.Shapes.{form_of, given_form, place_of}
-use Rattle.nef_geo.specs.Signs.{sign_of}
-use Rattle.nef_geo.specs.Widths.{point_form_limit}
+use Rattle.nef_geo.proofs.Prelude.{rules, ap, sym, ◌∙◌, form_at, form_of, given_form, place_of, sign_of, point_form_limit}
 use Rattle.nef_geo.proofs.Directions.{small-neg}
 use Rattle.nef_geo.proofs.Signs.{form_at-flipped}
 use Rattle.nef_geo.proofs.Sizes.{point_form_size}

@@ -1,8 +1,4 @@
-use Rattle.std.proofs.Common.{rules, ◌≡◌, true, w64, of_z, ap, ⊎_elim}
-use Rattle.std.proofs.lemmas.Int.{to_z-of_z}
-use Rattle.nef_space.specs.Place.{form}
-use Rattle.nef_geo.specs.Reading.{IsInRange}
-use Rattle.nef_geo.specs.Shapes.{given_form}
+use Rattle.nef_geo.proofs.Prelude.{rules, ◌≡◌, true, w64, of_z, ap, ⊎_elim, to_z-of_z, form, IsInRange, given_form}
 use Rattle.nef_geo.proofs.Signs.{sign_of-multiple}
 use Rattle.nef_geo.proofs.plane.Plane.read.Goals as goal
 

@@ -1,5 +1,4 @@
-use Rattle.std.proofs.Common.{rules, w64, FitsSigned}
-use Rattle.nef_space.specs.Limits.{normal_limit, offset_limit}
+use Rattle.nef_geo.proofs.Prelude.{rules, w64, FitsSigned, normal_limit, offset_limit}
 use Rattle.nef_geo.proofs.Divisors.{IsReduced-kept, part_small}
 use Rattle.nef_geo.proofs.Normals.{IsNormal-parts}
 use Rattle.nef_geo.proofs.plane.Plane.reduced.Goals as goal

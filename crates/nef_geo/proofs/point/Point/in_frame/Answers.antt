@@ -1,6 +1,4 @@
-use Rattle.std.proofs.Common.{◌≡◌, ℕ, ◌*◌, ◌<◌, ℤ, nat_abs, false, true, arith, sym, ap, subst, ◌∙◌}
-use Rattle.std.proofs.lemmas.Bool.{false≢true}
-use Rattle.nef_space.specs.Limits.{half_side}
+use Rattle.nef_geo.proofs.Prelude.{◌≡◌, ℕ, ◌*◌, ◌<◌, ℤ, nat_abs, false, true, arith, sym, ap, subst, ◌∙◌, false≢true, half_side}
 use Rattle.nef_geo.proofs.Products.{kept}
 use Rattle.nef_geo.proofs.point.Point.in_frame.Goals as goal
 use Rattle.nef_geo.proofs.point.Point.in_frame.Goals.{then-is_below, else-is_below}

@@ -1,5 +1,4 @@
-use Rattle.std.proofs.Common.{rules, w64, FitsSigned}
-use Rattle.nef_space.specs.Limits.{point_limit, weight_limit}
+use Rattle.nef_geo.proofs.Prelude.{rules, w64, FitsSigned, point_limit, weight_limit}
 use Rattle.nef_geo.proofs.Divisors.{IsReduced-kept, part_small, part_positive}
 use Rattle.nef_geo.proofs.Places.{SamePlace-reduced}
 use Rattle.nef_geo.proofs.point.Point.of.Goals as goal
