@@ -1,7 +1,5 @@
 -- Where equal numbers stand for one class, their numbers by first appearance number the classes.
-use Rattle.std.proofs.Common.{◌≡◌, ℕ, ◌<◌, List, arith, ◌↔◌}
-use Rattle.nef_space.specs.Lists.{IsAt, Chained, NumbersClasses}
-use Rattle.nef_classes.specs.Classes.{AreNumbered}
+use Rattle.nef_classes.proofs.Prelude.{◌≡◌, ℕ, ◌<◌, List, arith, ◌↔◌, IsAt, Chained, NumbersClasses, AreNumbered}
 use Rattle.nef_classes.proofs.ClassLists.{is-at_within, is-at_some}
 
 pub numbers-classes : (Link : ℕ → ℕ → Type 0) (cs ns : List ℕ) → AreNumbered cs ns → ((s t c d : ℕ) → IsAt cs s c → IsAt cs t d → (c ≡ d) ↔ Chained Link s t)

@@ -1,6 +1,5 @@
 -- Chains of links.
-use Rattle.std.proofs.Common.{◌≡◌, refl, ap, sym, ◌∙◌, inl, inr, ⊎_elim, List, [], ◌∷◌, ◌++◌, subst}
-use Rattle.nef_space.specs.Lists.{IsChain, Chained}
+use Rattle.nef_classes.proofs.Prelude.{◌≡◌, refl, ap, sym, ◌∙◌, inl, inr, ⊎_elim, List, [], ◌∷◌, ◌++◌, subst, IsChain, Chained}
 
 module _ {X : Type 0} (Link : X → X → Type 0) where
   pub chain-here : (x : X) → Chained Link x x

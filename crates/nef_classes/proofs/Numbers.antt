@@ -1,40 +1,30 @@
 -- The numbers of places are those of the table's elements.
-use Rattle.std.proofs.Common.{◌≡◌, ℕ, zero, suc, ◌<◌, ⊎_elim, List, [], ◌∷◌, map, arith, refl, ap, sym, ◌∙◌, subst, ◌↔◌, Result, Ok, Err}
-use Rattle.std.specs.Prelude.{IfOk}
-use Rattle.nef_space.specs.Lists.{IsAt, IsChain, Chained, NumbersClasses}
-use Rattle.nef_classes.specs.declared.forest.Link.{Link}
-use Rattle.nef_classes.specs.Classes.{AreLinked, AreClasses, AreNumbered}
+use Rattle.nef_classes.proofs.Prelude.{◌≡◌, ℕ, zero, suc, ◌<◌, ⊎_elim, List, [], ◌∷◌, map, arith, refl, ap, sym, ◌∙◌, subst, ◌↔◌, Result, Ok, Err, IfOk, option_map, slice_get-map, IsAt, IsChain, Chained, NumbersClasses, Link, AreLinked, AreClasses, AreNumbered, Cell, Tie, total, IsCellIn, place, AreTiedWithin, AreTied, HasCounts, IsCellNumber, AreNumbers, flat_tie, AreCut}
 use Rattle.nef_classes.proofs.Chains.{chain-here, chain-link, chain-trans, chain-turned, chain-map}
 use Rattle.nef_classes.proofs.ClassLists.{is-at_one, is-at_within, is-at_some}
 use Rattle.nef_classes.proofs.ByAppearance.{numbers-classes}
-use Rattle.nef_classes.specs.declared.table.Cell.{Cell}
-use Rattle.nef_classes.specs.declared.table.Tie.{Tie}
-use Rattle.nef_classes.specs.Tables.{total, IsCellIn, place, AreTiedWithin, AreTied, HasCounts, IsCellNumber, AreNumbers}
-use Rattle.nef_classes.specs.Flat.{flat_tie, AreCut}
 use Rattle.nef_classes.proofs.Places.{same-cell, earlier-cell, cell-at}
 
 -- an element of a mapped list is that of an element
-pub map-at : {X Y : Type 0} (f : X → Y) (xs : List X) (k : ℕ) (y : Y) → IsAt (map f xs) k y → (x : X) × IsAt xs k x × (f x ≡ y)
-map-at f [] k y a = cc
-map-at f (x ∷ xs) zero y a = (x, refl, cc)
-map-at f (x ∷ xs) (suc k) y a = map-at f xs k y a
+pub is-at_map : {X Y : Type 0} (f : X → Y) (xs : List X) (k : ℕ) (y : Y) → IsAt (map f xs) k y → (x : X) × IsAt xs k x × (f x ≡ y)
+is-at_map f [] k y a = cc
+is-at_map f (x ∷ xs) zero y a = (x, refl, cc)
+is-at_map f (x ∷ xs) (suc k) y a = is-at_map f xs k y a
 
-pub at-map : {X Y : Type 0} (f : X → Y) (xs : List X) (k : ℕ) (x : X) → IsAt xs k x → IsAt (map f xs) k (f x)
-at-map f [] k x a = cc
-at-map f (x ∷ xs) zero y a = cc
-at-map f (x ∷ xs) (suc k) y a = at-map f xs k y a
+pub map-is_at : {X Y : Type 0} (f : X → Y) (xs : List X) (k : ℕ) (x : X) → IsAt xs k x → IsAt (map f xs) k (f x)
+map-is_at f xs k x a = slice_get-map f xs k ∙ ap (option_map f) a
 
 module _ (counts : List ℕ) (ts : List Tie) (tied : AreTiedWithin counts ts) where
   abbrev links : List Link
   links = map (flat_tie counts) ts
 
   forth : (x y : Cell) → AreTied ts x y → Chained (AreLinked links) (place counts x) (place counts y)
-  forth x y (k, t, a, e, f) = chain-link (AreLinked links) (place counts x) (place counts y) (k, flat_tie counts t, at-map (flat_tie counts) ts k t a, ap (place counts) e, ap (place counts) f)
+  forth x y (k, t, a, e, f) = chain-link (AreLinked links) (place counts x) (place counts y) (k, flat_tie counts t, map-is_at (flat_tie counts) ts k t a, ap (place counts) e, ap (place counts) f)
 
   -- a link between places is a tie
   tie-of : (s t : ℕ) → AreLinked links s t → (x : Cell) × (y : Cell) × IsCellIn counts x × IsCellIn counts y × (place counts x ≡ s) × (place counts y ≡ t) × AreTied ts x y
   tie-of s t (k, l, a, e, f) =
-      let r = map-at (flat_tie counts) ts k l a in
+      let r = is-at_map (flat_tie counts) ts k l a in
       let tie : Tie = r.0 in
       let w = tied k tie (r.1) in
       (tie.first, tie.second, w.0, w.1, ap (λ (l : Link). l.first) (r.2) ∙ e, ap (λ (l : Link). l.second) (r.2) ∙ f, (k, tie, r.1, refl, refl))

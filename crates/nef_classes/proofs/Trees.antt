@@ -1,23 +1,13 @@
 -- Trees with shorter ways and the same roots, two trees made one, and classes from trees.
-use Rattle.std.proofs.Common.{◌≡◌, ◌≢◌, ℕ, ◌+◌, ◌<◌, ◌≤◌, ◌⊎◌, inl, inr, ⊎_elim, ◌↔◌, arith, refl, ap, sym, ◌∙◌, subst}
-use Rattle.std.proofs.Common.{List, [], ◌∷◌, ◌++◌, length, take, set, get_or}
+use Rattle.nef_classes.proofs.Prelude.{◌≡◌, ◌≢◌, ℕ, ◌+◌, ◌<◌, ◌≤◌, ◌⊎◌, inl, inr, ⊎_elim, ◌↔◌, arith, refl, ap, sym, ◌∙◌, subst, List, [], ◌∷◌, ◌++◌, length, take, set, get_or, length-take, length-set, IsAt, Chained, Link, AreLinked, AreClasses, AreOrdered, IsLifted, HasSameTrees, IsParentOrLink, AreTogether, AreRoots}
 use Rattle.std.proofs.lemmas.Bool.Decides.{eqb_tells}
-use Rattle.std.proofs.lemmas.List.{length-take}
-use Rattle.std.proofs.Math.ListN.{length-set}
-use Rattle.nef_space.specs.Lists.{IsAt, Chained}
-use Rattle.nef_classes.specs.declared.forest.Link.{Link}
-use Rattle.nef_classes.specs.Classes.{AreLinked, AreClasses}
 use Rattle.nef_classes.proofs.Chains.{chain-here, chain-link, chain-trans, chain-turned, chain-keeps, chain-map}
 use Rattle.nef_classes.proofs.ClassLists.{Either, earlier, last, is-at_one, is-at_within, is-at_left, is-at_last, is-at_either}
 use Rattle.nef_classes.proofs.ClassLists.{is-at_is, is-at_take, less-or-last}
 use Rattle.nef_classes.proofs.Cutting.{take-at}
 use Rattle.nef_classes.proofs.Writes.{set-same, set-other, set-at}
-use Rattle.nef_classes.specs.Forest.{AreOrdered, IsLifted, HasSameTrees, IsParentOrLink, AreTogether, AreRoots}
 
 -- ---- the same trees
-pub same-trees : (ps : List ℕ) → AreOrdered ps → HasSameTrees ps ps
-same-trees ps o = record { as_many = refl; ordered = o; chained = λ s t. (λ c. c, λ c. c); roots = λ k a. a }
-
 pub same-trans : (ps qs rs : List ℕ) → HasSameTrees ps qs → HasSameTrees qs rs → HasSameTrees ps rs
 same-trans ps qs rs A B = record {
   as_many = B.as_many ∙ A.as_many;

@@ -1,5 +1,5 @@
-//! Classes of numbers that links join, as trees: each number has a parent, which is never greater, and the root of a tree,
-//! its own parent, is the least number of a class. Classes are numbered by first appearance.
+//! Classes of numbers that links join, as trees: the parent of a number is never greater, and the root of a tree, which
+//! is its own parent, is the least number of its class. Classes are numbered by first appearance.
 
 ghost use Rattle.std.specs.Prelude.{◌≡◌, ◌<◌};
 ghost use Rattle.nef_geo.specs.Prelude.{length, ℕ, IfOk, IsAt, Chained};
@@ -9,14 +9,14 @@ ghost use Rattle.nef_classes.specs.Forest.{AreOrdered, IsLifted, HasSameTrees, A
 use crate::OutOfMemory;
 use std::alloc::Global;
 
-/// Two numbers that are of one class.
-#[derive(Debug, Clone, Copy, PartialEq, Eq, Drop)]
+/// A link: two numbers of one class.
+#[derive(Clone, Copy, Drop)]
 pub struct Link {
     pub first: usize,
     pub second: usize,
 }
 
-/// The numbers below `count`, each in its own place. `OutOfMemory` says that memory was wanted and not found.
+/// The numbers below `count`, each at its own place. `OutOfMemory` says that memory was wanted and not found.
 pub fn own_numbers(alloc: Global, count: usize) -> Result<Vec<usize>, OutOfMemory>
     ensures as_many { IfOk result (λ v. length v.items ≡ count) }
     ensures own { IfOk result (λ v. (i n : ℕ) → IsAt v.items i n → n ≡ i) }
@@ -24,7 +24,7 @@ pub fn own_numbers(alloc: Global, count: usize) -> Result<Vec<usize>, OutOfMemor
     (0..count).collect(alloc)
 }
 
-// Makes the parent of the number's parent the number's parent, and returns it.
+// Replaces the number's parent by the parent of that parent, and returns the new parent.
 fn lift(parents: &mut [usize], number: usize) -> usize
     requires ordered { AreOrdered parents.old }
     requires within { number < length parents.old }
@@ -36,7 +36,7 @@ fn lift(parents: &mut [usize], number: usize) -> usize
     above
 }
 
-// The root of the number's tree. The way there gets shorter by half, which keeps later walks short.
+// The root of the number's tree. The way to the root gets shorter by half, which keeps later walks short.
 fn root(parents: &mut [usize], number: usize) -> usize
     requires ordered { AreOrdered parents.old }
     requires within { number < length parents.old }
@@ -51,7 +51,7 @@ fn root(parents: &mut [usize], number: usize) -> usize
     reached
 }
 
-// Makes the trees of the link's numbers one.
+// Joins the trees of the link's numbers into one tree.
 fn join(parents: &mut [usize], link: &Link)
     requires ordered { AreOrdered parents.old }
     requires first { link.now.first < length parents.old }
@@ -76,9 +76,9 @@ fn flatten(parents: &mut [usize])
     }
 }
 
-/// For each number below `count` the least number of its class, which stands for the class: the same for two numbers
-/// exactly where a chain of links leads from one to the other. The time grows a little faster than `count` and the number
-/// of links together. `OutOfMemory` says that memory was wanted and not found.
+/// For each number below `count` the least number of its class: the same for two numbers exactly where a chain of links
+/// leads from one to the other. The time grows a little faster than `count` and the number of links together.
+/// `OutOfMemory` says that memory was wanted and not found.
 pub fn class_of_each(alloc: Global, count: usize, links: &[Link]) -> Result<Vec<usize>, OutOfMemory>
     requires within { AreWithin count links.now }
     ensures classes { IfOk result (λ v. AreClasses count links.now v.items) }
@@ -92,9 +92,9 @@ pub fn class_of_each(alloc: Global, count: usize, links: &[Link]) -> Result<Vec<
     Ok(parents)
 }
 
-/// The numbers of classes by first appearance: the first element has 0, and each class whose first element comes later has
-/// the next number. `roots` holds for each element the first one of its class. `OutOfMemory` says that memory was wanted
-/// and not found.
+/// The numbers of classes by first appearance: the class of the first element has 0, each later one the next number.
+/// `roots` has for each element the first element of its class. `OutOfMemory` says that memory was wanted and not
+/// found.
 pub fn class_numbers(alloc: Global, roots: &[usize]) -> Result<Vec<usize>, OutOfMemory>
     requires roots { AreRoots roots.now }
     ensures numbers { IfOk result (λ v. AreNumbered roots.now v.items) }

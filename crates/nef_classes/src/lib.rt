@@ -1,5 +1,4 @@
-//! Classes and their numbers: links join numbers, ties join the elements of a table, and classes are numbered by first
-//! appearance.
+//! Classes of numbers that links join and of table elements that ties join, numbered by first appearance.
 #![tactic(auto)]
 
 mod forest;

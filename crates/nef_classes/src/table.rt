@@ -1,4 +1,4 @@
-//! The numbers of all elements of a table: its rows stand one after the other, so that elements become numbers, and the
+//! Classes of the elements of a table: the rows are put one after the other, so that elements become numbers, and the
 //! numbers of their classes are cut into rows again.
 
 ghost use Rattle.std.specs.Prelude.{◌≡◌, ◌<◌, ◌^◌};
@@ -12,22 +12,22 @@ use crate::forest::{Link, class_numbers, class_of_each};
 use nef_geo::List;
 use std::alloc::Global;
 
-/// An element of a table: its row, and its place in the row. Both count from 0.
-#[derive(Debug, Clone, Copy, PartialEq, Eq, Drop)]
+/// An element of a table, by its row and its place in the row.
+#[derive(Clone, Copy, PartialEq, Eq, Drop)]
 pub struct Cell {
     pub row: usize,
     pub column: usize,
 }
 
-/// Two elements of one class.
-#[derive(Debug, Clone, Copy, PartialEq, Eq, Drop)]
+/// A tie: two elements of one class.
+#[derive(Clone, Copy, PartialEq, Eq, Drop)]
 pub struct Tie {
     pub first: Cell,
     pub second: Cell,
 }
 
-// Where each row begins when all rows stand one after the other, and after these where the last one ends. A table with
-// more elements than a `usize` counts finds no memory.
+// Where each row begins when the rows stand one after the other, and then where the last row ends. A table with more
+// elements than a `usize` counts finds no memory.
 fn starts_of(alloc: Global, counts: &[usize]) -> Result<Vec<usize>, OutOfMemory>
     ensures starts { IfOk result (λ v. AreStarts counts.now v.items) }
     ensures fits { IfOk result (λ v. total counts.now < 2 ^ 64) }
@@ -45,7 +45,7 @@ fn starts_of(alloc: Global, counts: &[usize]) -> Result<Vec<usize>, OutOfMemory>
     Ok(starts)
 }
 
-// The place of the element among all of the table.
+// The number of the element among all elements of the table.
 fn place_of(starts: &[usize], counts: &[usize], cell: &Cell) -> usize
     requires starts { AreStarts counts.now starts.now }
     requires fits { total counts.now < 2 ^ 64 }
@@ -56,7 +56,7 @@ fn place_of(starts: &[usize], counts: &[usize], cell: &Cell) -> usize
     starts[cell.row] + cell.column
 }
 
-// The ties between places.
+// The ties as links between the elements' numbers.
 fn flat_links(
     alloc: Global,
     starts: &[usize],
@@ -79,8 +79,7 @@ fn flat_links(
     Ok(links)
 }
 
-/// So many rows with nothing in them, each with room for so many elements. `OutOfMemory` says that memory was wanted and not
-/// found.
+/// So many empty rows, each with room for `room` elements. `OutOfMemory` says that memory was wanted and not found.
 pub fn empty_rows<T: Drop>(
     alloc: Global,
     count: usize,
@@ -96,7 +95,7 @@ pub fn empty_rows<T: Drop>(
     Ok(rows)
 }
 
-// The numbers in rows, which have `counts` of them.
+// The numbers cut into rows of these lengths.
 fn rows_of(
     alloc: Global,
     counts: &[usize],
@@ -117,9 +116,9 @@ fn rows_of(
     Ok(rows)
 }
 
-/// For each element of a table, whose rows have `counts` elements, the number of its class. Chains of ties join the
-/// elements of a class. Classes are numbered from 0 by first appearance, over the rows in order and the elements of each
-/// in order. `OutOfMemory` says that memory was wanted and not found.
+/// For each element of a table with rows of `counts` elements the number of its class, whose elements chains of ties
+/// join. Classes are numbered from 0 by first appearance, over the rows in order and the elements of each in order.
+/// `OutOfMemory` says that memory was wanted and not found.
 pub fn number_rows(
     alloc: Global,
     counts: &[usize],
@@ -136,7 +135,7 @@ pub fn number_rows(
     rows_of(alloc, counts, &numbers)
 }
 
-/// The number in this row of the table, at this place.
+/// The number at this row and place of the table.
 pub fn number_at(rows: &List<List<usize>>, row: usize, column: usize) -> usize
     requires some { (n : ℕ) × IsInTable rows.now row column n }
     ensures number { IsInTable rows.now row column result }

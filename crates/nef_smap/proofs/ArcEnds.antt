@@ -1,29 +1,6 @@
 -- The ends of the program's arcs.
-use Rattle.std.proofs.Common.{◌≡◌, ℕ, zero, suc, ◌<◌, pos, List, [], ◌∷◌, length, map, Some, arith, refl, ap, subst, slice_get}
-use Rattle.std.proofs.lemmas.List.{length-map}
-use Rattle.nef_space.specs.Limits.{normal_limit, svertex_limit}
-use Rattle.nef_space.specs.Vectors.{Vector, IsDirection, IsAtMost, dot}
-use Rattle.law_cyclic.specs.Arcs.{IsOnCircle}
-use Rattle.nef_geo.specs.Shapes.{vector_of}
-use Rattle.law_sphere.specs.Maps.{At, arc_item, items, dir_of}
-use Rattle.law_sphere.proofs.Vectors.{normal-is}
-use Rattle.law_sphere.proofs.Shot.{dir-at}
-use Rattle.law_sphere.proofs.Arcs.{Ends, ends-of, at-arc}
-use Rattle.nef_smap.specs.declared.map.SVertex.{SVertex}
-use Rattle.nef_smap.specs.declared.map.SArc.{SArc}
-use Rattle.nef_smap.specs.declared.map.SphereMap.{SphereMap}
-use Rattle.nef_smap.specs.Maps.{svertex_of, arc_of, map_of, IsSphereMap}
-use Rattle.nef_smap.proofs.MapLists.{at-within}
-
-pub at-map : {X Y : Type 0} (f : X → Y) (xs : List X) (k : ℕ) (x : X) → slice_get xs k ≡ Some x → At (map f xs) k (f x)
-at-map f [] k x e = cc
-at-map f (y ∷ ys) zero x e = let g : y ≡ x = cc in ap f g
-at-map f (y ∷ ys) (suc k) x e = at-map f ys k x e
-
-pub map-at : {X Y : Type 0} (f : X → Y) (xs : List X) (k : ℕ) (y : Y) → At (map f xs) k y → (x : X) × (slice_get xs k ≡ Some x) × (f x ≡ y)
-map-at f [] k y a = absurd a
-map-at f (x ∷ xs) zero y a = (x, refl, a)
-map-at f (x ∷ xs) (suc k) y a = map-at f xs k y a
+use Rattle.nef_smap.proofs.Prelude.{◌≡◌, ℕ, ◌<◌, pos, length, map, Some, arith, subst, slice_get, length-map, normal_limit, svertex_limit, Vector, IsDirection, IsAtMost, dot, IsOnCircle, vector_of, At, arc_item, items, dir_of, normal-is, dir-at, Ends, ends-of, at-arc, SVertex, SArc, SphereMap, svertex_of, arc_of, map_of, IsSphereMap}
+use Rattle.nef_smap.proofs.Lists.{map-from_get, at-within}
 
 -- what holds of the svertex at an end of an arc
 pub record EndOf (m : SphereMap) (a : SArc) (k : ℕ) (v : SVertex) : Type 0 where
@@ -52,7 +29,7 @@ module _ (m : SphereMap) (S : IsSphereMap m) (i : ℕ) (a : SArc) (h : At (map_o
 
   end-of : (k : ℕ) (v : SVertex) → slice_get m.svertices k ≡ Some v → dot (vector_of a.normal) (dir_of (map_of m).svertices k) ≡ pos 0 → EndOf m a k v
   end-of k v e l =
-      let b = at-map svertex_of m.svertices k v e in
+      let b = map-from_get svertex_of m.svertices k v e in
       let w = dir-at (map svertex_of m.svertices) k (svertex_of v) b in
       record {
         dir = w;

@@ -1,12 +1,6 @@
 -- Signs of the program's products, and directions along the coordinate axes.
-use Rattle.std.proofs.Common.{◌≡◌, ◌≢◌, ℤ, pos, ◌<ℤ◌, arith, ap, sym, ◌∙◌, subst}
-use Rattle.std.proofs.lemmas.Int.{ints}
-use Rattle.nef_space.proofs.Order.{minus, nought, plus, sign, plus-is, minus-is, nought-is}
-use Rattle.nef_space.specs.Vectors.{Vector, vector, IsZero, cross, triple, dot, up, opposite}
-use Rattle.law_near.proofs.FlatDecided.{triple-dot}
-use Rattle.nef_geo.specs.Signs.{sign_of}
+use Rattle.nef_smap.proofs.Prelude.{◌≡◌, ◌≢◌, ℤ, pos, ◌<ℤ◌, arith, ap, sym, ◌∙◌, subst, ints, minus, nought, plus, sign, plus-is, minus-is, nought-is, Vector, vector, IsZero, cross, triple, dot, up, opposite, sign_of, Minus, Zero, Plus, triple-dot}
 use Rattle.nef_geo.specs.declared.sign.Sign.{Sign as GeoSign}
-use Rattle.nef_geo.specs.declared.sign.Sign.TheVariants.{Minus, Zero, Plus}
 use Rattle.nef_smap.proofs.CloseSigns.{geo-of, geo-one}
 use Rattle.nef_smap.proofs.Stands.{dot-opposite}
 

@@ -1,16 +1,5 @@
 -- Close to a direction that is free, on an item, or on a svertex without arcs: what lies over close directions lies over it, but for its item seen from below.
-use Rattle.std.proofs.Common.{◌≡◌, ℕ, pos, ◌+ℤ◌, ◌-ℤ◌, ◌*ℤ◌, ◌≤ℤ◌, ◌<ℤ◌, arith, ap, sym, ◌∙◌, inl, inr, ⊎_elim, [], ◌∷◌, subst}
-use Rattle.std.proofs.lemmas.Int.{ints}
-use Rattle.nef_space.proofs.Ring.{ring, at, num, ◌⊕◌, ◌⊖◌, ◌⊗◌}
-use Rattle.nef_space.proofs.Order.{sign, by_order, mul_pos, sign-scaled}
-use Rattle.nef_space.specs.Vectors.{Vector, IsDirection, cross, dot, SameDirection}
-use Rattle.law_sphere.specs.Maps.{At, MapVertex, Map, Item, items, item_normal, OnItem, IsFree, HasArc, Shaped}
-use Rattle.law_sphere.specs.Forms.{Keeps, forms}
-use Rattle.law_sphere.proofs.Lists.{at-one}
-use Rattle.law_sphere.proofs.Places.{kept-plus}
-use Rattle.law_sphere.proofs.Forms.{item-forms, normal-form, on-direction, on-level, OnItem-stays}
-use Rattle.law_sphere.proofs.Shot.{product-off, arc-at}
-use Rattle.nef_smap.specs.Above.{rise, rise_form, over_forms, IsOver, IsFirstItem}
+use Rattle.nef_smap.proofs.Prelude.{◌≡◌, ℕ, pos, ◌+ℤ◌, ◌-ℤ◌, ◌*ℤ◌, ◌≤ℤ◌, ◌<ℤ◌, arith, ap, sym, ◌∙◌, inl, inr, ⊎_elim, [], ◌∷◌, subst, ints, ring, at, num, ◌⊕◌, ◌⊖◌, ◌⊗◌, sign, by_order, mul_pos, sign-scaled, Vector, IsDirection, cross, dot, SameDirection, At, MapVertex, Map, Item, items, item_normal, OnItem, IsFree, HasArc, Shaped, Keeps, forms, at-one, kept-plus, item-forms, normal-form, on-direction, on-level, OnItem-stays, product-off, arc-at, rise, rise_form, over_forms, IsOver, IsFirstItem}
 use Rattle.nef_smap.proofs.Rise.{rise-is, rise-level, rise_form-value, rise-meridian, form-over, meridian-over}
 use Rattle.nef_smap.proofs.Over.{Touches, meets, ends, touches-back, touches-on}
 use Rattle.nef_smap.proofs.Close.{Clean}

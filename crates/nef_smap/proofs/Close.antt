@@ -1,21 +1,5 @@
 -- What lies over directions close to d: what meets or ends over d.
-use Rattle.std.proofs.Common.{◌≡◌, ℕ, ℤ, pos, ◌+ℤ◌, ◌-ℤ◌, ◌*ℤ◌, ◌≤ℤ◌, ◌<ℤ◌, arith, ap, sym, ◌∙◌, [], ◌∷◌, subst, None}
-use Rattle.std.proofs.lemmas.Int.{ints}
-use Rattle.nef_space.proofs.Ring.{ring, at, num, ◌⊕◌, ◌⊖◌, ◌⊗◌}
-use Rattle.nef_space.proofs.Combination.{follows, given, none}
-use Rattle.nef_space.proofs.Order.{sign, by_order, mul_pos}
-use Rattle.nef_space.specs.Vectors.{Vector, IsDirection, cross, dot, SameDirection}
-use Rattle.law_near.proofs.Directions.{self-pos}
-use Rattle.law_near.proofs.Far.{same-nought}
-use Rattle.law_sphere.specs.Maps.{At, MapVertex, Map, Item, items, item_normal, Shaped}
-use Rattle.law_sphere.specs.Forms.{Keeps}
-use Rattle.law_sphere.proofs.Vectors.{same-plus, same-minus}
-use Rattle.law_sphere.proofs.Lists.{at-one}
-use Rattle.law_sphere.proofs.Places.{kept-plus, kept-minus}
-use Rattle.law_sphere.proofs.Forms.{item-forms, normal-form, OnItem-stays, OnItem-by_signs}
-use Rattle.law_sphere.proofs.Direct.{IsZero-times, cross-self}
-use Rattle.law_sphere.proofs.Labels.{dir-signs}
-use Rattle.nef_smap.specs.Above.{rise, over_forms, IsOver, IsFirst, IsFirstItem}
+use Rattle.nef_smap.proofs.Prelude.{◌≡◌, ℕ, ℤ, pos, ◌+ℤ◌, ◌-ℤ◌, ◌*ℤ◌, ◌≤ℤ◌, ◌<ℤ◌, arith, ap, sym, ◌∙◌, [], ◌∷◌, subst, None, ints, ring, at, num, ◌⊕◌, ◌⊖◌, ◌⊗◌, follows, given, none, sign, by_order, mul_pos, Vector, IsDirection, cross, dot, SameDirection, same-nought, At, MapVertex, Map, Item, items, item_normal, Shaped, Keeps, same-plus, same-minus, at-one, kept-plus, kept-minus, item-forms, normal-form, OnItem-stays, OnItem-by_signs, IsZero-times, cross-self, rise, over_forms, IsOver, IsFirst, IsFirstItem, self-pos, dir-signs}
 use Rattle.nef_smap.proofs.Rise.{rise-is, rise-level, rise_form-value, rise-keeps, form-over, meridian-over}
 use Rattle.nef_smap.proofs.Over.{Touches, meets, ends, touches-back, touches-on, rises-together}
 use Rattle.nef_smap.proofs.Lowest.{share_d, share_u, LiesOver}

@@ -1,24 +1,10 @@
 -- The signs of directions close to one on the forms that say what lies over them, as the program computes them.
-use Rattle.std.proofs.Common.{◌≡◌, ℕ, zero, suc, ℤ, pos, negsuc, ◌<ℤ◌, arith, refl, ap, sym, ◌∙◌, inl, inr, ⊎_elim, List, [], ◌∷◌, map, slice_get, Some, ◌↔◌, subst, Bool, IsTrue}
-use Rattle.std.proofs.lemmas.Int.{ints}
-use Rattle.nef_space.proofs.Ring.{ring, at, num, ◌⊕◌, ◌⊖◌, ◌⊗◌}
-use Rattle.nef_space.proofs.Order.{Sign, minus, nought, plus, sign, sign-plus, sign-minus}
-use Rattle.nef_space.specs.Vectors.{Vector, dot, cross, triple, opposite, up}
-use Rattle.nef_geo.specs.Signs.{sign_of}
-use Rattle.nef_geo.specs.Shapes.{vector_of}
+use Rattle.nef_smap.proofs.Prelude.{◌≡◌, ℕ, zero, suc, ℤ, pos, negsuc, ◌<ℤ◌, arith, refl, ap, sym, ◌∙◌, inl, inr, ⊎_elim, List, [], ◌∷◌, map, slice_get, Some, ◌↔◌, subst, Bool, IsTrue, ints, ring, at, num, ◌⊕◌, ◌⊖◌, ◌⊗◌, Sign, minus, nought, plus, sign, sign-plus, sign-minus, Vector, dot, cross, triple, opposite, up, sign_of, vector_of, Minus, Zero, Plus, Close, rise_form, first_sign, geo_sign, toward, then_toward, beyond_sign, close_sign, ArcPasses, dir_of, SVertex, svertex_of, triple-middle as turn-form}
 use Rattle.nef_geo.specs.declared.sign.Sign.{Sign as GeoSign}
-use Rattle.nef_geo.specs.declared.sign.Sign.TheVariants.{Minus, Zero, Plus}
-use Rattle.nef_smap.specs.declared.above.Close.{Close}
 use Rattle.nef_smap.specs.declared.above.Lean.{Lean}
 use Rattle.nef_smap.specs.declared.above.Lean.TheVariants.{Down, Up, Along}
-use Rattle.nef_smap.specs.Above.{rise_form, first_sign}
-use Rattle.nef_smap.specs.Close.{geo_sign, toward, then_toward, beyond_sign, close_sign, ArcPasses}
-use Rattle.law_sphere.specs.Maps.{dir_of}
-use Rattle.nef_smap.specs.declared.map.SVertex.{SVertex}
-use Rattle.nef_smap.specs.Maps.{svertex_of}
 use Rattle.nef_smap.proofs.Rise.{rise_form-value}
 use Rattle.nef_smap.proofs.Stands.{first-last, dot-opposite}
-use Rattle.law_sphere.proofs.Vectors.{triple-middle as turn-form}
 
 pub geo-of : (z : ℤ) → sign_of z ≡ geo_sign (sign z)
 geo-of (pos zero) = refl

@@ -1,22 +1,5 @@
 -- What lies over the directions close to one direction has one label.
-use Rattle.std.proofs.Common.{◌≡◌, ℕ, ℤ, pos, ◌+ℤ◌, ◌-ℤ◌, ◌*ℤ◌, ◌≤ℤ◌, ◌<ℤ◌, arith, ap, sym, ◌∙◌, ◌⊎◌, inl, inr, ⊎_elim, [], ◌∷◌, subst, Option, Some, None}
-use Rattle.std.proofs.lemmas.Int.{ints}
-use Rattle.nef_space.proofs.Ring.{ring, at, num, ◌⊕◌, ◌⊖◌, ◌⊗◌}
-use Rattle.nef_space.proofs.Order.{minus, sign, sign-plus, sign-minus, by_order, mul_pos, cancel_lt, sign-scaled}
-use Rattle.nef_space.specs.Signs.{Lies}
-use Rattle.nef_space.specs.Vectors.{Vector, IsDirection, cross, dot, SameDirection, opposite}
-use Rattle.nef_space.specs.declared.label.Label.{Label}
-use Rattle.law_near.proofs.Decided.{Decided}
-use Rattle.law_near.proofs.Directions.{self-pos}
-use Rattle.law_near.proofs.Far.{same-off, same-nought}
-use Rattle.law_sphere.specs.Maps.{At, MapVertex, Map, Item, items, item_normal, Side, Shaped}
-use Rattle.law_sphere.specs.Forms.{Keeps}
-use Rattle.law_sphere.proofs.Vectors.{same-plus, same-minus, negative-or}
-use Rattle.law_sphere.proofs.Forms.{item-forms, normal-form}
-use Rattle.law_sphere.proofs.Direct.{cross-self}
-use Rattle.law_sphere.proofs.Labels.{dir-signs}
-use Rattle.nef_smap.specs.Above.{rise, meridians, over_forms, IsFirst, IsFirstItem, first_sign, Stands}
-use Rattle.nef_smap.specs.Joined.{met, FirstNear, BelowFirsts}
+use Rattle.nef_smap.proofs.Prelude.{◌≡◌, ℕ, ℤ, pos, ◌+ℤ◌, ◌-ℤ◌, ◌*ℤ◌, ◌≤ℤ◌, ◌<ℤ◌, arith, ap, sym, ◌∙◌, ◌⊎◌, inl, inr, ⊎_elim, [], ◌∷◌, subst, Option, Some, None, ints, ring, at, num, ◌⊕◌, ◌⊖◌, ◌⊗◌, minus, sign, sign-plus, sign-minus, by_order, mul_pos, cancel_lt, sign-scaled, Lies, Vector, IsDirection, cross, dot, SameDirection, opposite, Label, Decided, same-off, same-nought, At, MapVertex, Map, Item, items, item_normal, Side, Shaped, Keeps, same-plus, same-minus, negative-or, item-forms, normal-form, cross-self, rise, meridians, over_forms, IsFirst, IsFirstItem, first_sign, Stands, met, FirstNear, BelowFirsts, self-pos, dir-signs}
 use Rattle.nef_smap.proofs.Rise.{rise-is, rise_form-value, meridian-level, form-over, meridian-over, svertex-meridian, meridians-same}
 use Rattle.nef_smap.proofs.Over.{Touches, meets, ends, touches-level, Alike, one_side, over_none, moved, first-one}
 use Rattle.nef_smap.proofs.Lowest.{Least, least_or, first-exists, share_d, share_u, LiesOver, over-value, lies_over-decided}

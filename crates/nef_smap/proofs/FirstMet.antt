@@ -1,19 +1,6 @@
 -- The way to the first item that is met is clear; and of three meets, the first is before the last.
-use Rattle.std.proofs.Common.{◌≡◌, ℕ, ◌<◌, ℤ, pos, ◌+ℤ◌, ◌*ℤ◌, ◌-ℤ◌, ◌<ℤ◌, arith, ap, sym, ◌∙◌, [], ◌∷◌, length, subst}
-use Rattle.std.proofs.lemmas.Int.{ints}
-use Rattle.nef_space.proofs.Ring.{ring, at, num, ◌⊕◌, ◌⊖◌, ◌⊗◌}
-use Rattle.nef_space.proofs.Combination.{follows, given, none}
-use Rattle.nef_space.proofs.Order.{sign, by_order, mul_pos, mul_nonneg, square_nonneg, sign-scaled}
-use Rattle.nef_space.specs.Vectors.{Vector, IsDirection, cross, dot, blend}
-use Rattle.law_near.proofs.Directions.{square_pos}
-use Rattle.law_sphere.specs.Maps.{At, MapVertex, Map, Item, items, item_normal, OnItem, IsFree, IsClear, Shaped}
-use Rattle.law_sphere.proofs.Vectors.{dot-comb, direction-by, same-plus, same-minus}
-use Rattle.law_sphere.proofs.Forms.{on-level, on-direction, OnItem-by_signs}
-use Rattle.law_sphere.proofs.Parallel.{apart}
-use Rattle.law_sphere.proofs.Shot.{product-off}
-use Rattle.law_sphere.proofs.Direct.{slid-level, slid-square, cross-self, miss-between, between-off_target}
-use Rattle.nef_smap.proofs.MapLists.{at-within}
-use Rattle.nef_smap.specs.Paths.{meet_of, IsMetBefore, IsFirstMet}
+use Rattle.nef_smap.proofs.Prelude.{◌≡◌, ℕ, ◌<◌, ℤ, pos, ◌+ℤ◌, ◌*ℤ◌, ◌-ℤ◌, ◌<ℤ◌, arith, ap, sym, ◌∙◌, [], ◌∷◌, length, subst, ints, ring, at, num, ◌⊕◌, ◌⊖◌, ◌⊗◌, follows, given, none, sign, by_order, mul_pos, mul_nonneg, square_nonneg, sign-scaled, square_pos, Vector, IsDirection, cross, dot, blend, At, MapVertex, Map, Item, items, item_normal, OnItem, IsFree, IsClear, Shaped, dot-comb, direction-by, same-plus, same-minus, on-level, on-direction, OnItem-by_signs, product-off, slid-level, slid-square, cross-self, miss-between, between-off_target, meet_of, IsMetBefore, IsFirstMet, apart}
+use Rattle.nef_smap.proofs.Lists.{at-within}
 
 -- ---- the order of meets
 pub meet-is : (n g a b : Vector) → dot g (meet_of n a b) ≡ dot n a *ℤ (dot n a *ℤ dot g b -ℤ dot n b *ℤ dot g a)

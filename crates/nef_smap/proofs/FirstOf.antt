@@ -1,15 +1,7 @@
 -- The first item that is met, item by item.
-use Rattle.std.proofs.Common.{◌≡◌, ℕ, ◌+◌, pos, ◌-ℤ◌, ◌*ℤ◌, ◌≤ℤ◌, ◌<ℤ◌, arith, sym, ◌∙◌, ⊎_elim, length, [], ◌∷◌, subst, Option, Some, None}
-use Rattle.std.proofs.lemmas.Int.{ints}
-use Rattle.nef_space.proofs.Ring.{ring, at, num, ◌⊕◌, ◌⊖◌, ◌⊗◌}
-use Rattle.nef_space.proofs.Fractions.{fraction-le-trans}
-use Rattle.nef_space.specs.Vectors.{Vector, dot}
-use Rattle.law_sphere.specs.Maps.{At, Map, Item, items, item_normal}
-use Rattle.law_sphere.proofs.Lists.{at-one}
-use Rattle.nef_smap.specs.Above.{rise, IsOver, IsFirst, IsFirstOf}
+use Rattle.nef_smap.proofs.Prelude.{◌≡◌, ℕ, ◌+◌, pos, ◌-ℤ◌, ◌*ℤ◌, ◌≤ℤ◌, ◌<ℤ◌, arith, sym, ◌∙◌, ⊎_elim, length, [], ◌∷◌, subst, Option, Some, None, ints, ring, at, num, ◌⊕◌, ◌⊖◌, ◌⊗◌, fraction-le-trans, Vector, dot, At, Map, Item, items, item_normal, at-one, rise, IsOver, IsFirst, IsFirstOf, less-or-last}
 use Rattle.nef_smap.proofs.Rise.{rise-is, rise-level, rise_form-value}
-use Rattle.nef_smap.proofs.MapLists.{at-within}
-use Rattle.nef_classes.proofs.ClassLists.{less-or-last}
+use Rattle.nef_smap.proofs.Lists.{at-within}
 
 -- heights compare as fractions
 height : (u n m d : Vector) → dot m (rise u n d) ≡ (pos 0 -ℤ dot n d) *ℤ dot m u -ℤ (pos 0 -ℤ dot m d) *ℤ dot n u

@@ -1,21 +1,5 @@
 -- What is met first over a free direction sees it: the lower side of an item, or u.
-use Rattle.std.proofs.Common.{◌≡◌, ℕ, ◌+◌, ◌*◌, ◌<◌, ℤ, pos, ◌+ℤ◌, ◌-ℤ◌, ◌*ℤ◌, ◌<ℤ◌, nat_abs, arith, ap, sym, ◌∙◌, [], ◌∷◌, subst, None}
-use Rattle.std.proofs.lemmas.Int.{ints}
-use Rattle.std.proofs.Math.Nat.{mul-pos}
-use Rattle.nef_space.proofs.Ring.{ring, at, num, ◌⊕◌, ◌⊖◌, ◌⊗◌}
-use Rattle.nef_space.proofs.Combination.{follows, given, none}
-use Rattle.nef_space.proofs.Order.{sign, mul_pos, mul_neg, sign-scaled, nought-is}
-use Rattle.nef_space.specs.Vectors.{Vector, IsDirection, cross, dot, SameDirection, blend}
-use Rattle.law_near.proofs.Flats.{vector-same}
-use Rattle.law_near.proofs.FlatDecided.{cross-turned}
-use Rattle.law_sphere.specs.Maps.{At, MapVertex, Map, Item, items, item_normal, OnItem, IsFree, neg_item, IsClear, Sees, directly, Shaped}
-use Rattle.law_sphere.proofs.Vectors.{dot-comb, same-minus}
-use Rattle.law_sphere.proofs.Forms.{on-direction, on-level, OnItem-by_signs}
-use Rattle.law_sphere.proofs.Parallel.{apart}
-use Rattle.law_sphere.proofs.Direct.{cross-self, IsZero-times}
-use Rattle.law_sphere.proofs.Shot.{product-off}
-use Rattle.law_sphere.proofs.Labels.{dir-signs}
-use Rattle.nef_smap.specs.Above.{rise, IsOver, IsFirst, IsFirstItem}
+use Rattle.nef_smap.proofs.Prelude.{◌≡◌, ℕ, ◌+◌, ◌*◌, ◌<◌, ℤ, pos, ◌+ℤ◌, ◌-ℤ◌, ◌*ℤ◌, ◌<ℤ◌, nat_abs, arith, ap, sym, ◌∙◌, [], ◌∷◌, subst, None, ints, mul-pos, ring, at, num, ◌⊕◌, ◌⊖◌, ◌⊗◌, follows, given, none, sign, mul_pos, mul_neg, sign-scaled, nought-is, Vector, IsDirection, cross, dot, SameDirection, blend, At, MapVertex, Map, Item, items, item_normal, OnItem, IsFree, neg_item, IsClear, Sees, directly, Shaped, dot-comb, same-minus, on-direction, on-level, OnItem-by_signs, cross-self, IsZero-times, product-off, rise, IsOver, IsFirst, IsFirstItem, vector-same, cross-turned, dir-signs, apart}
 use Rattle.nef_smap.proofs.Rise.{rise-is, rise-level, rise_form-value}
 use Rattle.nef_smap.proofs.Close.{cross-last}
 

@@ -1,15 +1,6 @@
 -- The item that a way meets first, of the first n items of the program's map.
-use Rattle.std.proofs.Common.{◌≡◌, ℕ, ◌+◌, ◌^◌, ℤ, pos, ◌*ℤ◌, ◌<ℤ◌, sym, ap, ◌∙◌, subst, Bool, ◌↔◌}
+use Rattle.nef_smap.proofs.Prelude.{◌≡◌, ℕ, ◌+◌, ◌^◌, ℤ, pos, ◌*ℤ◌, ◌<ℤ◌, sym, ap, ◌∙◌, subst, Bool, ◌↔◌, dot, At, Item, items, item_normal, Values, SphereMap, SpherePath, linear_at, turn_value, AreAtMost, IsLarge, map_of, start_at, end_at, AreValues, meet_of, IsMet, IsFair, IsFirstMet}
 use Rattle.std.specs.Bool.{IsTrue}
-use Rattle.nef_space.specs.Vectors.{dot}
-use Rattle.law_sphere.specs.Maps.{At, Item, items, item_normal}
-use Rattle.nef_smap.specs.declared.meets.Values.{Values}
-use Rattle.nef_smap.specs.declared.map.SphereMap.{SphereMap}
-use Rattle.nef_smap.specs.declared.meets.SpherePath.{SpherePath}
-use Rattle.nef_smap.specs.Linear.{linear_at, turn_value, AreAtMost, IsLarge}
-use Rattle.nef_smap.specs.Maps.{map_of}
-use Rattle.nef_smap.specs.WideVectors.{start_at, end_at, AreValues}
-use Rattle.nef_smap.specs.Paths.{meet_of, IsMet, IsFair, IsFirstMet}
 use Rattle.nef_smap.proofs.MeetSigns.{start-value, meet-value}
 use Rattle.nef_smap.proofs.MeetTests.{first-begins, first-stays, first-changes}
 

@@ -1,32 +1,15 @@
 -- Searching the lists of the program's maps, and where a direction lies.
-use Rattle.std.proofs.Common.{◌≡◌, ℕ, zero, suc, ◌+◌, ◌<◌, ◌≤◌, arith, refl, ap, sym, ◌∙◌, ⊎_elim, List, [], ◌∷◌, length, map, Option, Some, None, subst, slice_get, get_or, ◌↔◌}
-use Rattle.std.proofs.lemmas.Option.{slice_get_read}
-use Rattle.std.proofs.lemmas.List.{length-map}
-use Rattle.std.proofs.Math.Nat.{eq-or-lt_of_le}
-use Rattle.nef_space.specs.Vectors.{Vector, SameDirection}
-use Rattle.nef_space.specs.declared.label.Label.{Label}
-use Rattle.nef_geo.specs.Shapes.{vector_of}
-use Rattle.nef_geo.specs.declared.dir.Dir.{Dir}
-use Rattle.nef_geo.proofs.Unique.{same_directions_equal}
-use Rattle.law_sphere.specs.Maps.{At, MapVertex, Arc, MapSloop, Map, Item, arc_item, sloop_item, items_then, items, item_mark, OnItem, MapLabel, at_svertex, on_item, seen, Side, whole, Sees}
-use Rattle.law_sphere.proofs.Lists.{at-one}
-use Rattle.law_sphere.proofs.Arcs.{sloop-at, at-arc}
-use Rattle.law_sphere.proofs.Shot.{arc-at}
-use Rattle.law_sphere.proofs.Compare.{dir-self}
-use Rattle.nef_smap.specs.Sides.{LabelledSide, sides_of, IsSide, SideSees, IsPlaceOf}
-use Rattle.nef_smap.specs.Maps.{svertex_of, arc_of, map_of}
-use Rattle.nef_smap.specs.declared.map.SVertex.{SVertex}
-use Rattle.nef_smap.specs.declared.map.SphereMap.{SphereMap}
+use Rattle.nef_smap.proofs.Prelude.{◌≡◌, ℕ, zero, suc, ◌+◌, ◌<◌, ◌≤◌, arith, refl, ap, sym, ◌∙◌, ⊎_elim, List, [], ◌∷◌, length, map, Option, Some, None, subst, slice_get, get_or, ◌↔◌, slice_get_read, length-map, eq-or-lt_of_le, Vector, SameDirection, Label, vector_of, Dir, same_directions_equal, At, MapVertex, Arc, MapSloop, Map, Item, arc_item, sloop_item, items_then, items, item_mark, OnItem, MapLabel, at_svertex, on_item, seen, Side, whole, Sees, at-one, sloop-at, at-arc, arc-at, LabelledSide, sides_of, IsSide, SideSees, IsPlaceOf, svertex_of, arc_of, map_of, SVertex, SphereMap, is-at_within, dir-self}
 use Rattle.nef_smap.specs.declared.map.SPlace.TheVariants as place
-use Rattle.nef_smap.proofs.ArcEnds.{at-map}
-use Rattle.nef_smap.proofs.MapLists.{at-within, sloop-listed}
+use Rattle.nef_smap.proofs.Lists.{map-within, map-from_get, at-within}
+use Rattle.nef_smap.proofs.MapLists.{sloop-listed}
 use Rattle.nef_smap.proofs.SideLists.{side-has}
 
 -- ---- searching
 module _ {X Y : Type 0} (f : X → Y) (xs : List X) (P : Y → Type 0) where
   pub next-none : (n : ℕ) (x : X) → slice_get xs n ≡ Some x → ((k : ℕ) → k < n → (y : Y) → At (map f xs) k y → P y → ⊥) → (P (f x) → ⊥) → (k : ℕ) → k < n + 1 → (y : Y) → At (map f xs) k y → P y → ⊥
   next-none n x e before here k h y a p = ⊎_elim
-      (λ z. here (subst P (at-one (map f xs) n y (f x) (subst (λ (r : ℕ). At (map f xs) r y) z a) (at-map f xs n x e)) p))
+      (λ z. here (subst P (at-one (map f xs) n y (f x) (subst (λ (r : ℕ). At (map f xs) r y) z a) (map-from_get f xs n x e)) p))
       (λ l. before k l y a p)
       (eq-or-lt_of_le {n = k} {m = n} (omega arith))
 
@@ -43,12 +26,7 @@ dir-same a b = (λ e. subst (λ (x : Dir). SameDirection (vector_of a) (vector_o
 
 -- ---- the label of a side that sees
 pub side-within : (M : Map) (s : ℕ) (d : Vector) → SideSees M s d → s < length (sides_of M)
-side-within M s d (o, l, i, q) = get-within (sides_of M) s (o, l) i
-  where
-    get-within : {X : Type 0} (xs : List X) (k : ℕ) (x : X) → slice_get xs k ≡ Some x → k < length xs
-    get-within [] k x e = cc
-    get-within (y ∷ ys) zero x e = omega arith
-    get-within (y ∷ ys) (suc k) x e = let h = get-within ys k x e in omega arith
+side-within M s d (o, l, i, q) = is-at_within (sides_of M) s (o, l) i
 
 option_side : Option LabelledSide → Side
 option_side None = whole
@@ -62,9 +40,6 @@ label-by_side M s d m (o, l, i, q) (p, j) =
     seen (record { side = p; has = side-has M s p m j; sees = subst (λ (r : Side). Sees M r d) f q })
 
 -- ---- the label of what a direction lies on
-map-within : {X Y : Type 0} (f : X → Y) (xs : List X) (k : ℕ) (y : Y) → At (map f xs) k y → k < length xs
-map-within f xs k y a = let w = at-within (map f xs) k y a in let e = length-map xs f in omega arith
-
 -- the sloop comes after the arcs
 past-arcs : (as' : List Arc) (o : Option MapSloop) (k : ℕ) (l : MapSloop) → At (items_then as' o) k (sloop_item l) → k < length as' → ⊥
 past-arcs [] o k l a h = absurd (omega (arith, h))
@@ -76,7 +51,7 @@ module _ (m : SphereMap) (d : Vector) where
   svertex-within k (v, a, s) = map-within svertex_of m.svertices k v a
 
   pub label-svertex : (k : ℕ) (w : SVertex) → slice_get m.svertices k ≡ Some w → IsPlaceOf (map_of m) d (place.SVertex k) → MapLabel (map_of m) d w.mark
-  label-svertex k w e (v, a, s) = let b = at-map svertex_of m.svertices k w e in
+  label-svertex k w e (v, a, s) = let b = map-from_get svertex_of m.svertices k w e in
       at_svertex k (svertex_of w) b (subst (λ (r : MapVertex). SameDirection r.dir d) (at-one (map svertex_of m.svertices) k v (svertex_of w) a b) s) refl
 
   -- the item at whose place a direction lies

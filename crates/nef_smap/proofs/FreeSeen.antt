@@ -1,37 +1,6 @@
 -- The side that sees a free direction: that of the item which a way close to it meets first, or the only one.
-use Rattle.std.proofs.Common.{◌≡◌, ℕ, zero, suc, ◌+◌, ◌*◌, ◌^◌, ◌≤◌, ℤ, pos, ◌-ℤ◌, ◌*ℤ◌, ◌<ℤ◌, arith, refl, ap, sym, ◌∙◌, inl, ⊎_elim, List, [], ◌∷◌, ◌++◌, length, Option, Some, None, subst, slice_get, negsuc, nat_abs, ◌≤ℤ◌, Bool, true, false, cond, ◌↔◌}
+use Rattle.nef_smap.proofs.Prelude.{◌≡◌, ℕ, zero, suc, ◌+◌, ◌*◌, ◌^◌, ◌≤◌, ℤ, pos, ◌-ℤ◌, ◌*ℤ◌, ◌<ℤ◌, arith, refl, ap, sym, ◌∙◌, inl, ⊎_elim, List, [], ◌∷◌, ◌++◌, length, Option, Some, None, subst, slice_get, negsuc, nat_abs, ◌≤ℤ◌, Bool, true, false, cond, ◌↔◌, not_true, normal_limit, ints, ring, at, num, ◌⊕◌, ◌⊖◌, ◌⊗◌, follows, given, none, sign, nought-is, by_order, mul_pos, nought-or, square_pos, Vector, vector, IsDirection, IsNormal, IsAtMost, triple, cross, dot, blend, up as upward, Label, IsAt, same-off, At, MapVertex, Arc, MapSloop, Map, Item, arc_item, sloop_item, items, items_then, item_normal, dir_of, OnItem, IsFree, IsClear, around_svertex, pos_item, neg_item, whole, Sees, directly, by_way_of, HasArc, Shaped, Keeps, forms, gather, normal-is, direction-by, amount, far-keeps, far-level, gather-has, at-one, item-forms, normal-form, on-level, on-direction, arc-point, Ends, ends-of, at-arc, product-off, slid, slid-level, slid-square, IsZero-times, cross-self, miss-between, between-off_target, free-around, clear-around, Outlook, outlook, outlook-free, outlook-clear, outlook-svertex, clear-self, IsLarge, SideSees, labelled, svertex_sides, item_sides, meet_of, IsFair, IsFirstMet, self-pos, triple-in_plane, cross-none, dir-self, apart}
 use Rattle.std.specs.Bool.{IsTrue}
-use Rattle.nef_arc.proofs.SignNumbers.{not_true}
-use Rattle.nef_space.specs.Limits.{normal_limit}
-use Rattle.std.proofs.lemmas.Int.{ints}
-use Rattle.nef_space.proofs.Ring.{ring, at, num, ◌⊕◌, ◌⊖◌, ◌⊗◌}
-use Rattle.nef_space.proofs.Combination.{follows, given, none}
-use Rattle.nef_space.proofs.Order.{sign, nought-is, by_order, mul_pos}
-use Rattle.nef_space.specs.Vectors.{Vector, vector, IsDirection, IsNormal, IsAtMost, triple, cross, dot, blend, up as upward}
-use Rattle.nef_space.specs.declared.label.Label.{Label}
-use Rattle.law_near.proofs.FlatDecided.{triple-in_plane}
-use Rattle.law_near.proofs.Meets.{cross-none}
-use Rattle.nef_space.specs.Lists.{IsAt}
-use Rattle.law_near.proofs.Directions.{self-pos, square_pos}
-use Rattle.law_near.proofs.Far.{nought-or, same-off}
-use Rattle.law_sphere.specs.Maps.{At, MapVertex, Arc, MapSloop, Map, Item, arc_item, sloop_item, items, items_then, item_normal, dir_of, OnItem, IsFree, IsClear, around_svertex, pos_item, neg_item, whole, Sees, directly, by_way_of, HasArc, Shaped}
-use Rattle.law_sphere.specs.Forms.{Keeps, forms, gather}
-use Rattle.law_sphere.proofs.Vectors.{normal-is, direction-by}
-use Rattle.law_sphere.proofs.Generic.{amount, far-keeps, far-level}
-use Rattle.law_sphere.proofs.Lists.{gather-has, at-one}
-use Rattle.law_sphere.proofs.Forms.{item-forms, normal-form, on-level, on-direction}
-use Rattle.law_sphere.proofs.Parallel.{apart, arc-point}
-use Rattle.law_sphere.proofs.Arcs.{Ends, ends-of, at-arc}
-use Rattle.law_sphere.proofs.Shot.{product-off}
-use Rattle.law_sphere.proofs.Direct.{slid, slid-level, slid-square, IsZero-times, cross-self, miss-between, between-off_target}
-use Rattle.law_sphere.proofs.Around.{free-around}
-use Rattle.law_sphere.proofs.NearItems.{clear-around}
-use Rattle.law_sphere.proofs.StepOff.{Outlook, outlook, outlook-free, outlook-clear, outlook-svertex}
-use Rattle.law_sphere.proofs.Sight.{clear-self}
-use Rattle.law_sphere.proofs.Compare.{dir-self}
-use Rattle.nef_smap.specs.Linear.{IsLarge}
-use Rattle.nef_smap.specs.Sides.{SideSees, labelled, svertex_sides, item_sides}
-use Rattle.nef_smap.specs.Paths.{meet_of, IsFair, IsFirstMet}
 use Rattle.nef_smap.proofs.FirstMet.{first-clear}
 
 -- ---- the way to an arc

@@ -1,26 +1,6 @@
 -- What each link of the program joins.
-use Rattle.std.proofs.Common.{◌≡◌, ℕ, zero, suc, ◌<◌, ℤ, pos, ◌*ℤ◌, ◌<ℤ◌, arith, ap, sym, ◌∙◌, List, [], ◌∷◌, map, slice_get, subst, Some}
-use Rattle.std.proofs.lemmas.Int.{ints}
-use Rattle.nef_space.proofs.Ring.{ring, at, num, ◌⊕◌, ◌⊖◌, ◌⊗◌}
-use Rattle.nef_space.proofs.Combination.{follows, given, none}
-use Rattle.nef_space.proofs.Order.{mul_pos}
-use Rattle.nef_space.specs.Limits.{normal_limit, svertex_limit}
-use Rattle.nef_space.specs.Vectors.{Vector, IsDirection, IsZero, IsAtMost, cross, triple, dot, up, opposite, SameDirection}
-use Rattle.law_near.proofs.FlatDecided.{triple-dot}
-use Rattle.law_near.proofs.Directions.{self-pos, dot-zero, direction-left}
-use Rattle.law_near.proofs.Far.{same-nought}
+use Rattle.nef_smap.proofs.Prelude.{◌≡◌, ℕ, zero, suc, ◌<◌, ℤ, pos, ◌*ℤ◌, ◌<ℤ◌, arith, ap, sym, ◌∙◌, List, [], ◌∷◌, map, slice_get, subst, Some, ints, ring, at, num, ◌⊕◌, ◌⊖◌, ◌⊗◌, follows, given, none, mul_pos, normal_limit, svertex_limit, Vector, IsDirection, IsZero, IsAtMost, cross, triple, dot, up, opposite, SameDirection, same-nought, vector_of, At, Item, arc_item, items, item_normal, same-plus, dir-at, at-arc, SArc, SVertex, SphereMap, svertex_of, arc_of, map_of, IsSphereMap, dot-zero, self-pos, triple-dot, dir-signs, apart, direction-left}
 use Rattle.nef_geo.proofs.Directions.{small-neg}
-use Rattle.nef_geo.specs.Shapes.{vector_of}
-use Rattle.law_sphere.specs.Maps.{At, Item, arc_item, items, item_normal}
-use Rattle.law_sphere.proofs.Vectors.{same-plus}
-use Rattle.law_sphere.proofs.Parallel.{apart}
-use Rattle.law_sphere.proofs.Shot.{dir-at}
-use Rattle.law_sphere.proofs.Labels.{dir-signs}
-use Rattle.law_sphere.proofs.Arcs.{at-arc}
-use Rattle.nef_smap.specs.declared.map.SArc.{SArc}
-use Rattle.nef_smap.specs.declared.map.SVertex.{SVertex}
-use Rattle.nef_smap.specs.declared.map.SphereMap.{SphereMap}
-use Rattle.nef_smap.specs.Maps.{svertex_of, arc_of, map_of, IsSphereMap}
 use Rattle.nef_smap.proofs.Axes.{x_axis, y_axis}
 use Rattle.nef_smap.proofs.CloseSigns.{dir-from_get}
 use Rattle.nef_smap.proofs.Sound.{along-turn}

@@ -1,19 +1,5 @@
 -- The label of a free direction: of what lies over it. It is a labelling, which the signs of finitely many forms determine.
-use Rattle.std.proofs.Common.{◌≡◌, ℕ, pos, ◌<ℤ◌, refl, ap, sym, ◌∙◌, inl, inr, List, [], ◌∷◌, ◌++◌, Option}
-use Rattle.nef_space.proofs.Ring.{ring, at, ◌⊕◌, ◌⊖◌, ◌⊗◌}
-use Rattle.nef_space.proofs.Order.{sign}
-use Rattle.nef_space.proofs.Lists.{lies-left, lies-right}
-use Rattle.nef_space.specs.Signs.{Lies}
-use Rattle.nef_space.specs.Vectors.{Vector, cross, dot}
-use Rattle.nef_space.specs.declared.label.Label.{Label}
-use Rattle.nef_space.specs.declared.label.Label.TheVariants.{Out}
-use Rattle.law_near.proofs.Decided.{Decided}
-use Rattle.law_sphere.specs.Maps.{At, Map, Item, items, item_normal, IsFree, Side, Shaped}
-use Rattle.law_sphere.specs.Forms.{SameSigns, gather, forms}
-use Rattle.law_sphere.specs.Labelling.{Labelling}
-use Rattle.law_sphere.proofs.Forms.{item-forms, normal-form, IsFree-decided, free-by_signs}
-use Rattle.nef_smap.specs.Above.{over_forms, IsFirst, first_sign, Stands}
-use Rattle.nef_smap.specs.Joined.{met}
+use Rattle.nef_smap.proofs.Prelude.{◌≡◌, ℕ, pos, ◌<ℤ◌, refl, ap, sym, ◌∙◌, inl, inr, List, [], ◌∷◌, ◌++◌, Option, ring, at, ◌⊕◌, ◌⊖◌, ◌⊗◌, sign, lies-left, lies-right, Lies, Vector, cross, dot, Label, Out, Decided, At, Map, Item, items, item_normal, IsFree, Side, Shaped, SameSigns, gather, forms, Labelling, item-forms, normal-form, IsFree-decided, free-by_signs, over_forms, IsFirst, first_sign, Stands, met}
 use Rattle.nef_smap.proofs.Rise.{lies-at, form-over, meridian-over}
 use Rattle.nef_smap.proofs.Over.{one_side, moved, first-one}
 use Rattle.nef_smap.proofs.Lowest.{first-exists}

@@ -1,17 +1,7 @@
 -- The sign of an expression that is linear, or bilinear, in large numbers is that of its first coefficient that isn't zero.
-use Rattle.std.proofs.Common.{◌≡◌, ℕ, zero, suc, ◌*◌, ◌^◌, ◌<◌, ◌≤◌, ℤ, pos, negsuc, nat_abs, neg_ℤ, ◌+ℤ◌, ◌-ℤ◌, ◌*ℤ◌, arith, refl, ap, sym, ◌∙◌, ⊎_elim, [], ◌∷◌, subst, Bool, true, false, cond, FitsSigned, to_z, of_z}
-use Rattle.std.specs.Ordering.{int_eq}
-use Rattle.std.proofs.lemmas.Bool.Decides.{Decides-int_eq}
-use Rattle.std.proofs.lemmas.Int.{ints, to_z-of_z}
+use Rattle.nef_smap.proofs.Prelude.{◌≡◌, ℕ, zero, suc, ◌*◌, ◌^◌, ◌<◌, ◌≤◌, ℤ, pos, negsuc, nat_abs, neg_ℤ, ◌+ℤ◌, ◌-ℤ◌, ◌*ℤ◌, arith, refl, ap, sym, ◌∙◌, ⊎_elim, [], ◌∷◌, subst, Bool, true, false, cond, FitsSigned, to_z, of_z, int_eq, Decides-int_eq, ints, to_z-of_z, ring, at, num, ◌⊕◌, ◌⊖◌, ◌⊗◌, Sign, minus, nought, plus, sign, sign-scaled, sign_of_product, sign_turned, sign_times, sign-neg, abs_plus, abs_times, nought-or, sign_of, Minus, Zero, Plus, same-nought, same-off, sign-large, sign-level, leading_of, turn_value, AreAtMost, IsLarge, Values}
 use mir.Syntax.{w128}
-use Rattle.nef_space.proofs.Ring.{ring, at, num, ◌⊕◌, ◌⊖◌, ◌⊗◌}
-use Rattle.nef_space.proofs.Order.{Sign, minus, nought, plus, sign, sign-scaled, sign_of_product, sign_turned, sign_times, sign-neg, abs_plus, abs_times}
-use Rattle.nef_geo.specs.Signs.{sign_of}
 use Rattle.nef_geo.specs.declared.sign.Sign.{Sign as Answer}
-use Rattle.nef_geo.specs.declared.sign.Sign.TheVariants.{Minus, Zero, Plus}
-use Rattle.law_near.proofs.Far.{nought-or, same-nought, same-off, sign-large, sign-level}
-use Rattle.nef_smap.specs.Linear.{leading_of, turn_value, AreAtMost, IsLarge}
-use Rattle.nef_smap.specs.declared.meets.Values.{Values}
 
 -- ---- the program's signs
 answer : Sign → Answer

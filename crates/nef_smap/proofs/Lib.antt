@@ -1,3 +1,4 @@
+pub mod Prelude
 pub mod Rise
 pub mod Over
 pub mod Lowest

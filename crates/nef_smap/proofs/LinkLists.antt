@@ -1,21 +1,7 @@
 -- Lists of links, link by link.
-use Rattle.std.proofs.Common.{◌≡◌, ℕ, zero, suc, ◌+◌, ◌<◌, arith, length-append, refl, ap, sym, ◌∙◌, ◌⊎◌, inl, inr, ⊎_elim, List, [], ◌∷◌, ◌++◌, length, subst, Option, Some, None, Bor}
-use Rattle.nef_space.specs.Lists.{IsAt}
-use Rattle.nef_space.specs.Vectors.{up}
-use Rattle.nef_space.specs.declared.label.Label.{Label}
-use Rattle.law_sphere.specs.Maps.{At, MapVertex, Arc, MapSloop, Map, sloop_item, items, items_then, around_svertex, pos_item, whole}
-use Rattle.law_sphere.proofs.Lists.{at-one}
-use Rattle.nef_classes.specs.declared.forest.Link.{Link}
-use Rattle.nef_smap.specs.Sides.{labelled, svertex_sides, item_sides, sides_of}
-use Rattle.nef_classes.specs.Classes.{AreLinked}
-use Rattle.nef_smap.specs.declared.map.SphereMap.{SphereMap}
-use Rattle.nef_smap.specs.Joined.{BelowFirsts, BelowFirst, ArcFirst, SloopFirst}
-use Rattle.nef_smap.specs.Links.{met_number, IsJoin, join_below, join_around, join_arc, join_sloop, join_ground, AreJoins}
-use Rattle.nef_smap.specs.SideNumbers.{one_if, arounds_before, number_of}
-use Rattle.nef_smap.specs.JoinLinks.{JoinsBelow, JoinsAround, JoinsArc, JoinsSloop, JoinsGround, HasLink, ComesOf, AreEach, AreArounds, AreSloops, AreGrounds}
-use Rattle.nef_smap.proofs.MapLists.{at-within}
+use Rattle.nef_smap.proofs.Prelude.{◌≡◌, ℕ, zero, suc, ◌+◌, ◌<◌, arith, length-append, refl, ap, sym, ◌∙◌, ◌⊎◌, ⊎_elim, List, [], ◌∷◌, ◌++◌, length, subst, Option, Some, None, Bor, IsAt, up, Label, At, MapVertex, Arc, MapSloop, Map, sloop_item, items, items_then, around_svertex, pos_item, whole, at-one, Link, labelled, svertex_sides, item_sides, sides_of, AreLinked, SphereMap, BelowFirsts, BelowFirst, ArcFirst, SloopFirst, met_number, IsJoin, join_below, join_around, join_arc, join_sloop, join_ground, AreJoins, one_if, arounds_before, number_of, JoinsBelow, JoinsAround, JoinsArc, JoinsSloop, JoinsGround, HasLink, ComesOf, AreEach, AreArounds, AreSloops, AreGrounds, less-or-last, Either, earlier, last, is-at_either, is-at_left, is-at_last, is-at_some, is-at_parts, is-at_right}
+use Rattle.nef_smap.proofs.Lists.{at-within}
 use Rattle.nef_smap.proofs.SideLists.{length-item_sides}
-use Rattle.nef_classes.proofs.ClassLists.{less-or-last, Either, earlier, last, is-at_either, is-at_left, is-at_last, is-at_some}
 
 -- ---- one link for each
 pub each-more : (P : ℕ → Link → Type 0) (n : ℕ) (ls : List Link) (l : Link) → P n l → AreEach P n ls → AreEach P (n + 1) (ls ++ l ∷ [])
@@ -117,17 +103,8 @@ grounds-some M l j = record { only = λ i x b. subst (JoinsGround M) (only i x b
     only (suc i) x b = cc
 
 -- ---- all links
-is-at_split : {X : Type 0} (xs ys : List X) (k : ℕ) (x : X) → IsAt (xs ++ ys) k x → IsAt xs k x ⊎ ((j : ℕ) × IsAt ys j x)
-is-at_split [] ys k x a = inr (k, a)
-is-at_split (z ∷ xs) ys zero x a = inl a
-is-at_split (z ∷ xs) ys (suc k) x a = is-at_split xs ys k x a
-
-is-at_right : {X : Type 0} (xs ys : List X) (k : ℕ) (x : X) → IsAt ys k x → (j : ℕ) × IsAt (xs ++ ys) j x
-is-at_right [] ys k x a = (k, a)
-is-at_right (z ∷ xs) ys k x a = let r = is-at_right xs ys k x a in (suc r.0, r.1)
-
 has-right : (P : Link → Type 0) (ls ms : List Link) → HasLink ms P → HasLink (ls ++ ms) P
-has-right P ls ms (i, l, a, p) = let r = is-at_right ls ms i l a in (r.0, l, r.1, p)
+has-right P ls ms (i, l, a, p) = (length ls + i, l, is-at_right ls ms i l a, p)
 
 module _ (M : Map) (below around arcs sloops grounds : List Link) (nv na : ℕ) (hv : nv ≡ length M.svertices) (ha : na ≡ length M.arcs)
     (B : AreEach (JoinsBelow M) nv below) (R : AreArounds M nv around) (A : AreEach (JoinsArc M) na arcs) (L : AreSloops M sloops) (D : AreGrounds M grounds) where
@@ -144,10 +121,10 @@ module _ (M : Map) (below around arcs sloops grounds : List Link) (nv na : ℕ) 
   only i l a = ⊎_elim
       (λ a4. ⊎_elim
       (λ a3. ⊎_elim
-      (λ a2. ⊎_elim (λ b. by_below i (B.each i l b)) (λ r. let k = R.only r.0 l r.1 in by_around k.0 k.1) (is-at_split below around i l a2))
-      (λ b. by_arc b.0 (A.each b.0 l b.1)) (is-at_split (below ++ around) arcs i l a3))
-      (λ b. let k = L.only b.0 l b.1 in by_sloop k.0 k.1) (is-at_split (below ++ around ++ arcs) sloops i l a4))
-      (λ b. by_ground (D.only b.0 l b.1)) (is-at_split (below ++ around ++ arcs ++ sloops) grounds i l a)
+      (λ a2. ⊎_elim (λ b. by_below i (B.each i l b)) (λ r. let k = R.only r.0 l r.2 in by_around k.0 k.1) (is-at_parts below around i l a2))
+      (λ b. by_arc b.0 (A.each b.0 l b.2)) (is-at_parts (below ++ around) arcs i l a3))
+      (λ b. let k = L.only b.0 l b.2 in by_sloop k.0 k.1) (is-at_parts (below ++ around ++ arcs) sloops i l a4))
+      (λ b. by_ground (D.only b.0 l b.2)) (is-at_parts (below ++ around ++ arcs ++ sloops) grounds i l a)
     where
       by_below : (k : ℕ) → JoinsBelow M k l → IsJoin M up l.first l.second
       by_below k (v, a, (j, e, f)) = join_below k v a j e f

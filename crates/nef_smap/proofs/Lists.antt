@@ -1,35 +1,86 @@
--- Elements by their places, in lists and in what a function makes of them.
-use Rattle.std.proofs.Common.{◌≡◌, ℕ, zero, suc, ◌<◌, List, [], ◌∷◌, length, map, get_or, arith, refl, ap, subst}
-use Rattle.std.specs.List.{Contains}
-use Rattle.law_sphere.specs.Maps.{At}
+-- Elements by their places, in lists, in longer ones and in what a function makes of them.
+use Rattle.nef_smap.proofs.Prelude.{◌≡◌, ℕ, zero, suc, ◌+◌, ◌<◌, ◌≤◌, ◌⊎◌, inl, inr, ⊎_elim, List, [], ◌∷◌, ◌++◌, length, map, get_or, slice_get, Some, None, arith, refl, sym, ap, subst, Contains, IsAt, At, is-at_get, is-at_is, is-at_last, is-at_left, is-at_parts, is-at_right, is-at_some, is-at_within}
 
-pub map-at : {A B : Type 0} (f : A → B) (xs : List A) (k : ℕ) (x : A) → At xs k x → At (map f xs) k (f x)
-map-at f [] k x h = absurd h
-map-at f (y ∷ ys) zero x h = ap f h
-map-at f (y ∷ ys) (suc k) x h = map-at f ys k x h
+module _ {A : Type 0} where
+  pub at-from_get : (xs : List A) (k : ℕ) (x : A) → IsAt xs k x → At xs k x
+  at-from_get [] k x e = cc
+  at-from_get (y ∷ ys) zero x e = cc
+  at-from_get (y ∷ ys) (suc k) x e = at-from_get ys k x e
 
-pub at-map : {A B : Type 0} (f : A → B) (xs : List A) (k : ℕ) (y : B) → At (map f xs) k y → (x : A) × At xs k x × (f x ≡ y)
-at-map f [] k y h = absurd h
-at-map f (x ∷ xs) zero y h = (x, refl, h)
-at-map f (x ∷ xs) (suc k) y h = at-map f xs k y h
+  pub get-from_at : (xs : List A) (k : ℕ) (x : A) → At xs k x → IsAt xs k x
+  get-from_at [] k x h = absurd h
+  get-from_at (y ∷ ys) zero x h = ap Some h
+  get-from_at (y ∷ ys) (suc k) x h = get-from_at ys k x h
 
-pub at-within : {A : Type 0} (xs : List A) (k : ℕ) (x : A) → At xs k x → k < length xs
-at-within [] k x h = absurd h
-at-within (y ∷ ys) zero x h = omega arith
-at-within (y ∷ ys) (suc k) x h = omega (arith, at-within ys k x h)
+  pub at-within : (xs : List A) (k : ℕ) (x : A) → At xs k x → k < length xs
+  at-within xs k x h = is-at_within xs k x (get-from_at xs k x h)
 
-pub at-get : {A : Type 0} (xs : List A) (k : ℕ) (x d : A) → At xs k x → get_or xs k d ≡ x
-at-get [] k x d h = absurd h
-at-get (y ∷ ys) zero x d h = h
-at-get (y ∷ ys) (suc k) x d h = at-get ys k x d h
+  pub at-some : (xs : List A) (k : ℕ) → k < length xs → (x : A) × At xs k x
+  at-some xs k h = let r = is-at_some xs k h in (r.0, at-from_get xs k r.0 r.1)
 
-pub get-at : {A : Type 0} (xs : List A) (k : ℕ) (d : A) → k < length xs → At xs k (get_or xs k d)
-get-at [] k d h = absurd (omega arith)
-get-at (y ∷ ys) zero d h = refl
-get-at (y ∷ ys) (suc k) d h = get-at ys k d (omega arith)
+  -- ---- what reading gives
+  pub at-get : (xs : List A) (k : ℕ) (x d : A) → At xs k x → get_or xs k d ≡ x
+  at-get xs k x d h = is-at_is xs k x d (get-from_at xs k x h)
 
-pub at-contains : {X : Type 0} (xs : List X) (k : ℕ) (x : X) → At xs k x → Contains xs x
-at-contains xs k x h = (k, at-within xs k x h, at-get xs k x x h)
+  pub get-at : (xs : List A) (k : ℕ) (d : A) → k < length xs → At xs k (get_or xs k d)
+  get-at xs k d h = at-from_get xs k (get_or xs k d) (is-at_get xs k d h)
 
-pub contains-at : {X : Type 0} (xs : List X) (x : X) → Contains xs x → (k : ℕ) × At xs k x
-contains-at xs x (k, l, e) = (k, subst (At xs k) e (get-at xs k x l))
+  pub read-at : (xs : List A) (k : ℕ) (x : A) → k < length xs → x ≡ get_or xs k x → At xs k x
+  read-at xs k x h e = subst (At xs k) (sym e) (get-at xs k x h)
+
+  pub get-past : (xs : List A) (k : ℕ) → slice_get xs k ≡ None → length xs ≤ k
+  get-past [] k e = omega arith
+  get-past (x ∷ xs) zero e = cc
+  get-past (x ∷ xs) (suc k) e = omega (arith, get-past xs k e)
+
+  pub at-contains : (xs : List A) (k : ℕ) (x : A) → At xs k x → Contains xs x
+  at-contains xs k x h = (k, at-within xs k x h, at-get xs k x x h)
+
+  pub contains-at : (xs : List A) (x : A) → Contains xs x → (k : ℕ) × At xs k x
+  contains-at xs x (k, l, e) = (k, subst (At xs k) e (get-at xs k x l))
+
+  -- ---- two lists put together
+  pub at-left : (xs ys : List A) (k : ℕ) (x : A) → At xs k x → At (xs ++ ys) k x
+  at-left xs ys k x h = at-from_get (xs ++ ys) k x (is-at_left xs ys k x (get-from_at xs k x h))
+
+  pub at-right : (xs ys : List A) (k n : ℕ) (x : A) → n ≡ length xs + k → At ys k x → At (xs ++ ys) n x
+  at-right xs ys k n x e h = at-from_get (xs ++ ys) n x (subst (λ (r : ℕ). IsAt (xs ++ ys) r x) (sym e) (is-at_right xs ys k x (get-from_at ys k x h)))
+
+  -- an element of the second of two lists put together, by its place in both
+  abbrev pub InSecond : List A → List A → ℕ → A → Type 0
+  InSecond xs ys k x = (j : ℕ) × (k ≡ length xs + j) × At ys j x
+
+  -- an element of both is one of the first, or of the second
+  pub at-parts : (xs ys : List A) (k : ℕ) (x : A) → At (xs ++ ys) k x → At xs k x ⊎ InSecond xs ys k x
+  at-parts xs ys k x h = ⊎_elim (λ a. inl (at-from_get xs k x a)) (λ r. inr (r.0, r.1, at-from_get ys r.0 x r.2)) (is-at_parts xs ys k x (get-from_at (xs ++ ys) k x h))
+
+  pub either-at : (xs ys : List A) (k : ℕ) (x : A) → At (xs ++ ys) k x → At xs k x ⊎ ((j : ℕ) × At ys j x)
+  either-at xs ys k x h = ⊎_elim (λ a. inl a) (λ r. inr (r.0, r.2)) (at-parts xs ys k x h)
+
+  pub at-last : (xs : List A) (x : A) → At (xs ++ x ∷ []) (length xs) x
+  at-last xs x = at-from_get (xs ++ x ∷ []) (length xs) x (is-at_last xs x)
+
+  pub at-more : (xs : List A) (y : A) (k : ℕ) (x : A) → At (xs ++ y ∷ []) k x → At xs k x ⊎ ((k ≡ length xs) × (y ≡ x))
+  at-more xs y k x h = ⊎_elim (λ a. inl a) (λ r. inr (by r.0 r.1 r.2)) (at-parts xs (y ∷ []) k x h)
+    where
+      by : (j : ℕ) → k ≡ length xs + j → At (y ∷ []) j x → (k ≡ length xs) × (y ≡ x)
+      by zero e a = (omega arith, a)
+      by (suc j) e a = absurd a
+
+-- ---- what a function makes of each
+module _ {A B : Type 0} (f : A → B) where
+  pub map-at : (xs : List A) (k : ℕ) (x : A) → At xs k x → At (map f xs) k (f x)
+  map-at [] k x h = absurd h
+  map-at (y ∷ ys) zero x h = ap f h
+  map-at (y ∷ ys) (suc k) x h = map-at ys k x h
+
+  pub map-from_get : (xs : List A) (k : ℕ) (x : A) → IsAt xs k x → At (map f xs) k (f x)
+  map-from_get xs k x e = map-at xs k x (at-from_get xs k x e)
+
+  pub at-map : (xs : List A) (k : ℕ) (y : B) → At (map f xs) k y → (x : A) × At xs k x × (f x ≡ y)
+  at-map [] k y h = absurd h
+  at-map (x ∷ xs) zero y h = (x, refl, h)
+  at-map (x ∷ xs) (suc k) y h = at-map xs k y h
+
+  pub map-within : (xs : List A) (k : ℕ) (y : B) → At (map f xs) k y → k < length xs
+  map-within xs k y h = let x = at-map xs k y h in at-within xs k x.0 x.1

@@ -1,17 +1,5 @@
 -- The lowest of what lies over a direction.
-use Rattle.std.proofs.Common.{◌≡◌, ℕ, zero, suc, ℤ, pos, ◌+ℤ◌, ◌-ℤ◌, ◌*ℤ◌, ◌≤ℤ◌, ◌<ℤ◌, arith, refl, sym, ◌∙◌, ◌⊎◌, inl, inr, ⊎_elim, List, [], ◌∷◌, subst, Option, Some, None}
-use Rattle.std.proofs.lemmas.Int.{ints}
-use Rattle.nef_space.proofs.Ring.{ring, at, num, ◌⊕◌, ◌⊖◌, ◌⊗◌}
-use Rattle.nef_space.proofs.Combination.{follows, given, none}
-use Rattle.nef_space.proofs.Order.{by_order}
-use Rattle.nef_space.proofs.Fractions.{fraction-le-trans}
-use Rattle.nef_space.specs.Vectors.{Vector, cross, dot}
-use Rattle.law_near.proofs.Decided.{Decided}
-use Rattle.law_sphere.specs.Maps.{At, Map, Item, items, item_normal, OnItem}
-use Rattle.law_sphere.proofs.Vectors.{positive-or, negative-or}
-use Rattle.law_sphere.proofs.Forms.{OnItem-decided}
-use Rattle.law_near.proofs.Far.{nought-or}
-use Rattle.nef_smap.specs.Above.{rise, IsOver, IsFirst}
+use Rattle.nef_smap.proofs.Prelude.{◌≡◌, ℕ, zero, suc, ℤ, pos, ◌+ℤ◌, ◌-ℤ◌, ◌*ℤ◌, ◌≤ℤ◌, ◌<ℤ◌, arith, refl, sym, ◌∙◌, ◌⊎◌, inl, inr, ⊎_elim, List, [], ◌∷◌, subst, Option, Some, None, ints, ring, at, num, ◌⊕◌, ◌⊖◌, ◌⊗◌, follows, given, none, by_order, nought-or, fraction-le-trans, Vector, cross, dot, Decided, At, Map, Item, items, item_normal, OnItem, positive-or, negative-or, OnItem-decided, rise, IsOver, IsFirst}
 use Rattle.nef_smap.proofs.Rise.{rise-is, rise_form-value}
 
 -- ---- the least of a list of fractions

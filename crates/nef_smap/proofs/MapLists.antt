@@ -1,10 +1,6 @@
 -- The svertices and items of the program's maps by their numbers.
-use Rattle.std.proofs.Common.{◌≡◌, ℕ, zero, suc, ◌<◌, ◌+◌, List, [], ◌∷◌, length, map, Option, Some, None, option_map, is_some, arith, refl, ap, slice_get}
+use Rattle.nef_smap.proofs.Prelude.{◌≡◌, ℕ, zero, suc, ◌+◌, List, [], ◌∷◌, length, map, Option, Some, None, option_map, is_some, arith, refl, ap, slice_get, At, MapSloop, arc_item, sloop_item, items_then, SArc, SLoop, arc_of, sloop_of}
 use mir.Val.{bool_byte}
-use Rattle.law_sphere.specs.Maps.{At, MapSloop, arc_item, sloop_item, items_then}
-use Rattle.nef_smap.specs.declared.map.SArc.{SArc}
-use Rattle.nef_smap.specs.declared.map.SLoop.{SLoop}
-use Rattle.nef_smap.specs.Maps.{arc_of, sloop_of}
 
 pub length-items : (as' : List SArc) (l : Option SLoop) → length (items_then (map arc_of as') (option_map sloop_of l)) ≡ length as' + bool_byte (is_some l)
 length-items [] None = refl
@@ -23,13 +19,12 @@ item-sloop [] (Some m) (suc k) l e f = absurd (omega arith)
 item-sloop (b ∷ as') o zero l e f = absurd (omega arith)
 item-sloop (b ∷ as') o (suc k) l e f = item-sloop as' o k l (omega arith) f
 
-pub at-within : {X : Type 0} (xs : List X) (k : ℕ) (x : X) → At xs k x → k < length xs
-at-within [] k x a = absurd a
-at-within (y ∷ ys) zero x a = omega arith
-at-within (y ∷ ys) (suc k) x a = let h = at-within ys k x a in omega arith
-
 -- the sloop stands after the arcs
 pub sloop-listed : (as' : List SArc) (o : Option SLoop) (l : MapSloop) → option_map sloop_of o ≡ Some l → At (items_then (map arc_of as') (option_map sloop_of o)) (length as') (sloop_item l)
 sloop-listed [] None l e = cc
 sloop-listed [] (Some m) l e = let f : sloop_of m ≡ l = cc in ap sloop_item f
 sloop-listed (a ∷ as') o l e = sloop-listed as' o l e
+
+pub sloop-was : (o : Option SLoop) (l : MapSloop) → option_map sloop_of o ≡ Some l → (m : SLoop) × (o ≡ Some m) × (sloop_of m ≡ l)
+sloop-was None l e = cc
+sloop-was (Some m) l e = let i : Some (sloop_of m) ≡ Some l = e in (m, refl, cc)

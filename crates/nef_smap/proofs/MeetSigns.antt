@@ -1,18 +1,6 @@
 -- The signs of forms where a way meets a plane, from their values at its ends.
-use Rattle.std.proofs.Common.{◌≡◌, ℕ, ℤ, pos, neg_ℤ, ◌+ℤ◌, ◌-ℤ◌, ◌*ℤ◌, ◌<ℤ◌, refl, ap, sym, ◌∙◌, [], ◌∷◌, ◌↔◌, arith}
-use Rattle.std.proofs.lemmas.Int.{ints}
-use Rattle.nef_space.proofs.Ring.{ring, at, num, neg, ◌⊕◌, ◌⊖◌, ◌⊗◌}
-use Rattle.nef_space.specs.Vectors.{Vector, triple, cross, dot}
-use Rattle.nef_geo.specs.Signs.{sign_of, sign_number}
+use Rattle.nef_smap.proofs.Prelude.{◌≡◌, ℕ, ℤ, pos, neg_ℤ, ◌+ℤ◌, ◌-ℤ◌, ◌*ℤ◌, ◌<ℤ◌, refl, ap, sym, ◌∙◌, [], ◌∷◌, ◌↔◌, arith, ints, ring, at, num, neg, ◌⊕◌, ◌⊖◌, ◌⊗◌, Vector, triple, cross, dot, sign_of, sign_number, Minus, Zero, Plus, dot-comb, Values, SpherePath, linear_at, turn_value, wide_vector, start_at, end_at, AreValues, meet_of}
 use Rattle.nef_geo.specs.declared.sign.Sign.{Sign}
-use Rattle.nef_geo.specs.declared.sign.Sign.TheVariants.{Minus, Zero, Plus}
-use Rattle.law_sphere.proofs.Vectors.{dot-comb}
-use Rattle.nef_smap.specs.declared.meets.Values.{Values}
-use Rattle.nef_smap.specs.declared.meets.SpherePath.{SpherePath}
-use Rattle.nef_smap.specs.Linear.{linear_at, turn_value}
-use Rattle.nef_geo.specs.Triples.{wide_vector}
-use Rattle.nef_smap.specs.WideVectors.{start_at, end_at, AreValues}
-use Rattle.nef_smap.specs.Paths.{meet_of}
 use Rattle.nef_smap.proofs.FirstMet.{meet-is}
 
 -- values are products

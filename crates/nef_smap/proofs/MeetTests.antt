@@ -1,17 +1,5 @@
 -- What the tests on meets say, and the first meet of ever more items.
-use Rattle.std.proofs.Common.{◌≡◌, ℕ, ◌+◌, ◌<◌, pos, ◌-ℤ◌, ◌*ℤ◌, ◌<ℤ◌, arith, ap, ◌∙◌, ⊎_elim, [], ◌∷◌, subst}
-use Rattle.std.proofs.lemmas.Int.{ints}
-use Rattle.std.proofs.Math.Nat.{eq-or-lt_of_le}
-use Rattle.nef_space.proofs.Ring.{ring, at, num, ◌⊕◌, ◌⊖◌, ◌⊗◌}
-use Rattle.nef_space.proofs.Order.{sign, sign-scaled}
-use Rattle.nef_space.specs.Vectors.{Vector, IsDirection, dot, cross}
-use Rattle.law_near.proofs.Meets.{cross-none}
-use Rattle.law_near.proofs.Directions.{square_pos}
-use Rattle.law_sphere.specs.Maps.{At, Map, Item, items, item_normal, OnItem}
-use Rattle.law_sphere.proofs.Lists.{at-one}
-use Rattle.law_sphere.proofs.Forms.{on-level, OnItem-by_signs}
-use Rattle.law_sphere.proofs.Direct.{IsZero-times}
-use Rattle.nef_smap.specs.Paths.{meet_of, IsMet, IsMetBefore, IsFair, IsFirstMet}
+use Rattle.nef_smap.proofs.Prelude.{◌≡◌, ℕ, ◌+◌, ◌<◌, pos, ◌-ℤ◌, ◌*ℤ◌, ◌<ℤ◌, arith, ap, ◌∙◌, ⊎_elim, [], ◌∷◌, subst, ints, eq-or-lt_of_le, ring, at, num, ◌⊕◌, ◌⊖◌, ◌⊗◌, sign, sign-scaled, square_pos, Vector, IsDirection, dot, cross, At, Map, Item, items, item_normal, OnItem, at-one, on-level, OnItem-by_signs, IsZero-times, meet_of, IsMet, IsMetBefore, IsFair, IsFirstMet, cross-none}
 use Rattle.nef_smap.proofs.FirstMet.{meet-is, before-trans, before-self}
 
 module _ (M : Map) (a b : Vector) (F : IsFair M a b) where

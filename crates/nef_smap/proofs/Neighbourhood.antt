@@ -1,35 +1,10 @@
 -- Stars of directions in faces and on items show the map.
-use Rattle.std.proofs.Common.{◌≡◌, ℕ, zero, List, [], ◌∷◌, length, map, pos, true, false, Option, Some, None, Result, Ok, Err, IfOk, refl, sym, ap, subst, ◌∙◌}
-use Rattle.nef_space.proofs.Order.{sign}
-use Rattle.nef_space.specs.Limits.{normal_limit, svertex_limit}
-use Rattle.nef_space.specs.Vectors.{Vector, dot, cross, IsDirection, SameDirection, IsAtMost, IsNormal}
-use Rattle.nef_space.specs.Lists.{IsAt}
-use Rattle.nef_space.specs.declared.label.Label.{Label}
-use Rattle.nef_geo.specs.Shapes.{vector_of}
-use Rattle.nef_geo.specs.declared.dir.Dir.{Dir}
-use Rattle.nef_geo.proofs.Unique.{same_directions_equal}
-use Rattle.law_sphere.specs.Maps.{At, MapVertex, Map, HasArc, at_svertex, Item, items, item_normal, item_pos, item_mark, item_neg, OnItem, Side, HasSide, SeenAs, MapLabel, on_item, seen, NearLabel, Valid}
-use Rattle.law_sphere.specs.Least.{by_side}
-use Rattle.law_sphere.specs.Stars.{Ray as PlainRay, StarLabel, on_ray, in_sector, in_only_sector, StarShows, IsStraight}
-use Rattle.law_sphere.proofs.Compare.{dir-self}
-use Rattle.law_sphere.proofs.Lists.{at-one}
-use Rattle.law_sphere.proofs.Lone.{near-lone}
-use Rattle.law_sphere.proofs.StarKinds.{none-at, straight_star-label}
-use Rattle.law_sphere.proofs.NearItems.{near-free, near-item}
-use Rattle.law_sphere.proofs.Labels.{sees-free}
-use Rattle.nef_star.specs.declared.star.Ray.{Ray}
-use Rattle.nef_star.specs.declared.star.Star.{Star}
-use Rattle.nef_star.specs.Stars.{ray_of, star_of, sector_at, IsRay, IsStar}
+use Rattle.nef_smap.proofs.Prelude.{◌≡◌, ℕ, zero, List, [], ◌∷◌, length, map, pos, true, false, Option, Some, None, Result, Ok, Err, IfOk, refl, sym, ap, subst, ◌∙◌, sign, normal_limit, svertex_limit, Vector, dot, cross, IsDirection, SameDirection, IsAtMost, IsNormal, IsAt, Label, vector_of, Dir, same_directions_equal, At, MapVertex, Map, HasArc, at_svertex, Item, items, item_normal, item_pos, item_mark, item_neg, OnItem, Side, HasSide, SeenAs, MapLabel, on_item, seen, NearLabel, Valid, by_side, StarLabel, on_ray, in_sector, in_only_sector, StarShows, IsStraight, at-one, none-at, near-lone, straight_star-label, near-free, near-item, sees-free, Ray, Star, ray_of, star_of, sector_at, IsRay, IsStar, at-ray, sector-at, sectors-fill, each_has_one_label, SVertex, SphereMap, svertex_of, map_of, LabelledSide, sides_of, IsSide, SideSees, IsNeighbourhood, IsStarAlong, dir-self}
+use Rattle.law_sphere.specs.Stars.{Ray as PlainRay}
 use Rattle.nef_star.proofs.Straight.{plane-star}
-use Rattle.nef_star.proofs.Labelled.{at-ray, sector-at, sectors-fill, each_has_one_label}
-use Rattle.nef_smap.specs.declared.map.SVertex.{SVertex}
-use Rattle.nef_smap.specs.declared.map.SphereMap.{SphereMap}
-use Rattle.nef_smap.specs.Maps.{svertex_of, map_of}
-use Rattle.nef_smap.specs.Sides.{LabelledSide, sides_of, IsSide, SideSees}
-use Rattle.nef_smap.specs.Stars.{IsNeighbourhood, IsStarAlong}
-use Rattle.nef_smap.proofs.Lists.{map-at}
+use Rattle.nef_smap.proofs.Lists.{map-at, at-from_get}
 use Rattle.nef_smap.proofs.NeighbourhoodEnds.{ray-is}
-use Rattle.nef_smap.proofs.SideLists.{at-from_get, side-has}
+use Rattle.nef_smap.proofs.SideLists.{side-has}
 use Rattle.nef_smap.proofs.WellFormed.{star-well_formed}
 
 -- what a star says of the map is its neighbourhood

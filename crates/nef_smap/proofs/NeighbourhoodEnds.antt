@@ -1,14 +1,5 @@
 -- The ends of arcs at a svertex, collected arc by arc.
-use Rattle.std.proofs.Common.{◌≡◌, ℕ, zero, suc, ◌+◌, ◌<◌, ◌≤◌, List, [], ◌∷◌, ◌++◌, length, Bool, true, false, cond, Some, ◌⊎◌, inl, inr, ⊎_elim, arith, refl, sym, ap, subst, slice_get}
-use Rattle.std.proofs.Math.Nat.{eq-or-lt_of_le}
-use Rattle.nef_space.specs.Lists.{IsAt}
-use Rattle.nef_space.specs.declared.label.Label.{Label}
-use Rattle.nef_geo.specs.declared.dir.Dir.{Dir}
-use Rattle.nef_star.specs.Rounds.{End}
-use Rattle.nef_star.specs.declared.star.Ray.{Ray}
-use Rattle.nef_smap.specs.declared.map.SArc.{SArc}
-use Rattle.nef_smap.specs.Stars.{IsArcEnd, AreArcEnds}
-use Rattle.nef_classes.proofs.ClassLists.{is-at_within as get-within}
+use Rattle.nef_smap.proofs.Prelude.{◌≡◌, ℕ, zero, suc, ◌+◌, ◌<◌, ◌≤◌, List, [], ◌∷◌, ◌++◌, length, Bool, true, false, cond, Some, ◌⊎◌, inl, inr, ⊎_elim, arith, refl, sym, ap, subst, slice_get, eq-or-lt_of_le, IsAt, Label, Dir, End, Ray, SArc, IsArcEnd, AreArcEnds, is-at_within as get-within}
 
 -- the list has the end
 abbrev pub Has : List End → End → Type 0

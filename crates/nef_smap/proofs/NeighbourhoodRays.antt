@@ -1,24 +1,6 @@
 -- The labels near a svertex: on a ray, and in the sector after it.
-use Rattle.std.proofs.Common.{◌≡◌, ℕ, ◌+◌, ◌≤◌, List, pos, arith, refl, sym, ap, ◌∙◌, ⊎_elim}
-use Rattle.nef_space.proofs.Order.{sign, sign-scaled}
-use Rattle.nef_space.specs.Vectors.{Vector, IsDirection, cross, dot, SameDirection, blend}
-use Rattle.nef_space.specs.declared.label.Label.{Label}
-use Rattle.law_cyclic.specs.Arcs.{IsOnCircle}
-use Rattle.law_cyclic.proofs.Directions.{level_cross_first, same-first}
-use Rattle.law_near.proofs.Directions.{self-pos}
-use Rattle.law_near.proofs.Far.{nought-or}
-use Rattle.law_sphere.specs.Maps.{At, MapVertex, Map, arc_item, HasSide, on_item, seen, NearLabel, Valid}
-use Rattle.law_sphere.specs.Sectors.{ArcRay, ray_left, ray_side, Unrayed, IsLastRay}
-use Rattle.law_sphere.specs.Forms.{SameSigns, forms}
-use Rattle.law_sphere.specs.Stars.{across}
-use Rattle.law_sphere.proofs.Arcs.{at-arc}
-use Rattle.law_sphere.proofs.Compare.{SameDirection-turned}
-use Rattle.law_sphere.proofs.Generic.{amount, far-keeps, far-level}
-use Rattle.law_sphere.proofs.Labels.{dir-signs, label-by_signs, near-from_far}
-use Rattle.law_sphere.proofs.SectorSees.{left-on, on-end}
+use Rattle.nef_smap.proofs.Prelude.{◌≡◌, ℕ, ◌+◌, ◌≤◌, List, pos, arith, refl, sym, ap, ◌∙◌, ⊎_elim, sign, sign-scaled, nought-or, Vector, IsDirection, cross, dot, SameDirection, blend, Label, IsOnCircle, At, MapVertex, Map, arc_item, HasSide, on_item, seen, NearLabel, Valid, ArcRay, ray_left, ray_side, Unrayed, IsLastRay, SameSigns, forms, across, at-arc, amount, far-keeps, far-level, label-by_signs, near-from_far, left-on, on-end, across-side, self-pos, direction-left, square-cross, SameDirection-turned, dir-signs}
 use Rattle.law_sphere.proofs.Sectors.{ray-sees}
-use Rattle.law_sphere.proofs.StarKinds.{across-side}
-use Rattle.law_sphere.proofs.Turn.{dir-directed}
 use Rattle.nef_star.proofs.Lefts.{way-same}
 
 -- close to p, what lies half a plane off p along m x p has the signs of that
@@ -27,13 +9,13 @@ beside-signs : (gs : List Vector) (p m e : Vector) (k : ℕ) → IsDirection p �
 beside-signs gs p m e k hp on s h i g l = ⊎_elim level off (nought-or (dot g p))
   where
     turned : SameDirection (cross m p) (across p e)
-    turned = way-same p hp m (cross p e) on (record { direction = same-first (cross p e) m (SameDirection-turned m (cross p e) s); level = level_cross_first p e }) s
+    turned = way-same p hp m (cross p e) on (record { direction = direction-left (cross p e) m (SameDirection-turned m (cross p e) s); level = square-cross p e }) s
 
     level : dot g p ≡ pos 0 → sign (dot g (blend k p 1 e)) ≡ sign (dot g (blend k p 1 (cross m p)))
     level z =
         far-level gs p e k h g z
         ∙ sym (ap sign (across-side g p e z) ∙ sign-scaled (dot p p) (dot g e) (self-pos p hp))
-        ∙ dir-signs (cross m p) (across p e) g (dir-directed (cross m p) (across p e) turned) turned
+        ∙ dir-signs (cross m p) (across p e) g (direction-left (cross m p) (across p e) turned) turned
         ∙ sym (far-level gs p (cross m p) k i g z)
 
     off : (dot g p ≡ pos 0 → ⊥) → sign (dot g (blend k p 1 e)) ≡ sign (dot g (blend k p 1 (cross m p)))

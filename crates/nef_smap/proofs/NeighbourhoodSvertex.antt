@@ -1,35 +1,8 @@
 -- The star of a svertex with arcs shows the map: its rays are the ends of the arcs there.
-use Rattle.std.proofs.Common.{◌≡◌, ℕ, zero, suc, ◌+◌, ◌<◌, pos, List, [], ◌∷◌, length, Option, Some, None, Result, Ok, Err, IfOk, ◌⊎◌, inl, inr, arith, refl, sym, ap, subst, ◌∙◌}
-use Rattle.std.proofs.lemmas.Int.{ints}
-use Rattle.nef_space.specs.Lists.{IsAt}
-use Rattle.nef_space.specs.Vectors.{Vector, IsDirection, cross, dot, opposite, SameDirection, blend}
-use Rattle.nef_space.specs.declared.label.Label.{Label}
-use Rattle.law_cyclic.specs.Arcs.{IsOnCircle, IsStrictlyOn, Passes}
-use Rattle.law_cyclic.proofs.Cyclic.{order_is_transitive}
-use Rattle.law_cyclic.proofs.Directions.{dot-opposite, level_cross_first}
-use Rattle.law_near.proofs.Directions.{dot-comm, self-pos}
-use Rattle.nef_geo.specs.Shapes.{vector_of}
-use Rattle.nef_geo.specs.declared.dir.Dir.{Dir}
-use Rattle.law_sphere.specs.Maps.{At, MapVertex, Arc, Map, arc_item, items, OnItem, HasArc, HasSide, at_svertex, NearLabel, Valid}
-use Rattle.law_sphere.specs.Stars.{StarShows}
-use Rattle.law_sphere.specs.Sectors.{ArcRay, end_left, ray_left, ray_side, Unrayed}
-use Rattle.law_sphere.proofs.Arcs.{at-arc}
-use Rattle.law_sphere.proofs.Compare.{dir-self}
-use Rattle.law_sphere.proofs.Lists.{at-one}
-use Rattle.law_sphere.proofs.SectorSees.{left-on, on-end}
-use Rattle.nef_star.specs.Rounds.{End, AreApart, IsRound}
-use Rattle.nef_star.specs.Turning.{IsTurning, IsNext, on_ray as at_ray, in_sector as of_sector, in_only_sector as of_only_sector}
-use Rattle.nef_star.specs.declared.star.Ray.{Ray}
-use Rattle.nef_star.specs.declared.star.Star.{Star}
-use Rattle.nef_star.specs.Stars.{star_of, left_of, left_at, mark_at, sector_at, IsRay, IsStar, LeftGives}
-use Rattle.nef_star.proofs.Labelled.{to-left, sectors-fill}
+use Rattle.nef_smap.proofs.Prelude.{◌≡◌, ℕ, zero, suc, ◌+◌, ◌<◌, pos, List, [], ◌∷◌, length, Option, Some, None, Result, Ok, Err, IfOk, ◌⊎◌, inl, inr, arith, refl, sym, ap, subst, ◌∙◌, ints, IsAt, Vector, IsDirection, cross, dot, opposite, SameDirection, blend, Label, IsOnCircle, IsStrictlyOn, Passes, order_is_transitive, vector_of, Dir, At, MapVertex, Arc, Map, arc_item, items, OnItem, HasArc, HasSide, at_svertex, NearLabel, Valid, StarShows, ArcRay, end_left, ray_left, ray_side, Unrayed, at-arc, at-one, left-on, on-end, End, AreApart, IsRound, IsTurning, IsNext, Ray, Star, star_of, left_of, left_at, mark_at, sector_at, IsRay, IsStar, LeftGives, to-left, sectors-fill, sector-at, SArc, SphereMap, arc_of, map_of, IsSmall, IsArcEnd, AreArcEnds, IsNeighbourhood, dot-comm, self-pos, opposite-dot, square-cross, dir-self}
+use Rattle.nef_star.specs.Turning.{on_ray as at_ray, in_sector as of_sector, in_only_sector as of_only_sector}
 use Rattle.nef_star.proofs.Turns.{four, next_in, none_between, not_both}
-use Rattle.nef_smap.specs.declared.map.SArc.{SArc}
-use Rattle.nef_smap.specs.declared.map.SphereMap.{SphereMap}
-use Rattle.nef_smap.specs.Maps.{arc_of, map_of, IsSmall}
-use Rattle.nef_smap.specs.Stars.{IsArcEnd, AreArcEnds, IsNeighbourhood}
-use Rattle.nef_smap.proofs.Lists.{map-at, at-map}
-use Rattle.nef_smap.proofs.SideLists.{at-from_get, get-from_at}
+use Rattle.nef_smap.proofs.Lists.{map-at, at-map, at-from_get, get-from_at}
 use Rattle.nef_smap.proofs.NeighbourhoodEnds.{ahead, back}
 use Rattle.nef_smap.proofs.NeighbourhoodRays.{ray-label, after-label}
 use Rattle.nef_smap.proofs.Neighbourhood.{neighbourhood-of, sector-of}
@@ -52,15 +25,10 @@ listed-left [] k r h = cc
 listed-left (q ∷ rs) zero r h = let f : q ≡ r = cc in (omega arith, ap left_of f)
 listed-left (q ∷ rs) (suc k) r h = let t = listed-left rs k r h in (let l = t.0 in omega arith, t.1)
 
-sector-listed : (ls : List Label) (k : ℕ) → k < length ls → IsAt ls k (sector_at ls k)
-sector-listed [] k h = absurd (omega arith)
-sector-listed (l ∷ ls) zero h = refl
-sector-listed (l ∷ ls) (suc k) h = sector-listed ls k (omega arith)
-
 back-apart : (v : Vector) → IsDirection v → v ≡ opposite v → ⊥
 back-apart v h f =
     let e : dot v v ≡ dot (opposite v) v = ap (λ (x : Vector). dot x v) f in
-    let g = dot-opposite v v in
+    let g = opposite-dot v v in
     let p = self-pos v h in
     omega (arith, ints)
 
@@ -151,7 +119,7 @@ module _ (m : SphereMap) (V : Valid (map_of m)) (k : ℕ) (v : MapVertex) (a : A
       let o = left-on M V.shaped k v a q in
       let l = o.level in
       let c = dot-comm (opposite (vector_of b.normal)) p in
-      let d = dot-opposite (vector_of b.normal) p in
+      let d = opposite-dot (vector_of b.normal) p in
       (ap (λ (x : End). x.0.normal) f, omega (arith, ints))
 
   module _ (ends : List End) (A : AreArcEnds m.arcs k ends) where
@@ -224,7 +192,7 @@ module _ (m : SphereMap) (V : Valid (map_of m)) (t : Star) (T : IsStar t) (k : �
   star-ray : (j : ℕ) → j < length rays → StarRay j
   star-ray j h =
       let r = ray-listed rays j h in
-      let l = sector-listed t.sectors.items j (sectors-fill rays (length t.sectors.items) j T.turned.sectors h) in
+      let l = get-from_at t.sectors.items j (sector_at t.sectors.items j) (sector-at t.sectors.items j (sectors-fill rays (length t.sectors.items) j T.turned.sectors h)) in
       let e = R.each j r.ray (sector_at t.sectors.items j) r.is l in
       let b = A.each e.0 (r.ray, sector_at t.sectors.items j) e.1 in
       let q = end-ray m V k w a b.0 b.1 (r.ray, sector_at t.sectors.items j) b.2 b.3 in
@@ -241,7 +209,7 @@ module _ (m : SphereMap) (V : Valid (map_of m)) (t : Star) (T : IsStar t) (k : �
 
   module _ (e : Vector) (off : IsDirection (cross d e)) where
     circle : IsOnCircle d (cross d e)
-    circle = record { direction = off; level = level_cross_first d e }
+    circle = record { direction = off; level = square-cross d e }
 
     turning : IsTurning d (length rays) lefts
     turning = T.turned.counterclockwise

@@ -1,29 +1,7 @@
 -- Labels of sides that agree at the joins are the same for all sides of one sface.
-use Rattle.std.proofs.Common.{◌≡◌, ℕ, ◌+◌, pos, ◌<ℤ◌, arith, refl, ap, sym, ◌∙◌, inl, inr, ⊎_elim, List, [], ◌∷◌, subst, Option, Some, None}
-use Rattle.std.proofs.lemmas.Int.{ints}
-use Rattle.nef_space.proofs.Order.{sign, nought-is}
-use Rattle.nef_space.specs.Signs.{Lies}
-use Rattle.nef_space.specs.Vectors.{Vector, IsDirection, IsZero, cross, dot, opposite}
-use Rattle.nef_space.specs.declared.label.Label.{Label}
-use Rattle.nef_space.specs.declared.label.Label.TheVariants.{Out}
-use Rattle.law_near.proofs.FlatDecided.{cross-turned}
-use Rattle.law_near.proofs.Directions.{zero-decided}
-use Rattle.law_cyclic.specs.Arcs.{IsStrictlyOn}
-use Rattle.law_sphere.specs.Maps.{At, MapVertex, MapSloop, Map, Item, arc_item, sloop_item, items, item_normal, dir_of, OnItem, IsFree, Side, around_svertex, pos_item, neg_item, whole, HasArc, HasSide, Sees, Shaped}
-use Rattle.law_sphere.specs.Labelling.{Labelling, Near, Plain, PlainAt, StraightAt, IsSmooth, straight}
-use Rattle.law_sphere.proofs.Vectors.{normal-is}
-use Rattle.law_sphere.proofs.Forms.{on-direction, on-level, axes-forms}
-use Rattle.law_sphere.proofs.Generic.{amount}
-use Rattle.law_sphere.proofs.Parallel.{apart, parallel-trans, past_source, arc-point}
-use Rattle.law_sphere.proofs.Shot.{dir-at, arc-at}
-use Rattle.law_sphere.proofs.Direct.{cross-self}
-use Rattle.law_sphere.proofs.Around.{Beside, same_way, other_way, beside}
-use Rattle.law_sphere.proofs.Walk.{cross-direction_left}
-use Rattle.law_sphere.proofs.Arcs.{sloop-at}
+use Rattle.nef_smap.proofs.Prelude.{◌≡◌, ℕ, ◌+◌, pos, ◌<ℤ◌, arith, refl, ap, sym, ◌∙◌, inl, inr, ⊎_elim, List, [], ◌∷◌, subst, Option, Some, None, ints, sign, nought-is, Lies, Vector, IsDirection, IsZero, cross, dot, opposite, Label, Out, IsStrictlyOn, At, MapVertex, MapSloop, Map, Item, arc_item, sloop_item, items, item_normal, dir_of, OnItem, IsFree, Side, around_svertex, pos_item, neg_item, whole, HasArc, HasSide, Sees, Shaped, Labelling, Near, Plain, PlainAt, StraightAt, IsSmooth, straight, normal-is, on-direction, on-level, axes-forms, amount, past_source, arc-point, dir-at, arc-at, cross-self, Beside, same_way, other_way, beside, cross-direction_left, sloop-at, over_forms, IsFirst, Stands, met, BelowFirst, Firsts, Joins, zero-decided, cross-turned, apart, parallel-trans}
 use Rattle.law_sphere.proofs.Flips.{Axial, directed-by, far_directed-by, sloop-along}
 use Rattle.law_sphere.proofs.ArcLabels.{arc-along}
-use Rattle.nef_smap.specs.Above.{over_forms, IsFirst, Stands}
-use Rattle.nef_smap.specs.Joined.{met, BelowFirst, Firsts, Joins}
 use Rattle.nef_smap.proofs.Rise.{form-over}
 use Rattle.nef_smap.proofs.Stands.{stand, stands, stands-keeps, stands-third, dot-opposite}
 use Rattle.nef_smap.proofs.Close.{cross-last}

@@ -1,22 +1,5 @@
 -- What lies over a direction close to d lies over d, or ends over d.
-use Rattle.std.proofs.Common.{◌≡◌, ℕ, pos, ◌-ℤ◌, ◌*ℤ◌, ◌<ℤ◌, arith, refl, ap, sym, ◌∙◌, ◌⊎◌, inl, inr, ⊎_elim, [], ◌∷◌, subst, Option, Some, None}
-use Rattle.std.proofs.lemmas.Int.{ints}
-use Rattle.nef_space.proofs.Ring.{ring, at, num, ◌⊕◌, ◌⊖◌, ◌⊗◌}
-use Rattle.nef_space.proofs.Combination.{follows, given, none}
-use Rattle.nef_space.proofs.Order.{sign, by_order, sign-scaled}
-use Rattle.law_near.proofs.Far.{same-nought}
-use Rattle.nef_space.specs.Vectors.{Vector, IsDirection, dot, SameDirection}
-use Rattle.law_sphere.specs.Maps.{At, MapVertex, Arc, Map, Item, arc_item, sloop_item, items, item_normal, dir_of, OnItem, Shaped}
-use Rattle.law_sphere.specs.Forms.{SameSigns, Keeps, forms}
-use Rattle.law_sphere.proofs.Vectors.{normal-is, same-minus}
-use Rattle.law_sphere.proofs.Lists.{at-one}
-use Rattle.law_sphere.proofs.Places.{kept-nought, SameDirection-decided}
-use Rattle.law_near.proofs.Decided.{Decided}
-use Rattle.law_sphere.proofs.Forms.{item-forms, normal-form, on-level, OnItem-by_signs}
-use Rattle.law_sphere.proofs.Shot.{dir-at, arc-at}
-use Rattle.law_sphere.proofs.Labels.{dir-signs}
-use Rattle.law_sphere.proofs.Around.{IsStrictlyOn-back}
-use Rattle.nef_smap.specs.Above.{rise, meridians, IsOver, IsFirst}
+use Rattle.nef_smap.proofs.Prelude.{◌≡◌, ℕ, pos, ◌-ℤ◌, ◌*ℤ◌, ◌<ℤ◌, arith, refl, ap, sym, ◌∙◌, ◌⊎◌, inl, inr, ⊎_elim, [], ◌∷◌, subst, Option, Some, None, ints, ring, at, num, ◌⊕◌, ◌⊖◌, ◌⊗◌, follows, given, none, sign, by_order, sign-scaled, same-nought, Vector, IsDirection, dot, SameDirection, At, MapVertex, Arc, Map, Item, arc_item, sloop_item, items, item_normal, dir_of, OnItem, Shaped, SameSigns, Keeps, forms, normal-is, same-minus, at-one, kept-nought, SameDirection-decided, Decided, item-forms, normal-form, on-level, OnItem-by_signs, dir-at, arc-at, IsStrictlyOn-back, rise, meridians, IsOver, IsFirst, dir-signs}
 use Rattle.nef_smap.proofs.Rise.{rise-is, rise_form-value, rise-same}
 
 -- ---- an item close to y is met at y or has an end there

@@ -1,19 +1,5 @@
 -- Whether the way up from a direction passes an arc, by on which sides of its meridian the ends of the arc lie.
-use Rattle.std.proofs.Common.{◌≡◌, pos, ◌-ℤ◌, ◌*ℤ◌, ◌<ℤ◌, arith, ap, sym, inl, inr, ⊎_elim, [], ◌∷◌, subst}
-use Rattle.std.proofs.lemmas.Int.{ints}
-use Rattle.nef_space.proofs.Ring.{at, num, ◌⊕◌, ◌⊖◌, ◌⊗◌}
-use Rattle.nef_space.proofs.Combination.{follows, given, none}
-use Rattle.nef_space.proofs.Order.{Sign, minus, plus, sign, sign-plus, sign-minus, plus-is, minus-is, by_order, mul_pos, mul_neg}
-use Rattle.nef_space.specs.Vectors.{Vector, IsDirection, cross, triple, dot, SameDirection, IsOpposite}
-use Rattle.law_near.proofs.Decided.{Decided}
-use Rattle.law_near.proofs.FlatDecided.{cross-turned}
-use Rattle.law_near.proofs.Directions.{self-pos, dot-zero}
-use Rattle.law_cyclic.specs.Arcs.{IsStrictlyOn}
-use Rattle.law_sphere.proofs.Parallel.{parallel-in_plane}
-use Rattle.law_sphere.proofs.Shot.{product-off}
-use Rattle.law_sphere.proofs.Around.{Beside, same_way, other_way, beside, triple-turned as turned}
-use Rattle.nef_smap.specs.Above.{rise}
-use Rattle.nef_smap.specs.Close.{ArcPasses}
+use Rattle.nef_smap.proofs.Prelude.{◌≡◌, pos, ◌-ℤ◌, ◌*ℤ◌, ◌<ℤ◌, arith, ap, sym, inl, inr, ⊎_elim, [], ◌∷◌, subst, ints, at, num, ◌⊕◌, ◌⊖◌, ◌⊗◌, follows, given, none, Sign, minus, plus, sign, sign-plus, sign-minus, plus-is, minus-is, by_order, mul_pos, mul_neg, Vector, IsDirection, cross, triple, dot, SameDirection, IsOpposite, Decided, IsStrictlyOn, product-off, Beside, same_way, other_way, beside, triple-turned, rise, ArcPasses, dot-zero, self-pos, cross-turned, parallel-in_plane}
 use Rattle.nef_smap.proofs.Rise.{rise-level}
 
 -- the turn from s to the meet of the planes
@@ -54,7 +40,7 @@ module _ (n s t d u : Vector) (hn : IsDirection n) (hs : IsDirection s) (ht : Is
   s-turn = source-turn n s d u ls
 
   t-turn : triple n y t ≡ pos 0 -ℤ dot n n *ℤ dot (cross u t) d
-  t-turn = let a = turned n y t in let b = source-turn n t d u lt in omega (arith, ints)
+  t-turn = let a = triple-turned n y t in let b = source-turn n t d u lt in omega (arith, ints)
 
   past : S → pos 0 <ℤ triple n s y
   past a = let b = mul_pos (dot n n) (dot (cross u s) d) nn (plus-is (dot (cross u s) d) a) in let e = s-turn in omega (arith, ints)

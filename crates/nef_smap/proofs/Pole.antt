@@ -1,26 +1,5 @@
 -- The directions u and -u are plain by what lies over close directions.
-use Rattle.std.proofs.Common.{◌≡◌, ℕ, ◌<◌, ◌≤◌, ℤ, pos, ◌+ℤ◌, ◌-ℤ◌, ◌*ℤ◌, ◌≤ℤ◌, ◌<ℤ◌, arith, refl, ap, sym, ◌∙◌, ⊎_elim, List, [], ◌∷◌, subst, None}
-use Rattle.std.proofs.lemmas.Int.{ints}
-use Rattle.nef_space.proofs.Ring.{ring, at, num, neg, ◌⊕◌, ◌⊖◌, ◌⊗◌}
-use Rattle.nef_space.proofs.Combination.{follows, given, none}
-use Rattle.nef_space.proofs.Order.{sign, by_order, mul_pos, mul_nonneg, mul_neg}
-use Rattle.nef_space.specs.Signs.{Lies}
-use Rattle.nef_space.specs.Vectors.{Vector, IsDirection, IsZero, cross, dot, SameDirection, IsOpposite, opposite, blend}
-use Rattle.nef_space.specs.declared.label.Label.{Label}
-use Rattle.law_near.proofs.Directions.{self-pos, dot-comm, dot-zero, zero-dot, zero-decided}
-use Rattle.law_near.proofs.Far.{nought-or, same-off}
-use Rattle.law_sphere.specs.Maps.{At, MapVertex, Map, Item, items, item_normal, IsFree, Side, Shaped}
-use Rattle.law_sphere.specs.Forms.{Keeps, forms}
-use Rattle.law_sphere.specs.Labelling.{Labelling, Near, Plain, PlainAt}
-use Rattle.law_sphere.proofs.Vectors.{dot-comb, same-plus, nought-if}
-use Rattle.law_sphere.proofs.Forms.{item-forms, normal-form}
-use Rattle.law_sphere.proofs.Generic.{amount, far-keeps, far-level}
-use Rattle.law_sphere.proofs.Labels.{dir-signs, mixed-sign}
-use Rattle.law_sphere.proofs.Around.{free-around}
-use Rattle.law_sphere.proofs.Walk.{carried, cross-direction_left}
-use Rattle.law_sphere.proofs.Direct.{cross-self}
-use Rattle.nef_smap.specs.Above.{over_forms, IsOver, first_sign, Stands}
-use Rattle.nef_smap.specs.Joined.{met, BelowFirsts}
+use Rattle.nef_smap.proofs.Prelude.{◌≡◌, ℕ, ◌<◌, ◌≤◌, ℤ, pos, ◌+ℤ◌, ◌-ℤ◌, ◌*ℤ◌, ◌≤ℤ◌, ◌<ℤ◌, arith, refl, ap, sym, ◌∙◌, ⊎_elim, List, [], ◌∷◌, subst, None, ints, ring, at, num, neg, ◌⊕◌, ◌⊖◌, ◌⊗◌, follows, given, none, sign, by_order, mul_pos, mul_nonneg, mul_neg, nought-or, Lies, Vector, IsDirection, IsZero, cross, dot, SameDirection, IsOpposite, opposite, blend, Label, same-off, At, MapVertex, Map, Item, items, item_normal, IsFree, Side, Shaped, Keeps, forms, Labelling, Near, Plain, PlainAt, dot-comb, same-plus, item-forms, normal-form, amount, far-keeps, far-level, mixed-sign, free-around, carried, cross-direction_left, cross-self, over_forms, IsOver, first_sign, Stands, met, BelowFirsts, dot-comm, zero-decided, dot-zero, zero-dot, self-pos, nought-if, dir-signs}
 use Rattle.nef_smap.proofs.Rise.{form-over}
 use Rattle.nef_smap.proofs.Over.{first-one}
 use Rattle.nef_smap.proofs.Stands.{far-first, stand, stands, stands-keeps}

@@ -1,17 +1,6 @@
 -- Numbers that only 1 divides have whole multiples that add up to 1.
-use Rattle.std.proofs.Common.{◌≡◌, ℕ, zero, suc, ◌+◌, ◌-◌, ◌≤◌, ℤ, pos, negsuc, ◌+ℤ◌, ◌-ℤ◌, ◌*ℤ◌, nat_abs, [], ◌∷◌, arith, ap, subst, inl, inr}
-use Rattle.std.specs.Int.{◌∣◌}
-use Rattle.std.proofs.Math.Nat.{dvd-add}
-use Rattle.std.proofs.lemmas.Int.{ints}
-use Rattle.std.proofs.lemmas.Nat.Gcd.{dvd_refl, dvd_trans, dvd-zero}
-use Rattle.std.proofs.lemmas.Bool.{cases_lt}
-use Rattle.nef_space.proofs.Ring.{at, num, neg, ◌⊕◌, ◌⊖◌, ◌⊗◌}
-use Rattle.nef_space.proofs.Combination.{follows, given, none}
-use Rattle.nef_space.specs.Numbers.{IsLowest}
-use Rattle.nef_space.specs.Vectors.{Vector, vector, triple_of}
-use Rattle.nef_geo.specs.Shapes.{vector_of}
-use Rattle.nef_geo.specs.declared.dir.Dir.{Dir}
-use Rattle.law_sphere.specs.Vectors.{IsPrimitive}
+use Rattle.nef_smap.proofs.Prelude.{◌≡◌, ℕ, zero, suc, ◌+◌, ◌-◌, ◌≤◌, ℤ, pos, negsuc, ◌+ℤ◌, ◌-ℤ◌, ◌*ℤ◌, nat_abs, [], ◌∷◌, arith, ap, subst, inl, inr, ◌∣◌, dvd-add, ints, dvd_trans, dvd-zero, cases_lt, at, num, neg, ◌⊕◌, ◌⊖◌, ◌⊗◌, follows, given, none, IsLowest, Vector, vector, triple_of, vector_of, Dir, IsPrimitive}
+use Rattle.std.proofs.lemmas.Nat.Gcd.{dvd_refl}
 
 -- a common divisor that is a sum of multiples
 record Combined (a b : ℕ) : Type 0 where

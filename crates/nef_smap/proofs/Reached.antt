@@ -1,28 +1,5 @@
 -- Two sides that see one direction have one label, where the labels of the sides agree piece by piece with a labelling.
-use Rattle.std.proofs.Common.{◌≡◌, ℕ, ◌+◌, ◌*◌, arith, ap, sym, ◌∙◌, inl, inr, List, subst, Some}
-use Rattle.std.proofs.lemmas.Int.{ints}
-use Rattle.std.proofs.Math.Nat.{mul-pos}
-use Rattle.nef_space.proofs.Order.{sign, sign-plus, sign-minus}
-use Rattle.nef_space.specs.Vectors.{Vector, IsDirection, cross, dot, IsZero, SameDirection, blend}
-use Rattle.nef_space.specs.declared.label.Label.{Label}
-use Rattle.nef_space.specs.declared.label.Label.TheVariants.{Out}
-use Rattle.law_near.proofs.Decided.{Decided}
-use Rattle.law_near.proofs.Directions.{dot-comm, zero-decided}
-use Rattle.law_sphere.specs.Maps.{At, MapVertex, Map, Item, items, item_normal, OnItem, IsFree, Side, around_svertex, pos_item, neg_item, whole, HasSide, IsClear, Reaches, Sees, directly, by_way_of}
-use Rattle.law_sphere.specs.Least.{by_side}
-use Rattle.law_sphere.specs.Labelling.{Labelling, Near, Plain}
-use Rattle.law_sphere.proofs.Generic.{amount}
-use Rattle.law_sphere.proofs.Lists.{at-one}
-use Rattle.law_sphere.proofs.Forms.{on-level}
-use Rattle.law_sphere.proofs.Parallel.{apart, parallel-trans}
-use Rattle.law_near.proofs.FlatDecided.{cross-turned}
-use Rattle.law_sphere.proofs.Direct.{cross-between}
-use Rattle.law_sphere.proofs.StepOff.{blend-turned}
-use Rattle.law_sphere.proofs.Labels.{dir-direction}
-use Rattle.law_sphere.proofs.Around.{Beside, same_way, other_way, beside}
-use Rattle.law_sphere.proofs.Compare.{SameDirection-turned, SameDirection-trans}
-use Rattle.law_sphere.proofs.Lone.{near-same_signs}
-use Rattle.law_sphere.proofs.Walk.{carried, left-of, between-direction, cross-direction_turned}
+use Rattle.nef_smap.proofs.Prelude.{◌≡◌, ℕ, ◌+◌, ◌*◌, arith, ap, sym, ◌∙◌, inl, inr, List, subst, Some, ints, mul-pos, sign, sign-plus, sign-minus, Vector, IsDirection, cross, dot, IsZero, SameDirection, blend, Label, Out, Decided, At, MapVertex, Map, Item, items, item_normal, OnItem, IsFree, Side, around_svertex, pos_item, neg_item, whole, HasSide, IsClear, Reaches, Sees, directly, by_way_of, by_side, Labelling, Near, Plain, amount, at-one, on-level, cross-between, Beside, same_way, other_way, beside, near-same_signs, carried, between-direction, cross-direction_turned, dot-comm, zero-decided, cross-turned, SameDirection-turned, SameDirection-trans, direction-right, apart, parallel-trans, blend-turned, left-of}
 
 -- at each place of the map, and near it, the labels are those that G gives the sides
 pub record Sided (M : Map) (G : Side → Label) (F : Vector → Label → Type 0) : Type 0 where
@@ -61,7 +38,7 @@ module _ (gs : List Vector) (F : Vector → Label → Type 0) (L : Labelling gs 
   near-way y v e w f m (n, g) = (
     n + amount gs e,
     λ k h. L.cells (blend k v 1 e) (blend k y 1 e) m
-        (between-direction v e k 1 (omega arith) (λ z. f (parallel-trans y v e (dir-direction y v (SameDirection-turned v y w)) (cross-turned v y w.parallel) z)))
+        (between-direction v e k 1 (omega arith) (λ z. f (parallel-trans y v e (direction-right y v (SameDirection-turned v y w)) (cross-turned v y w.parallel) z)))
         (between-direction y e k 1 (omega arith) f) (near-same_signs gs v y e k (omega arith) w) (g k (omega arith)),
   )
 
@@ -83,7 +60,7 @@ module _ (gs : List Vector) (F : Vector → Label → Type 0) (L : Labelling gs 
       by (inr f) =
           let q = at-one M.svertices k v u h b in
           let g = cross-direction_turned a y f in
-          let n = A.lone k u m a b (sym (ap (λ (r : MapVertex). r.around) q) ∙ e) (λ z. g (parallel-trans y u.dir a (dir-direction y u.dir (SameDirection-turned u.dir y w)) (cross-turned u.dir y w.parallel) z)) in
+          let n = A.lone k u m a b (sym (ap (λ (r : MapVertex). r.around) q) ∙ e) (λ z. g (parallel-trans y u.dir a (direction-right y u.dir (SameDirection-turned u.dir y w)) (cross-turned u.dir y w.parallel) z)) in
           from_near a y c f (G (around_svertex k)) (near-way y u.dir a w g (G (around_svertex k)) n)
   reached a y c whole m h t = A.ground m a h c.start
 

@@ -1,19 +1,5 @@
 -- Where a way to u meets a plane, and the signs of the forms that are nought at u.
-use Rattle.std.proofs.Common.{◌≡◌, ℕ, zero, suc, pos, ◌+ℤ◌, ◌-ℤ◌, ◌*ℤ◌, refl, ap, sym, ◌∙◌, inl, inr, ⊎_elim, List, [], ◌∷◌, ◌++◌, subst}
-use Rattle.nef_space.proofs.Ring.{ring, at, num, ◌⊕◌, ◌⊖◌, ◌⊗◌}
-use Rattle.nef_space.proofs.Combination.{follows, given, none}
-use Rattle.nef_space.proofs.Order.{sign, sign_times, sign_of_product, sign-scaled}
-use Rattle.nef_space.proofs.Lists.{lies-left, lies-right}
-use Rattle.nef_space.specs.Signs.{Lies}
-use Rattle.nef_space.specs.Vectors.{Vector, IsDirection, cross, dot}
-use Rattle.law_sphere.specs.Maps.{At, MapVertex, Map, Item, items, item_normal}
-use Rattle.law_sphere.specs.Forms.{SameSigns, Keeps, gather, forms}
-use Rattle.law_sphere.proofs.Vectors.{dot-comb, comb-dot}
-use Rattle.law_sphere.proofs.Lists.{gather-has}
-use Rattle.law_sphere.proofs.Direct.{cross-self}
-use Rattle.law_near.proofs.Directions.{self-pos}
-use Rattle.law_near.proofs.Far.{nought-or, same-off}
-use Rattle.nef_smap.specs.Above.{rise, rise_form, rise_forms, meridians, over_forms}
+use Rattle.nef_smap.proofs.Prelude.{◌≡◌, ℕ, zero, suc, pos, ◌+ℤ◌, ◌-ℤ◌, ◌*ℤ◌, refl, ap, sym, ◌∙◌, inl, inr, ⊎_elim, List, [], ◌∷◌, ◌++◌, subst, ring, at, num, ◌⊕◌, ◌⊖◌, ◌⊗◌, follows, given, none, sign, sign_times, sign_of_product, sign-scaled, nought-or, lies-left, lies-right, Lies, Vector, IsDirection, cross, dot, At, MapVertex, Map, Item, items, item_normal, SameSigns, Keeps, gather, forms, dot-comb, comb-dot, gather-has, cross-self, same-off, rise, rise_form, rise_forms, meridians, over_forms, self-pos}
 
 -- ---- the meet
 pub rise-is : (u n g d : Vector) → dot g (rise u n d) ≡ dot (rise_form u n g) d

@@ -1,27 +1,10 @@
 -- Sides are of one sface exactly where joins lead from one to the other.
-use Rattle.std.proofs.Common.{◌≡◌, ℕ, ◌+◌, ◌<◌, pos, ◌<ℤ◌, Bool, true, false, arith, refl, ap, sym, ◌∙◌, ⊎_elim, List, ◌++◌, length, subst, Option, Some, None, ◌↔◌}
+use Rattle.nef_smap.proofs.Prelude.{◌≡◌, ℕ, ◌+◌, ◌<◌, pos, ◌<ℤ◌, Bool, true, false, arith, refl, ap, sym, ◌∙◌, ⊎_elim, List, ◌++◌, length, subst, Option, Some, None, ◌↔◌, eqb_tells, lies-left, lies-right, Chained, Vector, IsDirection, cross, dot, opposite, Label, Out, Not, In, At, MapVertex, Map, Item, arc_item, sloop_item, items, item_normal, item_neg, dir_of, Side, around_svertex, pos_item, neg_item, whole, HasSide, Sees, Shaped, Generic, generic, point_forms, apart-by_rows, at-arc, sides_of, SeeOneWay, number_of, over_forms, met, FirstNear, Firsts, Joins, met_number, AreJoins, IsJoin, join_below, join_around, join_arc, join_sloop, join_ground, chain-link, chain-keeps, chain-map}
 use lib.Dec.{eqb}
-use Rattle.std.proofs.lemmas.Bool.Decides.{eqb_tells}
-use Rattle.nef_space.proofs.Lists.{lies-left, lies-right}
-use Rattle.nef_space.specs.Lists.{Chained}
-use Rattle.nef_space.specs.Vectors.{Vector, IsDirection, cross, dot, opposite}
-use Rattle.nef_space.specs.declared.label.Label.{Label}
-use Rattle.nef_space.specs.declared.label.Label.TheVariants.{Out, Not, In}
-use Rattle.law_sphere.specs.Maps.{At, MapVertex, Map, Item, arc_item, sloop_item, items, item_normal, item_neg, dir_of, Side, around_svertex, pos_item, neg_item, whole, HasSide, Sees, Shaped}
-use Rattle.law_sphere.proofs.Generic.{Generic, generic}
-use Rattle.law_sphere.proofs.Places.{point_forms}
-use Rattle.law_sphere.proofs.StepOff.{apart-by_rows}
-use Rattle.law_sphere.proofs.Arcs.{at-arc}
-use Rattle.nef_smap.specs.Sides.{sides_of, SeeOneWay}
-use Rattle.nef_smap.specs.SideNumbers.{number_of}
-use Rattle.nef_smap.specs.Above.{over_forms}
-use Rattle.nef_smap.specs.Joined.{met, FirstNear, Firsts, Joins}
-use Rattle.nef_smap.specs.Links.{met_number, AreJoins, IsJoin, join_below, join_around, join_arc, join_sloop, join_ground}
-use Rattle.nef_smap.proofs.MapLists.{at-within}
-use Rattle.nef_smap.proofs.SideLists.{at-from_get, side-has}
+use Rattle.nef_smap.proofs.Lists.{at-within, at-from_get}
+use Rattle.nef_smap.proofs.SideLists.{side-has}
 use Rattle.nef_smap.proofs.SideNumbers.{side-number, number-one}
 use Rattle.nef_smap.proofs.Stands.{stand, stands}
-use Rattle.nef_classes.proofs.Chains.{chain-link, chain-keeps, chain-map}
 use Rattle.nef_smap.proofs.OneSface.{joined-agree}
 use Rattle.nef_smap.proofs.Sound.{root, root-side, sound}
 

@@ -1,25 +1,5 @@
 -- By what lies over directions, free directions are plain and directions on items straight, and round a svertex without arcs there is one label.
-use Rattle.std.proofs.Common.{◌≡◌, ℕ, ◌+◌, ◌<◌, ◌≤◌, pos, ◌+ℤ◌, ◌*ℤ◌, ◌<ℤ◌, nat_abs, arith, refl, ap, sym, ◌∙◌, inl, inr, ◌∷◌, subst, Some}
-use Rattle.std.proofs.lemmas.Int.{ints}
-use Rattle.nef_space.proofs.Order.{Sign, sign, sign-plus, sign-minus, by_order, nought-is}
-use Rattle.nef_space.specs.Signs.{Lies}
-use Rattle.nef_space.specs.Vectors.{Vector, IsDirection, IsZero, cross, dot, SameDirection, blend}
-use Rattle.nef_space.specs.declared.label.Label.{Label}
-use Rattle.nef_space.specs.declared.label.Label.TheVariants.{Out}
-use Rattle.law_near.proofs.Directions.{self-pos}
-use Rattle.law_near.proofs.Far.{same-off, sign-large}
-use Rattle.law_sphere.specs.Maps.{At, MapVertex, Map, Item, items, item_normal, OnItem, IsFree, Side, neg_item, HasArc, Shaped}
-use Rattle.law_sphere.specs.Forms.{Keeps, forms}
-use Rattle.law_sphere.specs.Least.{by_side}
-use Rattle.law_sphere.specs.Labelling.{Near, PlainAt, StraightAt}
-use Rattle.law_sphere.proofs.Vectors.{dot-comb, same-plus, same-minus}
-use Rattle.law_sphere.proofs.Lists.{at-one}
-use Rattle.law_sphere.proofs.Forms.{item-forms, normal-form, on-level}
-use Rattle.law_sphere.proofs.Generic.{amount, far-keeps, far-level}
-use Rattle.law_sphere.proofs.Direct.{cross-between}
-use Rattle.law_sphere.proofs.Around.{direction-around, svertex-around, free-around, item-stays, free-beside}
-use Rattle.nef_smap.specs.Above.{over_forms, first_sign, Stands}
-use Rattle.nef_smap.specs.Joined.{met, BelowFirsts}
+use Rattle.nef_smap.proofs.Prelude.{◌≡◌, ℕ, ◌+◌, ◌<◌, ◌≤◌, pos, ◌+ℤ◌, ◌*ℤ◌, ◌<ℤ◌, nat_abs, arith, refl, ap, sym, ◌∙◌, inl, inr, ◌∷◌, subst, Some, ints, Sign, sign, sign-plus, sign-minus, by_order, nought-is, Lies, Vector, IsDirection, IsZero, cross, dot, SameDirection, blend, Label, Out, same-off, sign-large, At, MapVertex, Map, Item, items, item_normal, OnItem, IsFree, Side, neg_item, HasArc, Shaped, Keeps, forms, by_side, Near, PlainAt, StraightAt, dot-comb, same-plus, same-minus, at-one, item-forms, normal-form, on-level, amount, far-keeps, far-level, cross-between, direction-around, svertex-around, free-around, item-stays, free-beside, over_forms, first_sign, Stands, met, BelowFirsts, self-pos}
 use Rattle.nef_smap.proofs.Rise.{form-over, keeps-then}
 use Rattle.nef_smap.proofs.Over.{touches-back, first-one}
 use Rattle.nef_smap.proofs.Stands.{first-none, stand, stands, stands-keeps}

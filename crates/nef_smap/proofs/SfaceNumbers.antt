@@ -1,14 +1,5 @@
 -- Numbers of the classes that joins make are the numbers of sfaces.
-use Rattle.std.proofs.Common.{◌≡◌, ℕ, zero, suc, ◌+◌, ◌<◌, pos, ◌<ℤ◌, List, [], ◌∷◌, length, take, arith, refl, sym, ◌∙◌, ◌↔◌}
-use Rattle.std.proofs.lemmas.List.{length-take-le}
-use Rattle.nef_space.specs.Lists.{IsAt, Chained}
-use Rattle.nef_space.specs.Vectors.{Vector, IsDirection, cross, dot}
-use Rattle.law_sphere.specs.Maps.{At, MapVertex, Map, Item, items, item_normal, Shaped}
-use Rattle.nef_classes.specs.declared.forest.Link.{Link}
-use Rattle.nef_smap.specs.Sides.{sides_of, SeeOneWay, AreSfaces}
-use Rattle.nef_smap.specs.Links.{AreJoins}
-use Rattle.nef_classes.specs.Classes.{AreLinked, AreWithin, AreClasses, AreNumbered}
-use Rattle.nef_classes.proofs.ClassLists.{is-at_within}
+use Rattle.nef_smap.proofs.Prelude.{◌≡◌, ℕ, zero, suc, ◌+◌, ◌<◌, pos, ◌<ℤ◌, List, [], ◌∷◌, length, take, arith, refl, sym, ◌∙◌, ◌↔◌, length-take-le, IsAt, Chained, Vector, IsDirection, cross, dot, At, MapVertex, Map, Item, items, item_normal, Shaped, Link, sides_of, SeeOneWay, AreSfaces, AreJoins, AreLinked, AreWithin, AreClasses, AreNumbered, is-at_within}
 use Rattle.nef_classes.proofs.ByAppearance.{numbers-classes}
 use Rattle.nef_smap.proofs.SameSface.{join-within, sface-class}
 

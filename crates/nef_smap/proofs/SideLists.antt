@@ -1,60 +1,13 @@
 -- The sides of a map by their numbers: how many there are, where each stands, and that the map has it.
-use Rattle.std.proofs.Common.{◌≡◌, ℕ, zero, suc, ◌+◌, ◌*◌, ◌/◌, ◌%◌, ◌≤◌, ◌⊎◌, inl, inr, ⊎_elim, List, [], ◌∷◌, ◌++◌, length, map, Option, Some, None, cond, is_some, arith, add-zero, zero-add, length-append, refl, sym, ◌∙◌, ap, subst, slice_get, ◌<◌, Bool, true, false, not}
+use Rattle.nef_smap.proofs.Prelude.{◌≡◌, ℕ, zero, suc, ◌+◌, ◌*◌, ◌/◌, ◌%◌, ◌⊎◌, inl, inr, ⊎_elim, List, [], ◌∷◌, ◌++◌, length, map, Option, Some, None, cond, is_some, arith, add-zero, zero-add, length-append, refl, sym, ◌∙◌, ap, subst, slice_get, ◌<◌, Bool, true, false, not, filter_map, cons_option, IsAt, Label, At, MapVertex, Item, Map, items, item_pos, item_neg, Side, around_svertex, pos_item, neg_item, whole, HasSide, SVertex, SphereMap, svertex_of, map_of, LabelledSide, labelled, svertex_sides, item_sides, sides_of, IsSide}
 use lib.Dec.{eqb}
 use mir.Val.{bool_byte}
-use Rattle.std.specs.List.{filter_map, cons_option}
-use Rattle.nef_space.specs.Lists.{IsAt}
-use Rattle.nef_space.specs.declared.label.Label.{Label}
-use Rattle.law_sphere.specs.Maps.{At, MapVertex, Item, Map, items, item_pos, item_neg, Side, around_svertex, pos_item, neg_item, whole, HasSide}
-use Rattle.nef_smap.specs.declared.map.SVertex.{SVertex}
-use Rattle.nef_smap.specs.declared.map.SphereMap.{SphereMap}
-use Rattle.nef_smap.specs.Maps.{svertex_of, map_of}
-use Rattle.nef_smap.specs.Sides.{LabelledSide, labelled, svertex_sides, item_sides, sides_of, IsSide}
-
--- ---- places in lists
-pub at-from_get : {X : Type 0} (xs : List X) (k : ℕ) (x : X) → slice_get xs k ≡ Some x → At xs k x
-at-from_get [] k x e = cc
-at-from_get (y ∷ ys) zero x e = cc
-at-from_get (y ∷ ys) (suc k) x e = at-from_get ys k x e
-
-pub get-from_at : {X : Type 0} (xs : List X) (k : ℕ) (x : X) → At xs k x → slice_get xs k ≡ Some x
-get-from_at [] k x a = absurd a
-get-from_at (y ∷ ys) zero x e = ap Some e
-get-from_at (y ∷ ys) (suc k) x a = get-from_at ys k x a
-
-pub at-left : {X : Type 0} (xs ys : List X) (k : ℕ) (x : X) → At xs k x → At (xs ++ ys) k x
-at-left [] ys k x a = absurd a
-at-left (z ∷ zs) ys zero x a = a
-at-left (z ∷ zs) ys (suc k) x a = at-left zs ys k x a
-
-pub at-right : {X : Type 0} (xs ys : List X) (k n : ℕ) (x : X) → n ≡ length xs + k → At ys k x → At (xs ++ ys) n x
-at-right [] ys k n x e a = subst (λ (r : ℕ). At ys r x) (let d : k ≡ n = omega arith in d) a
-at-right (z ∷ zs) ys k zero x e a = absurd (omega arith)
-at-right (z ∷ zs) ys k (suc n) x e a = at-right zs ys k n x (omega arith) a
-
--- an element of the second of two lists put together, by its place in both
-abbrev pub InSecond : {X : Type 0} → List X → List X → ℕ → X → Type 0
-InSecond xs ys k x = (j : ℕ) × (k ≡ length xs + j) × At ys j x
-
--- an element of both is one of the first, or of the second
-pub at-parts : {X : Type 0} (xs ys : List X) (k : ℕ) (x : X) → At (xs ++ ys) k x → At xs k x ⊎ InSecond xs ys k x
-at-parts [] ys k x a = inr (k, sym (zero-add k), a)
-at-parts (z ∷ zs) ys zero x a = inl a
-at-parts (z ∷ zs) ys (suc k) x a = ⊎_elim (λ b. inl b) (λ r. inr (r.0, (let e = r.1 in let h : suc k ≡ suc (length zs) + r.0 = omega arith in h), r.2)) (at-parts zs ys k x a)
-
-pub at-some : {X : Type 0} (xs : List X) (k : ℕ) → k < length xs → (x : X) × At xs k x
-at-some [] k h = absurd (omega arith)
-at-some (x ∷ xs) zero h = (x, refl)
-at-some (x ∷ xs) (suc k) h = at-some xs k (omega arith)
+pub use Rattle.nef_smap.proofs.Lists.{at-from_get, get-from_at, at-left, at-right, InSecond, at-parts, at-some, get-past, either-at}
 
 -- ---- how many
 pub length-item_sides : (k : ℕ) (xs : List Item) → length (item_sides k xs) ≡ 2 * length xs
 length-item_sides k [] = omega arith
 length-item_sides k (x ∷ xs) = let e = length-item_sides (suc k) xs in omega arith
-
-pub length-labelled : (o : Side) (f : Option Label) → length (labelled o f) ≡ cond (is_some f) 1 0
-length-labelled o None = refl
-length-labelled o (Some l) = refl
 
 pub length-svertex_sides : (k : ℕ) (vs : List SVertex) → length (svertex_sides k (map svertex_of vs)) ≡ length (filter_map (λ v. v.around) vs)
 length-svertex_sides k [] = refl
@@ -153,22 +106,11 @@ module _ (m : SphereMap) where
   side-of s k true h e = let r = at-some (items (map_of m)) k h in (r.0, r.1, side-above s k r.0 (omega arith) r.1)
   side-of s k false h e = let r = at-some (items (map_of m)) k h in (r.0, r.1, side-below s k r.0 (omega arith) r.1)
 
-pub get-past : {X : Type 0} (xs : List X) (s : ℕ) → slice_get xs s ≡ None → length xs ≤ s
-get-past [] s e = omega arith
-get-past (x ∷ xs) zero e = cc
-get-past (x ∷ xs) (suc s) e = let h = get-past xs s e in omega arith
-
 -- ---- what a numbered side is
 labelled-has : (p : Side) (f : Option Label) (s : ℕ) (o : Side) (l : Label) → At (labelled p f) s (o, l) → (o ≡ p) × (f ≡ Some l)
 labelled-has p None s o l a = absurd a
 labelled-has p (Some m) zero o l a = (sym (ap (λ (y : LabelledSide). y.0) a), ap (λ (y : LabelledSide). Some y.1) a)
 labelled-has p (Some m) (suc s) o l a = absurd a
-
--- an element of two lists put together is one of the first, or one of the second
-pub either-at : {X : Type 0} (xs ys : List X) (k : ℕ) (x : X) → At (xs ++ ys) k x → At xs k x ⊎ ((j : ℕ) × At ys j x)
-either-at [] ys k x a = inr (k, a)
-either-at (z ∷ zs) ys zero x a = inl a
-either-at (z ∷ zs) ys (suc k) x a = either-at zs ys k x a
 
 svertex-has : (n : ℕ) (vs : List MapVertex) (s : ℕ) (o : Side) (l : Label) → At (svertex_sides n vs) s (o, l) → (i : ℕ) × (v : MapVertex) × At vs i v × (v.around ≡ Some l) × (o ≡ around_svertex (n + i))
 svertex-has n [] s o l a = absurd a

@@ -1,10 +1,7 @@
 -- Each side of a map has its number, and no other.
-use Rattle.std.proofs.Common.{◌≡◌, ℕ, zero, suc, ◌+◌, ◌*◌, ◌⊎◌, inl, inr, ⊎_elim, List, [], ◌∷◌, ◌++◌, length, Option, Some, None, arith, zero-add, length-append, refl, sym, ◌∙◌, ap, subst}
-use Rattle.nef_space.specs.declared.label.Label.{Label}
-use Rattle.law_sphere.specs.Maps.{At, MapVertex, Item, Map, items, Side, around_svertex, pos_item, neg_item, whole, HasSide}
-use Rattle.nef_smap.specs.Sides.{LabelledSide, labelled, svertex_sides, item_sides, sides_of, IsSide}
-use Rattle.nef_smap.specs.SideNumbers.{one_if, arounds_before, number_of}
-use Rattle.nef_smap.proofs.SideLists.{at-from_get, get-from_at, at-left, at-right, InSecond, at-parts, length-item_sides, item-side}
+use Rattle.nef_smap.proofs.Prelude.{◌≡◌, ℕ, zero, suc, ◌+◌, ◌*◌, ◌⊎◌, inl, inr, ⊎_elim, List, [], ◌∷◌, ◌++◌, length, Option, Some, None, arith, zero-add, length-append, refl, sym, ◌∙◌, ap, subst, Label, At, MapVertex, Item, Map, items, Side, around_svertex, pos_item, neg_item, whole, HasSide, LabelledSide, labelled, svertex_sides, item_sides, sides_of, IsSide, one_if, arounds_before, number_of}
+use Rattle.nef_smap.proofs.SideLists.{length-item_sides, item-side}
+use Rattle.nef_smap.proofs.Lists.{at-from_get, get-from_at, at-left, at-right, InSecond, at-parts}
 
 -- ---- where each side stands
 svertex-at : (n : ℕ) (vs : List MapVertex) (k : ℕ) (v : MapVertex) (l : Label) → At vs k v → v.around ≡ Some l → At (svertex_sides n vs) (arounds_before vs k) (around_svertex (n + k), l)

@@ -1,18 +1,7 @@
 -- The maps of one label and of one plane, as the program's.
-use Rattle.std.proofs.Common.{◌≡◌, ℕ, zero, suc, [], ◌∷◌, refl, sym, ap, ◌∙◌, inl, subst}
+use Rattle.nef_smap.proofs.Prelude.{◌≡◌, ℕ, zero, suc, [], ◌∷◌, refl, sym, ap, ◌∙◌, inl, subst, normal_limit, Vector, dot, IsDirection, IsNormal, IsAtMost, Label, vector_of, IsPrimitive, At, MapSloop, Item, sloop_item, items, item_normal, MapLabel, Valid, by_side, Least, Ordered, Labelling, ground_map, ground-shaped, ground-agrees, sloop_map, sloop-shaped, sloop-agrees, SLoop, sloop_of, IsSmall}
 use Rattle.nef_space.specs.Signs.{sign}
-use Rattle.nef_space.specs.Limits.{normal_limit}
-use Rattle.nef_space.specs.Vectors.{Vector, dot, IsDirection, IsNormal, IsAtMost}
-use Rattle.nef_space.specs.declared.label.Label.{Label}
-use Rattle.nef_geo.specs.Shapes.{vector_of}
-use Rattle.law_sphere.specs.Vectors.{IsPrimitive}
-use Rattle.law_sphere.specs.Maps.{At, MapSloop, Item, sloop_item, items, item_normal, MapLabel, Valid}
-use Rattle.law_sphere.specs.Least.{by_side, Least, Ordered}
-use Rattle.law_sphere.specs.Labelling.{Labelling}
-use Rattle.law_sphere.proofs.Simple.{ground_map, ground-shaped, ground-agrees, sloop_map, sloop-shaped, sloop-agrees}
 use Rattle.law_sphere.proofs.Built.{agrees-valid, label-agrees}
-use Rattle.nef_smap.specs.declared.map.SLoop.{SLoop}
-use Rattle.nef_smap.specs.Maps.{sloop_of, IsSmall}
 use Rattle.nef_smap.proofs.Primitive.{dir-primitive}
 
 -- ---- one label

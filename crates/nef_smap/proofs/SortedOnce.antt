@@ -1,17 +1,11 @@
 -- What is sorted by a total order and kept once stands in order, and what stands in order is sorted.
-use Rattle.std.proofs.Common.{◌≡◌, ℕ, ◌<◌, ◌+◌, List, get_or, Bool, true, false, Ordering, Less, Equal, Greater, arith, refl, sym, ap, subst}
-use Rattle.std.specs.Cmp.{IsTotalOrder, IsEquivalence}
-use Rattle.std.specs.List.{Contains, dedup}
+use Rattle.nef_smap.proofs.Prelude.{◌≡◌, ℕ, ◌<◌, ◌+◌, List, get_or, Bool, true, false, Ordering, Less, Equal, Greater, arith, refl, sym, ap, subst, IsTotalOrder, Contains, dedup, eq_by_cmp, is_eq, is_lt, slice_get-get_or, IsAt, InOrder, At}
+use Rattle.std.specs.Cmp.{IsEquivalence}
 use Rattle.std.specs.List.Sorted.{IsSorted, IsPermutation}
-use Rattle.std.specs.Ordering.{eq_by_cmp, is_eq, is_lt}
 use Rattle.std.proofs.lemmas.Cmp.{tied_itself}
-use Rattle.std.proofs.lemmas.List.Kept.{Contains-dedup, Contains-from_dedup, IsStrictlySortedBy-dedup}
+use Rattle.std.proofs.lemmas.List.Kept.{Contains-from_dedup, IsStrictlySortedBy-dedup}
 use Rattle.std.proofs.lemmas.List.Sorted.{Contains-permutation, IsPermutation-sym}
 use Rattle.std.proofs.lemmas.Map.Keys.{Less-from_sorted}
-use Rattle.std.proofs.lemmas.Option.{slice_get-get_or}
-use Rattle.nef_space.specs.Lists.{IsAt}
-use Rattle.law_sphere.specs.Least.{InOrder}
-use Rattle.law_sphere.specs.Maps.{At}
 use Rattle.nef_smap.proofs.Lists.{at-within, at-get}
 
 -- what holds of the elements that are read at two places holds of those that stand there
@@ -42,10 +36,6 @@ pub once-in_order : {A : Type 0} {order : A → A → Ordering} (total : IsTotal
 once-in_order {order = order} total {test = test} ties Below less xs sorted i k x y l a b =
     let once = dedup test xs in
     less x y (both-at (λ v w. order v w ≡ Less) once i k x y a b (λ d. Less-from_sorted order once i k d (IsStrictlySortedBy-dedup total ties xs sorted) l (at-within once k y b)))
-
-pub once-kept : {A : Type 0} {test : A → A → Bool} (equivalence : IsEquivalence test) → ((x y : A) → test x y ≡ true → x ≡ y)
-    → (xs ys : List A) (x : A) → IsPermutation xs ys → Contains xs x → Contains (dedup test ys) x
-once-kept equivalence tested xs ys x moved h = Contains-dedup equivalence tested ys x (Contains-permutation xs ys x moved h)
 
 pub once-only : {A : Type 0} (test : A → A → Bool) (xs ys : List A) (x : A) → IsPermutation xs ys → Contains (dedup test ys) x → Contains xs x
 once-only test xs ys x moved h = Contains-permutation ys xs x (IsPermutation-sym xs ys moved) (Contains-from_dedup test ys x h)

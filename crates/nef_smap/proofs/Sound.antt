@@ -1,37 +1,5 @@
 -- Joined sides are of one sface.
-use Rattle.std.proofs.Common.{◌≡◌, ℕ, zero, suc, ◌+◌, ◌<◌, ◌≤◌, ℤ, pos, ◌-ℤ◌, ◌*ℤ◌, ◌<ℤ◌, neg_ℤ, arith, refl, ap, sym, ◌∙◌, ◌⊎◌, inl, inr, ⊎_elim, [], ◌∷◌, length, subst, Option, Some, None}
-use Rattle.std.proofs.lemmas.Int.{ints}
-use Rattle.nef_space.proofs.Ring.{ring, at, num, neg, ◌⊕◌, ◌⊖◌, ◌⊗◌}
-use Rattle.nef_space.proofs.Combination.{follows, given, none}
-use Rattle.nef_space.proofs.Order.{sign, sign-plus, plus-is, nought-is, mul_pos, sign-scaled}
-use Rattle.nef_space.specs.Signs.{Lies}
-use Rattle.nef_space.specs.Lists.{Chained}
-use Rattle.nef_space.specs.Vectors.{Vector, IsDirection, IsZero, cross, triple, dot, opposite, SameDirection, blend}
-use Rattle.nef_space.specs.declared.label.Label.{Label}
-use Rattle.law_near.proofs.FlatDecided.{cross-turned}
-use Rattle.law_near.proofs.Directions.{self-pos, square_pos, zero-dot}
-use Rattle.law_near.proofs.Far.{nought-or}
-use Rattle.law_sphere.specs.Maps.{At, MapVertex, Arc, MapSloop, Map, Item, arc_item, sloop_item, items, item_normal, item_pos, dir_of, OnItem, IsFree, Side, around_svertex, pos_item, neg_item, whole, HasSide, IsClear, Sees, directly, HasArc, Shaped}
-use Rattle.law_sphere.specs.Forms.{Keeps, forms}
-use Rattle.law_sphere.proofs.Vectors.{normal-is, dot-comb}
-use Rattle.law_sphere.proofs.Lists.{at-one}
-use Rattle.law_sphere.proofs.Forms.{item-forms, normal-form, on-direction, on-level}
-use Rattle.law_sphere.proofs.Generic.{amount, far-keeps}
-use Rattle.law_sphere.proofs.Parallel.{apart, arc-point}
-use Rattle.law_sphere.proofs.Direct.{cross-self, between-off_target, cross-between}
-use Rattle.law_sphere.proofs.Shot.{dir-at, arc-at}
-use Rattle.law_sphere.proofs.StepOff.{blend-turned}
-use Rattle.law_sphere.proofs.Around.{direction-around, svertex-around, free-around, free-beside}
-use Rattle.law_sphere.proofs.Compare.{dir-self}
-use Rattle.law_sphere.proofs.Arcs.{at-arc}
-use Rattle.law_sphere.proofs.NearItems.{keeps-between, kept-not_opposite, opposite-turned, clear-around}
-use Rattle.law_sphere.proofs.Forms.{axes-forms}
-use Rattle.law_sphere.proofs.Sight.{clear-self, sees_both, free-seen}
-use Rattle.nef_smap.specs.Sides.{sides_of, SideSees, SeeOneWay}
-use Rattle.nef_smap.specs.SideNumbers.{number_of}
-use Rattle.nef_smap.specs.Above.{meridians, over_forms, IsFirst, first_sign, Stands}
-use Rattle.nef_smap.specs.Joined.{FirstNear, BelowFirsts, BelowFirst, ArcFirst, SloopFirst}
-use Rattle.nef_smap.specs.Links.{met_number, IsJoin, join_below, join_around, join_arc, join_sloop, join_ground}
+use Rattle.nef_smap.proofs.Prelude.{◌≡◌, ℕ, ◌+◌, ◌<◌, ◌≤◌, ℤ, pos, ◌-ℤ◌, ◌*ℤ◌, ◌<ℤ◌, neg_ℤ, arith, refl, ap, sym, ◌∙◌, ◌⊎◌, inl, inr, ⊎_elim, [], ◌∷◌, length, subst, Option, Some, None, ints, ring, at, num, neg, ◌⊕◌, ◌⊖◌, ◌⊗◌, follows, given, none, sign, sign-plus, plus-is, nought-is, mul_pos, sign-scaled, nought-or, square_pos, Lies, Chained, Vector, IsDirection, IsZero, cross, triple, dot, opposite, SameDirection, blend, Label, At, MapVertex, Arc, MapSloop, Map, Item, arc_item, sloop_item, items, item_normal, item_pos, dir_of, OnItem, IsFree, Side, around_svertex, pos_item, neg_item, whole, HasSide, IsClear, Sees, directly, HasArc, Shaped, Keeps, forms, normal-is, dot-comb, at-one, item-forms, normal-form, on-direction, on-level, amount, far-keeps, arc-point, cross-self, between-off_target, cross-between, dir-at, arc-at, direction-around, svertex-around, free-around, free-beside, at-arc, keeps-between, kept-not_opposite, clear-around, axes-forms, clear-self, sees_both, free-seen, sides_of, SideSees, SeeOneWay, number_of, meridians, over_forms, IsFirst, first_sign, Stands, FirstNear, BelowFirsts, BelowFirst, ArcFirst, SloopFirst, met_number, IsJoin, join_below, join_around, join_arc, join_sloop, join_ground, chain-link, chain-trans, chain-turned, cases_lt, zero-dot, self-pos, cross-turned, dir-self, opposite-turned, apart, blend-turned}
 use Rattle.nef_smap.proofs.Rise.{form-over, meridian-over, meridian-level, svertex-meridian, meridian-turn}
 use Rattle.nef_smap.proofs.Over.{touches-back, touches-level}
 use Rattle.nef_smap.proofs.Stands.{first-none, first-last, dot-opposite, far-stands, stand, stands, stands-keeps, stands-second, stands-third}
@@ -40,15 +8,8 @@ use Rattle.nef_smap.proofs.Clean.{lone-untouched}
 use Rattle.nef_smap.proofs.Upper.{arc-viewer, arc-viewer_off, arc-viewer_stands}
 use Rattle.nef_smap.proofs.Pole.{parallel-value}
 use Rattle.nef_smap.proofs.FirstSees.{Generic, none-clear, first-sees}
-use Rattle.nef_smap.proofs.MapLists.{at-within}
-use Rattle.nef_smap.proofs.SideLists.{at-from_get}
+use Rattle.nef_smap.proofs.Lists.{at-within, at-from_get}
 use Rattle.nef_smap.proofs.SideNumbers.{side-number}
-use Rattle.nef_classes.proofs.Chains.{chain-link, chain-trans, chain-turned}
-
-less_or : (s n : ℕ) → (s < n) ⊎ (n ≤ s)
-less_or s zero = inr (omega arith)
-less_or zero (suc n) = inl (omega arith)
-less_or (suc s) (suc n) = ⊎_elim (λ h. inl (omega arith)) (λ h. inr (omega arith)) (less_or s n)
 
 -- the turn from s to r, both in the plane of n
 pub along-turn : (n s r u : Vector) → dot n s ≡ pos 0 → dot n r ≡ pos 0 → dot n n *ℤ dot (cross u s) r ≡ triple n s r *ℤ dot n u
@@ -103,11 +64,11 @@ module _ (M : Map) (V : Shaped M) (u : Vector) (ahead : (k : ℕ) (x : Item) →
 
   -- a side, or a side that sees u
   pub root : ℕ → ℕ
-  root s = root-by s (less_or s (length (sides_of M)))
+  root s = root-by s (cases_lt s (length (sides_of M)))
 
   pub root-side : (s : ℕ) → s < length (sides_of M) → root s ≡ s
   unfolding root root-by
-  root-side s h = by (less_or s (length (sides_of M)))
+  root-side s h = by (cases_lt s (length (sides_of M)))
     where
       by : (c : (s < length (sides_of M)) ⊎ (length (sides_of M) ≤ s)) → root-by s c ≡ s
       by (inl k) = refl
@@ -115,7 +76,7 @@ module _ (M : Map) (V : Shaped M) (u : Vector) (ahead : (k : ℕ) (x : Item) →
 
   root-pole : root (length (sides_of M)) ≡ pole
   unfolding root root-by seen-from
-  root-pole = by (less_or (length (sides_of M)) (length (sides_of M)))
+  root-pole = by (cases_lt (length (sides_of M)) (length (sides_of M)))
     where
       by : (c : (length (sides_of M) < length (sides_of M)) ⊎ (length (sides_of M) ≤ length (sides_of M))) → root-by (length (sides_of M)) c ≡ pole
       by (inl k) = absurd (omega arith)

@@ -1,13 +1,5 @@
 -- Directions close to a, toward b, and there toward c.
-use Rattle.std.proofs.Common.{◌≡◌, ℕ, ◌≤◌, pos, ◌-ℤ◌, arith, refl, ap, sym, ◌∙◌, ⊎_elim, List, [], ◌∷◌}
-use Rattle.nef_space.proofs.Ring.{ring, at, num, neg, ◌⊕◌, ◌⊖◌, ◌⊗◌}
-use Rattle.nef_space.proofs.Order.{Sign, minus, nought, plus, sign, nought-is}
-use Rattle.nef_space.specs.Signs.{Lies}
-use Rattle.nef_space.specs.Vectors.{Vector, dot, opposite, blend}
-use Rattle.law_near.proofs.Far.{nought-or}
-use Rattle.law_sphere.specs.Forms.{Keeps}
-use Rattle.law_sphere.proofs.Generic.{amount, far-keeps, far-level}
-use Rattle.nef_smap.specs.Above.{first_sign, Stands}
+use Rattle.nef_smap.proofs.Prelude.{◌≡◌, ℕ, ◌≤◌, pos, ◌-ℤ◌, arith, refl, ap, sym, ◌∙◌, ⊎_elim, List, [], ◌∷◌, ring, at, num, neg, ◌⊕◌, ◌⊖◌, ◌⊗◌, Sign, minus, nought, plus, sign, nought-is, nought-or, Lies, Vector, dot, opposite, blend, Keeps, amount, far-keeps, far-level, first_sign, Stands}
 
 pub dot-opposite : (g d : Vector) → dot g (opposite d) ≡ pos 0 -ℤ dot g d
 dot-opposite g d = ring (g.x ∷ g.y ∷ g.z ∷ d.x ∷ d.y ∷ d.z ∷ []) (at 0 ⊗ neg (at 3) ⊕ at 1 ⊗ neg (at 4) ⊕ at 2 ⊗ neg (at 5)) (num (pos 0) ⊖ (at 0 ⊗ at 3 ⊕ at 1 ⊗ at 4 ⊕ at 2 ⊗ at 5)) tt

@@ -1,20 +1,5 @@
 -- The label over the directions close above an item is that of its upper side, where it is so at one of its directions.
-use Rattle.std.proofs.Common.{◌≡◌, ℕ, ◌≤◌, pos, ◌+ℤ◌, ◌*ℤ◌, ◌<ℤ◌, arith, refl, ap, sym, ◌∙◌, inl, inr, ⊎_elim, List, [], ◌∷◌, Option}
-use Rattle.std.proofs.lemmas.Int.{ints}
-use Rattle.nef_space.proofs.Ring.{ring, at, num, ◌⊕◌, ◌⊖◌, ◌⊗◌}
-use Rattle.nef_space.proofs.Combination.{follows, given, none}
-use Rattle.nef_space.proofs.Order.{Sign, minus, nought, plus, sign, sign-plus, plus-is, nought-is, mul_pos, cancel_eq, sign-scaled}
-use Rattle.nef_space.specs.Vectors.{Vector, IsDirection, cross, triple, dot, blend}
-use Rattle.nef_space.specs.declared.label.Label.{Label}
-use Rattle.law_near.proofs.Directions.{self-pos}
-use Rattle.law_near.proofs.Far.{nought-or}
-use Rattle.law_sphere.specs.Maps.{At, MapVertex, Arc, MapSloop, Map, Item, arc_item, sloop_item, items, item_normal, dir_of, OnItem, Side, pos_item, Shaped}
-use Rattle.law_sphere.proofs.Vectors.{normal-is}
-use Rattle.law_sphere.proofs.Forms.{item-forms, normal-form, on-level}
-use Rattle.law_sphere.proofs.Generic.{amount}
-use Rattle.law_sphere.proofs.Direct.{cross-self}
-use Rattle.nef_smap.specs.Above.{over_forms, IsFirst, first_sign, Stands}
-use Rattle.nef_smap.specs.Joined.{met, BelowFirsts, ArcFirst, SloopFirst}
+use Rattle.nef_smap.proofs.Prelude.{◌≡◌, ℕ, ◌≤◌, pos, ◌+ℤ◌, ◌*ℤ◌, ◌<ℤ◌, arith, refl, ap, sym, ◌∙◌, inl, inr, ⊎_elim, List, [], ◌∷◌, Option, ints, ring, at, num, ◌⊕◌, ◌⊖◌, ◌⊗◌, follows, given, none, Sign, minus, nought, plus, sign, sign-plus, plus-is, nought-is, mul_pos, cancel_eq, sign-scaled, nought-or, Vector, IsDirection, cross, triple, dot, blend, Label, At, MapVertex, Arc, MapSloop, Map, Item, arc_item, sloop_item, items, item_normal, dir_of, OnItem, Side, pos_item, Shaped, normal-is, item-forms, normal-form, on-level, amount, cross-self, over_forms, IsFirst, first_sign, Stands, met, BelowFirsts, ArcFirst, SloopFirst, self-pos}
 use Rattle.nef_smap.proofs.Rise.{form-over}
 use Rattle.nef_smap.proofs.Stands.{far-first, stand, stands, stands-keeps, stands-second, stands-third}
 use Rattle.nef_smap.proofs.Close.{cross-last}

@@ -1,32 +1,7 @@
 -- The upward direction lies on the upper side of every plane of a sphere map and is parallel to no svertex; and which items lie over close directions.
-use Rattle.std.proofs.Common.{◌≡◌, ℕ, zero, suc, ◌<◌, ◌≤◌, length, ℤ, pos, negsuc, ◌*ℤ◌, ◌≤ℤ◌, ◌<ℤ◌, nat_abs, arith, refl, ap, sym, ◌∙◌, inl, inr, ⊎_elim, [], ◌∷◌, subst, ◌↔◌}
-use Rattle.std.proofs.lemmas.Int.{ints}
-use Rattle.std.proofs.lemmas.List.{length-map}
-use Rattle.std.proofs.lemmas.Bool.Decides.{eqb_tells}
-use Rattle.nef_space.proofs.Ring.{ring, at, num, ◌⊗◌}
-use Rattle.nef_space.proofs.Order.{minus, plus, sign, sign-minus, minus-is, nought-is, mul_pos}
-use Rattle.nef_space.specs.Signs.{Lies}
-use Rattle.nef_space.specs.Limits.{normal_limit, svertex_limit}
-use Rattle.nef_space.specs.Vectors.{Vector, vector, IsDirection, IsNormal, IsAtMost, cross, triple, dot, up, SameDirection}
-use Rattle.law_near.proofs.Decided.{Decided}
-use Rattle.law_near.proofs.Directions.{self-pos, square_pos, zero-dot}
-use Rattle.law_near.proofs.Far.{nought-or}
-use Rattle.nef_geo.specs.Shapes.{vector_of}
-use Rattle.law_sphere.specs.Maps.{At, MapVertex, Arc, MapSloop, Map, Item, arc_item, sloop_item, items, item_normal, dir_of, ArcBetween, Shaped}
-use Rattle.law_sphere.specs.Forms.{axis_x, axis_y, axis_z}
-use Rattle.law_sphere.proofs.Vectors.{normal-is}
-use Rattle.law_sphere.proofs.Places.{axis_x-is, axis_y-is, axis_z-is}
-use Rattle.law_sphere.proofs.Forms.{item-forms, normal-form, axes-forms}
-use Rattle.law_sphere.proofs.Direct.{cross-self}
-use Rattle.law_sphere.proofs.Shot.{dir-at, arc-at}
-use Rattle.nef_smap.specs.declared.above.Close.{Close}
-use Rattle.nef_smap.specs.declared.map.SArc.{SArc}
-use Rattle.nef_smap.specs.declared.map.SphereMap.{SphereMap}
-use Rattle.nef_smap.specs.Maps.{svertex_of, arc_of, map_of, IsSphereMap}
-use Rattle.nef_smap.specs.Above.{rise, rise_form, IsOver}
-use Rattle.nef_smap.specs.Close.{close_sign, IsClose, ArcPasses}
+use Rattle.nef_smap.proofs.Prelude.{◌≡◌, ℕ, zero, suc, ◌<◌, ◌≤◌, length, ℤ, pos, negsuc, ◌*ℤ◌, ◌≤ℤ◌, ◌<ℤ◌, nat_abs, arith, refl, ap, sym, ◌∙◌, inl, inr, ⊎_elim, [], ◌∷◌, subst, ◌↔◌, ints, length-map, eqb_tells, ring, at, num, ◌⊗◌, minus, plus, sign, sign-minus, minus-is, nought-is, mul_pos, nought-or, square_pos, Lies, normal_limit, svertex_limit, Vector, vector, IsDirection, IsNormal, IsAtMost, cross, triple, dot, up, SameDirection, Decided, vector_of, At, MapVertex, Arc, MapSloop, Map, Item, arc_item, sloop_item, items, item_normal, dir_of, ArcBetween, Shaped, axis_x, axis_y, axis_z, normal-is, axis_x-is, axis_y-is, axis_z-is, item-forms, normal-form, axes-forms, cross-self, dir-at, arc-at, Close, SArc, SphereMap, svertex_of, arc_of, map_of, IsSphereMap, rise, rise_form, IsOver, close_sign, IsClose, ArcPasses, zero-dot, self-pos}
 use Rattle.nef_smap.proofs.Rise.{rise-is, rise-level, form-over, meridian-over, meridian-turn, svertex-meridian, rise-meridian}
-use Rattle.nef_smap.proofs.MapLists.{at-within}
+use Rattle.nef_smap.proofs.Lists.{at-within}
 use Rattle.nef_smap.proofs.Close.{rise-direction}
 use Rattle.nef_smap.proofs.CloseSigns.{level-sign, passes-alike}
 use Rattle.nef_smap.proofs.Passing.{passes-on, on-passes}

@@ -1,23 +1,10 @@
 -- The program's stars are well formed.
-use Rattle.std.proofs.Common.{◌≡◌, ℕ, zero, suc, List, [], ◌∷◌, length, map, Bool, true, false, cond, arith, refl, sym, ap, subst, ◌∙◌, inl, inr, ◌⊎◌}
-use Rattle.nef_space.proofs.Order.{by_order}
-use Rattle.nef_space.specs.Numbers.{IsBelow}
-use Rattle.nef_space.specs.Vectors.{Vector, opposite, triple_of, IsDirection, SameDirection}
-use Rattle.law_near.proofs.Flats.{vector-same}
-use Rattle.nef_geo.specs.Shapes.{vector_of}
-use Rattle.nef_geo.specs.declared.dir.Dir.{Dir}
-use Rattle.nef_geo.proofs.Unique.{same_directions_equal}
-use Rattle.law_sphere.specs.Vectors.{IsPrimitive, VectorBelow}
-use Rattle.law_sphere.specs.Maps.{At}
+use Rattle.nef_smap.proofs.Prelude.{◌≡◌, ℕ, zero, suc, List, [], ◌∷◌, length, map, Bool, true, false, cond, arith, refl, sym, ap, subst, ◌∙◌, inl, inr, ◌⊎◌, by_order, IsBelow, Vector, opposite, triple_of, IsDirection, SameDirection, vector_of, Dir, same_directions_equal, IsPrimitive, VectorBelow, At, Ray, Star, ray_of, star_of, left_of, left_at, IsRayBelow, IsRay, IsStar, each_has_one_label, vector-same, dir-self}
 use Rattle.law_sphere.specs.Stars.{Ray as PlainRay, IsRay as IsPlainRay}
 use Rattle.law_sphere.specs.Raw.{IsWellFormed, RayBelow, sector_count as plain_count}
-use Rattle.nef_star.specs.declared.star.Ray.{Ray}
-use Rattle.nef_star.specs.declared.star.Star.{Star}
-use Rattle.nef_star.specs.Stars.{ray_of, star_of, left_of, left_at, sector_count, IsRayBelow, IsRay, IsStar}
-use Rattle.nef_star.proofs.Labelled.{each_has_one_label}
+use Rattle.nef_star.specs.Stars.{sector_count}
 use Rattle.nef_smap.proofs.Lists.{at-map, at-within, at-get}
 use Rattle.nef_smap.proofs.Primitive.{dir-primitive}
-use Rattle.nef_geo.proofs.Directions.{SameDirection-itself as self-same}
 
 -- ---- the order of directions
 pub below-vectors : (u v : Vector) → IsBelow (triple_of u) (triple_of v) → VectorBelow u v
@@ -40,7 +27,7 @@ vector-order u v =
     (λ h. inr (inr (inl h)))
 
 pub dir-equal : (a b : Dir) → vector_of a ≡ vector_of b → a ≡ b
-dir-equal a b e = same_directions_equal a b (subst (λ (v : Vector). SameDirection (vector_of a) v) e (self-same (vector_of a) a.some))
+dir-equal a b e = same_directions_equal a b (subst (λ (v : Vector). SameDirection (vector_of a) v) e (dir-self (vector_of a) a.some))
 
 -- ---- rays
 plain-counts : (rays : List Ray) → sector_count rays ≡ plain_count (map ray_of rays)
@@ -59,7 +46,7 @@ one_ahead : (q r : Ray) → IsDirection (left_of q) → (SameDirection (left_of 
 one_ahead q r d apart least e = by q.ahead r.ahead refl refl
   where
     alike : q.ahead ≡ r.ahead → ⊥
-    alike f = apart (subst (SameDirection (left_of q)) (ap (λ (n : Dir). left n q.ahead) e ∙ ap (left r.normal) f) (self-same (left_of q) d))
+    alike f = apart (subst (SameDirection (left_of q)) (ap (λ (n : Dir). left n q.ahead) e ∙ ap (left r.normal) f) (dir-self (left_of q) d))
 
     by : (b c : Bool) → q.ahead ≡ b → r.ahead ≡ c → (q.ahead ≡ true) × (r.ahead ≡ false)
     by true true f g = absurd (alike (f ∙ sym g))
@@ -67,7 +54,7 @@ one_ahead q r d apart least e = by q.ahead r.ahead refl refl
     by false true f g = absurd (least (inr (sym e, g, f)))
     by false false f g = absurd (alike (f ∙ sym g))
 
-left-at : (rays : List Ray) (k : ℕ) (r : Ray) → At rays k r → left_at rays k ≡ left_of r
+pub left-at : (rays : List Ray) (k : ℕ) (r : Ray) → At rays k r → left_at rays k ≡ left_of r
 left-at [] k r h = absurd h
 left-at (q ∷ qs) zero r h = ap left_of h
 left-at (q ∷ qs) (suc k) r h = left-at qs k r h

@@ -1,47 +1,46 @@
--- What lies over a direction: what the way from it to a fixed direction u meets first.
-use Rattle.std.specs.Prelude.{◌≡◌, ℕ, ◌<◌, pos, ◌-ℤ◌, ◌≤ℤ◌, ◌<ℤ◌, List, [], ◌∷◌, ◌++◌, Option, Some, None}
-use Rattle.nef_space.specs.Signs.{Sign, minus, nought, plus, sign, Lies}
-use Rattle.nef_space.specs.Vectors.{Vector, dot, cross}
+-- What lies over a direction: the item that the way from the direction to a fixed direction u first meets.
+use Rattle.std.specs.Prelude.{◌≡◌, ◌<◌, ◌-ℤ◌, ◌≤ℤ◌, ◌<ℤ◌, ◌∷◌, ◌++◌, ℕ, pos, List, [], Option, Some, None}
+use Rattle.nef_space.specs.Prelude.{Sign, minus, nought, plus, sign, Lies, Vector, dot, cross}
 use Rattle.law_sphere.specs.Vectors.{comb}
 use Rattle.law_sphere.specs.Maps.{At, Map, Item, items, item_normal, OnItem}
 use Rattle.law_sphere.specs.Forms.{gather, forms}
 
--- where the way from d to u meets the plane of n, which parts them
+-- where the way from d to u meets the plane of n, which parts d and u
 abbrev pub rise : Vector → Vector → Vector → Vector
 rise u n d = comb (dot n u) d (pos 0 -ℤ dot n d) u
 
--- the form that takes on d the value that g takes on rise u n d
+-- the form that has on d the value of g on rise u n d
 abbrev pub rise_form : Vector → Vector → Vector → Vector
 rise_form u n g = comb (dot n u) g (pos 0 -ℤ dot g u) n
 
--- the way from d, on the lower side of the item's plane, to u, on its upper side, meets the item
+-- the way from d, below the item's plane, to u, above this plane, meets the item
 pub record IsOver (M : Map) (u : Vector) (x : Item) (d : Vector) : Type 0 where
   pub below : dot (item_normal x) d <ℤ pos 0
   pub on : OnItem M x (rise u (item_normal x) d)
 
--- the way from d to u meets item k, and no item before it
+-- the way from d to u meets item k, and no other item sooner
 pub record IsFirstItem (M : Map) (u d : Vector) (k : ℕ) : Type 0 where
   pub item : Item
   pub listed : At (items M) k item
   pub over : IsOver M u item d
   pub first : (l : ℕ) (y : Item) → At (items M) l y → IsOver M u y d → pos 0 ≤ℤ dot (item_normal item) (rise u (item_normal y) d)
 
--- what the way from d to u meets first: an item, or none
+-- the first item that the way from d to u meets, or none
 abbrev pub IsFirst : Map → Vector → Vector → Option ℕ → Type 0
 IsFirst M u d None = (k : ℕ) (x : Item) → At (items M) k x → IsOver M u x d → ⊥
 IsFirst M u d (Some k) = IsFirstItem M u d k
 
--- the same among the first n items
+-- the first of the first n items that the way from d to u meets, or none
 abbrev pub IsFirstOf : Map → Vector → Vector → ℕ → Option ℕ → Type 0
 IsFirstOf M u d n None = (k : ℕ) (x : Item) → k < n → At (items M) k x → IsOver M u x d → ⊥
 IsFirstOf M u d n (Some k) = (x : Item) × At (items M) k x × IsOver M u x d
     × ((l : ℕ) (y : Item) → l < n → At (items M) l y → IsOver M u y d → pos 0 ≤ℤ dot (item_normal x) (rise u (item_normal y) d))
 
--- the forms whose signs say what lies over a direction
+-- the forms whose signs tell what lies over a direction
 abbrev pub rise_forms : Map → Vector → List Vector
 rise_forms M u = gather (λ (x : Item). gather (λ (g : Vector). rise_form u (item_normal x) g ∷ []) (forms M)) (items M)
 
--- and those that say on which side of each svertex's meridian it is
+-- these forms, and the forms whose signs tell on which side of each svertex's meridian a direction lies
 abbrev pub meridians : Map → Vector → List Vector
 meridians M u = gather (λ v. cross u v.dir ∷ []) M.svertices ++ rise_forms M u
 
@@ -55,6 +54,6 @@ first_sign minus s = minus
 first_sign nought s = s
 first_sign plus s = plus
 
--- d has the signs of a on the forms, those of b where these are nought, and those of c where both are
+-- on each form d has the sign of a, or b's sign where a's is nought, or c's sign where both are nought
 abbrev pub Stands : List Vector → Vector → Vector → Vector → Vector → Type 0
 Stands gs a b c d = (g : Vector) → Lies gs g → sign (dot g d) ≡ first_sign (sign (dot g a)) (first_sign (sign (dot g b)) (sign (dot g c)))

@@ -1,6 +1,5 @@
--- An arc or the sloop of the program as an item of any size, and items by their normals.
-use Rattle.std.specs.Prelude.{ℕ}
-use Rattle.nef_space.specs.Vectors.{Vector, SameDirection}
+-- The program's items as items of any size, and items by their normals.
+use Rattle.nef_space.specs.Prelude.{ℕ, Vector, SameDirection}
 use Rattle.law_sphere.specs.Maps.{At, Item as PlainItem, arc_item, sloop_item, Map, items, item_normal, OnItem}
 use Rattle.nef_smap.specs.declared.item.Item.{Item}
 use Rattle.nef_smap.specs.declared.item.Item.TheVariants as item
@@ -10,6 +9,6 @@ abbrev pub item_of : Item → PlainItem
 item_of (item.Arc a) = arc_item (arc_of a)
 item_of (item.Loop l) = sloop_item (sloop_of l)
 
--- d lies on the item with this number, which has the normal n
+-- d lies on item k, which has the normal n
 abbrev pub IsItemThrough : Map → Vector → Vector → ℕ → Type 0
 IsItemThrough M n d k = (x : PlainItem) × At (items M) k x × SameDirection (item_normal x) n × OnItem M x d

@@ -1,22 +1,21 @@
--- What has to hold of labels of a map's sides so that two sides that see one direction have one label.
-use Rattle.std.specs.Prelude.{◌≡◌, ℕ, pos, ◌<ℤ◌, Option, Some, None}
-use Rattle.nef_space.specs.Vectors.{Vector, dot, cross, triple, opposite}
-use Rattle.nef_space.specs.declared.label.Label.{Label}
+-- What has to hold of the labels of a map's sides so that two sides that see one direction have one label.
+use Rattle.std.specs.Prelude.{◌≡◌, ◌<ℤ◌}
+use Rattle.nef_geo.specs.Prelude.{ℕ, pos, Option, Some, None, Vector, dot, cross, triple, opposite, Label}
 use Rattle.nef_space.specs.declared.label.Label.TheVariants.{Out}
 use Rattle.law_cyclic.specs.Arcs.{IsOnCircle}
 use Rattle.law_sphere.specs.Maps.{At, MapVertex, Arc, MapSloop, Map, sloop_item, items, dir_of, Side, around_svertex, pos_item, neg_item, whole}
 use Rattle.nef_smap.specs.Above.{IsFirst, over_forms, Stands}
 
--- the label of what is met first: of the lower side of an item, or of u
+-- the label of what is met first: the label of an item's lower side, or the label of u
 abbrev pub met : (Side → Label) → Label → Option ℕ → Label
 met G top None = top
 met G top (Some k) = G (neg_item k)
 
--- what lies over all directions that are close to a, toward b, and there toward c
+-- r is what lies over all directions close to a, toward b and there toward c
 abbrev pub FirstNear : Map → Vector → Vector → Vector → Vector → Option ℕ → Type 0
 FirstNear M u a b c r = (d : Vector) → Stands (over_forms M u) a b c d → IsFirst M u d r
 
--- what lies over the directions just below w, to one side of its meridian and to the other
+-- what lies over the directions just below w, on both sides of w's meridian
 pub record BelowFirsts (M : Map) (u w : Vector) : Type 0 where
   pub aside : Vector
   pub off : dot (cross u w) aside ≡ pos 0 → ⊥
@@ -25,14 +24,14 @@ pub record BelowFirsts (M : Map) (u w : Vector) : Type 0 where
   pub left_first : FirstNear M u w (opposite u) aside left
   pub right_first : FirstNear M u w (opposite u) (opposite aside) right
 
--- what lies over the directions just below w, to one side
+-- what lies over the directions just below w, on one side of w's meridian
 pub record BelowFirst (M : Map) (u w : Vector) : Type 0 where
   pub aside : Vector
   pub off : dot (cross u w) aside ≡ pos 0 → ⊥
   pub first : Option ℕ
   pub is_first : FirstNear M u w (opposite u) aside first
 
--- what lies over the directions close to the source of an arc: along it, and then up
+-- what lies over the directions close to an arc's source, along the arc and then up
 pub record ArcFirst (M : Map) (u : Vector) (a : Arc) : Type 0 where
   pub along : Vector
   pub level : dot a.normal along ≡ pos 0
@@ -40,7 +39,7 @@ pub record ArcFirst (M : Map) (u : Vector) (a : Arc) : Type 0 where
   pub first : Option ℕ
   pub is_first : FirstNear M u (dir_of M.svertices a.source) along u first
 
--- what lies over one of the directions of a sloop
+-- what lies over a direction of a sloop
 pub record SloopFirst (M : Map) (u : Vector) (l : MapSloop) : Type 0 where
   pub point : Vector
   pub on : IsOnCircle l.normal point
@@ -56,7 +55,7 @@ pub record Firsts (M : Map) (u : Vector) : Type 0 where
   pub arcs : (k : ℕ) (a : Arc) → At M.arcs k a → ArcFirst M u a
   pub sloops : (k : ℕ) (l : MapSloop) → At (items M) k (sloop_item l) → SloopFirst M u l
 
--- the labels agree at the joins: on both sides just below each svertex, and round it where it has no arc; above each item, and over it; and no label is Out
+-- the labels agree at all joins: below each svertex, round a svertex, and above each item; and none is Out
 pub record Joins (M : Map) (u : Vector) (G : Side → Label) (top : Label) (F : Firsts M u) : Type 0 where
   pub below : (k : ℕ) (v : MapVertex) (a : At M.svertices k v) → (let j = F.svertices k v a in met G top j.left ≡ met G top j.right)
   pub around : (k : ℕ) (v : MapVertex) (m : Label) (a : At M.svertices k v) (q : v.around ≡ Some m) → (let j = F.arounds k v m a q in met G top j.first ≡ G (around_svertex k))

@@ -1,3 +1,4 @@
+pub mod Prelude
 pub mod Maps
 pub mod Sides
 pub mod Stars

@@ -1,13 +1,7 @@
--- The program's sphere maps as maps of any size, and what holds of each.
-use Rattle.nef_space.specs.declared.label.Label.{Label}
-use Rattle.std.specs.Prelude.{◌≡◌, ℕ, map, Some, option_map, Option}
-use Rattle.std.specs.List.{All}
-use Rattle.nef_space.specs.Limits.{normal_limit, svertex_limit}
-use Rattle.nef_space.specs.Vectors.{IsAtMost}
-use Rattle.nef_geo.specs.Shapes.{vector_of}
-use Rattle.law_sphere.specs.Maps.{At, MapVertex, Arc, MapSloop, Item, Map, items, item_normal, Valid}
-use Rattle.law_sphere.specs.Least.{Least, Ordered}
-use Rattle.law_sphere.specs.Raw.{RawMap}
+-- The program's sphere maps as maps of any size, and what holds of each sphere map.
+use Rattle.nef_geo.specs.Prelude.{Label, ℕ, map, Some, option_map, Option, All, normal_limit, svertex_limit, IsAtMost, vector_of}
+use Rattle.std.specs.Prelude.{◌≡◌}
+use Rattle.law_sphere.specs.Prelude.{At, MapVertex, Arc, MapSloop, Item, Map, items, item_normal, Valid, Least, Ordered, RawMap}
 use Rattle.nef_star.specs.Stars.{star_of, IsStar}
 use Rattle.nef_smap.specs.declared.map.SVertex.{SVertex}
 use Rattle.nef_smap.specs.declared.map.SArc.{SArc}
@@ -30,12 +24,12 @@ map_of m = let ground : Option Label = m.ground in record { mark = m.mark; svert
 abbrev pub raw_of : RawStars → RawMap
 raw_of r = let ground : Option Label = r.ground in record { mark = r.mark; stars = map star_of r.stars; sloop = option_map sloop_of r.sloop; ground = ground }
 
--- the numbers of svertices and of normals are within their limits
+-- the numbers of the map's svertices and normals are within their limits
 pub record IsSmall (M : Map) : Type 0 where
   pub svertices : (k : ℕ) (v : MapVertex) → At M.svertices k v → IsAtMost svertex_limit v.dir
   pub normals : (k : ℕ) (x : Item) → At (items M) k x → IsAtMost normal_limit (item_normal x)
 
--- what holds of every sphere map
+-- the map is valid, its lists are in order, and its numbers are small
 pub record IsSphereMap (m : SphereMap) : Type 0 where
   pub valid : Valid (map_of m)
   pub ordered : Ordered (map_of m)
@@ -45,7 +39,7 @@ pub record IsLeastMap (m : SphereMap) : Type 0 where
   pub sphere_map : IsSphereMap m
   pub least : Least (map_of m)
 
--- what holds of all raw stars, whatever they show
+-- the stars are stars, and the circle's normal is small, whatever the raw stars show
 pub record IsRawStars (r : RawStars) : Type 0 where
   pub stars : All IsStar r.stars
   pub circle_small : (l : SLoop) → r.sloop ≡ Some l → IsAtMost normal_limit (vector_of l.normal)

@@ -4,18 +4,18 @@ use Rattle.nef_space.specs.declared.label.Label.{Label}
 use Rattle.law_sphere.specs.Maps.{MapVertex, Map, items, Side, around_svertex, pos_item, neg_item, whole}
 use Rattle.nef_smap.specs.Sides.{svertex_sides}
 
--- one if there is a label
+-- 1 for a label, 0 for none
 abbrev pub one_if : Option Label → ℕ
 one_if None = 0
 one_if (Some l) = 1
 
--- how many of the first k svertices have a label round them
+-- the number of svertices among the first k with a label round the svertex
 abbrev pub arounds_before : List MapVertex → ℕ → ℕ
 arounds_before [] k = 0
 arounds_before (v ∷ vs) zero = 0
 arounds_before (v ∷ vs) (suc k) = one_if v.around + arounds_before vs k
 
--- the number of a side, by the order in which a map's sides are listed
+-- the number of a side among the map's sides
 abbrev pub number_of : Map → Side → ℕ
 number_of M (around_svertex k) = arounds_before M.svertices k
 number_of M (pos_item k) = length (svertex_sides 0 M.svertices) + 2 * k

@@ -1,4 +1,4 @@
--- The ends of a way, and the values of a form at them.
+-- The ends of a way, and the values of a form at these ends.
 use Rattle.std.specs.Prelude.{◌≡◌, ℕ, ◌^◌}
 use Rattle.nef_space.specs.Vectors.{Vector, dot, blend, IsAtMost}
 use Rattle.nef_geo.specs.Triples.{wide_vector}
@@ -18,7 +18,7 @@ pub record IsWithin (w : SpherePath) : Type 0 where
   pub end : IsAtMost (2 ^ 37) (wide_vector w.end)
   pub beside : IsAtMost (2 ^ 37) (wide_vector w.beside)
 
--- the products of g with the way's vectors
+-- v has the products of g with the way's vectors
 pub record AreValues (w : SpherePath) (g : Vector) (v : Values) : Type 0 where
   pub start_factor : v.start.factor ≡ dot g (wide_vector w.start)
   pub start_rest : v.start.rest ≡ dot g (wide_vector w.upward)

@@ -1,30 +1,24 @@
-//! What lies over directions of a sphere map: what the way from them to the upward direction meets first.
+//! What lies over directions of a sphere map: the item that the way up from a direction first meets.
 
 ghost use Rattle.std.specs.Prelude.{◌≡◌, ◌+◌, ◌<◌, ◌<ℤ◌, ◌↔◌};
-ghost use Rattle.nef_geo.specs.Prelude.{ℕ, IfSome, pos, IsTrue, length, normal_limit, svertex_limit, Sign as Signum, Vector, dot, cross, up, IsAtMost, vector_of};
-ghost use Rattle.law_sphere.specs.Maps.{At, items};
-ghost use Rattle.nef_smap.specs.Maps.{map_of, IsSphereMap};
-ghost use Rattle.nef_smap.specs.Items.{item_of};
-ghost use Rattle.nef_smap.specs.Above.{rise_form, IsOver, IsFirst, IsFirstOf};
-ghost use Rattle.nef_smap.specs.Close.{geo_sign, close_sign, beyond_sign, IsClose, ArcPasses, PassesArc};
+ghost use Rattle.nef_smap.specs.Prelude.{ℕ, IfSome, pos, IsTrue, length, normal_limit, svertex_limit, Sign as Signum, Vector, dot, cross, up, IsAtMost, vector_of, At, items, map_of, IsSphereMap, item_of, rise_form, IsOver, IsFirst, IsFirstOf, geo_sign, close_sign, beyond_sign, IsClose, ArcPasses, PassesArc};
 
 use crate::item::Item;
 use crate::map::{SArc, SphereMap};
 use nef_geo::{Dir, Sign, dot, quad, triple, up};
 
-// How directions lie close to one.
+// Where directions close to a given one lie.
 #[derive(Clone, Copy)]
 pub(crate) enum Lean {
-    // Below it, and there a little aside.
+    // Below the given direction, and there a little aside.
     Down,
-    // Over it, and there a little aside.
+    // Over the given direction, and there a little aside.
     Up,
-    // Aside, and there a little over.
+    // Aside, and there a little over the given direction.
     Along,
 }
 
-// The directions close to one, all of which have the same sign on each of a map's forms. They lie toward `aside`, and
-// also down or up.
+// Directions close to `at`, toward `aside`, and down or up as `lean` says, with one sign on each of a map's forms.
 #[derive(Clone, Copy)]
 pub(crate) struct Close {
     pub(crate) at: Dir,
@@ -32,9 +26,9 @@ pub(crate) struct Close {
     pub(crate) lean: Lean,
 }
 
-// What two signs tell of which the first decides unless it is zero is asked for one by one: it decides mostly.
+// A second sign is asked for only where the first is zero: mostly the first decides.
 impl Close {
-    // The side of the normal's plane, which holds the direction they are close to, on which they lie.
+    // The side of the normal's plane, which holds `at`, on which the close directions lie.
     fn side_beyond(&self, normal: &Dir) -> Sign
         requires ahead { pos 0 <ℤ dot (vector_of normal.now) up }
         ensures side { result ≡ geo_sign (beyond_sign (vector_of normal.now) self.now.lean (vector_of self.now.aside)) }
@@ -50,7 +44,7 @@ impl Close {
         }
     }
 
-    // The side of the normal's plane on which they lie.
+    // The side of the normal's plane on which the close directions lie.
     fn side(&self, normal: &Dir) -> Sign
         requires ahead { pos 0 <ℤ dot (vector_of normal.now) up }
         ensures side { result ≡ geo_sign (close_sign (vector_of normal.now) self.now) }
@@ -62,7 +56,7 @@ impl Close {
         }
     }
 
-    // On which side of the plane of the upward direction and d they lie.
+    // The side of the plane of the upward direction and d on which the close directions lie.
     fn turn(&self, d: &Dir) -> Sign
         ensures turn { result ≡ geo_sign (close_sign (cross up (vector_of d.now)) self.now) }
     {
@@ -74,7 +68,7 @@ impl Close {
         }
     }
 
-    // On which side of the second normal's plane the way up from them meets the first normal's.
+    // On which side of the second normal's plane the way up from the close directions meets the first normal's plane.
     fn meeting(&self, first: &Dir, second: &Dir) -> Sign
         requires at_small { IsAtMost svertex_limit (vector_of self.now.at) }
         requires aside_small { IsAtMost svertex_limit (vector_of self.now.aside) }
@@ -91,8 +85,8 @@ impl Close {
     }
 }
 
-// Whether a direction on an arc's circle is strictly on it: by the turn from its source to its target, whether its source
-// is passed before the direction and its target after, each on less than half a circle, and whether the two are the same.
+// Whether a direction on an arc's circle is strictly on the arc: by the turn from source to target, whether the
+// direction is less than half a circle past the source and before the target, and whether both ends are one.
 fn is_passed(turn: Sign, past_source: bool, before_target: bool, whole: bool) -> bool
     ensures passed { (s : Signum) → turn ≡ geo_sign s → IsTrue result ↔ ArcPasses s (IsTrue past_source) (IsTrue before_target) (IsTrue whole) }
 {
@@ -103,7 +97,7 @@ fn is_passed(turn: Sign, past_source: bool, before_target: bool, whole: bool) ->
     }
 }
 
-// Whether the way up from the directions, which crosses the arc's circle, passes the arc.
+// Whether the way up from the close directions, which crosses the arc's circle, crosses it on the arc.
 fn passes(map: &SphereMap, arc: &SArc, way: &Close) -> bool
     requires source { arc.now.source < length map.now.svertices }
     requires target { arc.now.target < length map.now.svertices }
@@ -121,7 +115,7 @@ fn passes(map: &SphereMap, arc: &SArc, way: &Close) -> bool
     is_passed(turn, past_source, before_target, is_whole)
 }
 
-// Whether the way up from the directions meets the item.
+// Whether the way up from the close directions meets the item.
 fn is_over(map: &SphereMap, item: &Item, way: &Close) -> bool
     requires map { IsSphereMap map.now }
     requires listed { (k : ℕ) × At (items (map_of map.now)) k (item_of item.now) }
@@ -137,8 +131,7 @@ fn is_over(map: &SphereMap, item: &Item, way: &Close) -> bool
     }
 }
 
-// The first that is met of the items before `number`, which is `earlier` if one of them is met, and of the item with this
-// number.
+// The item that the way up first meets, of the items up to `number`, where `earlier` is this item of the items before.
 fn first_met(map: &SphereMap, earlier: Option<usize>, number: usize, way: &Close) -> Option<usize>
     requires map { IsSphereMap map.now }
     requires earlier { IfSome earlier (λ k. k < length (items (map_of map.now))) }
@@ -162,7 +155,7 @@ fn first_met(map: &SphereMap, earlier: Option<usize>, number: usize, way: &Close
     }
 }
 
-// The item that the way up from the directions meets first.
+// The item that the way up from the close directions first meets.
 pub(crate) fn above(map: &SphereMap, way: &Close) -> Option<usize>
     requires map { IsSphereMap map.now }
     requires off { dot (cross up (vector_of way.now.at)) (vector_of way.now.aside) ≡ pos 0 → ⊥ }

@@ -1,28 +1,20 @@
-//! The items of a sphere map, arcs and the sloop, and the sides, with their labels.
+//! The items of a sphere map, which are its arcs and its sloop, and the numbered sides with their labels.
 
 ghost use Rattle.std.specs.Prelude.{◌≡◌, ◌<◌, ◌^◌, ◌↔◌, ◌≤◌};
-ghost use Rattle.nef_geo.specs.Prelude.{ℕ, length, cond, IsTrue, MatchOption, slice_get, normal_limit, svertex_limit, Vector, SameDirection, IsAtMost, vector_of, filter_map};
-ghost use Rattle.law_cyclic.specs.Arcs.{IsOnCircle};
-ghost use Rattle.nef_arc.specs.Arcs.{normal_vector, IsOn};
-ghost use Rattle.law_sphere.specs.Maps.{At, Item as PlainItem, items, item_normal, item_pos, item_mark, item_neg, arc_item, OnItem, Side, pos_item, neg_item};
-ghost use Rattle.nef_smap.specs.Maps.{arc_of, map_of, IsSphereMap};
-ghost use Rattle.nef_smap.specs.Items.{item_of, IsItemThrough};
-ghost use Rattle.nef_smap.specs.Sides.{IsSide, sides_of};
-ghost use Rattle.nef_smap.specs.SideNumbers.{number_of, arounds_before};
+ghost use Rattle.nef_smap.specs.Prelude.{ℕ, length, cond, IsTrue, MatchOption, slice_get, normal_limit, svertex_limit, Vector, SameDirection, IsAtMost, vector_of, filter_map, IsOnCircle, normal_vector, IsOn, At, Item as PlainItem, items, item_normal, item_pos, item_mark, item_neg, arc_item, OnItem, Side, pos_item, neg_item, arc_of, map_of, IsSphereMap, item_of, IsItemThrough, IsSide, sides_of, number_of, arounds_before};
 
 use crate::map::{SArc, SLoop, SphereMap};
 use nef_arc::{Arc, strictly_on};
 use nef_geo::{Dir, Label, axis_x, axis_y, common_perpendicular, cross};
 
-/// An arc or the sloop.
-#[derive(Debug, Clone, Copy, PartialEq, Eq)]
+#[derive(Clone, Copy)]
 pub enum Item {
     Arc(SArc),
     Loop(SLoop),
 }
 
 impl Item {
-    /// The normal of its great circle.
+    /// The normal of the item's great circle.
     pub fn normal(&self) -> &Dir
         ensures normal { vector_of result.now ≡ item_normal (item_of self.now) }
     {
@@ -32,7 +24,7 @@ impl Item {
         }
     }
 
-    /// The label of the directions on it.
+    /// The label of the directions on the item.
     pub fn mark(&self) -> Label
         ensures mark { result ≡ item_mark (item_of self.now) }
     {
@@ -42,7 +34,7 @@ impl Item {
         }
     }
 
-    /// The label on the side to which the normal points if `above`, and on the other if not.
+    /// The label on the side to which the normal points if `above`, and else on the other side.
     pub fn label(&self, above: bool) -> Label
         ensures label { result ≡ cond above (item_pos (item_of self.now)) (item_neg (item_of self.now)) }
     {
@@ -76,7 +68,7 @@ pub fn on_circle(normal: &Dir) -> Dir
     common_perpendicular(normal, &axis_y())
 }
 
-// How many svertices have a label round them.
+// How many svertices have a side, which has the label round the svertex.
 fn around_sides(map: &SphereMap) -> usize
     ensures count { result ≡ length (filter_map (λ v. v.around) map.now.svertices) }
     ensures small { result < 2 ^ 60 }
@@ -88,7 +80,7 @@ fn around_sides(map: &SphereMap) -> usize
         .count()
 }
 
-// The label round the svertex with this number among those that have one.
+// The label of a side round a svertex. These sides are numbered in the order of the svertices that have one.
 fn around_label(map: &SphereMap, side: usize) -> Option<Label>
     ensures label { result ≡ slice_get (filter_map (λ v. v.around) map.now.svertices) side }
 {
@@ -122,7 +114,7 @@ impl SphereMap {
         }
     }
 
-    /// The arc, which is one of the map's, with the directions of its ends.
+    /// The arc of the map as a set of directions, with the directions of its ends.
     pub fn great_arc(&self, arc: &SArc) -> Arc
         requires map { IsSphereMap self.now }
         requires arc { (i : ℕ) × At (map_of self.now).arcs i (arc_of arc.now) }
@@ -134,7 +126,7 @@ impl SphereMap {
         Arc::of(source, target, arc.normal)
     }
 
-    /// Whether the direction lies on the item with this number: strictly, if that is an arc.
+    /// Whether the direction lies on the item with this number; on an arc strictly.
     pub fn item_holds(&self, number: usize, d: &Dir) -> bool
         requires map { IsSphereMap self.now }
         requires within { number < length (items (map_of self.now)) }
@@ -146,7 +138,7 @@ impl SphereMap {
         }
     }
 
-    /// The number of the first item with the normal. `None` comes exactly where no item has it.
+    /// The number of the first item with the normal. `None` comes exactly where no item has the normal.
     pub fn item_with(&self, normal: &Dir) -> Option<usize>
         ensures item { MatchOption result ((k : ℕ) (x : PlainItem) → At (items (map_of self.now)) k x → SameDirection (item_normal x) (vector_of normal.now) → ⊥) (λ k. (x : PlainItem) × At (items (map_of self.now)) k x × SameDirection (item_normal x) (vector_of normal.now)) }
     {
@@ -158,7 +150,7 @@ impl SphereMap {
         None
     }
 
-    /// The number of the item with the normal on which the direction lies. `None` comes exactly where there is none.
+    /// The number of the item with the normal on which the direction lies. `None` comes exactly where no such item is.
     pub fn item_through(&self, normal: &Dir, d: &Dir) -> Option<usize>
         requires map { IsSphereMap self.now }
         ensures item { MatchOption result ((k : ℕ) → IsItemThrough (map_of self.now) (vector_of normal.now) (vector_of d.now) k → ⊥) (IsItemThrough (map_of self.now) (vector_of normal.now) (vector_of d.now)) }
@@ -171,8 +163,7 @@ impl SphereMap {
         None
     }
 
-    /// The number of the side round the svertex with this number, if it has a label round it: how many of those before it
-    /// have one.
+    /// The number of the side round this svertex, if the svertex has a side: how many svertices before have a side.
     pub fn around_side(&self, svertex: usize) -> usize
         requires within { svertex ≤ length self.now.svertices }
         ensures number { result ≡ arounds_before (map_of self.now).svertices svertex }
@@ -186,8 +177,7 @@ impl SphereMap {
         found
     }
 
-    /// The number of a side of the item with this number: of the one to which its normal points if `above`, and of the
-    /// other if not.
+    /// The number of the item's side to which the item's normal points if `above`, or else of its other side.
     pub fn item_side(&self, number: usize, above: bool) -> usize
         requires within { number < length (items (map_of self.now)) }
         ensures number { result ≡ number_of (map_of self.now) (cond above (pos_item number) (neg_item number)) }
@@ -199,8 +189,8 @@ impl SphereMap {
     }
 }
 
-/// How many sides the map has: one for each svertex without arcs, two for each arc and for the sloop, and one for the
-/// face of a map that has nothing else.
+/// How many sides the map has: one round each svertex without arcs, two for each arc and for the sloop, and the ground
+/// of a map without svertices and sloop.
 pub fn sides(map: &SphereMap) -> usize
     ensures count { result ≡ length (sides_of (map_of map.now)) }
     ensures small { result < 2 ^ 62 }
@@ -208,8 +198,8 @@ pub fn sides(map: &SphereMap) -> usize
     around_sides(map) + 2 * map.item_count() + usize::from(map.ground.is_some())
 }
 
-/// The label of the side with this number. The sides of svertices without arcs stand first; then those of the arcs and
-/// of the sloop, for each the one to which the normal points and then the other; then that of a map without items.
+/// The label of the side with this number. The sides round svertices without arcs come first; then the two sides of
+/// each arc and of the sloop, first the one to which the normal points; then the ground.
 pub fn side_label(map: &SphereMap, side: usize) -> Label
     requires within { side < length (sides_of (map_of map.now)) }
     ensures label { (o : Side) × IsSide (map_of map.now) side o result }

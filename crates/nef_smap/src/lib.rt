@@ -1,9 +1,9 @@
 //! Sphere maps: the local pyramid of a set at a point, cut with a small sphere.
 //!
-//! A sphere map has svertices, arcs of great circles between them, and at most one whole circle without a svertex, a
-//! sloop. Each has a mark, the label of its directions; what lies between is faces, whose labels stand on the sides of
-//! arcs and of the sloop, round a svertex without arcs, or as the one label of a map without items. Source: Granados et
-//! al., "Boolean Operations on 3D Selective Nef Complexes", ESA 2003.
+//! A sphere map has svertices, arcs of great circles between them, and at most one whole circle without a svertex, the
+//! sloop. Each has a mark, the label of its directions. The faces between them have their labels on the sides of arcs
+//! and of the sloop, round svertices without arcs, or as the ground of a map without svertices and sloop. Source:
+//! Granados et al., "Boolean Operations on 3D Selective Nef Complexes", ESA 2003.
 #![tactic(auto)]
 
 mod above;

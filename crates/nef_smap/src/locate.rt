@@ -1,12 +1,7 @@
 //! Where a direction lies on a sphere map, its label, and the star there.
 
 ghost use Rattle.std.specs.Prelude.{◌≡◌, ◌++◌, ◌∷◌};
-ghost use Rattle.nef_geo.specs.Prelude.{ℕ, MatchOption, [], cond, IfOk, OnOk, vector_of, svertex_limit, SameDirection, IsAtMost};
-ghost use Rattle.law_sphere.specs.Maps.{MapLabel, At, Item as PlainItem, MapVertex, items, OnItem};
-ghost use Rattle.nef_smap.specs.Maps.{map_of, IsSphereMap};
-ghost use Rattle.nef_smap.specs.Sides.{IsPlaceOf};
-ghost use Rattle.nef_star.specs.Stars.{star_of, IsStar};
-ghost use Rattle.nef_smap.specs.Stars.{AreArcEnds, IsNeighbourhood};
+ghost use Rattle.nef_smap.specs.Prelude.{ℕ, MatchOption, [], cond, IfOk, OnOk, vector_of, svertex_limit, SameDirection, IsAtMost, MapLabel, At, Item as PlainItem, MapVertex, items, OnItem, map_of, IsSphereMap, IsPlaceOf, star_of, IsStar, AreArcEnds, IsNeighbourhood};
 
 use crate::OutOfMemory;
 use crate::item::side_label;
@@ -27,7 +22,7 @@ fn svertex_at(map: &SphereMap, d: &Dir) -> Option<usize>
     None
 }
 
-// The number of the item on which the direction lies: strictly, if that is an arc.
+// The number of the item on which the direction lies; on an arc strictly.
 fn item_on(map: &SphereMap, d: &Dir) -> Option<usize>
     requires map { IsSphereMap map.now }
     ensures item { MatchOption result ((k : ℕ) (x : PlainItem) → At (items (map_of map.now)) k x → OnItem (map_of map.now) x (vector_of d.now) → ⊥) (λ k. (x : PlainItem) × At (items (map_of map.now)) k x × OnItem (map_of map.now) x (vector_of d.now)) }
@@ -40,7 +35,7 @@ fn item_on(map: &SphereMap, d: &Dir) -> Option<usize>
     None
 }
 
-/// Where the direction lies on the map. It takes no memory.
+/// Where the direction lies on the map. No memory is taken.
 pub fn at(map: &SphereMap, d: &Dir) -> SPlace
     requires map { IsSphereMap map.now }
     ensures place { IsPlaceOf (map_of map.now) (vector_of d.now) result }
@@ -57,7 +52,7 @@ pub fn at(map: &SphereMap, d: &Dir) -> SPlace
     SPlace::Loop
 }
 
-/// The label of the direction.
+/// The label of the direction on the map.
 pub fn label_at(map: &SphereMap, d: &Dir) -> Label
     requires map { IsSphereMap map.now }
     ensures label { MapLabel (map_of map.now) (vector_of d.now) result }
@@ -70,7 +65,7 @@ pub fn label_at(map: &SphereMap, d: &Dir) -> Label
     }
 }
 
-// Adds the ray with the label of the face to its left, if it is one at the svertex.
+// Adds the ray with the label of the face to its left, if `is_end`.
 fn push_if(
     ends: &mut Vec<(Ray, Label)>,
     is_end: bool,
@@ -105,7 +100,7 @@ fn arc_ends(
     Ok(ends)
 }
 
-// The star of a direction on the item with this number: one ray goes ahead along it, the other back.
+// The star of a direction on the item with this number: one ray goes ahead along the item, the other back.
 fn star_on_item(alloc: Global, map: &SphereMap, d: &Dir, number: usize) -> Result<Star, OutOfMemory>
     requires map { IsSphereMap map.now }
     requires small { IsAtMost svertex_limit (vector_of d.now) }
@@ -123,7 +118,6 @@ fn star_on_item(alloc: Global, map: &SphereMap, d: &Dir, number: usize) -> Resul
     Ok(Star::of(*d, rays, sectors, mark))
 }
 
-// The star of the svertex with this number.
 fn star_at_svertex(
     alloc: Global,
     map: &SphereMap,
@@ -145,8 +139,8 @@ fn star_at_svertex(
     round(alloc, *d, svertex.mark, ends.as_slice())
 }
 
-/// The star of any direction of the map: each direction close to it has the label that the star gives it.
-/// `OutOfMemory` says that memory was wanted and not found.
+/// The star of a direction: the star gives each close direction the label that it has on the map. `OutOfMemory` says
+/// that memory was wanted and not found.
 pub fn star_at(alloc: Global, map: &SphereMap, d: &Dir) -> Result<Star, OutOfMemory>
     requires map { IsSphereMap map.now }
     requires small { IsAtMost svertex_limit (vector_of d.now) }

@@ -5,23 +5,23 @@ ghost use Rattle.std.specs.Prelude.{◌<◌, ◌^◌};
 use nef_geo::{Dir, Label, List};
 use nef_star::Star;
 
-/// A direction that stands for an edge. `around` is the label of the face round it, and is given exactly where no arc
+/// A direction that stands for an edge. `around` is the label of the face round the svertex, given exactly where no arc
 /// begins or ends there.
-#[derive(Debug, Clone, Copy, PartialEq, Eq)]
+#[derive(Clone, Copy, PartialEq, Eq)]
 pub struct SVertex {
     pub dir: Dir,
     pub mark: Label,
     pub around: Option<Label>,
 }
 
-/// An arc of a great circle, which stands for a facet. It goes counterclockwise about its normal from one svertex to
-/// another, or once round to the same. `pos` is the label of the face on the side to which the normal points, `neg` of
-/// the other.
-#[derive(Debug, Clone, Copy, PartialEq, Eq)]
+/// An arc of a great circle, which stands for a facet. The arc goes counterclockwise about its normal from one svertex
+/// to another, or once round to the same. `pos` is the label of the face on the side to which the normal points, `neg`
+/// the label of the face on the other side.
+#[derive(Clone, Copy, PartialEq, Eq)]
 pub struct SArc {
-    /// The number of the svertex where it begins.
+    /// The number of the svertex where the arc begins.
     pub source: usize,
-    /// The number of the svertex where it ends.
+    /// The number of the svertex where the arc ends.
     pub target: usize,
     pub normal: Dir,
     pub mark: Label,
@@ -32,7 +32,7 @@ pub struct SArc {
 }
 
 /// A whole great circle without a svertex.
-#[derive(Debug, Clone, Copy, PartialEq, Eq)]
+#[derive(Clone, Copy, PartialEq, Eq)]
 pub struct SLoop {
     pub normal: Dir,
     pub mark: Label,
@@ -41,9 +41,9 @@ pub struct SLoop {
 }
 
 /// A sphere map. `mark` is the label of the point itself. Svertices stand in increasing order of their directions, arcs
-/// of their normals and then of their sources. `ground` is the label of the one face of a map without svertices and
-/// without a sloop, and is given there alone.
-#[derive(Debug, Drop)]
+/// in increasing order of their normals and then of their sources. `ground` is the label of the one face, given exactly
+/// where the map has no svertices and no sloop.
+#[derive(Drop)]
 pub struct SphereMap {
     pub mark: Label,
     pub svertices: List<SVertex>,
@@ -52,9 +52,9 @@ pub struct SphereMap {
     pub ground: Option<Label>,
 }
 
-/// The stars of all directions that may be svertices of a map, in increasing order of their axes; the circle that none
-/// of them lies on, if there is one; and the one label of a map that has neither.
-#[derive(Debug, Drop)]
+/// What an overlay gives: the stars of all directions that may be svertices, in increasing order of their axes; the
+/// circle on which no axis lies, if there is one; and the one label of a map with neither.
+#[derive(Drop)]
 pub struct RawStars {
     pub mark: Label,
     pub stars: List<Star>,
@@ -63,7 +63,7 @@ pub struct RawStars {
 }
 
 /// Where a direction lies on a map.
-#[derive(Debug, Clone, Copy, PartialEq, Eq)]
+#[derive(Clone, Copy)]
 pub enum SPlace {
     /// On the svertex with this number.
     SVertex(usize),
@@ -71,6 +71,6 @@ pub enum SPlace {
     Arc(usize),
     /// On the sloop.
     Loop,
-    /// In a face: the side with this number sees it.
+    /// In the face that the side with this number sees.
     Face(usize),
 }

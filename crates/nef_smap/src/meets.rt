@@ -1,15 +1,8 @@
-//! The way from close to a direction to close to a svertex, the first item that it meets, and so the side that sees a
-//! free direction; and the signs of expressions that are linear in a large number, which tell what is met.
+//! The side that sees a free direction: the first item on a way from close to the direction to close to a svertex,
+//! which is told by signs of expressions that are linear in a large number.
 
 ghost use Rattle.std.specs.Prelude.{◌≡◌, ◌*◌, ◌^◌, ◌<◌, ◌*ℤ◌, ◌<ℤ◌, ◌↔◌, ◌≤◌, ◌-ℤ◌};
-ghost use Rattle.nef_geo.specs.Prelude.{ℕ, pos, length, IsTrue, ℤ, nat_abs, normal_limit, svertex_limit, Vector, dot, cross, up, IsAtMost, IsDirection, vector_of, sign_of, wide_vector};
-ghost use Rattle.law_sphere.specs.Maps.{At, arc_item, items, item_normal, OnItem, IsFree};
-ghost use Rattle.nef_smap.specs.Maps.{arc_of, map_of, IsSphereMap};
-ghost use Rattle.nef_smap.specs.Items.{item_of};
-ghost use Rattle.nef_smap.specs.Linear.{linear_at, turn_value, AreAtMost, IsLarge, leading_of};
-ghost use Rattle.nef_smap.specs.WideVectors.{IsWithin, AreValues};
-ghost use Rattle.nef_smap.specs.Paths.{met_at, IsMet, OnFairPaths, MeetsFirst};
-ghost use Rattle.nef_smap.specs.Sides.{SideSees};
+ghost use Rattle.nef_smap.specs.Prelude.{ℕ, pos, length, IsTrue, ℤ, nat_abs, normal_limit, svertex_limit, Vector, dot, cross, up, IsAtMost, IsDirection, vector_of, sign_of, wide_vector, At, arc_item, items, item_normal, OnItem, IsFree, arc_of, map_of, IsSphereMap, item_of, linear_at, turn_value, AreAtMost, IsLarge, leading_of, IsWithin, AreValues, met_at, IsMet, OnFairPaths, MeetsFirst, SideSees};
 
 use crate::item::Item;
 use crate::map::{SArc, SphereMap};
@@ -23,7 +16,7 @@ struct Linear {
     rest: i128,
 }
 
-// The values of a form at the two ends of a way: linear in one large number at the start, and in another at the end,
+// The values of a form at both ends of a way: at the start linear in a large number, and at the end linear in another,
 // which is large even beside the first.
 #[derive(Clone, Copy)]
 struct Values {
@@ -31,7 +24,7 @@ struct Values {
     end: Linear,
 }
 
-// The first of the two that isn't zero.
+// The first of the two numbers that isn't zero.
 fn leading(first: i128, second: i128) -> i128
     ensures leading { result ≡ leading_of first second }
 {
@@ -39,7 +32,7 @@ fn leading(first: i128, second: i128) -> i128
 }
 
 impl Linear {
-    // The sign for every k of at least 2^128.
+    // The sign of `factor k + rest` for each k of at least 2^128.
     fn sign(&self) -> Sign
         ensures sign { (k : ℕ) → 2 ^ 128 ≤ k → result ≡ sign_of (linear_at self.now k) }
     {
@@ -58,8 +51,8 @@ fn minor(a: i128, b: i128, c: i128, d: i128) -> i128
     a * b - c * d
 }
 
-// The sign of `(n.a)(g.b) - (n.b)(g.a)`, from the values of the forms n and g at the ends a and b of a way. It is bilinear
-// in the two large numbers, so its sign is that of the first of four minors that isn't zero.
+// The sign of `(n.a)(g.b) - (n.b)(g.a)`, from the values of the forms n and g at the ends a and b of a way. The
+// expression is bilinear in the two large numbers, so its sign is that of the first of four minors that isn't zero.
 fn turn_sign(n: &Values, g: &Values) -> Sign
     requires n_small { AreAtMost (2 ^ 50) n.now }
     requires g_small { AreAtMost (2 ^ 74) g.now }
@@ -76,8 +69,8 @@ fn turn_sign(n: &Values, g: &Values) -> Sign
     Sign::of(leading(with_end, without))
 }
 
-// The sign of the form g where a way meets the plane of the form n, from the values of both at the way's ends. The meet
-// is `(n.a) ((n.a) b - (n.b) a)`.
+// The sign of the form g where a way meets the plane of the form n, at `(n.a) ((n.a) b - (n.b) a)`, from the values of
+// both forms at the ends a and b of the way.
 fn sign_at_meet(n: &Values, g: &Values) -> Sign
     requires n_small { AreAtMost (2 ^ 50) n.now }
     requires g_small { AreAtMost (2 ^ 74) g.now }
@@ -91,7 +84,7 @@ fn sign_at_meet(n: &Values, g: &Values) -> Sign
     }
 }
 
-// The way from `j start + upward` to `k end + beside`, for two large numbers j and k.
+// A way from `j start + upward` to `k end + beside`, for two large numbers j and k.
 #[derive(Clone, Copy)]
 struct SpherePath {
     start: Wide,
@@ -119,7 +112,7 @@ fn form_values(way: &SpherePath, g: &Wide) -> Values
     }
 }
 
-// The way from close to d to close to the svertex, ahead of it on the circle of the normal.
+// The way from close to d to close to the svertex, ahead of the svertex on the circle of the normal.
 fn way_to(d: &Dir, svertex: &Dir, normal: &Dir) -> SpherePath
     requires svertex_small { IsAtMost svertex_limit (vector_of svertex.now) }
     requires normal_small { IsAtMost normal_limit (vector_of normal.now) }
@@ -138,7 +131,7 @@ fn way_to(d: &Dir, svertex: &Dir, normal: &Dir) -> SpherePath
     }
 }
 
-// The sign of the form g where the way meets a plane whose form has the values n.
+// The sign of the form g where the way meets the plane of a form that has the values n.
 fn sign_where_met(way: &SpherePath, n: &Values, g: &Wide) -> Sign
     requires way { IsWithin way.now }
     requires n_small { AreAtMost (2 ^ 50) n.now }
@@ -148,7 +141,7 @@ fn sign_where_met(way: &SpherePath, n: &Values, g: &Wide) -> Sign
     sign_at_meet(n, &form_values(way, g))
 }
 
-// Whether the way meets the plane of the arc, which has the values n, on the arc, where it meets it at all.
+// Whether the way meets the plane of the arc, which has the values n, on the arc, if it meets the plane at all.
 fn is_met_on_arc(map: &SphereMap, way: &SpherePath, arc: &SArc, n: &Values) -> bool
     requires map { IsSphereMap map.now }
     requires arc { (i : ℕ) × At (map_of map.now).arcs i (arc_of arc.now) }
@@ -180,7 +173,7 @@ fn item_values(way: &SpherePath, item: &Item) -> Values
     form_values(way, &wide(item.normal()))
 }
 
-// Whether the way meets the item, which has the values n.
+// Whether the way meets the item, whose form has the values n.
 fn is_met(map: &SphereMap, way: &SpherePath, item: &Item, n: &Values) -> bool
     requires map { IsSphereMap map.now }
     requires item { (i : ℕ) × At (items (map_of map.now)) i (item_of item.now) }
@@ -198,7 +191,7 @@ fn is_met(map: &SphereMap, way: &SpherePath, item: &Item, n: &Values) -> bool
     }
 }
 
-// Whether the plane with the values n is met before the one with the values `first`.
+// Whether the way meets the plane with the values n before that with the values `first`.
 fn is_before(n: &Values, first: &Values) -> bool
     requires n_small { AreAtMost (2 ^ 50) n.now }
     requires first_small { AreAtMost (2 ^ 50) first.now }
@@ -208,7 +201,7 @@ fn is_before(n: &Values, first: &Values) -> bool
     turned.is_opposite_to(sign_at_meet(n, first))
 }
 
-// The number of the item that the way meets first. It leads to the first item.
+// The number of the item that the way meets first. The way leads to the map's first item.
 fn first_met(map: &SphereMap, way: &SpherePath) -> usize
     requires map { IsSphereMap map.now }
     requires some { 0 < length (items (map_of map.now)) }
@@ -229,8 +222,8 @@ fn first_met(map: &SphereMap, way: &SpherePath) -> usize
     first
 }
 
-// On a map with arcs: the side, toward d, of the item that is met first from close to d to close to a svertex, on an arc.
-// The way begins a little upward of d, so that no item's plane holds its start.
+// On a map with arcs the side that sees d: the side toward d of the item that a way first meets from close to d to
+// close to a svertex, on an arc. The way begins a little upward of d, so that no item's plane holds its start.
 fn side_on_way(map: &SphereMap, d: &Dir) -> usize
     requires map { IsSphereMap map.now }
     requires free { IsFree (map_of map.now) (vector_of d.now) }
@@ -245,8 +238,8 @@ fn side_on_way(map: &SphereMap, d: &Dir) -> usize
 }
 
 impl SphereMap {
-    /// The number of a side that sees the free direction, one on no svertex and on no item. A map without items has one
-    /// face, so any side serves. It takes no memory.
+    /// The number of a side that sees the free direction, which lies on no svertex and on no item. A map without items
+    /// has one face, so any side serves. No memory is taken.
     pub fn face_toward(&self, d: &Dir) -> usize
         requires map { IsSphereMap self.now }
         requires free { IsFree (map_of self.now) (vector_of d.now) }

@@ -1,14 +1,7 @@
-//! The sfaces of a sphere map: which of its sides are joined, with each other and with the upward direction.
+//! The sfaces of a sphere map: which of its sides are joined, by what lies over directions.
 
 ghost use Rattle.std.specs.Prelude.{◌≡◌, ◌<◌, ◌<ℤ◌};
-ghost use Rattle.nef_geo.specs.Prelude.{ℕ, length, IfOk, pos, Option, Some, up, dot, cross, IsAtMost, IsDirection, svertex_limit, vector_of};
-ghost use Rattle.nef_smap.specs.Maps.{map_of, IsSphereMap};
-ghost use Rattle.nef_smap.specs.Sides.{AreSfaces};
-ghost use Rattle.nef_classes.specs.Classes.{AreLinked};
-ghost use Rattle.nef_smap.specs.JoinLinks.{ComesOf, AreEach, AreArounds, AreSloops, AreGrounds, JoinsBelow, JoinsArc, JoinsSloop};
-ghost use Rattle.nef_smap.specs.Links.{AreJoins, met_number};
-ghost use Rattle.nef_smap.specs.Close.{toward, then_toward};
-ghost use Rattle.nef_smap.specs.Joined.{FirstNear};
+ghost use Rattle.nef_smap.specs.Prelude.{ℕ, length, IfOk, pos, Option, Some, up, dot, cross, IsAtMost, IsDirection, svertex_limit, vector_of, map_of, IsSphereMap, AreSfaces, AreLinked, ComesOf, AreEach, AreArounds, AreSloops, AreGrounds, JoinsBelow, JoinsArc, JoinsSloop, AreJoins, met_number, toward, then_toward, FirstNear};
 
 use crate::OutOfMemory;
 use crate::above::{Close, Lean, above};
@@ -18,7 +11,7 @@ use nef_classes::{Link, class_numbers, class_of_each};
 use nef_geo::{Dir, Sign, axis_x, axis_y, axis_z, common_perpendicular, dot, triple, up};
 use std::alloc::Global;
 
-// A coordinate axis that isn't at right angles to d.
+// A coordinate axis that isn't perpendicular to d.
 fn slanted_axis(d: &Dir) -> Dir
     ensures off { dot (vector_of d.now) (vector_of result) ≡ pos 0 → ⊥ }
     ensures small { IsAtMost 1 (vector_of result) }
@@ -46,7 +39,7 @@ fn axis_along(d: &Dir) -> Dir
     }
 }
 
-// A direction along a coordinate axis that isn't in the plane of the upward direction and d.
+// A direction along a coordinate axis off the plane of the upward direction and d.
 fn beside(d: &Dir) -> Dir
     requires apart { IsDirection (cross up (vector_of d.now)) }
     ensures off { dot (cross up (vector_of d.now)) (vector_of result) ≡ pos 0 → ⊥ }
@@ -64,8 +57,8 @@ fn beside(d: &Dir) -> Dir
     axis_z()
 }
 
-// What lies over the directions close to `at` that lie toward `aside` as `lean` says: the number of the lower side of the
-// item that is met first, or of the upward direction, which comes after the sides.
+// The lower side of the item that lies first over the directions close to `at`, toward `aside` as `lean` says; or the
+// upward direction, whose number comes after the numbers of the sides.
 fn number_near(map: &SphereMap, at: Dir, aside: Dir, lean: Lean) -> usize
     requires map { IsSphereMap map.now }
     requires off { dot (cross up (vector_of at)) (vector_of aside) ≡ pos 0 → ⊥ }
@@ -79,7 +72,7 @@ fn number_near(map: &SphereMap, at: Dir, aside: Dir, lean: Lean) -> usize
     }
 }
 
-// Joins what lies over the directions just below the svertex on both sides of its meridian.
+// Joins what lies over the directions just below the svertex, on both sides of the svertex's meridian.
 fn join_below(map: &SphereMap, number: usize) -> Link
     requires map { IsSphereMap map.now }
     requires number { number < length map.now.svertices }
@@ -93,7 +86,7 @@ fn join_below(map: &SphereMap, number: usize) -> Link
     }
 }
 
-// Joins the side above the arc with what lies over directions close to its source: along the arc, and there up.
+// Joins the upper side of the arc with what lies over the directions just over the arc, close to its source.
 fn join_arc(map: &SphereMap, number: usize) -> Link
     requires map { IsSphereMap map.now }
     requires number { number < length map.now.arcs }
@@ -108,7 +101,7 @@ fn join_arc(map: &SphereMap, number: usize) -> Link
     }
 }
 
-// Joins the side above the sloop, the last of the items, with what lies over one of its directions.
+// Joins the upper side of the sloop, the last item, with what lies over one of the sloop's directions.
 fn join_sloop(map: &SphereMap, circle: &SLoop) -> Link
     requires map { IsSphereMap map.now }
     requires circle { map.now.sloop ≡ Some circle.now }
@@ -121,7 +114,7 @@ fn join_sloop(map: &SphereMap, circle: &SLoop) -> Link
     }
 }
 
-// The links that `join` makes of the numbers below the count.
+// The links that `join` makes for the numbers below `count`.
 fn each_link<F: Fn(&SphereMap, usize) -> Link>(
     alloc: Global,
     map: &SphereMap,
@@ -138,7 +131,7 @@ fn each_link<F: Fn(&SphereMap, usize) -> Link>(
     Ok(links)
 }
 
-// A link for each svertex that has a side: of that side with what lies over the directions just below the svertex.
+// For each svertex with a side the link of that side with what lies over the directions just below the svertex.
 fn around_links(alloc: Global, map: &SphereMap) -> Result<Vec<Link>, OutOfMemory>
     requires map { IsSphereMap map.now }
     ensures links { IfOk result (λ v. AreArounds (map_of map.now) (length map.now.svertices) v.items) }
@@ -157,7 +150,6 @@ fn around_links(alloc: Global, map: &SphereMap) -> Result<Vec<Link>, OutOfMemory
     Ok(links)
 }
 
-// A link for the sloop.
 fn sloop_links(alloc: Global, map: &SphereMap) -> Result<Vec<Link>, OutOfMemory>
     requires map { IsSphereMap map.now }
     ensures links { IfOk result (λ v. AreSloops (map_of map.now) v.items) }
@@ -168,7 +160,7 @@ fn sloop_links(alloc: Global, map: &SphereMap) -> Result<Vec<Link>, OutOfMemory>
     }
 }
 
-// A link for the side of a map without items.
+// A link of the ground, if there is one, with the upward direction.
 fn ground_links(alloc: Global, map: &SphereMap) -> Result<Vec<Link>, OutOfMemory>
     requires map { IsSphereMap map.now }
     ensures links { IfOk result (λ v. AreGrounds (map_of map.now) v.items) }
@@ -184,7 +176,7 @@ fn ground_links(alloc: Global, map: &SphereMap) -> Result<Vec<Link>, OutOfMemory
     Vec::from_slice(alloc, &[link])
 }
 
-// All links. The upward direction has the number after those of the sides.
+// All links of a map's sides and of the upward direction, whose number comes after the numbers of the sides.
 fn links(alloc: Global, map: &SphereMap) -> Result<Vec<Link>, OutOfMemory>
     requires map { IsSphereMap map.now }
     ensures joins { IfOk result (λ v. AreJoins (map_of map.now) up (AreLinked v.items)) }
@@ -199,13 +191,13 @@ fn links(alloc: Global, map: &SphereMap) -> Result<Vec<Link>, OutOfMemory>
 }
 
 /// For each side the number of its sface. Sides are of one sface where a chain of directions that two sides see leads
-/// from one to the other; sfaces are numbered by their first sides.
+/// from one side to the other; sfaces are numbered by their first sides.
 ///
-/// Every direction looks up: what it meets first on the way to the upward direction, which no circle of a map passes
-/// through, lies in the same sface. Between neighbouring directions that changes only where a svertex lies over them, so
-/// what is met on both sides just below each svertex is joined. Besides, the upper side of each arc is joined with what is
-/// met just over the arc's beginning, that of the sloop with what is met over one of its directions, and the side round a
-/// svertex with what is met just below it.
+/// Each direction looks up: what the way to the upward direction first meets lies in the direction's sface, since no
+/// circle of a map passes through the upward direction. Between neighbouring directions this changes only where a
+/// svertex lies over them, so what lies over both sides just below each svertex is joined. Besides, the upper side of
+/// an arc is joined with what lies over the arc's beginning, the sloop's upper side with what lies over one of its
+/// directions, and the side round a svertex with what lies over directions just below the svertex.
 pub fn sfaces(alloc: Global, map: &SphereMap) -> Result<Vec<usize>, OutOfMemory>
     requires map { IsSphereMap map.now }
     ensures faces { IfOk result (λ v. AreSfaces (map_of map.now) v.items) }

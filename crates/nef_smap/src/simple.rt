@@ -1,17 +1,14 @@
-//! The maps of one label and of one plane, and copies.
+//! The maps with one label and with one plane, and copies of maps.
 
 ghost use Rattle.std.specs.Prelude.{◌≡◌};
-ghost use Rattle.nef_geo.specs.Prelude.{IfOk, normal_limit, Vector, dot, IsDirection, IsNormal, IsAtMost, sign, vector_of};
-ghost use Rattle.law_sphere.specs.Least.{by_side};
-ghost use Rattle.law_sphere.specs.Maps.{MapLabel};
-ghost use Rattle.nef_smap.specs.Maps.{map_of, IsSphereMap, IsLeastMap};
+ghost use Rattle.nef_smap.specs.Prelude.{IfOk, normal_limit, Vector, dot, IsDirection, IsNormal, IsAtMost, sign, vector_of, by_side, MapLabel, map_of, IsSphereMap, IsLeastMap};
 
 use crate::OutOfMemory;
 use crate::map::{SLoop, SphereMap};
 use nef_geo::{Dir, Label, List};
 use std::alloc::Global;
 
-/// The map without items: the point has the label `mark`, and each direction the label `face`. It takes no memory.
+/// The map without items: the point has the label `mark`, and each direction the label `ground`. No memory is taken.
 pub fn face_map(alloc: Global, mark: Label, ground: Label) -> SphereMap
     ensures map { IsLeastMap result }
     ensures mark { result.mark ≡ mark }
@@ -26,8 +23,8 @@ pub fn face_map(alloc: Global, mark: Label, ground: Label) -> SphereMap
     }
 }
 
-/// The map of a plane through the point: one sloop, with its mark, and the labels on the side to which the normal
-/// points and on the other. The point has the label of the plane. It takes no memory.
+/// The map of a plane through the point: one sloop, with its mark and the labels on both sides. The point has the
+/// sloop's mark. No memory is taken.
 pub fn plane_map(alloc: Global, sloop: SLoop) -> SphereMap
     requires normal { IsNormal (vector_of sloop.normal) }
     requires small { IsAtMost normal_limit (vector_of sloop.normal) }
@@ -45,14 +42,12 @@ pub fn plane_map(alloc: Global, sloop: SLoop) -> SphereMap
     }
 }
 
-// A copy of a list.
 fn copy_list<T: Copy + Drop>(alloc: Global, list: &List<T>) -> Result<List<T>, OutOfMemory>
     ensures same { IfOk result (λ l. l ≡ list.now) }
 {
     Ok(List::from_vec(Vec::from_slice(alloc, list.as_slice())?))
 }
 
-/// A copy of the map.
 pub fn copy(alloc: Global, map: &SphereMap) -> Result<SphereMap, OutOfMemory>
     ensures same { IfOk result (λ m. m ≡ map.now) }
 {

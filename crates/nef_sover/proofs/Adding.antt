@@ -1,16 +1,6 @@
 -- Axes added to a list of axes.
-use Rattle.std.proofs.Common.{◌≡◌, ℕ, ◌+◌, ◌<◌, ◌≤◌, List, [], ◌∷◌, ◌++◌, length, get_or, arith, subst, inl, inr, ◌⊎◌}
-use Rattle.std.specs.List.{Contains}
-use Rattle.std.proofs.Math.Nat.{eq-or-lt_of_le}
+use Rattle.nef_sover.proofs.Prelude.{◌≡◌, ℕ, ◌+◌, ◌<◌, ◌≤◌, List, [], ◌∷◌, ◌++◌, length, get_or, arith, subst, inl, inr, ◌⊎◌, Contains, eq-or-lt_of_le, svertex_limit, Vector, IsAtMost, SameDirection, vector_of, At, at-one, at-within, Axis, Crossed, Adds, HasDirection}
 use Rattle.std.proofs.lemmas.List.Elements.{Contains-append_left, Contains-push, Contains-push_cases}
-use Rattle.nef_space.specs.Limits.{svertex_limit}
-use Rattle.nef_space.specs.Vectors.{Vector, IsAtMost, SameDirection}
-use Rattle.nef_geo.specs.Shapes.{vector_of}
-use Rattle.law_sphere.specs.Maps.{At}
-use Rattle.law_sphere.proofs.Lists.{at-one}
-use Rattle.nef_smap.proofs.Lists.{at-within}
-use Rattle.nef_sover.specs.declared.axes.Axis.{Axis}
-use Rattle.nef_sover.specs.Axes.{Crossed, Adds, HasDirection}
 use Rattle.nef_sover.proofs.Places.{read-at}
 
 pub has-more : (xs ys : List Axis) → ((e : Axis) → Contains xs e → Contains ys e) → (d : Vector) → HasDirection xs d → HasDirection ys d

@@ -1,30 +1,6 @@
 -- A map's labels along a circle that nothing of the map crosses.
-use Rattle.std.proofs.Common.{◌≡◌, ℕ, ◌<◌, pos, ◌+ℤ◌, ◌*ℤ◌, ◌-ℤ◌, Some, arith, refl, sym, ap, subst, ◌∙◌, inl, inr, [], ◌∷◌}
-use Rattle.std.proofs.lemmas.Int.{ints}
-use Rattle.nef_space.proofs.Ring.{ring, at, num, neg, ◌⊕◌, ◌⊖◌, ◌⊗◌}
-use Rattle.nef_space.proofs.Order.{sign-plus, sign-minus}
-use Rattle.nef_space.specs.Vectors.{Vector, IsDirection, IsNormal, IsZero, blend, cross, dot, opposite}
-use Rattle.nef_space.specs.declared.label.Label.{Label}
-use Rattle.law_near.proofs.Directions.{zero-decided, self-pos}
-use Rattle.law_near.proofs.Decided.{Decided}
-use Rattle.law_near.proofs.FlatDecided.{cross-turned}
-use Rattle.law_cyclic.specs.Arcs.{IsOnCircle}
-use Rattle.law_cyclic.proofs.StrictlyOn.{same-sym}
-use Rattle.law_cyclic.proofs.Directions.{level-same, level_cross_first, level_cross_second}
-use Rattle.law_sphere.specs.Vectors.{IsPrimitive}
-use Rattle.law_sphere.specs.Maps.{At, MapSloop, Item, arc_item, sloop_item, Map, items, item_normal, OnItem, IsFree, IsClear, MapLabel, NearLabel, on_item, Valid}
-use Rattle.law_sphere.specs.Least.{by_side, Ordered}
-use Rattle.law_sphere.proofs.Vectors.{dot-comb, nought-if, normal-direction}
-use Rattle.law_sphere.proofs.Parallel.{parallel-trans}
-use Rattle.law_sphere.proofs.Around.{Beside, same_way, other_way, beside}
-use Rattle.law_sphere.proofs.Shot.{arc-at}
-use Rattle.law_sphere.proofs.Arcs.{sloop-at, at-sloop}
-use Rattle.law_sphere.proofs.Equal.{lowest-same}
-use Rattle.law_sphere.proofs.Compare.{normals-not_opposite}
-use Rattle.law_sphere.proofs.Walk.{between-direction}
-use Rattle.law_sphere.proofs.Labels.{label-exists, clear-label}
-use Rattle.law_sphere.proofs.NearItems.{near-free, near-item}
-use Rattle.nef_sover.specs.Circles.{IsUncrossed}
+use Rattle.nef_sover.proofs.Prelude.{◌≡◌, ℕ, ◌<◌, pos, ◌+ℤ◌, ◌*ℤ◌, ◌-ℤ◌, Some, arith, refl, sym, ap, subst, ◌∙◌, inl, inr, [], ◌∷◌, ints, ring, at, num, neg, ◌⊕◌, ◌⊖◌, ◌⊗◌, sign-plus, sign-minus, Vector, IsDirection, IsNormal, IsZero, blend, cross, dot, opposite, Label, Decided, IsOnCircle, IsPrimitive, At, MapSloop, Item, arc_item, sloop_item, Map, items, item_normal, OnItem, IsFree, IsClear, MapLabel, NearLabel, on_item, Valid, by_side, Ordered, dot-comb, normal-direction, Beside, same_way, other_way, beside, arc-at, sloop-at, at-sloop, lowest-same, normals-not_opposite, between-direction, label-exists, near-free, near-item, IsUncrossed, zero-decided, self-pos, cross-turned, level-way, square-cross, level_cross_second, SameDirection-turned, nought-if, parallel-trans}
+use Rattle.law_sphere.proofs.Labels.{clear-label}
 
 -- ---- directions on one circle
 module _ (n : Vector) (hn : IsDirection n) where
@@ -36,7 +12,7 @@ module _ (n : Vector) (hn : IsDirection n) where
   quarter-direction d o z = o.direction (nought-if n d hn z o.level)
 
   quarter-on : (d : Vector) → IsOnCircle n d → IsOnCircle n (quarter d)
-  quarter-on d o = record { direction = quarter-direction d o; level = level_cross_first n d }
+  quarter-on d o = record { direction = quarter-direction d o; level = square-cross n d }
 
   quarter-apart : (d : Vector) → IsOnCircle n d → IsDirection (cross d (quarter d))
   quarter-apart d o z = quarter-direction d o (nought-if d (quarter d) o.direction z (level_cross_second n d))
@@ -97,7 +73,7 @@ module _ (M : Map) (V : Valid M) (O : Ordered M) (n : Vector) (N : IsNormal n) (
   pub free-circle : ((l : MapSloop) → M.sloop ≡ Some l → l.normal ≡ n → ⊥) → (d : Vector) → IsOnCircle n d → IsFree M d
   free-circle absent d o = record {
     direction = o.direction;
-    off_svertices = λ k v a w. U.svertices k v a (level-same n d v.dir (same-sym v.dir d w) o.level);
+    off_svertices = λ k v a w. U.svertices k v a (level-way n d v.dir (SameDirection-turned v.dir d w) o.level);
     off_items = λ k x a p. off-item absent k x d a p o.level;
   }
 

@@ -1,15 +1,5 @@
 -- The axes of an overlay are the svertices and the meets of items.
-use Rattle.std.proofs.Common.{List, [], Some, None, arith, refl, sym, subst, inl, inr, ◌⊎◌}
-use Rattle.std.specs.List.{Contains}
-use Rattle.nef_space.specs.Vectors.{Vector, IsDirection, SameDirection, cross}
-use Rattle.nef_geo.specs.Shapes.{vector_of}
-use Rattle.nef_geo.specs.declared.dir.Dir.{Dir}
-use Rattle.law_sphere.specs.Maps.{Map, items, item_normal}
-use Rattle.law_build.specs.Overlays.{IsCrossing, IsAxis}
-use Rattle.nef_sover.specs.declared.axes.Axis.{Axis}
-use Rattle.nef_sover.specs.declared.axes.Track.{Track}
-use Rattle.nef_sover.specs.Tracks.{normal_of, number_of, IsTrackOf, AreTracks}
-use Rattle.nef_sover.specs.Axes.{Crossed, Adds, HasDirection, HasEachOf, AreInOrder, AreAxes, IsOnSvertex, IsPlaced, MeetsSome}
+use Rattle.nef_sover.proofs.Prelude.{List, [], Some, None, arith, refl, sym, subst, inl, inr, ◌⊎◌, Contains, Vector, IsDirection, SameDirection, cross, vector_of, Dir, Map, items, item_normal, IsCrossing, IsAxis, Axis, Track, normal_of, number_of, IsTrackOf, AreTracks, Crossed, Adds, HasDirection, HasEachOf, AreInOrder, AreAxes, IsOnSvertex, IsPlaced, MeetsSome}
 use Rattle.nef_sover.proofs.Places.{zip-first, zip-second}
 use Rattle.nef_sover.proofs.Adding.{IsNew, adds-both}
 

@@ -1,25 +1,8 @@
 -- The star of a direction in which items of two maps cross.
-use Rattle.std.proofs.Common.{◌≡◌, ℕ, pos, Some, Result, Ok, Err, IfOk, refl, sym, subst}
+use Rattle.nef_sover.proofs.Prelude.{◌≡◌, ℕ, pos, Some, Result, Ok, Err, IfOk, refl, sym, subst, normal_limit, Vector, IsParallel, IsAtMost, IsNormal, dot, vector_of, Dir, by_side, At, Map, Item, items, item_normal, item_mark, item_pos, item_neg, OnItem, MapLabel, on_item, NearLabel, on-level, at-one, near-item, Op, Star, op_label, IsStar, SphereMap, map_of, IsSphereMap, Crossed, IsCrossedAt, IsPlaced, IsLineOf, IsMergedAt}
 use Rattle.nef_space.specs.Signs.{sign}
-use Rattle.nef_space.specs.Limits.{normal_limit}
-use Rattle.nef_space.specs.Vectors.{Vector, IsParallel, IsAtMost, IsNormal, dot}
-use Rattle.nef_geo.specs.Shapes.{vector_of}
-use Rattle.nef_geo.specs.declared.dir.Dir.{Dir}
-use Rattle.law_sphere.specs.Least.{by_side}
-use Rattle.law_sphere.specs.Maps.{At, Map, Item, items, item_normal, item_mark, item_pos, item_neg, OnItem, MapLabel, on_item, NearLabel}
-use Rattle.law_sphere.proofs.Forms.{on-level}
-use Rattle.law_sphere.proofs.Lists.{at-one}
-use Rattle.law_sphere.proofs.NearItems.{near-item}
 use Rattle.nef_star.specs.declared.rounds.Line.{Line}
-use Rattle.nef_star.specs.declared.star.Op.{Op}
-use Rattle.nef_star.specs.declared.star.Star.{Star}
-use Rattle.nef_star.specs.Ops.{op_label}
-use Rattle.nef_star.specs.Stars.{IsStar}
 use Rattle.nef_star.specs.Lines.{IsLine, side_of, IsCrossed}
-use Rattle.nef_smap.specs.declared.map.SphereMap.{SphereMap}
-use Rattle.nef_smap.specs.Maps.{map_of, IsSphereMap}
-use Rattle.nef_sover.specs.Axes.{Crossed, IsCrossedAt, IsPlaced}
-use Rattle.nef_sover.specs.Merged.{IsLineOf, IsMergedAt}
 
 -- the items that are named cross
 pub crossed-at : (A B : Map) (o : Crossed) (n : ℕ × ℕ) (d : Vector) → o ≡ Some n → IsPlaced A B o d → IsCrossedAt A B n.0 n.1 d

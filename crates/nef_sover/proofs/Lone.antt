@@ -1,25 +1,12 @@
 -- The circle of a sloop that no axis lies on isn't crossed by either map.
-use Rattle.std.proofs.Common.{◌≡◌, ℕ, pos, Some, sym, subst, inl, inr, ◌⊎◌}
-use Rattle.nef_space.specs.Vectors.{Vector, IsDirection, IsZero, cross, dot}
-use Rattle.law_near.proofs.FlatDecided.{cross-turned}
-use Rattle.law_near.proofs.Directions.{zero-decided}
-use Rattle.law_near.proofs.Decided.{Decided}
-use Rattle.law_near.proofs.Meets.{cross-self}
-use Rattle.law_cyclic.specs.Arcs.{IsOnCircle}
-use Rattle.law_cyclic.proofs.Directions.{same-refl}
-use Rattle.law_sphere.specs.Maps.{At, MapVertex, MapSloop, Item, sloop_item, Map, items, item_normal, OnItem, Valid}
-use Rattle.law_sphere.proofs.Lists.{at-one}
-use Rattle.law_sphere.proofs.Forms.{on-direction}
-use Rattle.law_sphere.proofs.Arcs.{at-sloop}
-use Rattle.law_build.specs.Overlays.{OnSvertex, IsAxis}
-use Rattle.nef_sover.specs.Circles.{IsUncrossed}
+use Rattle.nef_sover.proofs.Prelude.{◌≡◌, ℕ, pos, Some, sym, subst, inl, inr, ◌⊎◌, Vector, IsDirection, IsZero, cross, dot, Decided, IsOnCircle, At, MapVertex, MapSloop, Item, sloop_item, Map, items, item_normal, OnItem, Valid, at-one, on-direction, at-sloop, OnSvertex, IsAxis, IsUncrossed, zero-decided, cross-turned, cross-self, dir-self}
 
 module _ (M : Map) (V : Valid M) (l : MapSloop) where
   svertex-on : (k : ℕ) (v : MapVertex) → At M.svertices k v → dot l.normal v.dir ≡ pos 0 → IsOnCircle l.normal v.dir
   svertex-on k v a z = record { direction = V.shaped.svertex_dirs k v a; level = z }
 
   svertex-is : (k : ℕ) (v : MapVertex) → At M.svertices k v → OnSvertex M v.dir
-  svertex-is k v a = (k, v, a, same-refl v.dir (V.shaped.svertex_dirs k v a))
+  svertex-is k v a = (k, v, a, dir-self v.dir (V.shaped.svertex_dirs k v a))
 
   item-on : (x : Item) (d : Vector) → OnItem M x d → dot l.normal d ≡ pos 0 → IsOnCircle l.normal d
   item-on x d o z = record { direction = on-direction M x d o; level = z }

@@ -1,29 +1,14 @@
 -- The directions in which two items meet.
-use Rattle.std.proofs.Common.{◌≡◌, ℕ, ◌+◌, ◌<◌, ◌≤◌, List, [], ◌∷◌, ◌++◌, Some, None, length, get_or, refl, sym, ap, subst, inl, inr, ◌⊎◌}
-use Rattle.nef_space.specs.Limits.{svertex_limit}
-use Rattle.nef_space.specs.Vectors.{Vector, IsAtMost, IsParallel, SameDirection, cross, opposite}
-use Rattle.nef_geo.specs.Shapes.{vector_of}
-use Rattle.nef_geo.specs.declared.dir.Dir.{Dir}
+use Rattle.nef_sover.proofs.Prelude.{◌≡◌, ℕ, ◌+◌, ◌<◌, ◌≤◌, List, [], ◌∷◌, ◌++◌, Some, None, length, get_or, refl, sym, ap, subst, inl, inr, ◌⊎◌, svertex_limit, Vector, IsAtMost, IsParallel, SameDirection, cross, opposite, vector_of, Dir, IsOnCircle, arcs_are_of_directions, two_meets_at, SVertex, SphereMap, map-at, at-map, svertex_of, map_of, IsSphereMap, Track, normal_of, number_of, LiesOn, Axis, Crossed, Adds, AreNamed, IsCommon, IsMeetAlong, IsMeet, IsOnSvertex, direction-right, dir-self, level-way, SameDirection-turned}
 use Rattle.nef_geo.proofs.Directions.{small-neg}
-use Rattle.law_cyclic.specs.Arcs.{IsOnCircle}
-use Rattle.law_cyclic.proofs.StrictlyOn.{same-sym}
-use Rattle.law_cyclic.proofs.Directions.{same-refl, same-second, level-same, arcs_are_of_directions, two_meets_at}
 use Rattle.nef_arc.proofs.Ends.{source_on, target_on}
-use Rattle.nef_smap.specs.declared.map.SVertex.{SVertex}
-use Rattle.nef_smap.specs.declared.map.SphereMap.{SphereMap}
-use Rattle.nef_smap.proofs.Lists.{map-at, at-map}
-use Rattle.nef_smap.specs.Maps.{svertex_of, map_of, IsSphereMap}
-use Rattle.nef_sover.specs.declared.axes.Track.{Track}
 use Rattle.nef_sover.specs.declared.axes.Track.TheVariants.{Arc, Sloop}
-use Rattle.nef_sover.specs.Tracks.{normal_of, number_of, LiesOn}
-use Rattle.nef_sover.specs.declared.axes.Axis.{Axis}
-use Rattle.nef_sover.specs.Axes.{Crossed, Adds, AreNamed, IsCommon, IsMeetAlong, IsMeet, IsOnSvertex}
 use Rattle.nef_sover.proofs.Places.{read-at}
 use Rattle.nef_sover.proofs.Adding.{adds-none, adds-one, adds-both, adds-as, AnyFirst, AnyAt, any-more, any-all}
 
 on-same : (x : Track) (d e : Vector) → SameDirection d e → LiesOn x d → LiesOn x e
 on-same (Arc k a) d e s o = arcs_are_of_directions (vector_of a.normal) (vector_of a.source) (vector_of a.target) d e a.normal.some (source_on a) (target_on a) s o
-on-same (Sloop k l) d e s o = record { direction = same-second d e s; level = level-same (vector_of l.normal) d e s o.level }
+on-same (Sloop k l) d e s o = record { direction = direction-right d e s; level = level-way (vector_of l.normal) d e s o.level }
 
 on-circle : (x : Track) (d : Vector) → LiesOn x d → IsOnCircle (normal_of x) d
 on-circle (Arc k a) d o = o.on_circle
@@ -32,10 +17,10 @@ on-circle (Sloop k l) d o = o
 module _ (x y : Track) where
   pub common-adds : (xs : List Axis) (d : Dir) (p q : ℕ) → IsAtMost svertex_limit (vector_of d) → IsCommon x y (vector_of d) → p ≡ number_of x → q ≡ number_of y
       → Adds (IsMeetAlong x y (vector_of d)) xs (xs ++ record { dir = d; crossed = Some (p, q) } ∷ [])
-  common-adds xs d p q s b e f = adds-one (IsMeetAlong x y (vector_of d)) xs (record { dir = d; crossed = Some (p, q) }) ((b, same-refl (vector_of d) d.some, (λ i. Some (e i, f i))), s) (λ k v w. w.1)
+  common-adds xs d p q s b e f = adds-one (IsMeetAlong x y (vector_of d)) xs (record { dir = d; crossed = Some (p, q) }) ((b, dir-self (vector_of d) d.some, (λ i. Some (e i, f i))), s) (λ k v w. w.1)
 
   pub apart-adds : (xs : List Axis) (d : Vector) → (IsCommon x y d → ⊥) → Adds (IsMeetAlong x y d) xs xs
-  apart-adds xs d n = adds-none (IsMeetAlong x y d) xs (λ c e q. let s = same-sym d e q.1 in n (on-same x e d s (let b = q.0 in b.0), on-same y e d s (let b = q.0 in b.1)))
+  apart-adds xs d n = adds-none (IsMeetAlong x y d) xs (λ c e q. let s = SameDirection-turned d e q.1 in n (on-same x e d s (let b = q.0 in b.0), on-same y e d s (let b = q.0 in b.1)))
 
   pub parallel-adds : (xs : List Axis) → IsParallel (normal_of x) (normal_of y) → Adds (IsMeet x y) xs xs
   parallel-adds xs p = adds-none (IsMeet x y) xs (λ c e q. q.1 p)
@@ -53,7 +38,7 @@ module _ (x y : Track) where
       on c f b m (inr w) = inr (b, subst (λ (g : Vector). SameDirection g f) (sym o) w, m)
 
       back : (c : Crossed) (f : Vector) → IsMeet x y c f → IsMeetAlong x y d c f ⊎ IsMeetAlong x y e c f
-      back c f (b, a, m) = on c f b m (two_meets_at (normal_of x) (normal_of y) d f n (same-sym (cross (normal_of x) (normal_of y)) d s) (on-circle x f b.0) (on-circle y f b.1))
+      back c f (b, a, m) = on c f b m (two_meets_at (normal_of x) (normal_of y) d f n (SameDirection-turned (cross (normal_of x) (normal_of y)) d s) (on-circle x f b.0) (on-circle y f b.1))
 
 pub back-small : (k : ℕ) (d e : Vector) → e ≡ opposite d → IsAtMost k d → IsAtMost k e
 back-small k d e q s = record {
@@ -72,7 +57,7 @@ module _ (m : SphereMap) (S : IsSphereMap m) where
   svertex-more i v ds es fs l e p q =
       let s = S.small.svertices i (svertex_of v) (map-at svertex_of m.svertices i v (read-at m.svertices i v l e)) in
       any-more IsAlong m.svertices i v ds es fs l e p
-      (subst (Adds (IsAlong v) es) (sym q) (adds-one (IsAlong v) es (record { dir = v.dir; crossed = None }) ((same-refl (vector_of v.dir) v.dir.some, refl), s) (λ c f w. w.0)))
+      (subst (Adds (IsAlong v) es) (sym q) (adds-one (IsAlong v) es (record { dir = v.dir; crossed = None }) ((dir-self (vector_of v.dir) v.dir.some, refl), s) (λ c f w. w.0)))
 
   pub svertices-all : (i : ℕ) (ds es : List Axis) → length m.svertices ≤ i → Adds (AnyFirst IsAlong m.svertices i) ds es → Adds (IsOnSvertex (map_of m)) ds es
   svertices-all i ds es l p = adds-as (AnyAt IsAlong m.svertices) (IsOnSvertex (map_of m)) ds es

@@ -1,20 +1,6 @@
 -- A map of one sloop is a sphere map.
-use Rattle.std.proofs.Common.{◌≡◌, ℕ, zero, suc, pos, ◌≤ℤ◌, List, [], Some, None, arith, sym, subst}
-use Rattle.std.proofs.lemmas.Int.{ints}
-use Rattle.nef_space.proofs.Order.{by_order}
-use Rattle.nef_space.specs.Limits.{normal_limit}
-use Rattle.nef_space.specs.Vectors.{Vector, IsAtMost, IsDirection, IsNormal}
-use Rattle.nef_space.specs.declared.label.Label.{Label}
-use Rattle.nef_geo.specs.Shapes.{vector_of}
-use Rattle.law_sphere.specs.Vectors.{IsPrimitive}
-use Rattle.law_sphere.specs.Maps.{At, Item, items, item_normal}
-use Rattle.law_sphere.specs.Least.{Ordered}
-use Rattle.law_sphere.proofs.Simple.{sloop_map, sloop-valid}
-use Rattle.nef_smap.specs.declared.map.SVertex.{SVertex}
+use Rattle.nef_sover.proofs.Prelude.{◌≡◌, ℕ, zero, suc, pos, ◌≤ℤ◌, List, [], Some, None, arith, sym, subst, ints, by_order, normal_limit, Vector, IsAtMost, IsDirection, IsNormal, Label, vector_of, IsPrimitive, At, Item, items, item_normal, Ordered, sloop_map, sloop-valid, SVertex, SLoop, sloop_of, IsSphereMap, dir-primitive}
 use Rattle.nef_smap.specs.declared.map.SArc.{SArc}
-use Rattle.nef_smap.specs.declared.map.SLoop.{SLoop}
-use Rattle.nef_smap.specs.Maps.{sloop_of, IsSphereMap}
-use Rattle.nef_smap.proofs.Primitive.{dir-primitive}
 
 pub normal-by : (n : Vector) → IsDirection n → pos 0 ≤ℤ n.x → pos 0 ≤ℤ n.y → pos 0 ≤ℤ n.z → IsNormal n
 normal-by n h x y z = record { first = x; second = λ e. y; third = λ e f. by_order n.z (pos 0) (λ l. absurd (omega (arith, ints))) (λ g. absurd (h (e, f, g))) (λ l. l) }

@@ -1,25 +1,5 @@
 -- The sloop of an overlay.
-use Rattle.std.proofs.Common.{◌≡◌, pos, List, Option, Some, None, option_map, refl, sym, ap, subst, ◌∙◌, inl, inr, ◌⊎◌}
-use Rattle.nef_space.proofs.Ring.{neg}
-use Rattle.nef_space.specs.Limits.{normal_limit}
-use Rattle.nef_space.specs.Vectors.{Vector, IsAtMost, IsNormal, opposite}
-use Rattle.nef_space.specs.declared.label.Label.{Label}
-use Rattle.nef_geo.specs.Shapes.{vector_of}
-use Rattle.nef_geo.specs.declared.dir.Dir.{Dir}
-use Rattle.law_cyclic.specs.Arcs.{IsOnCircle}
-use Rattle.law_cyclic.proofs.StrictlyOn.{same-sym}
-use Rattle.law_cyclic.proofs.Directions.{level-same}
-use Rattle.law_sphere.specs.Maps.{MapSloop, sloop_item, Map, IsFree, MapLabel, NearLabel}
-use Rattle.law_sphere.proofs.Arcs.{at-sloop}
-use Rattle.law_build.specs.Overlays.{IsAxis, IsLoneSloop, IsMergedSloop}
-use Rattle.nef_smap.specs.declared.map.SLoop.{SLoop}
-use Rattle.nef_smap.specs.declared.map.SphereMap.{SphereMap}
-use Rattle.nef_smap.specs.Maps.{sloop_of, map_of, IsSphereMap}
-use Rattle.nef_smap.proofs.Primitive.{dir-primitive}
-use Rattle.nef_smap.proofs.WellFormed.{dir-equal}
-use Rattle.nef_sover.specs.declared.axes.Axis.{Axis}
-use Rattle.nef_sover.specs.Axes.{AreAxes}
-use Rattle.nef_sover.specs.Circles.{AreOff, IsUncrossed, HasLabels, HasOpLabels, IsLoneNormal}
+use Rattle.nef_sover.proofs.Prelude.{◌≡◌, pos, List, Option, Some, None, option_map, refl, sym, ap, subst, ◌∙◌, inl, inr, ◌⊎◌, neg, normal_limit, Vector, IsAtMost, IsNormal, opposite, Label, vector_of, Dir, IsOnCircle, MapSloop, sloop_item, Map, IsFree, MapLabel, NearLabel, at-sloop, IsAxis, IsLoneSloop, IsMergedSloop, SLoop, SphereMap, sloop_of, map_of, IsSphereMap, dir-primitive, dir-equal, Axis, AreAxes, AreOff, IsUncrossed, HasLabels, HasOpLabels, IsLoneNormal, level-way, SameDirection-turned}
 use Rattle.nef_sover.proofs.Bare.{one-label, near-circle, free-circle, sloop-mark, sloop-pos, sloop-neg}
 use Rattle.nef_sover.proofs.Lone.{uncrossed-a, uncrossed-b}
 
@@ -43,7 +23,7 @@ module _ (a b : SphereMap) (ds : List Axis) (X : AreAxes (map_of a) (map_of b) d
   B = map_of b
 
   off-axes : (n : Vector) → AreOff ds n → (d : Vector) → IsOnCircle n d → IsAxis A B d → ⊥
-  off-axes n off d o x = let e = X.all d x in off e.0 e.1 (level-same n d (vector_of e.0.dir) (same-sym (vector_of e.0.dir) d e.2) o.level)
+  off-axes n off d o x = let e = X.all d x in off e.0 e.1 (level-way n d (vector_of e.0.dir) (SameDirection-turned (vector_of e.0.dir) d e.2) o.level)
 
   axes-off : (n : Vector) → ((d : Vector) → IsOnCircle n d → IsAxis A B d → ⊥) → AreOff ds n
   axes-off n off e c z = off (vector_of e.dir) (record { direction = e.dir.some; level = z }) (X.axis e c)

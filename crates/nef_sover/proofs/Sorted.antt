@@ -1,21 +1,12 @@
 -- Axes sorted by their directions, one of each.
-use Rattle.std.proofs.Common.{◌≡◌, List, Bool, true, Equal, Less, Ordering, sym}
-use Rattle.std.specs.Ordering.{eq_by_cmp}
-use Rattle.std.specs.Cmp.{IsTotalOrder, IsEquivalence}
-use Rattle.std.specs.List.{dedup}
-use Rattle.std.specs.List.Sorted.{IsSorted, IsPermutation}
-use Rattle.std.proofs.lemmas.Cmp.{int_eq_equiv, on_total, on_equiv, and_equiv}
+use Rattle.nef_sover.proofs.Prelude.{◌≡◌, List, Bool, true, Equal, Less, Ordering, sym, eq_by_cmp, IsTotalOrder, dedup, IsSorted, IsPermutation, on_total, vector_of, Dir, same_directions_equal, VectorBelow, below-vectors, Axis, AreInOrder, HasEachOf}
+use Rattle.std.specs.Cmp.{IsEquivalence}
+use Rattle.std.proofs.lemmas.Cmp.{int_eq_equiv, on_equiv, and_equiv}
 use Rattle.std.proofs.lemmas.List.Kept.{Any-dedup}
 use Rattle.std.proofs.lemmas.List.Sorted.{Contains-permutation}
-use Rattle.nef_geo.specs.Shapes.{vector_of}
-use Rattle.nef_geo.specs.declared.dir.Dir.{Dir}
 use Rattle.nef_geo.proofs.Orders.{dir_order, dir_total, dir-ordered}
-use Rattle.nef_geo.proofs.Unique.{equal_test, same_if_equal, same_directions_equal}
-use Rattle.law_sphere.specs.Vectors.{VectorBelow}
+use Rattle.nef_geo.proofs.Unique.{equal_test, same_if_equal}
 use Rattle.nef_smap.proofs.SortedOnce.{ties-from, once-in_order as in_order, once-only}
-use Rattle.nef_smap.proofs.WellFormed.{below-vectors}
-use Rattle.nef_sover.specs.declared.axes.Axis.{Axis}
-use Rattle.nef_sover.specs.Axes.{AreInOrder, HasEachOf}
 
 dir_equivalence : IsEquivalence equal_test
 dir_equivalence = and_equiv (on_equiv (λ (d : Dir). d.x) int_eq_equiv) (and_equiv (on_equiv (λ (d : Dir). d.y) int_eq_equiv) (on_equiv (λ (d : Dir). d.z) int_eq_equiv))

@@ -1,28 +1,7 @@
 -- Two stars of one direction, merged.
-use Rattle.std.proofs.Common.{◌≡◌, ℕ, List, map, sym, subst, ◌∙◌}
-use Rattle.std.specs.List.{All}
-use Rattle.nef_space.specs.Vectors.{Vector, IsDirection, cross, SameDirection}
-use Rattle.nef_space.specs.declared.label.Label.{Label}
-use Rattle.nef_geo.specs.Shapes.{vector_of}
-use Rattle.nef_geo.specs.declared.dir.Dir.{Dir}
-use Rattle.law_sphere.specs.Maps.{At, Map}
-use Rattle.law_sphere.specs.Stars.{Star as PlainStar, StarLabel}
-use Rattle.law_sphere.specs.Labelling.{ByOp}
-use Rattle.law_sphere.specs.Least.{InOrder}
-use Rattle.law_sphere.specs.Vectors.{VectorBelow}
-use Rattle.law_build.specs.Overlays.{IsAxis, NearByOp, IsMerged}
-use Rattle.nef_star.specs.declared.star.Op.{Op}
-use Rattle.nef_star.specs.declared.star.Star.{Star}
-use Rattle.nef_star.specs.Ops.{op_label}
-use Rattle.nef_star.specs.Stars.{star_of, IsStar, IsCombined}
-use Rattle.nef_star.proofs.Labelled.{each_has_one_label}
-use Rattle.nef_smap.specs.Stars.{IsNeighbourhood}
-use Rattle.nef_smap.proofs.Lists.{map-at, at-map, at-get, at-contains, contains-at}
+use Rattle.nef_sover.proofs.Prelude.{◌≡◌, ℕ, List, map, sym, subst, ◌∙◌, All, Vector, IsDirection, cross, SameDirection, Label, vector_of, Dir, At, Map, StarLabel, ByOp, InOrder, VectorBelow, IsAxis, NearByOp, IsMerged, Op, Star, op_label, star_of, IsStar, IsCombined, each_has_one_label, IsNeighbourhood, map-at, at-map, at-get, at-contains, contains-at, star-well_formed, Axis, AreAxes, IsMergedAt, AreMerged}
+use Rattle.law_sphere.specs.Stars.{Star as PlainStar}
 use Rattle.nef_smap.proofs.SideLists.{at-some}
-use Rattle.nef_smap.proofs.WellFormed.{star-well_formed}
-use Rattle.nef_sover.specs.declared.axes.Axis.{Axis}
-use Rattle.nef_sover.specs.Axes.{AreAxes}
-use Rattle.nef_sover.specs.Merged.{IsMergedAt, AreMerged}
 use Rattle.nef_sover.proofs.Places.{zip-first, zip-second}
 
 -- p and q are the stars of A and B at d

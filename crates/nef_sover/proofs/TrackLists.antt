@@ -1,13 +1,5 @@
 -- Where the items of a map lie, one after the other.
-use Rattle.std.proofs.Common.{ℕ, ◌+◌, ◌≤◌, List, [], ◌∷◌, ◌++◌, length, take, sym, subst}
-use Rattle.std.specs.List.{AllZip}
-use Rattle.nef_space.specs.Limits.{normal_limit}
-use Rattle.nef_space.specs.Vectors.{IsAtMost}
-use Rattle.law_sphere.specs.Maps.{At, Map, Item, items}
-use Rattle.nef_smap.specs.declared.map.SphereMap.{SphereMap}
-use Rattle.nef_smap.specs.Maps.{map_of, IsSphereMap}
-use Rattle.nef_sover.specs.declared.axes.Track.{Track}
-use Rattle.nef_sover.specs.Tracks.{IsTrackOf, AreTracks, AreSmall}
+use Rattle.nef_sover.proofs.Prelude.{ℕ, ◌+◌, ◌≤◌, List, [], ◌∷◌, ◌++◌, length, take, sym, subst, AllZip, normal_limit, IsAtMost, At, Map, Item, items, SphereMap, map_of, IsSphereMap, Track, IsTrackOf, AreTracks, AreSmall}
 use Rattle.nef_sover.proofs.Places.{zip-second, zip-more, zip-all}
 
 -- they are those of the first k items

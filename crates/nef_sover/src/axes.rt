@@ -1,4 +1,4 @@
-//! The axes of an overlay: the svertices of both maps, and the directions in which their items cross.
+//! The axes of an overlay: the svertices of both maps, and the directions in which items of the two maps cross.
 
 ghost use Rattle.std.specs.Prelude.{◌≡◌, ◌↔◌, ◌<◌};
 ghost use Rattle.nef_geo.specs.Prelude.{length, IsTrue, IfOk, OnOk, normal_limit, svertex_limit, IsAtMost, vector_of};
@@ -13,24 +13,23 @@ use nef_geo::{Dir, cross};
 use nef_smap::{Item, SLoop, SphereMap};
 use std::alloc::Global;
 
-/// A direction of an overlay. Where an item of the one map crosses one of the other there, `crossed` tells their numbers,
-/// so that no map needs to be searched for the direction.
-#[derive(Debug, Clone, Copy, PartialEq, Eq)]
+/// A direction of an overlay. `crossed` has the numbers of an item of the first map and one of the second that cross
+/// there, if any do, so that no map needs to be searched for the direction.
+#[derive(Clone, Copy)]
 pub(crate) struct Axis {
     pub(crate) dir: Dir,
     pub(crate) crossed: Option<(usize, usize)>,
 }
 
-// The directions of an item, with its number: an arc with the directions of its ends, which are looked up once, or a
-// sloop.
-#[derive(Debug, Clone, Copy, PartialEq, Eq)]
+// An item of a map, with its number: an arc as a set of directions, so that its ends are looked up once, or the sloop.
+#[derive(Clone, Copy)]
 enum Track {
     Arc(usize, Arc),
     Sloop(usize, SLoop),
 }
 
 impl Track {
-    // The normal of the great circle that the item lies on.
+    // The normal of the item's great circle.
     fn normal(&self) -> &Dir
         ensures normal { vector_of result.now ≡ normal_of self.now }
     {
@@ -40,7 +39,7 @@ impl Track {
         }
     }
 
-    // Whether the direction is on the sloop, or strictly on the arc.
+    // Whether the direction lies on the sloop, or strictly on the arc.
     fn holds(&self, d: &Dir) -> bool
         ensures on { IsTrue result ↔ LiesOn self.now (vector_of d.now) }
     {
@@ -50,7 +49,6 @@ impl Track {
         }
     }
 
-    // The number of the item.
     fn number(&self) -> usize
         ensures number { result ≡ number_of self.now }
     {
@@ -60,7 +58,7 @@ impl Track {
     }
 }
 
-// The directions of the item with this number.
+// The track of the item with this number.
 fn track_at(map: &SphereMap, number: usize) -> Track
     requires map { IsSphereMap map.now }
     requires within { number < length (items (map_of map.now)) }
@@ -72,7 +70,7 @@ fn track_at(map: &SphereMap, number: usize) -> Track
     }
 }
 
-// The directions of the map's items, by their numbers.
+// The tracks of the map's items, in order.
 fn tracks_of(alloc: Global, map: &SphereMap) -> Result<Vec<Track>, OutOfMemory>
     requires map { IsSphereMap map.now }
     ensures tracks { IfOk result (λ v. AreTracks (map_of map.now) v.items) }
@@ -85,7 +83,7 @@ fn tracks_of(alloc: Global, map: &SphereMap) -> Result<Vec<Track>, OutOfMemory>
     Ok(tracks)
 }
 
-// Adds the directions of the svertices.
+// Adds the directions of the map's svertices.
 fn add_svertices(axes: &mut Vec<Axis>, map: &SphereMap) -> Result<(), OutOfMemory>
     requires map { IsSphereMap map.now }
     ensures added { OnOk result (Adds (IsOnSvertex (map_of map.now)) axes.old.items axes.new.items) }
@@ -99,7 +97,7 @@ fn add_svertices(axes: &mut Vec<Axis>, map: &SphereMap) -> Result<(), OutOfMemor
     Ok(())
 }
 
-// Adds the direction if both items hold it.
+// Adds the direction if both items hold the direction.
 fn add_common(axes: &mut Vec<Axis>, x: &Track, y: &Track, d: Dir) -> Result<(), OutOfMemory>
     requires small { IsAtMost svertex_limit (vector_of d) }
     ensures added { OnOk result (Adds (IsMeetAlong x.now y.now (vector_of d)) axes.old.items axes.new.items) }
@@ -113,7 +111,7 @@ fn add_common(axes: &mut Vec<Axis>, x: &Track, y: &Track, d: Dir) -> Result<(), 
     Ok(())
 }
 
-// Adds the directions that both items hold, if their normals aren't parallel. Their great circles then meet in two
+// Adds the directions that both items hold, if their normals aren't parallel: then their great circles meet in two
 // opposite directions.
 fn add_meets(axes: &mut Vec<Axis>, x: &Track, y: &Track) -> Result<(), OutOfMemory>
     requires x_small { IsAtMost normal_limit (normal_of x.now) }
@@ -127,7 +125,7 @@ fn add_meets(axes: &mut Vec<Axis>, x: &Track, y: &Track) -> Result<(), OutOfMemo
     add_common(axes, x, y, ahead.back())
 }
 
-// Adds the directions in which the item meets one of the others.
+// Adds the directions in which the item x meets an item of ys.
 fn add_meets_with(axes: &mut Vec<Axis>, x: &Track, ys: &[Track]) -> Result<(), OutOfMemory>
     requires x_small { IsAtMost normal_limit (normal_of x.now) }
     requires ys_small { AreSmall ys.now }
@@ -139,7 +137,7 @@ fn add_meets_with(axes: &mut Vec<Axis>, x: &Track, ys: &[Track]) -> Result<(), O
     Ok(())
 }
 
-// Adds the directions in which one of the first items meets one of the others.
+// Adds the directions in which an item of xs meets an item of ys.
 fn add_crossings(axes: &mut Vec<Axis>, xs: &[Track], ys: &[Track]) -> Result<(), OutOfMemory>
     requires xs_small { AreSmall xs.now }
     requires ys_small { AreSmall ys.now }
@@ -151,8 +149,8 @@ fn add_crossings(axes: &mut Vec<Axis>, xs: &[Track], ys: &[Track]) -> Result<(),
     Ok(())
 }
 
-/// The directions of the svertices of both maps and those in which an item of the first meets an item of the second
-/// with another normal, in increasing order, once each. Where two items meet, their numbers come along.
+/// The directions of the svertices of both maps, and the directions in which an item of the first map meets an item of
+/// the second with another normal, in increasing order, once each. Where two items meet, their numbers come along.
 pub(crate) fn axes_of(alloc: Global, a: &SphereMap, b: &SphereMap) -> Result<Vec<Axis>, OutOfMemory>
     requires first { IsSphereMap a.now }
     requires second { IsSphereMap b.now }

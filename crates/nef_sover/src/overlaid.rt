@@ -1,4 +1,4 @@
-//! Two maps overlaid: the stars of all axes, and the sloop that no axis lies on.
+//! Two maps overlaid: the stars of all axes, and the sloop on which no axis lies.
 
 ghost use Rattle.std.specs.Prelude.{◌<◌, ◌⊎◌, ◌≡◌, ◌↔◌};
 ghost use Rattle.nef_geo.specs.Prelude.{length, IfOk, MatchOption, IsTrue, Some, option_map, svertex_limit, normal_limit, IsAtMost, IsNormal, vector_of};
@@ -45,8 +45,7 @@ fn bare_normal(sloop: &Option<SLoop>, axes: &[Axis]) -> Option<Dir>
     }
 }
 
-// The normal of the one or the other map's sloop that no axis lies on. Where both maps have such a sloop, it is one
-// circle.
+// The normal of a sloop of either map on which no axis lies. Where both maps have such a sloop, both are one circle.
 fn lone_normal(a: &SphereMap, b: &SphereMap, axes: &[Axis]) -> Option<Dir>
     requires first { IsSphereMap a.now }
     requires second { IsSphereMap b.now }
@@ -73,7 +72,7 @@ fn sloop_with(map: &SphereMap, normal: &Dir) -> Option<SLoop>
     }
 }
 
-// The map's labels all along the great circle of the normal and beside it. Where the map has no sloop there, the whole
+// The map's labels all along the normal's great circle and beside it. Where the map has no sloop there, the whole
 // circle lies in one face.
 fn labels_along(alloc: Global, map: &SphereMap, normal: &Dir) -> Result<SLoop, OutOfMemory>
     requires map { IsSphereMap map.now }
@@ -94,7 +93,7 @@ fn labels_along(alloc: Global, map: &SphereMap, normal: &Dir) -> Result<SLoop, O
     })
 }
 
-// The sloop of one of the maps that no axis lies on, with op of both maps' labels. There is none where an axis lies on
+// The sloop of one of the maps on which no axis lies, with the operation's labels. `None` comes where an axis lies on
 // each sloop.
 fn merged_sloop(
     alloc: Global,
@@ -122,7 +121,7 @@ fn merged_sloop(
     }))
 }
 
-// The item with this number, as it looks near a direction on it.
+// The great circle of the item with this number, near a direction on the item.
 fn line(map: &SphereMap, number: usize) -> Line
     requires within { number < length (items (map_of map.now)) }
     ensures line { (x : PlainItem) × At (items (map_of map.now)) number x × IsLineOf x result }
@@ -136,7 +135,7 @@ fn line(map: &SphereMap, number: usize) -> Line
     }
 }
 
-// The stars of both maps at the axis, merged. Where items cross there, it is put together from the two.
+// The star at the axis with the operation's labels: made of two items that cross, or merged of the maps' stars.
 fn merged_star(
     alloc: Global,
     a: &SphereMap,
@@ -179,7 +178,7 @@ fn merged_stars(
     Ok(stars)
 }
 
-// The label of the one face of two maps without items.
+// The ground of the combination, where both maps have one.
 fn merged_ground(a: &SphereMap, b: &SphereMap, op: Op) -> Option<Label>
     requires first { IsSphereMap a.now }
     requires second { IsSphereMap b.now }
@@ -191,11 +190,10 @@ fn merged_ground(a: &SphereMap, b: &SphereMap, op: Op) -> Option<Label>
     }
 }
 
-/// The two maps overlaid, with the labels of the operation. At each svertex of either map, and in each direction in
-/// which an item of the first meets an item of the second with another normal, there is a star, with what the operation
-/// makes of both maps' labels there. If no such direction lies on the sloop of one of the maps, that circle is given,
-/// with the combined labels on it and beside it. If neither map has an item, the combined label of the whole is given.
-/// No labels are refused: where one of two labels is `Out`, the combined one is.
+/// The two maps overlaid, with the labels of the operation. There is a star at each svertex of either map, and in each
+/// direction in which an item of the first map meets an item of the second with another normal. If no such direction
+/// lies on a sloop of one map, a sloop is given with the combined labels on it and beside it; where neither map has an
+/// item, one label of the whole is given. No labels are refused: `Out` in one map makes the combined label `Out`.
 pub fn overlay(alloc: Global, a: &SphereMap, b: &SphereMap, op: Op) -> Result<RawStars, OutOfMemory>
     requires first { IsSphereMap a.now }
     requires second { IsSphereMap b.now }

@@ -1,23 +1,9 @@
 -- What is built of raw stars is the one least map with their mark and labels.
-use Rattle.std.proofs.Common.{◌≡◌, ◌↔◌, List, ◌++◌, sym, ap, subst, ◌∙◌}
-use Rattle.nef_space.specs.Vectors.{Vector, IsDirection}
-use Rattle.nef_space.specs.declared.label.Label.{Label}
-use Rattle.law_sphere.specs.Maps.{Map, MapLabel, Valid}
-use Rattle.law_sphere.specs.Least.{Least, SameLabels, Ordered}
-use Rattle.law_sphere.specs.Forms.{forms}
-use Rattle.law_sphere.specs.Labelling.{ByOp}
-use Rattle.law_sphere.proofs.Labels.{label-unique}
+use Rattle.nef_spair.proofs.Prelude.{◌≡◌, ◌↔◌, List, ◌++◌, sym, ap, subst, ◌∙◌, Vector, IsDirection, Label, Map, MapLabel, Valid, Least, SameLabels, Ordered, forms, ByOp, label-unique, IsLabelling, IsRawOf, Raw, raw-shows_op, RawStars, SphereMap, map_of, raw_of, IsLeastMap, IsRawStars, IsMadeFrom}
 use Rattle.law_sphere.proofs.Equal.{least-unique}
-use Rattle.law_sphere.specs.Raw.{IsLabelling, IsRawOf}
-use Rattle.law_build.specs.Overlays.{Raw}
 use Rattle.law_build.proofs.KeptStars.{kept-show}
 use Rattle.law_build.proofs.BuiltKept.{from-stars}
 use Rattle.law_build.proofs.Chosen.{op-labels}
-use Rattle.law_build.proofs.RawGround.{raw-shows_op}
-use Rattle.nef_smap.specs.declared.map.RawStars.{RawStars}
-use Rattle.nef_smap.specs.declared.map.SphereMap.{SphereMap}
-use Rattle.nef_smap.specs.Maps.{map_of, raw_of, IsLeastMap, IsRawStars}
-use Rattle.nef_spair.specs.Made.{IsMadeFrom}
 use Rattle.nef_spair.proofs.Built.{kept-raw, all-stars, all-simplified}
 use Rattle.nef_spair.proofs.FromPieces.{built-from, small}
 

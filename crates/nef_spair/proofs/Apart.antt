@@ -1,18 +1,8 @@
 -- What is apart in an order stands in order once it is sorted.
-use Rattle.std.proofs.Common.{◌≡◌, ℕ, ◌<◌, ⊎_elim, List, get_or, false, Ordering, Equal, arith, sym, ap, subst, ◌∙◌}
-use Rattle.std.specs.List.{IsDistinct}
-use Rattle.std.specs.List.Sorted.{IsPermutation, IsSorted}
-use Rattle.std.specs.Ordering.{MatchOrdering, eq_by_cmp, is_lt, is_eq}
-use Rattle.std.specs.Cmp.{IsTotalOrder}
-use Rattle.std.proofs.lemmas.Bool.{cases_order, false≢true}
-use Rattle.std.proofs.lemmas.Cmp.{by_ranked, eq_by_cmp_equiv, tied_back}
-use Rattle.std.proofs.lemmas.List.Sorted.{ranks_by, sorted_far, Contains-permutation, IsPermutation-sym}
+use Rattle.nef_spair.proofs.Prelude.{◌≡◌, ℕ, ◌<◌, ⊎_elim, List, get_or, false, Ordering, Equal, arith, sym, ap, subst, ◌∙◌, IsDistinct, IsPermutation, IsSorted, MatchOrdering, eq_by_cmp, is_lt, is_eq, IsTotalOrder, false≢true, by_ranked, eq_by_cmp_equiv, tied_back, ranks_by, sorted_far, Contains-permutation, IsPermutation-sym, At, InOrder, at-within, get-at, at-contains, contains-at, StandApart}
+use Rattle.std.proofs.lemmas.Bool.{cases_order}
 use Rattle.std.proofs.lemmas.Map.Keys.{IsDistinct-from_apart, IsDistinct-IsPermutation, apart_from_distinct}
-use Rattle.law_sphere.specs.Maps.{At}
-use Rattle.law_sphere.specs.Least.{InOrder}
-use Rattle.nef_smap.proofs.Lists.{at-within, get-at, at-contains, contains-at}
 use Rattle.nef_smap.proofs.SortedOnce.{both-at}
-use Rattle.nef_spair.specs.Arcs.{StandApart}
 
 -- ---- what is moved stays listed
 module _ {A : Type 0} (xs ys : List A) (moved : IsPermutation xs ys) where

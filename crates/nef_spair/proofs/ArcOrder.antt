@@ -1,17 +1,5 @@
 -- The order of arcs: arcs that are apart are in order once they are sorted.
-use Rattle.std.proofs.Common.{◌≡◌, ℕ, ◌<◌, ℤ, ◌<ℤ◌, List, Bool, Ordering, Less, Equal, Greater, arith, refl, sym, ap, ◌∙◌, inl, inr}
-use Rattle.std.specs.List.Sorted.{IsPermutation, IsSortedBy}
-use Rattle.std.specs.Ordering.{MatchOrdering, int_cmp, nat_cmp, ordering_then, ordering_reverse, on, then_cmp, is_lt}
-use Rattle.std.specs.Cmp.{IsTotalOrder, IsStrictWeakOrder, int_ranks}
-use Rattle.std.proofs.lemmas.Cmp.{int_cmp_total, nat_cmp_total, on_total, then_total, ranked}
-use Rattle.std.proofs.lemmas.Int.{ints}
-use Rattle.std.proofs.lemmas.List.Sorted.{ranks_by}
-use Rattle.law_near.proofs.Flats.{vector-same}
-use Rattle.nef_geo.specs.Shapes.{vector_of}
-use Rattle.law_sphere.specs.Least.{InOrder}
-use Rattle.nef_smap.specs.declared.map.SArc.{SArc}
-use Rattle.nef_smap.proofs.WellFormed.{dir-equal}
-use Rattle.nef_spair.specs.Arcs.{IsArcBelow, IsTwin, AreApart}
+use Rattle.nef_spair.proofs.Prelude.{◌≡◌, ℕ, ◌<◌, ℤ, ◌<ℤ◌, List, Bool, Ordering, Less, Equal, Greater, arith, refl, sym, ap, ◌∙◌, inl, inr, IsPermutation, IsSortedBy, MatchOrdering, int_cmp, nat_cmp, ordering_then, ordering_reverse, on, then_cmp, is_lt, IsTotalOrder, IsStrictWeakOrder, int_ranks, int_cmp_total, nat_cmp_total, on_total, then_total, ranked, ints, ranks_by, vector_of, InOrder, SArc, dir-equal, IsArcBelow, IsTwin, AreApart, vector-same}
 use Rattle.nef_spair.proofs.Apart.{still-apart as stand-apart, sorted-in_order}
 
 -- ---- the order as a function

@@ -1,19 +1,6 @@
 -- What is made of the pieces of simplified stars is built from these stars.
-use Rattle.std.proofs.Common.{◌≡◌, ℕ, suc, List, [], ◌∷◌, length, map, get_or, option_map, arith, refl, sym, ap, subst, ◌∙◌, inl, inr, ◌⊎◌}
-use Rattle.std.specs.List.{All}
-use Rattle.nef_geo.specs.Shapes.{vector_of}
-use Rattle.law_sphere.specs.Vectors.{VectorBelow}
-use Rattle.law_sphere.specs.Maps.{At}
-use Rattle.law_sphere.specs.Least.{InOrder}
-use Rattle.law_sphere.specs.Stars.{Star as PlainStar, IsPlain, IsStraight, IsSimplified}
-use Rattle.law_build.specs.From.{IsKeptStar, IsKeptRaw, AreSimplified}
-use Rattle.nef_star.specs.declared.star.Star.{Star}
-use Rattle.nef_star.specs.Stars.{star_of, IsStar}
-use Rattle.nef_smap.specs.declared.map.RawStars.{RawStars}
-use Rattle.nef_smap.specs.Maps.{sloop_of, raw_of}
-use Rattle.nef_smap.proofs.Lists.{at-map, map-at, at-within, get-at}
-use Rattle.nef_smap.proofs.WellFormed.{star-well_formed}
-use Rattle.nef_spair.specs.Pieces.{Pieces, IsSimple, AreSimple, IsDropped, ArePiecesOf}
+use Rattle.nef_spair.proofs.Prelude.{◌≡◌, ℕ, suc, List, [], ◌∷◌, length, map, get_or, option_map, arith, refl, sym, ap, subst, ◌∙◌, inl, inr, ◌⊎◌, All, vector_of, VectorBelow, At, InOrder, IsPlain, IsStraight, IsSimplified, IsKeptStar, IsKeptRaw, AreSimplified, Star, star_of, IsStar, RawStars, sloop_of, raw_of, at-map, map-at, at-within, get-at, star-well_formed, Pieces, IsSimple, AreSimple, IsDropped, ArePiecesOf}
+use Rattle.law_sphere.specs.Stars.{Star as PlainStar}
 use Rattle.nef_spair.proofs.Places.{others-from, others-all, others-in_order, all-at, at-all}
 
 -- ---- stars that have been simplified

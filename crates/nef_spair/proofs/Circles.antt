@@ -1,15 +1,6 @@
 -- Circles that no star has its axis on, star by star and circle by circle.
-use Rattle.std.proofs.Common.{◌≡◌, ℕ, ◌+◌, ◌<◌, ◌≤◌, pos, List, length, map, arith, sym, subst, inl, inr}
-use Rattle.std.proofs.Math.Nat.{eq-or-lt_of_le}
-use Rattle.nef_space.specs.Vectors.{Vector, dot}
-use Rattle.nef_geo.specs.Shapes.{vector_of}
-use Rattle.law_sphere.specs.Maps.{At}
+use Rattle.nef_spair.proofs.Prelude.{◌≡◌, ℕ, ◌+◌, ◌<◌, ◌≤◌, pos, List, length, map, arith, sym, subst, inl, inr, eq-or-lt_of_le, Vector, dot, vector_of, At, at-one, IsBare, Star, star_of, at-map, map-at, at-within}
 use Rattle.law_sphere.specs.Stars.{Star as PlainStar}
-use Rattle.law_sphere.proofs.Lists.{at-one}
-use Rattle.law_sphere.specs.Raw.{IsBare}
-use Rattle.nef_star.specs.declared.star.Star.{Star}
-use Rattle.nef_star.specs.Stars.{star_of}
-use Rattle.nef_smap.proofs.Lists.{at-map, map-at, at-within}
 
 -- P fails at each of the first k elements
 abbrev pub NoneUpTo : {A : Type 0} → (A → Type 0) → List A → ℕ → Type 0

@@ -1,21 +1,7 @@
 -- The first axis after another on a circle, found star by star.
-use Rattle.std.proofs.Common.{◌≡◌, ℕ, ◌+◌, ◌<◌, ◌≤◌, pos, List, length, map, arith, sym, subst, inl, inr, ◌⊎◌}
-use Rattle.std.proofs.Math.Nat.{eq-or-lt_of_le}
-use Rattle.nef_space.specs.Vectors.{dot, SameDirection}
-use Rattle.nef_geo.specs.Shapes.{vector_of}
-use Rattle.nef_geo.specs.declared.dir.Dir.{Dir}
-use Rattle.law_cyclic.specs.Arcs.{IsStrictlyOn, AboutFour}
-use Rattle.law_cyclic.proofs.Cyclic.{order_is_transitive}
-use Rattle.law_sphere.specs.Maps.{At}
-use Rattle.law_sphere.proofs.Lists.{at-one}
+use Rattle.nef_spair.proofs.Prelude.{◌≡◌, ℕ, ◌+◌, ◌<◌, ◌≤◌, pos, List, length, map, arith, sym, subst, inl, inr, ◌⊎◌, eq-or-lt_of_le, dot, SameDirection, vector_of, Dir, IsStrictlyOn, AboutFour, order_is_transitive, At, at-one, IsFirstAfter, Star, star_of, four, at-map, map-at, at-within, dir-self}
 use Rattle.law_sphere.specs.Stars.{Star as PlainStar}
-use Rattle.law_build.specs.From.{IsFirstAfter}
-use Rattle.nef_star.specs.declared.star.Star.{Star}
-use Rattle.nef_star.specs.Stars.{star_of}
-use Rattle.nef_star.proofs.Turns.{four}
 use Rattle.nef_star.proofs.Labelled.{strictly, passes}
-use Rattle.nef_smap.proofs.Lists.{at-map, map-at, at-within}
-use Rattle.nef_geo.proofs.Directions.{SameDirection-itself as self-same}
 
 -- the axis of the star with this number
 abbrev pub IsAxisOf : List Star → ℕ → Dir → Type 0
@@ -49,7 +35,7 @@ module _ (kept : List Star) (n s : Dir) (k j : ℕ) (t u : Star) (w : IsFirstOf 
       by : (i : ℕ) (v x : Star) → (i ≡ k) ⊎ (i < k) → At kept k v → At kept i x → IsStrictlyOn (vector_of n) (vector_of s) (vector_of v.axis) (vector_of x.axis) → ⊥
       by i v x (inl e) c d o =
           let same : x ≡ v = at-one kept k x v (subst (λ (m : ℕ). At kept m x) e d) c in
-          o.not_target (subst (λ (y : Star). SameDirection (vector_of v.axis) (vector_of y.axis)) (sym same) (self-same (vector_of v.axis) v.axis.some))
+          o.not_target (subst (λ (y : Star). SameDirection (vector_of v.axis) (vector_of y.axis)) (sym same) (dir-self (vector_of v.axis) v.axis.some))
       by i v x (inr l) c d o =
           let e : v ≡ u = at-one kept k v u c b in
           let o' : IsStrictlyOn (vector_of n) (vector_of s) (vector_of u.axis) (vector_of x.axis) = subst (λ (y : Star). IsStrictlyOn (vector_of n) (vector_of s) (vector_of y.axis) (vector_of x.axis)) e o in

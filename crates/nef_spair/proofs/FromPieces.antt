@@ -1,29 +1,10 @@
 -- The map that is made of the pieces of simplified stars is built from these stars, and its numbers are small.
-use Rattle.std.proofs.Common.{◌≡◌, ℕ, zero, suc, List, [], ◌∷◌, map, Option, Some, None, option_map, MatchOption, true, refl, sym, ap, subst, ◌∙◌, inl, inr}
-use Rattle.std.specs.List.{All}
-use Rattle.nef_space.specs.Limits.{normal_limit, svertex_limit}
-use Rattle.nef_space.specs.Vectors.{Vector, IsAtMost}
-use Rattle.nef_space.specs.declared.label.Label.{Label}
-use Rattle.nef_geo.specs.Shapes.{vector_of}
-use Rattle.law_sphere.specs.Maps.{At, MapVertex, Arc, MapSloop, Item, items_then, item_normal}
-use Rattle.law_sphere.specs.Least.{InOrder, ArcBelow}
-use Rattle.law_sphere.specs.Stars.{Ray as PlainRay, Star as PlainStar, IsStraight}
-use Rattle.law_sphere.specs.Raw.{IsBare, IsRawOf}
-use Rattle.law_build.specs.From.{svertex_at, IsArcFrom, IsSloopFrom, raw_sloop, straight_sloop, IsRawLabel, IsBuiltFrom}
-use Rattle.nef_star.specs.Stars.{ray_of, star_of, IsStar}
-use Rattle.nef_smap.specs.declared.map.SArc.{SArc}
-use Rattle.nef_smap.specs.declared.map.SLoop.{SLoop}
-use Rattle.nef_smap.specs.declared.map.RawStars.{RawStars}
-use Rattle.nef_smap.specs.declared.map.SphereMap.{SphereMap}
-use Rattle.nef_smap.specs.Maps.{svertex_of, arc_of, sloop_of, map_of, raw_of, IsSmall}
-use Rattle.nef_smap.proofs.Lists.{at-map, map-at, at-within}
-use Rattle.nef_spair.specs.Made.{IsMadeOf}
-use Rattle.nef_spair.specs.Pieces.{Pieces, ArePiecesOf, IsChosen}
+use Rattle.nef_spair.proofs.Prelude.{◌≡◌, ℕ, zero, suc, List, [], ◌∷◌, map, Option, Some, None, option_map, MatchOption, true, refl, sym, ap, subst, ◌∙◌, inl, inr, All, normal_limit, svertex_limit, Vector, IsAtMost, Label, vector_of, At, MapVertex, Arc, MapSloop, Item, items_then, item_normal, InOrder, ArcBelow, IsStraight, IsBare, IsRawOf, svertex_at, IsArcFrom, IsSloopFrom, raw_sloop, straight_sloop, IsRawLabel, IsBuiltFrom, ray_of, star_of, IsStar, SArc, SLoop, RawStars, SphereMap, svertex_of, arc_of, sloop_of, map_of, raw_of, IsSmall, at-map, map-at, at-within, IsMadeOf, Pieces, ArePiecesOf, IsChosen, not-both as none-some}
+use Rattle.law_sphere.specs.Stars.{Ray as PlainRay, Star as PlainStar}
 use Rattle.nef_spair.proofs.OneKind.{no-sloop-was, sloop-was, none-was}
 use Rattle.nef_spair.proofs.Places.{all-at}
 use Rattle.nef_spair.proofs.Built.{first-same, kept-stars, plain-from, plain-needed, plain-all, plain-ordered}
 use Rattle.law_build.proofs.BuiltAxes.{map-empty as map-none}
-use Rattle.law_build.proofs.RawGround.{not-both as none-some}
 
 module _ (q : RawStars) (p : Pieces) (m : SphereMap) (pieces : ArePiecesOf q p) (made : IsMadeOf q p m) where
   abbrev K : List PlainStar

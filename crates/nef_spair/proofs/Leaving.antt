@@ -1,30 +1,6 @@
 -- The arcs that leave stars, one ray after another.
-use Rattle.std.proofs.Common.{◌≡◌, ℕ, zero, suc, ◌+◌, ◌<◌, ◌≤◌, List, [], ◌∷◌, ◌++◌, length, map, get_or, true, Bool, cond, arith, sym, ap, subst, ◌∙◌, inl, inr, ◌⊎◌}
-use Rattle.std.proofs.Math.Nat.{eq-or-lt_of_le}
-use Rattle.std.proofs.lemmas.List.{length-map}
-use Rattle.nef_space.specs.Limits.{normal_limit}
-use Rattle.nef_space.specs.Vectors.{opposite, IsAtMost, SameDirection}
-use Rattle.nef_space.specs.declared.label.Label.{Label}
-use Rattle.nef_space.specs.declared.label.Label.TheVariants.{Out}
-use Rattle.nef_geo.specs.Shapes.{vector_of}
-use Rattle.nef_geo.specs.declared.dir.Dir.{Dir}
-use Rattle.law_cyclic.proofs.StrictlyOn.{same-sym}
-use Rattle.law_sphere.specs.Maps.{At, Arc as PlainArc}
-use Rattle.law_sphere.specs.Stars.{Follows}
-use Rattle.law_sphere.proofs.Lists.{at-one}
-use Rattle.law_build.specs.From.{IsArcFrom, IsFirstAfter}
-use Rattle.nef_star.specs.declared.star.Ray.{Ray}
-use Rattle.nef_star.specs.declared.star.Star.{Star}
-use Rattle.nef_star.specs.Stars.{ray_of, star_of, left_of, left_at, IsRay, IsTurned}
-use Rattle.nef_star.specs.Turning.{IsNext}
-use Rattle.nef_star.proofs.Turns.{three_ways}
-use Rattle.nef_star.proofs.Counted.{count-some}
-use Rattle.nef_smap.specs.declared.map.SArc.{SArc}
-use Rattle.nef_smap.specs.Maps.{arc_of}
-use Rattle.nef_smap.proofs.Lists.{map-at, at-within, get-at}
-use Rattle.nef_spair.specs.Arcs.{IsEarlier, IsAlong, IsTwin, AreApart, AreArcs}
+use Rattle.nef_spair.proofs.Prelude.{◌≡◌, ℕ, zero, suc, ◌+◌, ◌<◌, ◌≤◌, List, [], ◌∷◌, ◌++◌, length, map, get_or, true, Bool, cond, arith, sym, ap, subst, ◌∙◌, inl, inr, ◌⊎◌, eq-or-lt_of_le, length-map, normal_limit, opposite, IsAtMost, SameDirection, Label, Out, vector_of, Dir, At, Arc as PlainArc, Follows, at-one, IsArcFrom, IsFirstAfter, Ray, Star, ray_of, star_of, left_of, left_at, IsRay, IsTurned, IsNext, three_ways, count-some, SArc, arc_of, map-at, at-within, get-at, IsEarlier, IsAlong, IsTwin, AreApart, AreArcs, SameDirection-turned, dir-self}
 use Rattle.nef_spair.proofs.Places.{at-before, at-last, at-more, all-at}
-use Rattle.nef_geo.proofs.Directions.{SameDirection-itself as self-same}
 
 -- ---- one arc
 pub as-many-sectors : (t : Star) → IsTurned t → (k : ℕ) (r : Ray) → At t.rays.items k r → length t.sectors.items ≡ length t.rays.items
@@ -79,7 +55,7 @@ left-at (q ∷ qs) (suc k) r h = left-at qs k r h
 
 module _ (t : Star) (T : IsTurned t) where
   later-differs : (i k : ℕ) → i < k → k < length t.rays.items → SameDirection (left_at t.rays.items k) (left_at t.rays.items i) → ⊥
-  later-differs zero k h l s = T.counterclockwise.apart k h l (same-sym (left_at t.rays.items k) (left_at t.rays.items 0) s)
+  later-differs zero k h l s = T.counterclockwise.apart k h l (SameDirection-turned (left_at t.rays.items k) (left_at t.rays.items 0) s)
   later-differs (suc i) k h l s = let p = T.counterclockwise.rising (suc i) k (omega arith) h l in p.not_target s
 
   left-ahead : (r : Ray) → r.ahead ≡ true → left_of r ≡ vector_of r.normal
@@ -88,7 +64,7 @@ module _ (t : Star) (T : IsTurned t) where
   same-left : (i k : ℕ) (q r : Ray) → At t.rays.items i q → At t.rays.items k r → q.ahead ≡ true → r.ahead ≡ true → q.normal ≡ r.normal → SameDirection (left_at t.rays.items k) (left_at t.rays.items i)
   same-left i k q r a b qa ra e =
       let li = left-at t.rays.items i q a ∙ left-ahead q qa ∙ ap vector_of e in let lk = left-at t.rays.items k r b ∙ left-ahead r ra in
-      rw (li, lk) (self-same (vector_of r.normal) r.normal.some)
+      rw (li, lk) (dir-self (vector_of r.normal) r.normal.some)
 
   pub one-ray : (i k : ℕ) (q r : Ray) → At t.rays.items i q → At t.rays.items k r → q.ahead ≡ true → r.ahead ≡ true → q.normal ≡ r.normal → i ≡ k
   one-ray i k q r a b qa ra e =

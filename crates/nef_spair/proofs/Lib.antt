@@ -1,3 +1,4 @@
+pub mod Prelude
 pub mod OneKind
 pub mod Places
 pub mod Simple

@@ -1,30 +1,11 @@
 -- A map has one kind, and what its fields say of it.
-use Rattle.std.proofs.Common.{◌≡◌, ℤ, pos, negsuc, neg_ℤ, List, [], ◌∷◌, length, map, slice_get, Option, Some, None, option_map, arith, refl, sym, ap, subst, ◌∙◌}
-use Rattle.std.proofs.lemmas.Int.{ints}
-use Rattle.nef_space.proofs.Ring.{ring, at, num, neg, ◌⊕◌, ◌⊖◌, ◌⊗◌}
-use Rattle.nef_space.proofs.Combination.{follows, given, none}
-use Rattle.nef_space.specs.Place.{Place}
-use Rattle.nef_space.specs.Sets.{Set}
-use Rattle.nef_space.specs.Vectors.{Vector, dot, opposite, IsDirection, SameDirection, IsOpposite}
-use Rattle.nef_geo.specs.Shapes.{vector_of}
-use Rattle.nef_geo.specs.declared.dir.Dir.{Dir}
-use Rattle.nef_geo.proofs.Directions.{dot-itself}
-use Rattle.nef_geo.proofs.Unique.{same_directions_equal}
-use Rattle.law_sphere.specs.Maps.{Map, MapVertex, MapSloop}
-use Rattle.law_sphere.specs.Least.{Least, Cone}
-use Rattle.law_sphere.specs.Kinds.{IsInVolume, IsInFacet, IsOnEdge}
+use Rattle.nef_spair.proofs.Prelude.{◌≡◌, ℤ, pos, negsuc, neg_ℤ, List, [], ◌∷◌, length, map, slice_get, Option, Some, None, option_map, arith, refl, sym, ap, subst, ◌∙◌, ints, ring, at, num, neg, ◌⊕◌, ◌⊖◌, ◌⊗◌, follows, given, none, Place, Set, Vector, dot, opposite, IsDirection, SameDirection, IsOpposite, vector_of, Dir, same_directions_equal, Map, MapVertex, MapSloop, Least, Cone, IsInVolume, IsInFacet, IsOnEdge, SLoop, SphereMap, svertex_of, sloop_of, map_of, dir-equal, Vertex, OnEdge, InFacet, InVolume, IsVertex, IsKind, KindFits, self-pos}
 use Rattle.law_sphere.proofs.Kind.{flat-parallel}
 use Rattle.law_sphere.proofs.KindFlats.{facet-flat, facet-only}
 use Rattle.law_sphere.proofs.KindLaws.{KindOf, of_volume, of_facet, of_edge, edge-flat, edge-only, edge-direction}
 use Rattle.law_sphere.proofs.Dimensions.{map-flat, flat-map, volume-dimension, facet-dimension, edge-dimension, vertex-dimension}
 use Rattle.nef_smap.specs.declared.map.SVertex.{SVertex}
-use Rattle.nef_smap.specs.declared.map.SLoop.{SLoop}
-use Rattle.nef_smap.specs.declared.map.SphereMap.{SphereMap}
-use Rattle.nef_smap.specs.Maps.{svertex_of, sloop_of, map_of}
-use Rattle.nef_smap.proofs.WellFormed.{dir-equal}
 use Rattle.nef_spair.specs.declared.answer.Kind.{Kind}
-use Rattle.nef_spair.specs.declared.answer.Kind.TheVariants.{Vertex, OnEdge, InFacet, InVolume}
-use Rattle.nef_spair.specs.Kinds.{IsVertex, IsKind, KindFits}
 
 -- ---- no two kinds
 module _ (M : Map) where
@@ -167,7 +148,7 @@ back-opposite v h = record {
   );
   backward =
       let e : dot v (opposite v) ≡ neg_ℤ (dot v v) = ring (both v v) (at 0 ⊗ neg (at 0) ⊕ at 1 ⊗ neg (at 1) ⊕ at 2 ⊗ neg (at 2)) (neg (at 0 ⊗ at 0 ⊕ at 1 ⊗ at 1 ⊕ at 2 ⊗ at 2)) tt in
-      let p = dot-itself v h in omega (arith, ints, e, p);
+      let p = self-pos v h in omega (arith, ints, e, p);
 }
 
 back-same : (v e : Vector) → IsOpposite v e → SameDirection (opposite v) e

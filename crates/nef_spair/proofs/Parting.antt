@@ -1,19 +1,6 @@
 -- Circles of straight stars, one star after another, and what they and the kept stars are made of.
-use Rattle.std.proofs.Common.{◌≡◌, List, [], ◌∷◌, ◌++◌, length, map, get_or, sym, ap, subst, ◌∙◌, inl, inr}
-use Rattle.nef_space.specs.Limits.{normal_limit}
-use Rattle.nef_space.specs.Vectors.{Vector, IsAtMost}
-use Rattle.nef_space.specs.declared.label.Label.{Label}
-use Rattle.nef_space.specs.declared.label.Label.TheVariants.{Out}
-use Rattle.nef_geo.specs.Shapes.{vector_of}
-use Rattle.law_sphere.specs.Maps.{MapSloop}
-use Rattle.law_sphere.specs.Stars.{Ray as PlainRay, IsPlain, IsStraight}
-use Rattle.law_build.specs.From.{sloop_at}
-use Rattle.nef_star.specs.declared.star.Ray.{Ray}
-use Rattle.nef_star.specs.declared.star.Star.{Star}
-use Rattle.nef_star.specs.Stars.{ray_of, star_of}
-use Rattle.nef_smap.specs.declared.map.SLoop.{SLoop}
-use Rattle.nef_smap.specs.Maps.{sloop_of}
-use Rattle.nef_spair.specs.Pieces.{IsDropped, AreAllKept, IsCircleOf, AreCircles}
+use Rattle.nef_spair.proofs.Prelude.{◌≡◌, List, [], ◌∷◌, ◌++◌, length, map, get_or, sym, ap, subst, ◌∙◌, inl, inr, normal_limit, Vector, IsAtMost, Label, Out, vector_of, MapSloop, IsPlain, IsStraight, sloop_at, Ray, Star, ray_of, star_of, SLoop, sloop_of, IsDropped, AreAllKept, IsCircleOf, AreCircles}
+use Rattle.law_sphere.specs.Stars.{Ray as PlainRay}
 use Rattle.nef_spair.proofs.Places.{at-before, at-last, at-more, all-at, at-all}
 
 -- ---- the circle of a straight star

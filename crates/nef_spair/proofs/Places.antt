@@ -1,9 +1,5 @@
 -- Elements by their places in longer lists, and what is left of a list without some.
-use Rattle.std.proofs.Common.{◌≡◌, ℕ, zero, suc, ◌<◌, List, [], ◌∷◌, ◌++◌, length, get_or, slice_get, Some, None, arith, refl, sym, ap, subst, inl, inr, ◌⊎◌}
-use Rattle.std.specs.List.{All}
-use Rattle.law_sphere.specs.Maps.{At}
-use Rattle.nef_smap.proofs.Lists.{at-within, at-get, get-at}
-use Rattle.nef_spair.specs.Pieces.{AreOthers}
+use Rattle.nef_spair.proofs.Prelude.{◌≡◌, ℕ, zero, suc, ◌<◌, List, [], ◌∷◌, ◌++◌, length, get_or, slice_get, Some, None, arith, refl, sym, ap, subst, inl, inr, ◌⊎◌, All, At, at-within, at-get, get-at, AreOthers}
 
 module _ {A : Type 0} where
   pub at-before : (xs ys : List A) (k : ℕ) (x : A) → At xs k x → At (xs ++ ys) k x

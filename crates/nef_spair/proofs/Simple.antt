@@ -1,13 +1,5 @@
 -- Stars made simple one after another.
-use Rattle.std.proofs.Common.{◌≡◌, ℕ, zero, suc, ◌+◌, ◌<◌, ◌≤◌, List, [], ◌∷◌, length, get_or, slice_set, get_or-set_other, get_or-set_same, length-set, ◌≢◌, arith, sym, subst, ◌∙◌, inl, inr, ◌⊎◌}
-use Rattle.std.specs.List.{All}
-use Rattle.std.proofs.Math.Nat.{eq-or-lt_of_le}
-use Rattle.law_sphere.specs.Maps.{At}
-use Rattle.law_sphere.proofs.Lists.{at-one}
-use Rattle.nef_star.specs.declared.star.Star.{Star}
-use Rattle.nef_star.specs.Stars.{IsStar}
-use Rattle.nef_smap.proofs.Lists.{at-within, at-get, get-at}
-use Rattle.nef_spair.specs.Pieces.{IsSimple, AreSimple}
+use Rattle.nef_spair.proofs.Prelude.{◌≡◌, ℕ, zero, suc, ◌+◌, ◌<◌, ◌≤◌, List, [], ◌∷◌, length, get_or, slice_set, get_or-set_other, get_or-set_same, length-set, ◌≢◌, arith, sym, subst, ◌∙◌, inl, inr, ◌⊎◌, All, eq-or-lt_of_le, At, at-one, Star, IsStar, at-within, at-get, get-at, IsSimple, AreSimple}
 use Rattle.nef_spair.proofs.Places.{all-at}
 
 -- the first n are simple, and the others are as they were

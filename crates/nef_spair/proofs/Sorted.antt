@@ -1,9 +1,5 @@
 -- Arcs that have been put in order are the same arcs.
-use Rattle.std.proofs.Common.{ℕ, List}
-use Rattle.std.specs.List.Sorted.{IsPermutation}
-use Rattle.nef_star.specs.declared.star.Star.{Star}
-use Rattle.nef_smap.specs.declared.map.SArc.{SArc}
-use Rattle.nef_spair.specs.Arcs.{AreArcs}
+use Rattle.nef_spair.proofs.Prelude.{ℕ, List, IsPermutation, Star, SArc, AreArcs}
 use Rattle.nef_spair.proofs.Apart.{was-listed, still-listed}
 use Rattle.nef_spair.proofs.ArcOrder.{still-apart}
 

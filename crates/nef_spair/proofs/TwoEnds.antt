@@ -1,17 +1,6 @@
 -- Of two stars of opposite axes each is the first after the other.
-use Rattle.std.proofs.Common.{◌≡◌, ℕ, zero, suc, ◌-◌, pos, List, [], ◌∷◌, length, map, get_or, arith, refl, sym, subst, ◌∙◌}
-use Rattle.nef_space.specs.Vectors.{Vector, opposite, dot, SameDirection}
-use Rattle.nef_geo.specs.Shapes.{vector_of}
-use Rattle.law_cyclic.specs.Arcs.{IsStrictlyOn}
-use Rattle.law_cyclic.proofs.Planar.{dot_comm}
-use Rattle.law_cyclic.proofs.Directions.{level-of_opposite, level-opposite-back}
-use Rattle.law_sphere.specs.Maps.{At}
+use Rattle.nef_spair.proofs.Prelude.{◌≡◌, ℕ, zero, suc, ◌-◌, pos, List, [], ◌∷◌, length, map, get_or, arith, refl, sym, subst, ◌∙◌, Vector, opposite, dot, SameDirection, vector_of, IsStrictlyOn, At, IsFirstAfter, Star, star_of, AreTwoEnds, dot-comm, level-opposite-back, level-of_opposite, dir-self}
 use Rattle.law_sphere.specs.Stars.{Star as PlainStar}
-use Rattle.law_build.specs.From.{IsFirstAfter}
-use Rattle.nef_star.specs.declared.star.Star.{Star}
-use Rattle.nef_star.specs.Stars.{star_of}
-use Rattle.nef_spair.specs.Arcs.{AreTwoEnds}
-use Rattle.nef_geo.proofs.Directions.{SameDirection-itself as self-same}
 
 -- two elements of a list of two
 pub two-of : (kept : List Star) (a b : Star) → length kept ≡ 2 → a ≡ get_or kept 0 a → b ≡ get_or kept 1 b → kept ≡ a ∷ b ∷ []
@@ -23,10 +12,10 @@ two-of (x ∷ y ∷ z ∷ r) a b n d e = absurd (omega (arith, n))
 -- neither end of a way is strictly on it
 module _ (n : Vector) (s t : Star) (u : PlainStar) (o : IsStrictlyOn n (vector_of s.axis) (vector_of t.axis) u.axis) where
   source-off : star_of s ≡ u → ⊥
-  source-off e = o.not_source (subst (λ (x : PlainStar). SameDirection (vector_of s.axis) x.axis) e (self-same (vector_of s.axis) s.axis.some))
+  source-off e = o.not_source (subst (λ (x : PlainStar). SameDirection (vector_of s.axis) x.axis) e (dir-self (vector_of s.axis) s.axis.some))
 
   target-off : star_of t ≡ u → ⊥
-  target-off e = o.not_target (subst (λ (x : PlainStar). SameDirection (vector_of t.axis) x.axis) e (self-same (vector_of t.axis) t.axis.some))
+  target-off e = o.not_target (subst (λ (x : PlainStar). SameDirection (vector_of t.axis) x.axis) e (dir-self (vector_of t.axis) t.axis.some))
 
 module _ (n : Vector) (a b : Star) (opp : vector_of b.axis ≡ opposite (vector_of a.axis)) where
   second-level : dot n (vector_of a.axis) ≡ pos 0 → dot n (vector_of b.axis) ≡ pos 0
@@ -35,7 +24,7 @@ module _ (n : Vector) (a b : Star) (opp : vector_of b.axis ≡ opposite (vector_
   first-level : dot n (vector_of b.axis) ≡ pos 0 → dot n (vector_of a.axis) ≡ pos 0
   first-level h =
       let e : dot n (opposite (vector_of a.axis)) ≡ pos 0 = subst (λ (v : Vector). dot n v ≡ pos 0) opp h in
-      dot_comm n (vector_of a.axis) ∙ level-opposite-back (vector_of a.axis) n (dot_comm (opposite (vector_of a.axis)) n ∙ e)
+      dot-comm n (vector_of a.axis) ∙ level-opposite-back (vector_of a.axis) n (dot-comm (opposite (vector_of a.axis)) n ∙ e)
 
   after-first : dot n (vector_of a.axis) ≡ pos 0 → IsFirstAfter (star_of a ∷ star_of b ∷ []) n (star_of a) 1
   after-first h = record { first = star_of b; listed = refl; level = second-level h; none_before = off }

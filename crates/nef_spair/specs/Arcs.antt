@@ -1,29 +1,25 @@
--- The arcs of stars, star by star and ray by ray, and their order.
-use Rattle.std.specs.Prelude.{◌≡◌, ℕ, ◌<◌, List, [], ◌∷◌, map, true, ◌⊎◌}
-use Rattle.nef_space.specs.Limits.{normal_limit}
-use Rattle.nef_space.specs.Vectors.{opposite, IsAtMost}
-use Rattle.nef_geo.specs.Shapes.{vector_of}
-use Rattle.law_sphere.specs.Maps.{At}
+-- The arcs that leave stars, star by star and ray by ray, and the order of arcs.
+use Rattle.std.specs.Prelude.{◌≡◌, ◌<◌, ◌∷◌, ◌⊎◌}
+use Rattle.nef_space.specs.Prelude.{ℕ, List, [], map, true, opposite, IsAtMost}
+use Rattle.nef_smap.specs.Prelude.{normal_limit, vector_of, At, star_of, arc_of}
 use Rattle.law_sphere.specs.Least.{ArcBelow}
 use Rattle.law_build.specs.From.{IsArcFrom}
 use Rattle.nef_star.specs.declared.star.Ray.{Ray}
 use Rattle.nef_star.specs.declared.star.Star.{Star}
-use Rattle.nef_star.specs.Stars.{star_of}
 use Rattle.nef_smap.specs.declared.map.SArc.{SArc}
-use Rattle.nef_smap.specs.Maps.{arc_of}
 
--- two stars, of opposite axes
+-- there are just two stars, with opposite axes
 pub record AreTwoEnds (kept : List Star) : Type 0 where
   pub first : Star
   pub second : Star
   pub two : kept ≡ first ∷ second ∷ []
   pub opposite : vector_of second.axis ≡ opposite (vector_of first.axis)
 
--- a ray of star j is one of the first stars', of star i one of the first n
+-- ray m of star j is one of a star before number i, or one of the first n rays of star i
 abbrev pub IsEarlier : ℕ → ℕ → ℕ → ℕ → Type 0
 IsEarlier i n j m = (j < i) ⊎ ((j ≡ i) × (m < n))
 
--- ray m of star j goes ahead, and the arc leaves along it
+-- the arc a leaves its star along ray m, which goes ahead
 pub record IsAlong (kept : List Star) (a : SArc) (m : ℕ) : Type 0 where
   pub star : Star
   pub ray : Ray
@@ -32,18 +28,18 @@ pub record IsAlong (kept : List Star) (a : SArc) (m : ℕ) : Type 0 where
   pub ahead : ray.ahead ≡ true
   pub normal : a.normal ≡ ray.normal
 
--- arcs with one normal and one source
+-- the arcs have one normal and one source
 abbrev pub IsTwin : SArc → SArc → Type 0
 IsTwin a b = (a.normal ≡ b.normal) × (a.source ≡ b.source)
 
--- elements that are the same in this respect stand at one place
+-- no two places of the list have elements that are the same by Same
 abbrev pub StandApart : {A : Type 0} → (A → A → Type 0) → List A → Type 0
 StandApart {A} Same xs = (i j : ℕ) (x y : A) → At xs i x → At xs j y → Same x y → i ≡ j
 
 abbrev pub AreApart : List SArc → Type 0
 AreApart arcs = StandApart IsTwin arcs
 
--- the arcs of the stars before number i, and of the first n rays of star i
+-- `arcs` has the arcs of the stars before number i, and of the first n rays of star i
 pub record AreArcs (kept : List Star) (i n : ℕ) (arcs : List SArc) : Type 0 where
   pub from : (k : ℕ) (a : SArc) → At arcs k a → IsArcFrom (map star_of kept) (arc_of a)
   pub small : (k : ℕ) (a : SArc) → At arcs k a → IsAtMost normal_limit (vector_of a.normal)

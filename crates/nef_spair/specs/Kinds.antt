@@ -1,16 +1,13 @@
--- The kind of a least map, and what each kind says of the set's flat directions.
-use Rattle.std.specs.Prelude.{◌≡◌, ◌↔◌, pos}
-use Rattle.nef_space.specs.Local.{Flat, FlatDim}
-use Rattle.nef_space.specs.Place.{Place}
-use Rattle.nef_space.specs.Sets.{Set}
-use Rattle.nef_space.specs.Vectors.{Vector, IsParallel, dot}
+-- The kind of a point by its least map, and what each kind says of the set's flat directions.
+use Rattle.std.specs.Prelude.{◌≡◌, ◌↔◌}
+use Rattle.nef_space.specs.Prelude.{pos, Flat, FlatDim, Place, Set, Vector, IsParallel, dot}
 use Rattle.nef_geo.specs.Shapes.{vector_of}
 use Rattle.law_sphere.specs.Maps.{Map}
 use Rattle.law_sphere.specs.Kinds.{IsInVolume, IsInFacet, IsOnEdge}
 use Rattle.nef_spair.specs.declared.answer.Kind.{Kind}
 use Rattle.nef_spair.specs.declared.answer.Kind.TheVariants.{Vertex, OnEdge, InFacet, InVolume}
 
--- the map is of no other kind
+-- the map belongs to a point in no volume, in no facet and on no edge
 pub record IsVertex (M : Map) : Type 0 where
   pub no_volume : IsInVolume M → ⊥
   pub no_facet : (n : Vector) → IsInFacet M n → ⊥
@@ -22,7 +19,7 @@ IsKind M (OnEdge d) = IsOnEdge M (vector_of d)
 IsKind M (InFacet n) = IsInFacet M (vector_of n)
 IsKind M InVolume = IsInVolume M
 
--- the number of independent flat directions, and which they are
+-- the number of independent flat directions at p, and which directions are flat
 abbrev pub KindFits : Kind → Set → Place → Type 0
 KindFits Vertex s p = FlatDim s p 0
 KindFits (OnEdge d) s p = FlatDim s p 1 × ((e : Vector) → Flat s p e ↔ IsParallel (vector_of d) e)

@@ -1,3 +1,4 @@
+pub mod Prelude
 pub mod Kinds
 pub mod Pieces
 pub mod Arcs

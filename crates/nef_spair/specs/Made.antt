@@ -1,4 +1,4 @@
--- The map that is made of its pieces.
+-- The map that is made of stars and circles.
 use Rattle.std.specs.Prelude.{◌≡◌, [], map, length, Some, None, MatchOption}
 use Rattle.nef_space.specs.declared.label.Label.{Label}
 use Rattle.law_sphere.specs.Least.{InOrder}
@@ -11,7 +11,7 @@ use Rattle.nef_smap.specs.Maps.{svertex_of}
 use Rattle.nef_spair.specs.Arcs.{AreArcs, IsArcBelow}
 use Rattle.nef_spair.specs.Pieces.{Pieces, IsChosen, AreSimple, ArePiecesOf}
 
--- the svertices of the kept stars, their arcs, the sloop that is chosen, and the one face where there is neither
+-- the map has the svertices of the kept stars, their arcs, the chosen sloop, and the ground where there is neither
 pub record IsMadeOf (r : RawStars) (p : Pieces) (m : SphereMap) : Type 0 where
   pub mark : m.mark ≡ r.mark
   pub svertices : map svertex_of m.svertices ≡ map svertex_at (map star_of p.kept)
@@ -21,13 +21,13 @@ pub record IsMadeOf (r : RawStars) (p : Pieces) (m : SphereMap) : Type 0 where
   pub ground : m.svertices ≡ [] → m.sloop ≡ None → m.ground ≡ p.ground
   pub ground_not : (l : Label) → m.ground ≡ Some l → (m.svertices ≡ []) × (m.sloop ≡ None)
 
--- the map is made of the pieces of the stars, which are simplified
+-- the map is made of the pieces of simplified stars
 pub record IsMadeOfSimple (r : RawStars) (m : SphereMap) : Type 0 where
   pub pieces : Pieces
   pub are_pieces : ArePiecesOf r pieces
   pub made : IsMadeOf r pieces m
 
--- the map is made of the simplified stars
+-- the map is made of the simplified stars of r
 pub record IsMadeFrom (r : RawStars) (m : SphereMap) : Type 0 where
   pub simple : RawStars
   pub mark : simple.mark ≡ r.mark

@@ -1,10 +1,6 @@
--- The stars that become svertices, the circles of straight stars, and what a map is made of.
-use Rattle.std.specs.Prelude.{◌≡◌, ℕ, List, [], ◌∷◌, map, length, Option, Some, None, ◌⊎◌, MatchOption}
-use Rattle.std.specs.List.{All}
-use Rattle.nef_space.specs.Limits.{normal_limit}
-use Rattle.nef_space.specs.Vectors.{IsAtMost}
-use Rattle.nef_space.specs.declared.label.Label.{Label}
-use Rattle.nef_geo.specs.Shapes.{vector_of}
+-- The stars that become svertices, the circles of straight stars, and all pieces of which a map is made.
+use Rattle.std.specs.Prelude.{◌≡◌, ◌∷◌, ◌⊎◌}
+use Rattle.nef_geo.specs.Prelude.{ℕ, List, [], map, length, Option, Some, None, MatchOption, All, normal_limit, IsAtMost, Label, vector_of}
 use Rattle.law_sphere.specs.Maps.{At, MapSloop}
 use Rattle.law_sphere.specs.Stars.{Star as PlainStar, IsPlain, IsStraight, IsSimplified}
 use Rattle.law_sphere.specs.Builds.{Proper}
@@ -26,39 +22,39 @@ pub record AreSimple (ts us : List Star) : Type 0 where
   pub as_many : length us ≡ length ts
   pub each : (k : ℕ) (t s : Star) → At ts k t → At us k s → IsSimple t s
 
--- the star becomes no svertex
+-- the star is plain or straight, so it becomes no svertex
 abbrev pub IsDropped : Star → Type 0
 IsDropped t = IsPlain (star_of t) ⊎ IsStraight (star_of t)
 
 abbrev pub AreAllKept : List Star → Type 0
 AreAllKept ts = (k : ℕ) (t : Star) → At ts k t → IsDropped t → ⊥
 
--- ys has those of xs that P doesn't hold of, in their order
+-- ys has, in order, the elements of xs of which P doesn't hold
 abbrev pub AreOthers : {A : Type 0} → (A → Type 0) → List A → List A → Type 0
 AreOthers P [] ys = ys ≡ []
 AreOthers {A} P (x ∷ xs) ys = ((P x → ⊥) × (zs : List A) × (ys ≡ x ∷ zs) × AreOthers P xs zs) ⊎ (P x × AreOthers P xs ys)
 
--- the circle of a straight star
+-- l is the circle of the straight star t
 abbrev pub IsCircleOf : PlainStar → MapSloop → Type 0
 IsCircleOf t l = (s : IsStraight t) × (l ≡ sloop_at t s)
 
--- the circles of the straight stars
+-- cs has the circles of the straight stars
 pub record AreCircles (ts : List Star) (cs : List SLoop) : Type 0 where
   pub from : (k : ℕ) (c : SLoop) → At cs k c → (j : ℕ) × (t : Star) × At ts j t × IsCircleOf (star_of t) (sloop_of c)
   pub all : (j : ℕ) (t : Star) → At ts j t → IsStraight (star_of t) → (k : ℕ) × (c : SLoop) × At cs k c × IsCircleOf (star_of t) (sloop_of c)
   pub small : All (λ c. IsAtMost normal_limit (vector_of c.normal)) cs
 
--- one of the labels of a raw map, where it has one
+-- o is a label of the raw stars, or none where the raw stars have no labels
 abbrev pub IsGroundOf : RawStars → Option Label → Type 0
 IsGroundOf r o = MatchOption o ((r.ground ≡ None) × (r.stars ≡ []) × (r.sloop ≡ None)) (IsRawLabel (raw_of r))
 
--- the stars that become svertices, the circles of the straight ones, and the label of the one face of a map that has neither svertex nor sloop
+-- the stars that become svertices, the circles of the straight stars, and the label for a ground
 pub record Pieces : Type 0 where
   pub kept : List Star
   pub circles : List SLoop
   pub ground : Option Label
 
--- what the map of simplified stars is made of
+-- p has the pieces of which the map of simplified stars r is made
 pub record ArePiecesOf (r : RawStars) (p : Pieces) : Type 0 where
   pub kept : AreOthers IsDropped r.stars p.kept
   pub circles : AreCircles r.stars p.circles
@@ -68,10 +64,10 @@ pub record ArePiecesOf (r : RawStars) (p : Pieces) : Type 0 where
 abbrev pub IsBareCircle : List Star → SLoop → Type 0
 IsBareCircle kept c = IsBare (map star_of kept) (vector_of c.normal)
 
--- a circle with one label differing from another
+-- the circle's mark differs from the label on one of its sides
 abbrev pub IsProperCircle : SLoop → Type 0
 IsProperCircle c = Proper c.pos c.mark c.neg
 
--- a given circle that is proper, or one of the circles that is bare
+-- c is the given circle, which is proper, or one of the circles that are bare
 abbrev pub IsChosen : List Star → List SLoop → Option SLoop → SLoop → Type 0
 IsChosen kept cs given c = ((given ≡ Some c) × IsProperCircle c) ⊎ ((k : ℕ) × At cs k c × IsBareCircle kept c)

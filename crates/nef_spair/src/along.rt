@@ -1,12 +1,7 @@
-//! The arcs that leave stars.
+//! The arcs that leave stars, by their rays.
 
 ghost use Rattle.std.specs.Prelude.{◌≡◌, ◌<◌, ◌+◌};
-ghost use Rattle.nef_geo.specs.Prelude.{length, map, pos, true, IsTrue, IfOk, OnOk, All, dot, vector_of};
-ghost use Rattle.law_sphere.specs.Maps.{At};
-ghost use Rattle.law_build.specs.From.{IsFirstAfter, IsArcFrom};
-ghost use Rattle.nef_star.specs.Stars.{star_of, IsStar};
-ghost use Rattle.nef_smap.specs.Maps.{arc_of};
-ghost use Rattle.nef_spair.specs.Arcs.{AreTwoEnds, IsAlong, AreArcs};
+ghost use Rattle.nef_spair.specs.Prelude.{length, map, pos, true, IsTrue, IfOk, OnOk, All, dot, vector_of, At, IsFirstAfter, IsArcFrom, star_of, IsStar, arc_of, AreTwoEnds, IsAlong, AreArcs};
 
 use crate::OutOfMemory;
 use nef_arc::{Arc, strictly_on};
@@ -15,8 +10,8 @@ use nef_smap::SArc;
 use nef_star::{Ray, Star, before_of};
 use std::alloc::Global;
 
-// The number of the first star whose axis comes after that of number `from`, counterclockwise about the normal; its own
-// axis comes last.
+// The number of the first star whose axis comes after the axis of star `from`, counterclockwise about the normal; the
+// axis of star `from` itself comes last.
 fn first_after(kept: &[Star], from: usize, normal: &Dir) -> usize
     requires within { from < length kept.now }
     requires level { (t : Star) → At kept.now from t → dot (vector_of normal.now) (vector_of t.axis) ≡ pos 0 }
@@ -33,14 +28,14 @@ fn first_after(kept: &[Star], from: usize, normal: &Dir) -> usize
     first
 }
 
-// Whether there are just two stars, of opposite axes.
+// Whether there are just two stars, with opposite axes.
 fn are_two_ends(kept: &[Star]) -> bool
     ensures ends { IsTrue result → AreTwoEnds kept.now }
 {
     kept.len() == 2 && kept[0].axis.back().is_same(&kept[1].axis)
 }
 
-// The number of the star that an arc with this normal leads to from star number `from`.
+// The number of the star to which an arc with this normal leads from star `from`.
 fn target_of(kept: &[Star], from: usize, normal: &Dir) -> usize
     requires within { from < length kept.now }
     requires level { (t : Star) → At kept.now from t → dot (vector_of normal.now) (vector_of t.axis) ≡ pos 0 }
@@ -53,7 +48,7 @@ fn target_of(kept: &[Star], from: usize, normal: &Dir) -> usize
     first_after(kept, from, normal)
 }
 
-// The arc along ray number `number` of star number `from`, which goes ahead.
+// The arc along ray `number` of star `from`, which goes ahead.
 fn arc_along(kept: &[Star], from: usize, number: usize, ray: &Ray) -> SArc
     requires stars { All IsStar kept.now }
     requires within { from < length kept.now }
@@ -75,7 +70,7 @@ fn arc_along(kept: &[Star], from: usize, number: usize, ray: &Ray) -> SArc
     }
 }
 
-// Adds the arcs of star number `from`.
+// Adds the arcs that leave star `from`.
 fn push_arcs(arcs: &mut Vec<SArc>, kept: &[Star], from: usize) -> Result<(), OutOfMemory>
     requires stars { All IsStar kept.now }
     requires within { from < length kept.now }

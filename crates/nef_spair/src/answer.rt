@@ -1,9 +1,7 @@
-//! Where a point lies in a set.
-
 use nef_geo::Dir;
 
 /// Where a point lies in a set. An edge is named by the greater of its two directions, a facet by its normal.
-#[derive(Debug, Clone, Copy, PartialEq, Eq)]
+#[derive(Clone, Copy)]
 pub enum Kind {
     Vertex,
     OnEdge(Dir),

@@ -1,15 +1,7 @@
-//! Least maps: that of stars, and the kind of each.
+//! The least map that stars make, and the kind of a least map.
 
 ghost use Rattle.std.specs.Prelude.{◌≡◌, ◌↔◌};
-ghost use Rattle.nef_geo.specs.Prelude.{MatchOption, IsTrue, List, IfOk, Place, Set, Vector, IsDirection, vector_of};
-ghost use Rattle.law_sphere.specs.Least.{Cone, Least, SameLabels, Ordered};
-ghost use Rattle.law_sphere.specs.Kinds.{IsInVolume, IsInFacet, IsOnEdge};
-ghost use Rattle.nef_smap.specs.Maps.{map_of, IsLeastMap, raw_of, IsRawStars};
-ghost use Rattle.nef_spair.specs.Kinds.{IsKind, KindFits};
-ghost use Rattle.law_sphere.specs.Maps.{Map, MapLabel, Valid};
-ghost use Rattle.law_sphere.specs.Labelling.{ByOp};
-ghost use Rattle.law_sphere.specs.Raw.{IsLabelling, IsRawOf};
-ghost use Rattle.law_build.specs.Overlays.{Raw};
+ghost use Rattle.nef_spair.specs.Prelude.{MatchOption, IsTrue, List, IfOk, Place, Set, Vector, IsDirection, vector_of, Cone, Least, SameLabels, Ordered, IsInVolume, IsInFacet, IsOnEdge, map_of, IsLeastMap, raw_of, IsRawStars, IsKind, KindFits, Map, MapLabel, Valid, ByOp, IsLabelling, IsRawOf, Raw};
 
 use crate::OutOfMemory;
 use crate::answer::Kind;
@@ -18,9 +10,9 @@ use nef_geo::{Dir, Label};
 use nef_smap::{RawStars, SphereMap};
 use std::alloc::Global;
 
-/// The least map with the mark and the labels that the raw stars show. Stars with one label all around, or with one
-/// great circle through the axis and one label on each side of it, become no svertex. `OutOfMemory` comes where no
-/// memory is left.
+/// The least map with the mark and the labels that the raw stars show. A star with one label all around, or with one
+/// great circle through its axis and a label on each side, gives no svertex. `OutOfMemory` comes where no memory is
+/// left.
 pub fn build(alloc: Global, raw: RawStars) -> Result<SphereMap, OutOfMemory>
     requires raw { IsRawStars raw }
     requires labels { (gs : List Vector) × (L : Vector → Label) × IsLabelling gs L × IsRawOf (raw_of raw) L }
@@ -45,7 +37,7 @@ fn is_in_volume(map: &SphereMap) -> bool
     map.svertices.is_empty() && map.sloop.is_none() && map.ground == Some(map.mark)
 }
 
-// The normal of the facet that the point lies in.
+// The normal of the facet, where the map belongs to a point in a facet.
 fn facet_normal(map: &SphereMap) -> Option<Dir>
     ensures facet { MatchOption result ((n : Vector) → IsInFacet (map_of map.now) n → ⊥) (λ n. IsInFacet (map_of map.now) (vector_of n)) }
 {
@@ -57,7 +49,7 @@ fn facet_normal(map: &SphereMap) -> Option<Dir>
     }
 }
 
-// The greater direction of the edge that the point lies on.
+// The greater direction of the edge, where the map belongs to a point on an edge.
 fn edge_direction(map: &SphereMap) -> Option<Dir>
     ensures edge { MatchOption result ((d : Vector) → IsOnEdge (map_of map.now) d → ⊥) (λ d. IsOnEdge (map_of map.now) (vector_of d)) }
 {
@@ -72,9 +64,9 @@ fn edge_direction(map: &SphereMap) -> Option<Dir>
     }
 }
 
-/// The kind of a least map. A point in a volume has the label of all directions, a point in a facet that of the
-/// sloop, and a point on an edge that of the edge's two svertices, which are all that the map has. Otherwise the point
-/// is a vertex. It takes no memory.
+/// The kind of the point that has this least map. A point in a volume has the label of all directions, a point in a
+/// facet has the sloop's mark, and a point on an edge the mark of two opposite svertices, the only svertices. Any other
+/// point is a vertex. No memory is taken.
 pub fn kind(map: &SphereMap) -> Kind
     requires least { IsLeastMap map.now }
     ensures exactly { (k : Kind) → IsKind (map_of map.now) k ↔ (result ≡ k) }

@@ -1,17 +1,7 @@
-//! The map that is made of simplified stars, parted into those that are kept and the circles of straight ones.
+//! A map made of simplified stars: some stars are kept as svertices, and the straight stars give circles.
 
 ghost use Rattle.std.specs.Prelude.{◌≡◌, ◌↔◌};
-ghost use Rattle.nef_geo.specs.Prelude.{ℕ, [], map, IsTrue, IfOk, MatchOption, All, IsPermutation, MatchOrdering, vector_of, normal_limit, IsAtMost};
-ghost use Rattle.law_sphere.specs.Least.{InOrder};
-ghost use Rattle.law_sphere.specs.Maps.{At};
-ghost use Rattle.law_sphere.specs.Raw.{IsBare};
-ghost use Rattle.law_build.specs.From.{around_of, svertex_at};
-ghost use Rattle.nef_star.specs.Stars.{star_of, IsStar};
-ghost use Rattle.nef_smap.specs.Maps.{svertex_of, sloop_of};
-ghost use Rattle.nef_spair.specs.Arcs.{IsArcBelow, IsTwin, AreApart};
-ghost use Rattle.nef_spair.specs.Made.{IsMadeOfSimple};
-ghost use Rattle.nef_spair.specs.Pieces.{IsBareCircle, IsProperCircle, IsChosen, IsDropped, AreAllKept, AreOthers, IsCircleOf, AreCircles, AreSimple, IsGroundOf};
-ghost use Rattle.law_sphere.specs.Stars.{IsStraight};
+ghost use Rattle.nef_spair.specs.Prelude.{ℕ, [], map, IsTrue, IfOk, MatchOption, All, IsPermutation, MatchOrdering, vector_of, normal_limit, IsAtMost, InOrder, At, IsBare, around_of, svertex_at, star_of, IsStar, svertex_of, sloop_of, IsArcBelow, IsTwin, AreApart, IsMadeOfSimple, IsBareCircle, IsProperCircle, IsChosen, IsDropped, AreAllKept, AreOthers, IsCircleOf, AreCircles, AreSimple, IsGroundOf, IsStraight};
 
 use crate::OutOfMemory;
 use crate::along::arcs_of;
@@ -21,7 +11,7 @@ use nef_star::{Star, is_plain, is_straight, simplify};
 use std::alloc::Global;
 use std::cmp::Ordering;
 
-// The stars without needless rays.
+// The stars, each without needless rays.
 pub(crate) fn simplified(stars: List<Star>) -> List<Star>
     requires stars { All IsStar stars }
     ensures simple { AreSimple stars result }
@@ -33,7 +23,7 @@ pub(crate) fn simplified(stars: List<Star>) -> List<Star>
     List::from_vec(stars)
 }
 
-// The circle of a straight star: the ray that goes ahead stands first, with the sector after it on its left.
+// The circle of a straight star. The ray that goes ahead stands first, with the sector to its left after it.
 fn circle_of(star: &Star) -> SLoop
     requires star { IsStar star.now }
     requires straight { IsStraight (star_of star.now) }
@@ -49,7 +39,7 @@ fn circle_of(star: &Star) -> SLoop
     }
 }
 
-// One of the labels of a raw map.
+// One of the labels of raw stars.
 fn some_label(raw: &RawStars) -> Option<Label>
     ensures ground { IsGroundOf raw.now result }
 {
@@ -75,7 +65,7 @@ fn are_all_kept(stars: &[Star]) -> bool
     true
 }
 
-// The stars that are needed, and the circles of the straight ones.
+// The stars that are neither plain nor straight, and the circles of the straight stars.
 fn parted(alloc: Global, stars: List<Star>) -> Result<(Vec<Star>, Vec<SLoop>), OutOfMemory>
     requires stars { All IsStar stars }
     ensures kept { IfOk result (λ p. AreOthers IsDropped stars p.0.items) }
@@ -131,7 +121,7 @@ fn svertices_of(alloc: Global, kept: &[Star]) -> Result<Vec<SVertex>, OutOfMemor
     Ok(svertices)
 }
 
-// Compares the normals, and then the sources.
+// Compares arcs by their normals, and then by their sources.
 fn arc_cmp(a: &SArc, b: &SArc) -> Ordering
     ensures order { MatchOrdering result (IsArcBelow a.now b.now) (IsTwin a.now b.now) (IsArcBelow b.now a.now) }
 {
@@ -142,8 +132,7 @@ fn arc_cmp(a: &SArc, b: &SArc) -> Ordering
     }
 }
 
-/// Puts arcs in the order of their normals, and of their sources where they have one normal. No two of them have both in
-/// common.
+/// Sorts arcs by their normals, and then by their sources. No two of the arcs have both in common.
 pub fn sort_arcs(arcs: &mut Vec<SArc>)
     requires apart { AreApart arcs.old.items }
     ensures permutation { IsPermutation arcs.old.items arcs.new.items }
@@ -152,7 +141,7 @@ pub fn sort_arcs(arcs: &mut Vec<SArc>)
     arcs.sort_unstable_by(arc_cmp);
 }
 
-// Whether no star has its axis on the circle.
+// Whether no star has its axis on the normal's circle.
 fn is_bare(kept: &[Star], normal: &Dir) -> bool
     ensures bare { IsTrue result ↔ IsBare (map star_of kept.now) (vector_of normal.now) }
 {
@@ -164,7 +153,7 @@ fn is_bare(kept: &[Star], normal: &Dir) -> bool
     true
 }
 
-// The first of the circles that no star has its axis on.
+// The first of the circles on which no star has its axis.
 fn bare_circle(circles: &[SLoop], kept: &[Star]) -> Option<SLoop>
     ensures circle { MatchOption result ((k : ℕ) (c : SLoop) → At circles.now k c → IsBareCircle kept.now c → ⊥) (λ c. (k : ℕ) × At circles.now k c × IsBareCircle kept.now c) }
 {
@@ -176,14 +165,14 @@ fn bare_circle(circles: &[SLoop], kept: &[Star]) -> Option<SLoop>
     None
 }
 
-// Whether the circle's label differs from that of one of its sides.
+// Whether the circle's mark differs from the label on one of its sides.
 fn is_proper(circle: &SLoop) -> bool
     ensures proper { IsTrue result ↔ IsProperCircle circle.now }
 {
     circle.pos != circle.mark || circle.neg != circle.mark
 }
 
-// The given circle if it is proper, or the first that no kept star has its axis on.
+// The given circle if it is proper, or else the first circle on which no kept star has its axis.
 fn sloop_of(given: Option<SLoop>, circles: &[SLoop], kept: &[Star]) -> Option<SLoop>
     ensures chosen { MatchOption result ((c : SLoop) → IsChosen kept.now circles.now given c → ⊥) (IsChosen kept.now circles.now given) }
 {
@@ -195,7 +184,7 @@ fn sloop_of(given: Option<SLoop>, circles: &[SLoop], kept: &[Star]) -> Option<SL
     bare_circle(circles, kept)
 }
 
-// The label of the one face, where there is neither svertex nor sloop.
+// The ground of a map, given exactly where the map has no svertices and no sloop.
 fn ground_of(svertices: &[SVertex], sloop: Option<SLoop>, ground: Option<Label>) -> Option<Label>
     ensures alone { svertices.now ≡ [] → sloop ≡ None → result ≡ ground }
     ensures only { (l : Label) → result ≡ Some l → (svertices.now ≡ []) × (sloop ≡ None) }
@@ -207,8 +196,7 @@ fn ground_of(svertices: &[SVertex], sloop: Option<SLoop>, ground: Option<Label>)
     }
 }
 
-// The map of simplified stars: the svertices of those that are kept, the arcs along their rays, the sloop, and the one
-// face where there is neither.
+// The map of simplified stars: the svertices of the kept stars, the arcs along their rays, the sloop, and the ground.
 pub(crate) fn map_of_simple(alloc: Global, raw: RawStars) -> Result<SphereMap, OutOfMemory>
     requires stars { All IsStar raw.stars }
     ensures made { IfOk result (IsMadeOfSimple raw) }

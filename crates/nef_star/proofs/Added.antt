@@ -1,12 +1,5 @@
 -- One more direction after the last of directions that turn.
-use Rattle.std.proofs.Common.{◌≡◌, ℕ, suc, ◌-◌, ◌<◌, ◌≤◌, arith, refl, sym, ap, subst, ◌∙◌, inl, inr, ◌⊎◌}
-use Rattle.std.proofs.Math.Nat.{eq-or-lt_of_le}
-use Rattle.nef_space.specs.Vectors.{Vector, IsDirection, SameDirection}
-use Rattle.nef_space.specs.declared.label.Label.{Label}
-use Rattle.law_cyclic.specs.Arcs.{IsOnCircle, Passes}
-use Rattle.law_cyclic.proofs.StrictlyOn.{same-sym}
-use Rattle.law_cyclic.proofs.Cyclic.{order_is_cyclic, order_is_transitive, ways_split}
-use Rattle.nef_star.specs.Turning.{IsTurning, Gives, on_ray, in_sector, in_only_sector}
+use Rattle.nef_star.proofs.Prelude.{◌≡◌, ℕ, suc, ◌-◌, ◌<◌, ◌≤◌, arith, refl, sym, ap, subst, ◌∙◌, inl, inr, ◌⊎◌, eq-or-lt_of_le, Vector, IsDirection, SameDirection, Label, IsOnCircle, Passes, order_is_cyclic, order_is_transitive, ways_split, IsTurning, Gives, on_ray, in_sector, in_only_sector, SameDirection-turned}
 use Rattle.nef_star.proofs.Turns.{whole_turn, three, four, same_or}
 
 -- the same directions turn alike
@@ -29,8 +22,8 @@ module _ (a : Vector) (axis : IsDirection a) (n : ℕ) (g : ℕ → Vector) (t :
   last_before : (k : ℕ) → 0 < k → (suc k ≡ n) → Passes a (g 0) (g k) (g n)
   last_before k p e =
       let b = between k e in let h : k < n = omega arith in
-      order_is_cyclic a (g n) (g 0) (g k) (three a (g n) (g 0) (g k) axis o (t.circle 0 (omega arith)) (t.circle k h)) (λ s. b.not_source (same-sym (g n) (g k) s))
-      (order_is_cyclic a (g k) (g n) (g 0) (three a (g k) (g n) (g 0) axis (t.circle k h) o (t.circle 0 (omega arith))) (λ s. t.apart k p h (same-sym (g k) (g 0) s)) b)
+      order_is_cyclic a (g n) (g 0) (g k) (three a (g n) (g 0) (g k) axis o (t.circle 0 (omega arith)) (t.circle k h)) (λ s. b.not_source (SameDirection-turned (g n) (g k) s))
+      (order_is_cyclic a (g k) (g n) (g 0) (three a (g k) (g n) (g 0) axis (t.circle k h) o (t.circle 0 (omega arith))) (λ s. t.apart k p h (SameDirection-turned (g k) (g 0) s)) b)
 
   all_before : (i k : ℕ) → 0 < i → i ≤ k → (suc k ≡ n) → Passes a (g 0) (g i) (g n)
   all_before i k p q e = by (eq-or-lt_of_le {n = i} {m = k} q)

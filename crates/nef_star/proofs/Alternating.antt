@@ -1,21 +1,5 @@
 -- Two stars of two rays each that alternate, and the star of all four rays.
-use Rattle.std.proofs.Common.{◌≡◌, ℕ, zero, suc, ◌-◌, ◌<◌, List, [], ◌∷◌, ◌++◌, length, get_or, set, arith, refl, sym, ap, subst, ◌∙◌, inl, inr, ◌⊎◌}
-use Rattle.std.specs.List.{All}
-use Rattle.std.proofs.lemmas.List.Elements.{All-cons, All-nil}
-use Rattle.nef_space.specs.Vectors.{Vector, zero_vector, IsDirection, SameDirection}
-use Rattle.nef_space.specs.declared.label.Label.{Label}
-use Rattle.nef_space.specs.declared.label.Label.TheVariants.{Out}
-use Rattle.nef_geo.specs.Shapes.{vector_of}
-use Rattle.nef_geo.specs.declared.dir.Dir.{Dir}
-use Rattle.law_cyclic.specs.Arcs.{IsOnCircle, Passes}
-use Rattle.law_cyclic.proofs.StrictlyOn.{same-sym}
-use Rattle.law_cyclic.proofs.Cyclic.{one_is_first, order_is_transitive, order_is_cyclic, seen_from_later}
-use Rattle.nef_star.specs.declared.star.Op.{Op}
-use Rattle.nef_star.specs.declared.star.Ray.{Ray}
-use Rattle.nef_star.specs.declared.star.Star.{Star}
-use Rattle.nef_star.specs.Ops.{op_label}
-use Rattle.nef_star.specs.Turning.{IsTurning, IsNext, Gives, on_ray, in_sector, in_only_sector, IsAfter}
-use Rattle.nef_star.specs.Stars.{left_of, left_at, mark_of, mark_at, sector_at, sector_count, IsRay, IsTurned, LeftGives, AreAlternate, IsCombined}
+use Rattle.nef_star.proofs.Prelude.{◌≡◌, ℕ, zero, suc, ◌-◌, ◌<◌, List, [], ◌∷◌, ◌++◌, length, get_or, set, arith, refl, sym, ap, subst, ◌∙◌, inl, inr, ◌⊎◌, All, All-cons, All-nil, Vector, zero_vector, IsDirection, SameDirection, Label, Out, vector_of, Dir, IsOnCircle, Passes, one_is_first, order_is_transitive, order_is_cyclic, seen_from_later, Op, Ray, Star, op_label, IsTurning, IsNext, Gives, on_ray, in_sector, in_only_sector, IsAfter, left_of, left_at, mark_of, mark_at, sector_at, sector_count, IsRay, IsTurned, LeftGives, AreAlternate, IsCombined, SameDirection-turned}
 use Rattle.nef_star.proofs.Turns.{same-self, three, four}
 use Rattle.nef_star.proofs.RayOrder.{one-value}
 use Rattle.nef_star.proofs.Counted.{count-some, turned-by, renamed}
@@ -69,11 +53,11 @@ module _ (a : Vector) (axis : IsDirection a) (f : ℕ → Vector) (t : IsTurning
   on_back = u.circle j (below-two j i (flipped i j o))
 
   ends_apart : SameDirection (f 1) (f 0) → ⊥
-  ends_apart s = t.apart 1 (omega arith) (omega arith) (same-sym (f 1) (f 0) s)
+  ends_apart s = t.apart 1 (omega arith) (omega arith) (SameDirection-turned (f 1) (f 0) s)
 
   back_to : Passes a (f 0) (f 1) (h j)
   back_to =
-      order_is_cyclic a (h j) (f 0) (f 1) (three a (h j) (f 0) (f 1) axis on_back on_first on_second) (λ s. back.not_source (same-sym (h j) (f 1) s))
+      order_is_cyclic a (h j) (f 0) (f 1) (three a (h j) (f 0) (f 1) axis on_back on_first on_second) (λ s. back.not_source (SameDirection-turned (h j) (f 1) s))
       (order_is_cyclic a (f 1) (h j) (f 0) (three a (f 1) (h j) (f 0) axis on_second on_back on_first) ends_apart back)
 
   past_to : Passes a (f 0) (h i) (h j)
@@ -84,7 +68,7 @@ module _ (a : Vector) (axis : IsDirection a) (f : ℕ → Vector) (t : IsTurning
 
   first_between : Passes a (h j) (f 0) (h i)
   first_between =
-      order_is_cyclic a (h i) (h j) (f 0) (three a (h i) (h j) (f 0) axis on_past on_back on_first) (λ s. past.not_source (same-sym (h i) (f 0) s))
+      order_is_cyclic a (h i) (h j) (f 0) (three a (h i) (h j) (f 0) axis on_past on_back on_first) (λ s. past.not_source (SameDirection-turned (h i) (f 0) s))
       (order_is_cyclic a (f 0) (h i) (h j) (three a (f 0) (h i) (h j) axis on_first on_past on_back) back.not_target past_to)
 
   module _ (g : ℕ → Vector) (g0 : g 0 ≡ f 0) (g1 : g 1 ≡ h i) (g2 : g 2 ≡ f 1) (g3 : g 3 ≡ h j) where
@@ -101,7 +85,7 @@ module _ (a : Vector) (axis : IsDirection a) (f : ℕ → Vector) (t : IsTurning
         apart : (k : ℕ) → 0 < k → k < 4 → SameDirection (g 0) (g k) → ⊥
         apart zero p l s = absurd (omega (arith, p))
         apart (suc zero) p l s = past.not_source (rw (← g0, ← g1) s)
-        apart (suc (suc zero)) p l s = ends_apart (same-sym (f 0) (f 1) (rw (← g0, ← g2) s))
+        apart (suc (suc zero)) p l s = ends_apart (SameDirection-turned (f 0) (f 1) (rw (← g0, ← g2) s))
         apart (suc (suc (suc zero))) p l s = back.not_target (rw (← g0, ← g3) s)
         apart (suc (suc (suc (suc k)))) p l s = absurd (omega (arith, l))
 
@@ -290,7 +274,7 @@ module _ (op : Op) (t b s : Star) (T : IsTurned t) (B : IsTurned b) (e : b.axis 
   marked_turned : IsTurned marked
   marked_turned = record { axis_small = T.axis_small; rays = T.rays; counterclockwise = T.counterclockwise; sectors = T.sectors }
 
-  pub crossed-turned : IsTurned s
+  crossed-turned : IsTurned s
   crossed-turned = turned-by marked s marked_turned f refl
       (subst (All (IsRay a)) (sym four_rays)
       (All-cons (IsRay a) r0 (r1 ∷ r2 ∷ r3 ∷ []) (ray_of_first 0 q r0 first_in at_q n0)
@@ -333,5 +317,8 @@ module _ (op : Op) (t b s : Star) (T : IsTurned t) (B : IsTurned b) (e : b.axis 
       (subst (λ (n : ℕ). Gives a n (left_at b.rays.items) (mark_at b.rays.items) (sector_at b.sectors.items) d w) A.other_two
       (subst (λ (z : Dir). Gives (vector_of z) (length b.rays.items) (left_at b.rays.items) (mark_at b.rays.items) (sector_at b.sectors.items) d w) e c')))
 
-  pub crossed-combined : IsCombined op t b s
+  crossed-combined : IsCombined op t b s
   crossed-combined = left-to_star op b t marked s B T e refl (λ d v c. c) m (record { turned = crossed-turned; axis = f; mark = refl; gives = gives })
+
+  pub crossed : IsTurned s × IsCombined op t b s
+  crossed = (crossed-turned, crossed-combined)

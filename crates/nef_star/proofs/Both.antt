@@ -1,18 +1,11 @@
 -- What directions that turn give where others that turn, and have all of them, lie.
-use Rattle.std.proofs.Common.{◌≡◌, ℕ, ◌<◌, arith, sym, ap, subst, ◌∙◌, inl, inr, ◌⊎◌}
-use Rattle.nef_space.specs.Vectors.{Vector, IsDirection, SameDirection}
-use Rattle.nef_space.specs.declared.label.Label.{Label}
-use Rattle.law_cyclic.specs.Arcs.{IsOnCircle, Passes}
-use Rattle.law_cyclic.proofs.StrictlyOn.{same-sym}
-use Rattle.law_cyclic.proofs.Directions.{same-trans}
-use Rattle.law_cyclic.proofs.Cyclic.{one_is_first, order_is_transitive, order_is_cyclic, same_in_place}
-use Rattle.nef_star.specs.Turning.{IsTurning, IsNext, Gives, on_ray, in_sector, in_only_sector, IsUnder, IsAfter}
+use Rattle.nef_star.proofs.Prelude.{◌≡◌, ℕ, ◌<◌, arith, sym, ap, subst, ◌∙◌, inl, inr, ◌⊎◌, Vector, IsDirection, SameDirection, Label, IsOnCircle, Passes, one_is_first, order_is_transitive, order_is_cyclic, same_in_place, IsTurning, IsNext, Gives, on_ray, in_sector, in_only_sector, IsUnder, IsAfter, SameDirection-trans, SameDirection-turned}
 use Rattle.nef_star.proofs.Turns.{three, four, same_or, next_in, none_between, not_both, one_place}
 
 -- what is given is a matter of the direction
 pub gives-same : (a : Vector) → IsDirection a → (n : ℕ) (f : ℕ → Vector) → IsTurning a n f → (M S : ℕ → Label) (d e : Vector) → IsOnCircle a d → IsOnCircle a e → SameDirection d e → (l : Label)
     → Gives a n f M S d l → Gives a n f M S e l
-gives-same a axis n f t M S d e o u q l (on_ray k h s z) = on_ray k h (same-trans (f k) d e s q) z
+gives-same a axis n f t M S d e o u q l (on_ray k h s z) = on_ray k h (SameDirection-trans (f k) d e s q) z
 gives-same a axis n f t M S d e o u q l (in_sector k j h x p z) = in_sector k j h x (same_in_place a (f k) d e (f j) (four a (f k) d e (f j) axis (t.circle k h) o u (t.circle j (next_in n k j h x))) q p) z
 gives-same a axis n f t M S d e o u q l (in_only_sector y z) = in_only_sector y z
 
@@ -34,7 +27,7 @@ module _ (a : Vector) (axis : IsDirection a) (n : ℕ) (f : ℕ → Vector) (t :
     where
       turned : Passes a (g p) d (f i) → (SameDirection (g p) (f i) → ⊥) → Passes a (f i) (g p) d
       turned z apart =
-          order_is_cyclic a d (f i) (g p) (three a d (f i) (g p) axis o (on_f i h) (on_g p k)) (λ w. s.not_source (same-sym d (g p) w))
+          order_is_cyclic a d (f i) (g p) (three a d (f i) (g p) axis o (on_f i h) (on_g p k)) (λ w. s.not_source (SameDirection-turned d (g p) w))
           (order_is_cyclic a (g p) d (f i) (three a (g p) d (f i) axis (on_g p k) o (on_f i h)) apart z)
 
       first : (SameDirection (g p) (f i) → ⊥) → SameDirection (f i) d ⊎ Passes a (g p) (f i) d ⊎ Passes a (g p) d (f i) → Passes a (g p) (f i) (g q)

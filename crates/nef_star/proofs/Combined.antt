@@ -1,16 +1,5 @@
 -- Two stars combined ray by ray.
-use Rattle.std.proofs.Common.{◌≡◌, ℕ, ◌+◌, ◌<◌, ◌≤◌, length, arith, refl, sym, ap, subst, ◌∙◌, inl, inr}
-use Rattle.std.proofs.Math.Nat.{eq-or-lt_of_le}
-use Rattle.nef_space.specs.Vectors.{Vector, IsDirection}
-use Rattle.nef_space.specs.declared.label.Label.{Label}
-use Rattle.nef_geo.specs.Shapes.{vector_of}
-use Rattle.nef_geo.specs.declared.dir.Dir.{Dir}
-use Rattle.law_cyclic.specs.Arcs.{IsOnCircle}
-use Rattle.nef_star.specs.declared.star.Op.{Op}
-use Rattle.nef_star.specs.declared.star.Star.{Star}
-use Rattle.nef_star.specs.Ops.{op_label}
-use Rattle.nef_star.specs.Turning.{IsTurning, Gives, on_ray, in_sector, in_only_sector, IsAfter}
-use Rattle.nef_star.specs.Stars.{left_at, mark_at, sector_at, IsTurned, HasLeft, LeftGives, LeftAfter, IsLeftCombined, IsCombinedAt}
+use Rattle.nef_star.proofs.Prelude.{◌≡◌, ℕ, ◌+◌, ◌<◌, ◌≤◌, length, arith, refl, sym, ap, subst, ◌∙◌, inl, inr, eq-or-lt_of_le, Vector, IsDirection, Label, vector_of, Dir, IsOnCircle, Op, Star, op_label, IsTurning, Gives, on_ray, in_sector, in_only_sector, IsAfter, left_at, mark_at, sector_at, IsTurned, HasLeft, LeftGives, LeftAfter, IsLeftCombined, IsCombinedAt}
 use Rattle.nef_star.proofs.Turns.{one_label}
 use Rattle.nef_star.proofs.Rotated.{rotated-gives}
 use Rattle.nef_star.proofs.Counted.{agreeing}
@@ -48,19 +37,6 @@ pub record IsCombinedTo (op : Op) (b : Star) (k : ℕ) (t s : Star) : Type 0 whe
   pub after : (i : ℕ) → i < k → (l : Label) × LeftAfter b (left_at t.rays.items i) l × (sector_at s.sectors.items i ≡ op_label op (sector_at t.sectors.items i) l)
   pub other_marks : (i : ℕ) → k ≤ i → mark_at s.rays.items i ≡ mark_at t.rays.items i
   pub other_sectors : (i : ℕ) → k ≤ i → sector_at s.sectors.items i ≡ sector_at t.sectors.items i
-
-pub combined-none : (op : Op) (b t : Star) → IsTurned t → IsCombinedTo op b 0 t t
-combined-none op b t T = record {
-  turned = T;
-  axis = refl;
-  mark = refl;
-  count = refl;
-  lefts = λ i. refl;
-  on = λ i h. absurd (omega (arith, h));
-  after = λ i h. absurd (omega (arith, h));
-  other_marks = λ i h. refl;
-  other_sectors = λ i h. refl;
-}
 
 pub combined-more : (op : Op) (b : Star) (k : ℕ) (t s u : Star) → IsCombinedTo op b k t s → IsCombinedAt op b k s u → IsCombinedTo op b (k + 1) t u
 combined-more op b k t s u h new = record {

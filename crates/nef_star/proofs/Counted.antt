@@ -1,19 +1,5 @@
 -- Stars whose rays are counted from another one on, and stars without their last ray.
-use Rattle.std.proofs.Common.{◌≡◌, ℕ, suc, ◌+◌, ◌-◌, ◌<◌, ◌≤◌, List, [], ◌∷◌, ◌++◌, length, map, take, drop, get_or, arith, refl, sym, ap, subst, ◌∙◌, inl, inr, length-append}
-use Rattle.std.specs.List.{All}
-use Rattle.std.proofs.lemmas.List.{drop-map, take-map, map-append, get_or-drop, get_or-take, get_or_append_left, get_or-append_right, length-drop, length-take-le, length-map}
-use Rattle.std.proofs.lemmas.List.Elements.{All-append, All-take, All-drop}
-use Rattle.nef_space.specs.Limits.{svertex_limit}
-use Rattle.nef_space.specs.Vectors.{Vector, cross, zero_vector, IsDirection, IsAtMost}
-use Rattle.nef_space.specs.declared.label.Label.{Label}
-use Rattle.nef_space.specs.declared.label.Label.TheVariants.{Out}
-use Rattle.nef_geo.specs.Shapes.{vector_of}
-use Rattle.nef_geo.specs.declared.dir.Dir.{Dir}
-use Rattle.law_cyclic.specs.Arcs.{IsOnCircle}
-use Rattle.nef_star.specs.declared.star.Ray.{Ray}
-use Rattle.nef_star.specs.declared.star.Star.{Star}
-use Rattle.nef_star.specs.Turning.{IsTurning, IsNext, Gives, in_only_sector}
-use Rattle.nef_star.specs.Stars.{left_of, left_at, mark_of, mark_at, sector_at, sector_count, IsRay, IsTurned, IsKept, IsCountedFrom, IsNeedless, AreNeeded, LeftGives}
+use Rattle.nef_star.proofs.Prelude.{◌≡◌, ℕ, suc, ◌+◌, ◌-◌, ◌<◌, ◌≤◌, List, [], ◌∷◌, ◌++◌, length, map, take, drop, get_or, arith, refl, sym, ap, subst, ◌∙◌, inl, inr, length-append, All, drop-map, take-map, map-append, get_or-drop, get_or-take, get_or_append_left, get_or-append_right, length-drop, length-take-le, length-map, All-append, All-take, All-drop, svertex_limit, Vector, cross, zero_vector, IsDirection, IsAtMost, Label, Out, vector_of, Dir, IsOnCircle, Ray, Star, IsTurning, IsNext, Gives, in_only_sector, left_of, left_at, mark_of, mark_at, sector_at, sector_count, IsRay, IsTurned, IsKept, IsCountedFrom, IsNeedless, AreNeeded, LeftGives}
 use Rattle.nef_star.proofs.Labelled.{left-on, to-left, to-star}
 use Rattle.nef_star.proofs.Rotated.{IsRotated, rotated-gives, rotated-turning}
 use Rattle.nef_star.proofs.Dropped.{fewer-turning, dropped-gives, only-gives, only-label}

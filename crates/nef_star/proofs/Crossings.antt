@@ -1,35 +1,13 @@
 -- The star of a direction in which two lines cross.
-use Rattle.std.proofs.Common.{◌≡◌, ℕ, ℤ, pos, neg_ℤ, ◌<ℤ◌, ◌*ℤ◌, List, [], ◌∷◌, length, Bool, true, false, not, IsTrue, ◌↔◌, arith, refl, sym, ap, subst, ◌∙◌, inl, inr, ◌⊎◌}
-use Rattle.std.specs.List.{All}
-use Rattle.std.proofs.lemmas.Int.{ints}
-use Rattle.std.proofs.lemmas.List.Elements.{All-cons, All-nil}
+use Rattle.nef_star.proofs.Prelude.{◌≡◌, ℕ, ℤ, pos, neg_ℤ, ◌<ℤ◌, ◌*ℤ◌, List, [], ◌∷◌, length, Bool, true, false, not, IsTrue, ◌↔◌, arith, refl, sym, ap, subst, ◌∙◌, inl, inr, ◌⊎◌, All, ints, All-cons, All-nil, by_order, mul_pos, plus-is, minus-is, nought-is, ring, at, num, neg, ◌⊕◌, ◌⊖◌, ◌⊗◌, normal_limit, svertex_limit, Vector, dot, cross, triple, opposite, IsDirection, IsParallel, IsAtMost, IsNormal, SameDirection, Label, vector_of, Dir, IsOnCircle, Passes, turn_from_parallel, parallel_from_turn, by_side, StarLabel, Op, Ray, Star, op_label, IsTurning, Gives, on_ray, in_sector, star_of, left_at, mark_at, sector_at, sector_count, IsRay, IsTurned, IsKept, LeftGives, dot-comm, triple-back, cross-turned, self-pos, triple_poly, numbers, same_or_opposite, square-cross, dir-self}
 use Rattle.nef_space.specs.Signs.{Sign, minus, nought, plus, sign}
-use Rattle.nef_space.proofs.Order.{by_order, mul_pos, plus-is, minus-is, nought-is}
-use Rattle.nef_space.proofs.Ring.{ring, at, num, neg, ◌⊕◌, ◌⊖◌, ◌⊗◌}
-use Rattle.nef_space.specs.Limits.{normal_limit, svertex_limit}
-use Rattle.nef_space.specs.Vectors.{Vector, dot, cross, triple, opposite, IsDirection, IsParallel, IsAtMost, IsNormal, SameDirection}
-use Rattle.nef_space.specs.declared.label.Label.{Label}
-use Rattle.nef_geo.specs.Shapes.{vector_of}
-use Rattle.nef_geo.specs.declared.dir.Dir.{Dir}
-use Rattle.law_cyclic.specs.Arcs.{IsOnCircle, Passes}
-use Rattle.law_cyclic.proofs.Planar.{triple_poly, numbers, dot_comm, triple-back, parallel-sym, self_positive, turn_from_parallel, parallel_from_turn}
-use Rattle.law_cyclic.proofs.Directions.{level_cross_first, same_or_opposite}
-use Rattle.law_sphere.specs.Least.{by_side}
-use Rattle.law_sphere.specs.Stars.{StarLabel}
 use Rattle.nef_star.specs.declared.rounds.Line.{Line}
-use Rattle.nef_star.specs.declared.star.Op.{Op}
-use Rattle.nef_star.specs.declared.star.Ray.{Ray}
-use Rattle.nef_star.specs.declared.star.Star.{Star}
-use Rattle.nef_star.specs.Ops.{op_label}
-use Rattle.nef_star.specs.Turning.{IsTurning, Gives, on_ray, in_sector}
-use Rattle.nef_star.specs.Stars.{star_of, left_at, mark_at, sector_at, sector_count, IsRay, IsTurned, IsKept, LeftGives}
 use Rattle.nef_star.specs.Lines.{IsLine, side_of, past_of, before_of, IsCrossed, IsFourRays}
 use Rattle.nef_star.proofs.Labelled.{to-star, each_has_one_label}
 use Rattle.nef_star.proofs.Counted.{renamed}
 use Rattle.nef_star.proofs.Needed.{true_or_false}
 use Rattle.nef_star.proofs.Straight.{plane-turning}
 use Rattle.nef_star.proofs.Alternating.{four-turning, both-gives}
-use Rattle.nef_geo.proofs.Directions.{SameDirection-itself as self-same}
 use Rattle.law_sphere.proofs.SectorSees.{turn-from_left as turn-to}
 
 -- ---- turns
@@ -42,14 +20,14 @@ neg-first a u v =
     ring (numbers a u v a) (at 0 ⊗ (neg (at 4) ⊗ at 8 ⊖ neg (at 5) ⊗ at 7) ⊕ at 1 ⊗ (neg (at 5) ⊗ at 6 ⊖ neg (at 3) ⊗ at 8) ⊕ at 2 ⊗ (neg (at 3) ⊗ at 7 ⊖ neg (at 4) ⊗ at 6)) (neg (triple_poly 0 3 6)) tt
 
 turn-self : (a u : Vector) → IsDirection u → triple a u u ≡ pos 0
-turn-self a u h = turn_from_parallel a u u ((self-same u h).parallel)
+turn-self a u h = turn_from_parallel a u u ((dir-self u h).parallel)
 
 -- from u to v and on to w, which is opposite to u, it is less than half a turn each
 half : (a u v w : Vector) → IsOnCircle a v → pos 0 <ℤ triple a u v → triple a u w ≡ pos 0 → pos 0 <ℤ triple a v w → Passes a u v w
 half a u v w o p z q = record {
   on_circle = o;
   not_source = λ s. let e = turn_from_parallel a u v s.parallel in omega (arith, ints, e, p);
-  not_target = λ s. let e = turn_from_parallel a v w (parallel-sym w v s.parallel) in omega (arith, ints, e, q);
+  not_target = λ s. let e = turn_from_parallel a v w (cross-turned w v s.parallel) in omega (arith, ints, e, q);
   less_than_half = λ h. absurd (omega (arith, ints, h, z));
   more_than_half = λ h. absurd (omega (arith, ints, h, z));
   just_half = λ h. p;
@@ -90,10 +68,10 @@ module _ (a : Vector) (axis : IsDirection a) (x : Line) (X : IsLine a x) (e : Ve
   d = cross a e
 
   on : IsOnCircle a d
-  on = record { direction = off; level = level_cross_first a e }
+  on = record { direction = off; level = square-cross a e }
 
   square : pos 0 <ℤ dot a a
-  square = self_positive a axis
+  square = self-pos a axis
 
   self : triple a n n ≡ pos 0
   self = turn-self a n x.normal.some
@@ -113,7 +91,7 @@ module _ (a : Vector) (axis : IsDirection a) (x : Line) (X : IsLine a x) (e : Ve
   by nought h =
       let z = nought-is (dot n e) h in let t = turn-to a n e X.level ∙ ap (λ (i : ℤ). dot a a *ℤ i) z in
       let flat : triple a n d ≡ pos 0 = t ∙ ring (dot a a ∷ []) (at 0 ⊗ num (pos 0)) (num (pos 0)) tt in
-      let p = parallel_from_turn a n d square (dot_comm a n ∙ X.level) on.level flat in
+      let p = parallel_from_turn a n d square (dot-comm a n ∙ X.level) on.level flat in
       on_line p h (same_or_opposite n d x.normal.some off p)
   by minus h =
       let m = minus-is (dot n e) h in let back : pos 0 <ℤ neg_ℤ (dot n e) = omega (arith, ints, m) in
@@ -154,7 +132,7 @@ module _ (op : Op) (axis : Dir) (small : IsAtMost svertex_limit (vector_of axis)
   to-side true w apart = w.0 refl
   to-side false w apart =
       by_order (triple a first second) (pos 0) (λ z. z)
-      (λ z. absurd (apart (parallel_from_turn a first second (self_positive a axis.some) (dot_comm a first ∙ X.level) (dot_comm a second ∙ Y.level) z))) (λ z. absurd (true_or_false (sym (w.1 z))))
+      (λ z. absurd (apart (parallel_from_turn a first second (self-pos a axis.some) (dot-comm a first ∙ X.level) (dot-comm a second ∙ Y.level) z))) (λ z. absurd (true_or_false (sym (w.1 z))))
 
   left-past : IsToSide true → Passes a first second (opposite first)
   left-past p =
@@ -219,7 +197,7 @@ module _ (op : Op) (axis : Dir) (small : IsAtMost svertex_limit (vector_of axis)
 
     four-label : (e : Vector) → IsDirection (cross a e) → StarLabel (star_of s) e (op_label op (side_of x e) (side_of y e))
     four-label e off =
-        let o : IsOnCircle a (cross a e) = record { direction = off; level = level_cross_first a e } in
+        let o : IsOnCircle a (cross a e) = record { direction = off; level = square-cross a e } in
         let g = renamed s axis 4 (cross a e) (op_label op (side_of x e) (side_of y e)) F.axis (ap length F.rays)
         (gives b p F (cross a e) (side_of x e) (side_of y e) o (line-gives a axis.some x X e off) (line-gives a axis.some y Y e off)) in
         to-star s four-turned e (subst (λ (d : Dir). IsDirection (cross (vector_of d) e)) (sym F.axis) off) (op_label op (side_of x e) (side_of y e))

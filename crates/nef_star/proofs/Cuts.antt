@@ -1,16 +1,5 @@
 -- A star with one more ray, from one whose rays are counted on.
-use Rattle.std.proofs.Common.{◌≡◌, ℕ, suc, ◌+◌, ◌-◌, ◌<◌, List, [], ◌∷◌, ◌++◌, length, get_or, arith, refl, sym, ap, subst, ◌∙◌, inl, inr, ⊎_elim}
-use Rattle.std.proofs.Math.Nat.{eq-or-lt_of_le}
-use Rattle.nef_space.specs.Vectors.{Vector, zero_vector, SameDirection}
-use Rattle.nef_space.specs.declared.label.Label.{Label}
-use Rattle.nef_space.specs.declared.label.Label.TheVariants.{Out}
-use Rattle.nef_geo.specs.Shapes.{vector_of}
-use Rattle.nef_geo.specs.declared.dir.Dir.{Dir}
-use Rattle.law_cyclic.specs.Arcs.{Passes}
-use Rattle.nef_star.specs.declared.star.Ray.{Ray}
-use Rattle.nef_star.specs.declared.star.Star.{Star}
-use Rattle.nef_star.specs.Turning.{IsNext}
-use Rattle.nef_star.specs.Stars.{left_of, left_at, IsRay, IsTurned, IsKept, IsCountedFrom, HasLeft, LeftPast, LeftUnder, IsCut}
+use Rattle.nef_star.proofs.Prelude.{◌≡◌, ℕ, suc, ◌+◌, ◌-◌, ◌<◌, List, [], ◌∷◌, ◌++◌, length, get_or, arith, refl, sym, ap, subst, ◌∙◌, inl, inr, ⊎_elim, eq-or-lt_of_le, Vector, zero_vector, SameDirection, Label, Out, vector_of, Dir, Passes, Ray, Star, IsNext, left_of, left_at, IsRay, IsTurned, IsKept, IsCountedFrom, HasLeft, LeftPast, LeftUnder, IsCut}
 use Rattle.nef_star.proofs.Labelled.{sectors-none}
 use Rattle.nef_star.proofs.Rotated.{Moved, moved, moved-from, moved-value}
 use Rattle.nef_star.proofs.RayOrder.{one-value}

@@ -1,11 +1,5 @@
 -- The last of directions that turn, left out where its label is that of both sectors beside it.
-use Rattle.std.proofs.Common.{◌≡◌, ℕ, zero, suc, ◌<◌, arith, refl, sym, ap, subst, ◌∙◌, inl, inr, ◌⊎◌}
-use Rattle.std.proofs.Math.Nat.{eq-or-lt_of_le}
-use Rattle.nef_space.specs.Vectors.{Vector, IsDirection, SameDirection}
-use Rattle.nef_space.specs.declared.label.Label.{Label}
-use Rattle.law_cyclic.specs.Arcs.{IsOnCircle, Passes}
-use Rattle.law_cyclic.proofs.Cyclic.{order_is_cyclic, order_is_transitive, same_in_place, ways_glue}
-use Rattle.nef_star.specs.Turning.{IsTurning, Gives, on_ray, in_sector, in_only_sector}
+use Rattle.nef_star.proofs.Prelude.{◌≡◌, ℕ, zero, suc, ◌<◌, arith, refl, sym, ap, subst, ◌∙◌, inl, inr, ◌⊎◌, eq-or-lt_of_le, Vector, IsDirection, SameDirection, Label, IsOnCircle, Passes, order_is_cyclic, order_is_transitive, same_in_place, ways_glue, IsTurning, Gives, on_ray, in_sector, in_only_sector}
 use Rattle.nef_star.proofs.Turns.{whole_turn, three, four}
 
 pub fewer-turning : (a : Vector) (n : ℕ) (f : ℕ → Vector) → IsTurning a (suc n) f → IsTurning a n f

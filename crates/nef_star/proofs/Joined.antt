@@ -1,21 +1,5 @@
 -- What a star gives at one of its rays, one ray's labels changed, and two stars combined.
-use Rattle.std.proofs.Common.{◌≡◌, ℕ, zero, suc, ◌<◌, List, length, map, get_or, set, arith, refl, sym, ap, subst, ◌∙◌, inl, inr, ◌⊎◌, length-set}
-use Rattle.std.specs.List.{All}
-use Rattle.std.proofs.lemmas.List.{map-set, get_or-set_same, get_or-set_other, length-map}
-use Rattle.std.proofs.lemmas.List.Elements.{All-set}
-use Rattle.nef_space.specs.Vectors.{Vector, zero_vector, cross, IsDirection, SameDirection}
-use Rattle.nef_space.specs.declared.label.Label.{Label}
-use Rattle.nef_space.specs.declared.label.Label.TheVariants.{Out}
-use Rattle.nef_geo.specs.Shapes.{vector_of}
-use Rattle.nef_geo.specs.declared.dir.Dir.{Dir}
-use Rattle.law_cyclic.specs.Arcs.{IsOnCircle}
-use Rattle.law_sphere.specs.Stars.{StarLabel}
-use Rattle.nef_star.specs.declared.star.Op.{Op}
-use Rattle.nef_star.specs.declared.star.Ray.{Ray}
-use Rattle.nef_star.specs.declared.star.Star.{Star}
-use Rattle.nef_star.specs.Ops.{op_label}
-use Rattle.nef_star.specs.Turning.{IsTurning, Gives, on_ray, in_sector, in_only_sector}
-use Rattle.nef_star.specs.Stars.{star_of, left_of, left_at, mark_of, mark_at, sector_at, sector_count, IsRay, IsTurned, IsKept, HasLeft, LeftGives, LeftAfter, LeftPast, IsCombined, IsLeftCombined, IsCombinedAt}
+use Rattle.nef_star.proofs.Prelude.{◌≡◌, ℕ, zero, suc, ◌<◌, List, length, map, get_or, set, arith, refl, sym, ap, subst, ◌∙◌, inl, inr, ◌⊎◌, length-set, All, map-set, get_or-set_same, get_or-set_other, length-map, All-set, Vector, zero_vector, cross, IsDirection, SameDirection, Label, Out, vector_of, Dir, IsOnCircle, StarLabel, Op, Ray, Star, op_label, IsTurning, Gives, on_ray, in_sector, in_only_sector, star_of, left_of, left_at, mark_of, mark_at, sector_at, sector_count, IsRay, IsTurned, IsKept, HasLeft, LeftGives, LeftAfter, LeftPast, IsCombined, IsLeftCombined, IsCombinedAt}
 use Rattle.nef_star.proofs.Turns.{first_or_later}
 use Rattle.nef_star.proofs.Labelled.{left-on, to-left, to-star, sectors-fill, sectors-none}
 use Rattle.nef_star.proofs.RayOrder.{one-value}

@@ -1,22 +1,7 @@
 -- What a star gives a direction e is what its left directions give axis x e.
-use Rattle.std.proofs.Common.{◌≡◌, ℕ, zero, suc, ◌<◌, neg_ℤ, ◌*ℤ◌, ◌-ℤ◌, List, [], ◌∷◌, length, map, true, false, cond, arith, refl, sym, ap, subst, ◌∙◌, inl, inr}
-use Rattle.std.proofs.lemmas.List.{length-map}
-use Rattle.nef_space.proofs.Ring.{ring, at, neg, ◌⊖◌, ◌⊗◌}
-use Rattle.nef_space.specs.Vectors.{Vector, cross, opposite, IsDirection}
-use Rattle.std.proofs.Common.{ℤ, Bool}
-use Rattle.nef_space.specs.declared.label.Label.{Label}
-use Rattle.nef_geo.specs.Shapes.{vector_of}
-use Rattle.law_cyclic.specs.Arcs.{IsOnCircle, IsStrictlyOn, Passes}
-use Rattle.law_cyclic.proofs.Directions.{level_cross_first}
-use Rattle.law_sphere.specs.Maps.{At}
-use Rattle.law_cyclic.specs.Arcs.{IsStrictlyOn}
-use Rattle.law_sphere.specs.Stars.{Ray as PlainRay, ray_dir, NextRay, StarLabel, on_ray, in_sector, in_only_sector}
-use Rattle.law_near.proofs.Flats.{vector-same}
-use Rattle.nef_star.specs.declared.star.Ray.{Ray}
-use Rattle.nef_star.specs.declared.star.Star.{Star}
+use Rattle.nef_star.proofs.Prelude.{◌≡◌, ℕ, zero, suc, ◌<◌, neg_ℤ, ◌*ℤ◌, ◌-ℤ◌, List, [], ◌∷◌, length, map, true, false, cond, arith, refl, sym, ap, subst, ◌∙◌, inl, inr, length-map, ring, at, neg, ◌⊖◌, ◌⊗◌, Vector, cross, opposite, IsDirection, ℤ, Bool, Label, vector_of, IsOnCircle, IsStrictlyOn, Passes, At, ray_dir, NextRay, StarLabel, Ray, Star, IsNext, on_ray as at_ray, in_sector as of_sector, in_only_sector as of_only_sector, ray_of, star_of, left_of, left_at, mark_of, mark_at, sector_at, sector_count, IsTurned, LeftGives, vector-same, square-cross}
+use Rattle.law_sphere.specs.Stars.{Ray as PlainRay, on_ray, in_sector, in_only_sector}
 use Rattle.nef_star.specs.Laws.{EachHasOneLabel}
-use Rattle.nef_star.specs.Turning.{IsNext, on_ray as at_ray, in_sector as of_sector, in_only_sector as of_only_sector}
-use Rattle.nef_star.specs.Stars.{ray_of, star_of, left_of, left_at, mark_of, mark_at, sector_at, sector_count, IsTurned, LeftGives}
 use Rattle.nef_star.proofs.Turns.{next_in, some_label, one_label}
 use Rattle.nef_star.proofs.Lefts.{way, way-same, same-way, way-passes, passes-way}
 
@@ -107,7 +92,7 @@ module _ (t : Star) (T : IsTurned t) (e : Vector) (off : IsDirection (cross (vec
   axis = t.axis.some
 
   pub left-on : IsOnCircle (vector_of t.axis) (cross (vector_of t.axis) e)
-  left-on = record { direction = off; level = level_cross_first (vector_of t.axis) e }
+  left-on = record { direction = off; level = square-cross (vector_of t.axis) e }
 
   at-way : (k : ℕ) (p : PlainRay) (r : IsRayAt t.rays.items k p) → ray_dir (star_of t) p ≡ way (vector_of t.axis) (left_at t.rays.items k)
   at-way k p r = ap (ray_dir (star_of t)) (sym r.is) ∙ way-of t r.ray ∙ ap (way (vector_of t.axis)) r.left

@@ -1,19 +1,11 @@
 -- The last ray of a star at or before another.
-use Rattle.std.proofs.Common.{◌≡◌, ℕ, zero, suc, ◌+◌, ◌<◌, ◌≤◌, length, arith, sym, subst, inl, inr}
-use Rattle.std.proofs.Math.Nat.{eq-or-lt_of_le}
-use Rattle.nef_space.specs.Vectors.{Vector, SameDirection}
-use Rattle.nef_geo.specs.Shapes.{vector_of}
-use Rattle.nef_geo.specs.declared.dir.Dir.{Dir}
+use Rattle.nef_star.proofs.Prelude.{◌≡◌, ℕ, zero, suc, ◌+◌, ◌<◌, ◌≤◌, length, arith, sym, subst, inl, inr, eq-or-lt_of_le, Vector, SameDirection, vector_of, Dir, IsOnCircle, Star, left_at, IsTurned, LeftUnder, dir-self}
 use Rattle.nef_geo.proofs.Unique.{same_directions_equal}
-use Rattle.law_cyclic.specs.Arcs.{IsOnCircle}
-use Rattle.nef_star.specs.declared.star.Star.{Star}
-use Rattle.nef_star.specs.Stars.{left_at, IsTurned, LeftUnder}
 use Rattle.nef_star.proofs.Turns.{some_place}
-use Rattle.nef_geo.proofs.Directions.{SameDirection-itself as self-same}
 
 -- ---- the place of a ray
 pub same-as : (v : Vector) (d e : Dir) → vector_of d ≡ v → d ≡ e → SameDirection v (vector_of e)
-same-as v d e h s = subst (λ (w : Vector). SameDirection w (vector_of e)) h (subst (λ (b : Dir). SameDirection (vector_of d) (vector_of b)) s (self-same (vector_of d) d.some))
+same-as v d e h s = subst (λ (w : Vector). SameDirection w (vector_of e)) h (subst (λ (b : Dir). SameDirection (vector_of d) (vector_of b)) s (dir-self (vector_of d) d.some))
 
 pub as-same : (v : Vector) (d e : Dir) → vector_of d ≡ v → SameDirection v (vector_of e) → d ≡ e
 as-same v d e h s = same_directions_equal d e (subst (λ (w : Vector). SameDirection w (vector_of e)) (sym h) s)

@@ -1,15 +1,8 @@
 -- The directions that rays leave the axis in turn as their left ones do.
-use Rattle.std.proofs.Common.{◌≡◌, ℕ, ◌+◌, pos, ◌<ℤ◌, ◌*ℤ◌, refl, sym, ap, subst, ◌∙◌}
+use Rattle.nef_star.proofs.Prelude.{◌≡◌, ℕ, ◌+◌, pos, ◌<ℤ◌, ◌*ℤ◌, refl, sym, ap, subst, ◌∙◌, ring, at, num, ◌⊕◌, ◌⊖◌, ◌⊗◌, follows, given, none, Vector, dot, cross, triple, IsDirection, IsZero, SameDirection, IsOnCircle, Passes, says_same, says_passes, dot-comm, self-pos, dot_poly, triple_poly, numbers, nought-if}
 use lib.Dec.{T}
-use Rattle.nef_space.proofs.Ring.{ring, at, num, ◌⊕◌, ◌⊖◌, ◌⊗◌}
-use Rattle.nef_space.proofs.Combination.{follows, given, none}
-use Rattle.nef_space.specs.Vectors.{Vector, dot, cross, triple, IsDirection, IsZero, SameDirection}
-use Rattle.law_cyclic.specs.Arcs.{IsOnCircle, Passes}
 use Rattle.law_cyclic.proofs.Signs.{sgn, sgn-scaled}
-use Rattle.law_cyclic.proofs.Planar.{dot_comm, dot_poly, triple_poly, numbers, self_positive}
 use Rattle.law_cyclic.proofs.StrictlyOn.{passes_test}
-use Rattle.law_cyclic.proofs.Cyclic.{says_same, says_passes}
-use Rattle.law_sphere.proofs.Vectors.{nought-if}
 use Rattle.nef_star.proofs.Turns.{three}
 
 -- a quarter of a turn back about a
@@ -34,10 +27,10 @@ way-level a l = ring (numbers a l a a) (at 0 ⊗ (at 4 ⊗ at 2 ⊖ at 5 ⊗ at 
 
 module _ (a : Vector) (axis : IsDirection a) where
   square : pos 0 <ℤ dot a a
-  square = self_positive a axis
+  square = self-pos a axis
 
   pub way-on : (l : Vector) → IsOnCircle a l → IsOnCircle a (way a l)
-  way-on l h = record { direction = λ z. parallel_not (nought-if l a h.direction z (dot_comm l a ∙ h.level)); level = way-level a l }
+  way-on l h = record { direction = λ z. parallel_not (nought-if l a h.direction z (dot-comm l a ∙ h.level)); level = way-level a l }
     where
       parallel_not : IsZero a → ⊥
       parallel_not z = axis z

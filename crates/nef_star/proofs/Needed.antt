@@ -1,19 +1,11 @@
 -- Rays that aren't needless stay so when the rays are counted from another one on.
 use lib.Dec.{T}
-use Rattle.std.proofs.Common.{◌≡◌, ℕ, ◌+◌, ◌-◌, ◌<◌, ◌≤◌, length, get_or, true, false, arith, refl, sym, ap, subst, ◌∙◌, inl, inr, ◌⊎◌, ◌↔◌}
-use Rattle.nef_space.specs.Vectors.{cross, IsDirection}
-use Rattle.nef_geo.specs.Shapes.{vector_of}
-use Rattle.nef_geo.specs.declared.dir.Dir.{Dir}
-use Rattle.law_sphere.specs.Stars.{Ray as PlainRay, IsSimplified, Follows}
-use Rattle.nef_star.specs.declared.star.Ray.{Ray}
-use Rattle.nef_star.specs.declared.star.Star.{Star}
-use Rattle.nef_star.specs.Turning.{IsNext}
-use Rattle.nef_star.specs.Stars.{ray_of, star_of, mark_at, sector_at, IsRayBelow, IsTurned, IsKept, IsCountedFrom, IsNeedless, AreNeeded, IsPassed}
+use Rattle.nef_star.proofs.Prelude.{◌≡◌, ℕ, ◌+◌, ◌-◌, ◌<◌, ◌≤◌, length, get_or, true, false, arith, refl, sym, ap, subst, ◌∙◌, inl, inr, ◌⊎◌, ◌↔◌, cross, IsDirection, vector_of, Dir, IsSimplified, Follows, Ray, Star, IsNext, ray_of, star_of, mark_at, sector_at, IsRayBelow, IsTurned, IsKept, IsCountedFrom, IsNeedless, AreNeeded, IsPassed, length-map}
+use Rattle.law_sphere.specs.Stars.{Ray as PlainRay}
 use Rattle.nef_star.proofs.Labelled.{at-ray, at-sector}
 use Rattle.nef_star.proofs.Rotated.{Moved, moved-value, lt-or-le, moved-from as unmoved}
 use Rattle.nef_star.proofs.RayOrder.{LeastOf}
 use Rattle.nef_star.proofs.Counted.{rotated-list, counted-length, marks, sectors}
-use Rattle.std.proofs.lemmas.List.{length-map}
 
 unmoved-next : (n m i j i' j' : ℕ) → m < n → i < n → j < n → Moved n m i i' → Moved n m j j' → IsNext n i' j' → IsNext n i j
 unmoved-next n m i j i' j' h k l (inl e) (inl f) (inl (x, y)) = inl (omega (arith, e, f, x), l)

@@ -1,20 +1,5 @@
 -- Stars with one more ray, which has the label of the sector that it cuts.
-use Rattle.std.proofs.Common.{◌≡◌, ℕ, zero, suc, ◌<◌, pos, List, [], ◌∷◌, ◌++◌, length, map, get_or, Bool, true, false, cond, arith, refl, sym, ap, subst, ◌∙◌, inl, inr, ◌⊎◌, length-append}
-use Rattle.std.proofs.Math.Nat.{eq-or-lt_of_le}
-use Rattle.std.specs.List.{All}
-use Rattle.std.proofs.lemmas.List.Elements.{All-push}
-use Rattle.nef_space.specs.Limits.{normal_limit}
-use Rattle.nef_space.specs.Vectors.{Vector, dot, zero_vector, opposite, IsAtMost, IsNormal}
-use Rattle.nef_space.specs.declared.label.Label.TheVariants.{Out}
-use Rattle.nef_geo.specs.Shapes.{vector_of}
-use Rattle.nef_geo.specs.declared.dir.Dir.{Dir}
-use Rattle.law_cyclic.specs.Arcs.{IsOnCircle, Passes}
-use Rattle.law_cyclic.proofs.Planar.{dot_comm}
-use Rattle.law_cyclic.proofs.Directions.{direction-opposite, level-of_opposite}
-use Rattle.nef_star.specs.declared.star.Ray.{Ray}
-use Rattle.nef_star.specs.declared.star.Star.{Star}
-use Rattle.nef_star.specs.Turning.{IsTurning, IsNext, Gives}
-use Rattle.nef_star.specs.Stars.{left_of, left_at, mark_of, mark_at, sector_at, sector_count, IsRay, IsTurned, HasLeft, LeftPast, IsCut}
+use Rattle.nef_star.proofs.Prelude.{◌≡◌, ℕ, zero, suc, ◌<◌, pos, List, [], ◌∷◌, ◌++◌, length, map, get_or, Bool, true, false, cond, arith, refl, sym, ap, subst, ◌∙◌, inl, inr, ◌⊎◌, length-append, eq-or-lt_of_le, All, All-push, normal_limit, Vector, dot, zero_vector, opposite, IsAtMost, IsNormal, Out, vector_of, Dir, IsOnCircle, Passes, Ray, Star, IsTurning, IsNext, Gives, left_of, left_at, mark_of, mark_at, sector_at, sector_count, IsRay, IsTurned, HasLeft, LeftPast, IsCut, dot-comm, direction-opposite, level-of_opposite}
 use Rattle.nef_star.proofs.Rotated.{rotated-gives}
 use Rattle.nef_star.proofs.Added.{turning-same, added-turning, added-gives, first-gives}
 use Rattle.nef_star.proofs.Counted.{agreeing, count-some, kept-by, renamed, turned-by}
@@ -51,7 +36,7 @@ pub left-on_circle : (a : Vector) (r : Ray) → IsRay a r → IsOnCircle a (left
 left-on_circle a r R = by r.ahead
   where
     level : dot a (vector_of r.normal) ≡ pos 0
-    level = dot_comm a (vector_of r.normal) ∙ R.level
+    level = dot-comm a (vector_of r.normal) ∙ R.level
 
     by : (b : Bool) → IsOnCircle a (cond b (vector_of r.normal) (opposite (vector_of r.normal)))
     by true = record { direction = r.normal.some; level = level }

@@ -1,10 +1,5 @@
 -- Directions that turn, counted from another one of them, turn and give the same.
-use Rattle.std.proofs.Common.{◌≡◌, ℕ, zero, suc, ◌+◌, ◌-◌, ◌<◌, ◌≤◌, arith, refl, sym, ap, subst, ◌∙◌, inl, inr, ◌⊎◌}
-use Rattle.nef_space.specs.Vectors.{Vector, IsDirection, SameDirection}
-use Rattle.nef_space.specs.declared.label.Label.{Label}
-use Rattle.law_cyclic.specs.Arcs.{IsOnCircle, Passes}
-use Rattle.law_cyclic.proofs.Cyclic.{seen_from_later, seen_from_between, seen_from_after}
-use Rattle.nef_star.specs.Turning.{IsTurning, IsNext, Gives, on_ray, in_sector, in_only_sector}
+use Rattle.nef_star.proofs.Prelude.{◌≡◌, ℕ, zero, suc, ◌+◌, ◌-◌, ◌<◌, ◌≤◌, arith, refl, sym, ap, subst, ◌∙◌, inl, inr, ◌⊎◌, Vector, IsDirection, SameDirection, Label, IsOnCircle, Passes, seen_from_later, seen_from_between, seen_from_after, IsTurning, IsNext, Gives, on_ray, in_sector, in_only_sector}
 use Rattle.nef_star.proofs.Turns.{same-self, four, next_in, has_next, first_or_later, distinct}
 
 -- g counts from the m-th of the n values of f on

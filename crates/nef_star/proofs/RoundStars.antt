@@ -1,28 +1,11 @@
 -- Stars put together from their rays: the ways that are cut in, the marks that they get, and the rays with the sectors after them.
-use Rattle.std.proofs.Common.{◌≡◌, ℕ, zero, suc, ◌+◌, ◌<◌, ◌≤◌, List, [], ◌∷◌, length, get_or, set, slice_get, Some, Bool, true, false, cond, ℤ, pos, neg_ℤ, arith, refl, sym, ap, subst, ◌∙◌, inl, inr, ⊎_elim, ◌⊎◌}
-use Rattle.std.proofs.Math.Nat.{eq-or-lt_of_le}
-use Rattle.std.proofs.lemmas.Option.{slice_get_within, slice_get-get_or}
-use Rattle.std.proofs.lemmas.Int.{ints}
-use Rattle.std.proofs.lemmas.List.{get_or-set_same, get_or-set_other}
-use Rattle.nef_space.specs.Lists.{IsAt}
-use Rattle.nef_space.specs.Vectors.{Vector, opposite, zero_vector, IsNormal, SameDirection}
-use Rattle.law_near.proofs.Flats.{vector-same}
-use Rattle.nef_space.specs.declared.label.Label.{Label}
-use Rattle.nef_space.specs.declared.label.Label.TheVariants.{Out}
-use Rattle.nef_geo.specs.Shapes.{vector_of}
-use Rattle.nef_geo.specs.declared.dir.Dir.{Dir}
-use Rattle.nef_star.specs.declared.star.Op.TheVariants.{Or}
-use Rattle.nef_star.specs.declared.star.Ray.{Ray}
-use Rattle.nef_star.specs.declared.star.Star.{Star}
-use Rattle.nef_star.specs.Rounds.{End, AreApart, IsRound, IsEndAt, HasWays, IsEnded}
-use Rattle.nef_star.specs.Stars.{left_of, left_at, mark_of, mark_at, sector_at, IsRay, IsTurned, IsKept, IsCut, IsCountedFrom, HasLeft}
+use Rattle.nef_star.proofs.Prelude.{◌≡◌, ℕ, zero, suc, ◌+◌, ◌<◌, ◌≤◌, List, [], ◌∷◌, length, get_or, set, slice_get, Some, Bool, true, false, cond, ℤ, pos, neg_ℤ, arith, refl, sym, ap, subst, ◌∙◌, inl, inr, ⊎_elim, ◌⊎◌, eq-or-lt_of_le, slice_get_within, slice_get-get_or, ints, get_or-set_same, get_or-set_other, IsAt, Vector, opposite, zero_vector, IsNormal, SameDirection, Label, Out, vector_of, Dir, Or, Ray, Star, End, AreApart, IsRound, IsEndAt, HasWays, IsEnded, left_of, left_at, mark_of, mark_at, sector_at, IsRay, IsTurned, IsKept, IsCut, IsCountedFrom, HasLeft, vector-same, dir-self}
 use Rattle.nef_star.proofs.Rotated.{moved-from, moved-value, moved}
 use Rattle.nef_star.proofs.LastAt.{as-same}
 use Rattle.nef_star.proofs.Counted.{lefts, marks, sectors, counted-length, count-some}
 use Rattle.nef_star.proofs.Joined.{changed-turned, changed-count, same-lefts, set-here, set-other, nat-is}
 use Rattle.nef_star.proofs.Labelled.{sectors-fill}
 use Rattle.nef_star.proofs.Pushed.{at-item}
-use Rattle.nef_geo.proofs.Directions.{SameDirection-itself as self-same}
 
 -- ---- the ways
 -- the star goes just the ways of the first k ends
@@ -170,7 +153,7 @@ not-opposite u v N M e =
     omega (arith, ints, z, f, g)
 
 pub same-dirs : (d e : Dir) → vector_of d ≡ vector_of e → d ≡ e
-same-dirs d e h = as-same (vector_of d) d e refl (subst (λ (w : Vector). SameDirection (vector_of d) w) h (self-same (vector_of d) d.some))
+same-dirs d e h = as-same (vector_of d) d e refl (subst (λ (w : Vector). SameDirection (vector_of d) w) h (dir-self (vector_of d) d.some))
 
 -- a ray is told by the direction to its left
 pub ray-parts : (m n : Dir) (a b : Bool) → IsNormal (vector_of m) → IsNormal (vector_of n) → cond a (vector_of m) (opposite (vector_of m)) ≡ cond b (vector_of n) (opposite (vector_of n)) → (m ≡ n) × (a ≡ b)

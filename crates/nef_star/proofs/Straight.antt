@@ -1,26 +1,9 @@
 -- Stars of two opposite rays.
-use Rattle.std.proofs.Common.{◌≡◌, ℕ, zero, suc, ◌<◌, pos, List, [], ◌∷◌, length, map, Bool, true, false, cond, arith, refl, sym, ap, subst, ◌∙◌, inl, inr, get_or}
-use Rattle.std.specs.List.{All}
-use Rattle.std.proofs.lemmas.List.{length-map}
-use Rattle.std.proofs.lemmas.List.Elements.{All-cons, All-nil}
-use Rattle.std.proofs.lemmas.Int.{ints}
-use Rattle.nef_space.specs.Limits.{normal_limit, svertex_limit}
-use Rattle.nef_space.specs.Numbers.{IsBelow}
-use Rattle.nef_space.specs.Vectors.{Vector, dot, opposite, triple_of, IsDirection, IsAtMost, IsNormal, SameDirection}
-use Rattle.nef_geo.specs.Shapes.{vector_of}
-use Rattle.nef_geo.specs.declared.dir.Dir.{Dir}
-use Rattle.law_cyclic.specs.Arcs.{IsOnCircle}
-use Rattle.law_cyclic.proofs.Planar.{dot_comm, self_positive}
-use Rattle.law_cyclic.proofs.Directions.{dot-opposite}
-use Rattle.law_sphere.specs.Stars.{Ray as PlainRay, IsStraight}
-use Rattle.nef_star.specs.declared.star.Ray.{Ray}
-use Rattle.nef_star.specs.declared.star.Star.{Star}
-use Rattle.nef_star.specs.Stars.{ray_of, star_of, left_of, left_at, sector_count, IsRayBelow, AreStraight, IsRay, IsStar}
-use Rattle.nef_star.specs.Turning.{IsTurning}
+use Rattle.nef_star.proofs.Prelude.{◌≡◌, ℕ, zero, suc, ◌<◌, pos, List, [], ◌∷◌, length, map, Bool, true, false, cond, arith, refl, sym, ap, subst, ◌∙◌, inl, inr, get_or, All, length-map, All-cons, All-nil, ints, normal_limit, svertex_limit, IsBelow, Vector, dot, opposite, triple_of, IsDirection, IsAtMost, IsNormal, SameDirection, vector_of, Dir, IsOnCircle, IsStraight, Ray, Star, ray_of, star_of, left_of, left_at, sector_count, IsRayBelow, AreStraight, IsRay, IsStar, IsTurning, dot-comm, self-pos, opposite-dot, dir-self}
+use Rattle.law_sphere.specs.Stars.{Ray as PlainRay}
 use Rattle.nef_star.proofs.RayOrder.{ray-below-self, true_not_false}
 use Rattle.nef_star.proofs.Pushed.{left-on_circle}
 use Rattle.nef_star.proofs.RoundStars.{same-dirs as dir_equal}
-use Rattle.nef_geo.proofs.Directions.{SameDirection-itself as self-same}
 
 pub two_items : {X : Type 0} (xs : List X) (q r : X) → length xs ≡ 2 → q ≡ get_or xs 0 q → r ≡ get_or xs 1 r → xs ≡ q ∷ r ∷ []
 two_items [] q r n e f = absurd (omega (arith, n))
@@ -45,7 +28,7 @@ ahead_first : (q r : Ray) → IsDirection (left_of q) → (SameDirection (left_o
 ahead_first q r d apart least e = by q.ahead r.ahead refl refl
   where
     alike : q.ahead ≡ r.ahead → ⊥
-    alike f = apart (subst (SameDirection (left_of q)) (ap (λ (n : Dir). left n q.ahead) e ∙ ap (left r.normal) f) (self-same (left_of q) d))
+    alike f = apart (subst (SameDirection (left_of q)) (ap (λ (n : Dir). left n q.ahead) e ∙ ap (left r.normal) f) (dir-self (left_of q) d))
 
     by : (b c : Bool) → q.ahead ≡ b → r.ahead ≡ c → Turned q r
     by true true f g = absurd (alike (f ∙ sym g))
@@ -101,7 +84,7 @@ module _ (a : Vector) (axis : IsDirection a) (q r : Ray) (Q : IsRay a q) (R : Is
   back-apart : SameDirection (vector_of q.normal) (opposite (vector_of q.normal)) → ⊥
   back-apart s =
       let v = vector_of q.normal in
-      let p = self_positive v q.normal.some in let f = s.forward in let e = dot_comm v (opposite v) in let z = dot-opposite v v in
+      let p = self-pos v q.normal.some in let f = s.forward in let e = dot-comm v (opposite v) in let z = opposite-dot v v in
       omega (arith, ints, p, f, e, z)
 
   pub plane-turning : IsTurning a 2 (left_at (q ∷ r ∷ []))

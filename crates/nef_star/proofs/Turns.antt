@@ -1,28 +1,16 @@
 -- Directions in counterclockwise order about an axis: each direction is under one of them, and has one label.
-use Rattle.std.proofs.Common.{◌≡◌, ℕ, zero, suc, ◌-◌, ◌<◌, ◌≤◌, pos, ◌<ℤ◌, arith, refl, sym, ap, subst, ◌∙◌, inl, inr, ◌⊎◌}
-use Rattle.std.proofs.lemmas.Int.{ints}
-use Rattle.std.proofs.Math.Nat.{eq-or-lt_of_le}
-use Rattle.nef_space.specs.Vectors.{Vector, dot, cross, triple, IsDirection, IsParallel, SameDirection}
-use Rattle.nef_space.specs.declared.label.Label.{Label}
-use Rattle.law_cyclic.specs.Arcs.{IsOnCircle, Passes, AboutThree, AboutFour}
-use Rattle.law_cyclic.proofs.Planar.{self_positive, turn_from_parallel}
-use Rattle.law_cyclic.proofs.StrictlyOn.{same-sym}
-use Rattle.law_cyclic.proofs.Directions.{same-trans}
-use Rattle.law_cyclic.proofs.Cyclic.{one_is_first, never_both_ways, order_is_transitive, same_in_place, order_is_cyclic, nearer_ones, in_sector, no_ray_between}
-use Rattle.law_near.proofs.Decided.{Decided}
-use Rattle.law_near.proofs.Directions.{zero-decided}
+use Rattle.nef_star.proofs.Prelude.{◌≡◌, ℕ, zero, suc, ◌-◌, ◌<◌, ◌≤◌, pos, ◌<ℤ◌, arith, refl, sym, ap, subst, ◌∙◌, inl, inr, ◌⊎◌, ints, eq-or-lt_of_le, Vector, dot, cross, triple, IsDirection, IsParallel, SameDirection, Label, IsOnCircle, Passes, AboutThree, AboutFour, turn_from_parallel, one_is_first, never_both_ways, order_is_transitive, same_in_place, order_is_cyclic, nearer_ones, no_ray_between, Decided, IsTurning, IsNext, Gives, on_ray, in_sector as of_sector, in_only_sector, IsUnder, zero-decided, self-pos, SameDirection-trans, SameDirection-turned, dir-self}
+use Rattle.law_cyclic.proofs.Cyclic.{in_sector}
 use Rattle.law_sphere.proofs.Vectors.{positive-or}
-use Rattle.nef_star.specs.Turning.{IsTurning, IsNext, Gives, on_ray, in_sector as of_sector, in_only_sector, IsUnder}
-use Rattle.nef_geo.proofs.Directions.{SameDirection-itself as self-same}
 
 -- ---- directions about an axis
 pub same-self : (a d : Vector) → IsOnCircle a d → SameDirection d d
-same-self a d h = self-same d h.direction
+same-self a d h = dir-self d h.direction
 
 -- all but s is passed on the whole way round from s
 pub whole_turn : (a s d : Vector) → IsOnCircle a s → IsOnCircle a d → (SameDirection s d → ⊥) → Passes a s d s
 whole_turn a s d h k n =
-    let p : pos 0 <ℤ dot s s = self_positive s h.direction in
+    let p : pos 0 <ℤ dot s s = self-pos s h.direction in
     let z : triple a s s ≡ pos 0 = turn_from_parallel a s s ((same-self a s h).parallel) in
     record {
       on_circle = k;
@@ -82,7 +70,7 @@ module _ (a : Vector) (axis : IsDirection a) (n : ℕ) (f : ℕ → Vector) (t :
   -- two of them aren't the same
   pub distinct_up : (i k : ℕ) → i < k → k < n → SameDirection (f i) (f k) → ⊥
   distinct_up zero k h l s = t.apart k h l s
-  distinct_up (suc i) k h l s = (t.rising (suc i) k (omega arith) h l).not_target (same-sym (f (suc i)) (f k) s)
+  distinct_up (suc i) k h l s = (t.rising (suc i) k (omega arith) h l).not_target (SameDirection-turned (f (suc i)) (f k) s)
 
   pub distinct : (i k : ℕ) → i < n → k < n → SameDirection (f i) (f k) → i ≡ k
   distinct i k h l s = by (three_ways i k)
@@ -90,7 +78,7 @@ module _ (a : Vector) (axis : IsDirection a) (n : ℕ) (f : ℕ → Vector) (t :
       by : (i < k) ⊎ (i ≡ k) ⊎ (k < i) → i ≡ k
       by (inl p) = absurd (distinct_up i k p l s)
       by (inr (inl e)) = e
-      by (inr (inr p)) = absurd (distinct_up k i p h (same-sym (f i) (f k) s))
+      by (inr (inr p)) = absurd (distinct_up k i p h (SameDirection-turned (f i) (f k) s))
 
   -- seen from the first, one comes before the next
   before_next : (k j : ℕ) → k < n → IsNext n k j → SameDirection (f 0) (f k) ⊎ Passes a (f 0) (f k) (f j)
@@ -173,11 +161,11 @@ module _ (a : Vector) (axis : IsDirection a) (n : ℕ) (f : ℕ → Vector) (t :
   -- ---- but not on two, nor between two pairs
   pub not_both : (d : Vector) (k i j : ℕ) → k < n → i < n → IsOnCircle a d → SameDirection (f k) d → IsNext n i j → Passes a (f i) d (f j) → ⊥
   not_both d k i j h m o s x p =
-      none_between i j k m x h (same_in_place a (f i) d (f k) (f j) (four a (f i) d (f k) (f j) axis (on i m) o (on k h) (on j (next_in n i j m x))) (same-sym (f k) d s) p)
+      none_between i j k m x h (same_in_place a (f i) d (f k) (f j) (four a (f i) d (f k) (f j) axis (on i m) o (on k h) (on j (next_in n i j m x))) (SameDirection-turned (f k) d s) p)
 
   pub one_sector : (d : Vector) (k j k' j' : ℕ) → k < n → IsNext n k j → Passes a (f k) d (f j) → k' < n → IsNext n k' j' → Passes a (f k') d (f j') → IsOnCircle a d → (SameDirection (f k) (f k') → ⊥) → ⊥
   one_sector d k j k' j' h x p h' x' p' o u =
-      let u' = λ (s : SameDirection (f k') (f k)). u (same-sym (f k') (f k) s) in
+      let u' = λ (s : SameDirection (f k') (f k)). u (SameDirection-turned (f k') (f k) s) in
       let there = nearer_ones a (f k) (f j) d (f k') (four a (f k) (f j) d (f k') axis (on k h) (on j (next_in n k j h x)) o (on k' h')) p (none_between k j k' h x h') u in
       let back = nearer_ones a (f k') (f j') d (f k) (four a (f k') (f j') d (f k) axis (on k' h') (on j' (next_in n k' j' h' x')) o (on k h)) p' (none_between k' j' k h' x' h) u' in
       never_both_ways a d (f k) (f k') (three a d (f k) (f k') axis o (on k h) (on k' h'))
@@ -185,7 +173,7 @@ module _ (a : Vector) (axis : IsDirection a) (n : ℕ) (f : ℕ → Vector) (t :
       (order_is_cyclic a (f k) d (f k') (three a (f k) d (f k') axis (on k h) o (on k' h')) u there)
 
   pub one_place : (d : Vector) (k i : ℕ) → k < n → i < n → IsOnCircle a d → Lies d k → Lies d i → k ≡ i
-  one_place d k i h l o (inl s) (inl s') = distinct k i h l (same-trans (f k) d (f i) s (same-sym (f i) d s'))
+  one_place d k i h l o (inl s) (inl s') = distinct k i h l (SameDirection-trans (f k) d (f i) s (SameDirection-turned (f i) d s'))
   one_place d k i h l o (inl s) (inr (j, x, p)) = absurd (not_both d k i j h l o s x p)
   one_place d k i h l o (inr (j, x, p)) (inl s) = absurd (not_both d i k j l h o s x p)
   one_place d k i h l o (inr (j, x, p)) (inr (j', x', p')) = by (three_ways k i)
@@ -209,7 +197,7 @@ module _ (a : Vector) (axis : IsDirection a) (n : ℕ) (f : ℕ → Vector) (t :
         by (inr h) = let r = some_place d h o in given d r.0 r.1 r.2
 
     pub one_label : (d : Vector) (l m : Label) → IsOnCircle a d → Gives a n f marks sectors d l → Gives a n f marks sectors d m → l ≡ m
-    one_label d l m o (on_ray k h s e) (on_ray i h' s' e') = sym e ∙ ap marks (distinct k i h h' (same-trans (f k) d (f i) s (same-sym (f i) d s'))) ∙ e'
+    one_label d l m o (on_ray k h s e) (on_ray i h' s' e') = sym e ∙ ap marks (distinct k i h h' (SameDirection-trans (f k) d (f i) s (SameDirection-turned (f i) d s'))) ∙ e'
     one_label d l m o (on_ray k h s e) (of_sector i j h' x p e') = absurd (not_both d k i j h h' o s x p)
     one_label d l m o (on_ray k h s e) (in_only_sector z e') = absurd (omega arith)
     one_label d l m o (of_sector i j h' x p e) (on_ray k h s e') = absurd (not_both d k i j h h' o s x p)

@@ -1,19 +1,5 @@
 -- The star of two ends.
-use Rattle.std.proofs.Common.{◌≡◌, ℕ, zero, suc, ◌<◌, List, [], ◌∷◌, length, Some, arith, refl, sym, ap, subst, ◌∙◌, ◌⊎◌}
-use Rattle.std.specs.List.{All}
-use Rattle.std.proofs.lemmas.List.Elements.{All-cons, All-nil}
-use Rattle.nef_space.specs.Limits.{svertex_limit}
-use Rattle.nef_space.specs.Lists.{IsAt}
-use Rattle.nef_space.specs.Vectors.{Vector, SameDirection, IsAtMost}
-use Rattle.nef_space.specs.declared.label.Label.{Label}
-use Rattle.nef_geo.specs.Shapes.{vector_of}
-use Rattle.nef_geo.specs.declared.dir.Dir.{Dir}
-use Rattle.law_cyclic.specs.Arcs.{IsOnCircle}
-use Rattle.nef_star.specs.declared.star.Ray.{Ray}
-use Rattle.nef_star.specs.declared.star.Star.{Star}
-use Rattle.nef_star.specs.Rounds.{End, AreApart, IsRound, IsEndAt, IsWhole}
-use Rattle.nef_star.specs.Turning.{IsTurning}
-use Rattle.nef_star.specs.Stars.{left_of, left_at, mark_at, sector_at, sector_count, IsRay, IsTurned, IsKept, IsCountedFrom, HasLeft}
+use Rattle.nef_star.proofs.Prelude.{◌≡◌, ℕ, zero, suc, ◌<◌, List, [], ◌∷◌, length, Some, arith, refl, sym, ap, subst, ◌∙◌, ◌⊎◌, All, All-cons, All-nil, svertex_limit, IsAt, Vector, SameDirection, IsAtMost, Label, vector_of, Dir, IsOnCircle, Ray, Star, End, AreApart, IsRound, IsEndAt, IsWhole, IsTurning, left_of, left_at, mark_at, sector_at, sector_count, IsRay, IsTurned, IsKept, IsCountedFrom, HasLeft}
 use Rattle.nef_star.proofs.Pushed.{left-on_circle}
 use Rattle.nef_star.proofs.RoundStars.{finished}
 

@@ -1,12 +1,10 @@
 -- The laws of stars.
 use Rattle.std.specs.Prelude.{◌≡◌}
-use Rattle.nef_space.specs.Vectors.{Vector, cross, IsDirection}
-use Rattle.nef_space.specs.declared.label.Label.{Label}
-use Rattle.nef_geo.specs.Shapes.{vector_of}
+use Rattle.nef_geo.specs.Prelude.{Vector, cross, IsDirection, Label, vector_of}
 use Rattle.law_sphere.specs.Stars.{StarLabel}
 use Rattle.nef_star.specs.declared.star.Star.{Star}
 use Rattle.nef_star.specs.Stars.{star_of, IsTurned}
 
--- each direction that isn't parallel to the axis has one label, and no other
+-- each direction that isn't parallel to the axis has exactly one label
 abbrev pub EachHasOneLabel : Type 0
 EachHasOneLabel = (t : Star) → IsTurned t → (e : Vector) → IsDirection (cross (vector_of t.axis) e) → (l : Label) × StarLabel (star_of t) e l × ((m : Label) → StarLabel (star_of t) e m → m ≡ l)

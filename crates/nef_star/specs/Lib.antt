@@ -1,3 +1,4 @@
+pub mod Prelude
 pub mod Ops
 pub mod Turning
 pub mod Stars

@@ -1,13 +1,8 @@
 -- Great circles that cross in a direction, and the star there.
-use Rattle.std.specs.Prelude.{◌≡◌, pos, Bool, true, false, not, cond, [], ◌∷◌}
-use Rattle.nef_space.specs.Signs.{sign}
-use Rattle.nef_space.specs.Limits.{normal_limit}
-use Rattle.nef_space.specs.Vectors.{Vector, dot, cross, IsDirection, IsAtMost, IsNormal}
-use Rattle.nef_space.specs.declared.label.Label.{Label}
-use Rattle.nef_geo.specs.Shapes.{vector_of}
+use Rattle.std.specs.Prelude.{◌≡◌, ◌∷◌, pos, Bool, true, false, not, cond, []}
+use Rattle.nef_geo.specs.Prelude.{sign, normal_limit, Vector, dot, cross, IsDirection, IsAtMost, IsNormal, Label, vector_of}
 use Rattle.nef_geo.specs.declared.dir.Dir.{Dir}
-use Rattle.law_sphere.specs.Least.{by_side}
-use Rattle.law_sphere.specs.Stars.{StarLabel}
+use Rattle.law_sphere.specs.Prelude.{by_side, StarLabel}
 use Rattle.nef_star.specs.declared.rounds.Line.{Line}
 use Rattle.nef_star.specs.declared.star.Op.{Op}
 use Rattle.nef_star.specs.declared.star.Star.{Star}
@@ -20,22 +15,22 @@ pub record IsLine (axis : Vector) (x : Line) : Type 0 where
   pub small : IsAtMost normal_limit (vector_of x.normal)
   pub normal : IsNormal (vector_of x.normal)
 
--- the line's label at e: on it or on one of its sides
+-- the label at e: on the line or on one of its sides
 abbrev pub side_of : Line → Vector → Label
 side_of x e = by_side x.pos x.mark x.neg (sign (dot (vector_of x.normal) e))
 
--- t gives each direction the label of the operation on those of both lines
+-- t gives each direction the operation's label of the labels at both lines
 abbrev pub IsCrossed : Op → Dir → Line → Line → Star → Type 0
 IsCrossed op axis x y t = (e : Vector) (l : Label) → IsDirection (cross (vector_of axis) e) → StarLabel (star_of t) e l → l ≡ op_label op (side_of x e) (side_of y e)
 
--- the label past the line's next ray, which goes ahead if b, and the one before it
+-- the labels on both sides of the next ray, along y, which goes ahead if b: past this ray, and before it
 abbrev pub past_of : Bool → Line → Label
 past_of b y = cond b y.pos y.neg
 
 abbrev pub before_of : Bool → Line → Label
 before_of b y = cond b y.neg y.pos
 
--- t has the rays of both lines in turn, and the operation's labels on theirs
+-- t has the rays of both lines in turn, with the operation's labels
 pub record IsFourRays (op : Op) (a : Dir) (x y : Line) (b : Bool) (t : Star) : Type 0 where
   pub axis : t.axis ≡ a
   pub mark : t.mark ≡ op_label op x.mark y.mark

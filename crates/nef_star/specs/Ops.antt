@@ -4,7 +4,7 @@ use Rattle.nef_space.specs.declared.label.Label.TheVariants.{Out, Not, In}
 use Rattle.nef_star.specs.declared.star.Op.{Op}
 use Rattle.nef_star.specs.declared.star.Op.TheVariants.{And, Or, Diff, Xor}
 
--- Out where one of the two is Out
+-- the label of the combination: Out where one of the two labels is Out
 abbrev pub op_label : Op → Label → Label → Label
 op_label _ Out _ = Out
 op_label _ Not Out = Out

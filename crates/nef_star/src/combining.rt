@@ -1,17 +1,15 @@
-//! Two stars combined; the rays of two that alternate stand in a known order.
+//! Two stars combined. Where the rays of two stars alternate, their order is known.
 
 ghost use Rattle.std.specs.Prelude.{◌≡◌, ◌<◌, ◌-◌};
-ghost use Rattle.nef_geo.specs.Prelude.{ℕ, length, IfOk, OnOk, IsTrue, vector_of};
-ghost use Rattle.law_cyclic.specs.Arcs.{IsOnCircle};
-ghost use Rattle.nef_star.specs.Stars.{left_at, IsTurned, IsStar, LeftGives, LeftAfter, HasLeft, IsCombined, IsLeftCombined, IsCombinedAt, AreAlternate};
+ghost use Rattle.nef_star.specs.Prelude.{ℕ, length, IfOk, OnOk, IsTrue, vector_of, IsOnCircle, left_at, IsTurned, IsStar, LeftGives, LeftAfter, HasLeft, IsCombined, IsLeftCombined, IsCombinedAt, AreAlternate};
 
 use crate::OutOfMemory;
 use crate::rays::{begin_with_least, cut_by, is_past, left_of_ray, place_of, with_mark};
 use crate::star::{Op, Star};
 use nef_geo::{Dir, Label};
 
-// Whether two stars have two rays each, and ray `first` of the other one comes between the first ray and the second, and
-// its other ray between the second and the first.
+// Whether both stars have two rays, and ray `first` of `other` comes between ray 0 and ray 1 of `star`, and the other
+// ray of `other` between ray 1 and ray 0.
 fn alternate(star: &Star, other: &Star, first: usize) -> bool
     requires turned { IsTurned star.now }
     requires within { first < 2 }
@@ -23,7 +21,7 @@ fn alternate(star: &Star, other: &Star, first: usize) -> bool
     is_past(star, 0, &left_of_ray(other, first)) && is_past(star, 1, &left_of_ray(other, 1 - first))
 }
 
-// Combines the star with another one whose rays alternate with its own. So no place of a ray needs to be looked for.
+// Combines the star with another star, where two rays of each alternate, so that no ray is searched.
 fn cross(star: &mut Star, other: &Star, first: usize, op: Op) -> Result<(), OutOfMemory>
     requires turned { IsTurned star.old }
     requires other { IsTurned other.now }
@@ -49,7 +47,7 @@ fn cross(star: &mut Star, other: &Star, first: usize, op: Op) -> Result<(), OutO
     Ok(())
 }
 
-// The labels that the star gives a ray with this direction to its left, and just after it.
+// The labels of the star on a ray with this direction to its left, and just after this ray.
 fn labels_at(star: &Star, left: &Dir) -> (Label, Label)
     requires turned { IsTurned star.now }
     requires circle { IsOnCircle (vector_of star.now.axis) (vector_of left.now) }
@@ -67,7 +65,7 @@ fn labels_at(star: &Star, left: &Dir) -> (Label, Label)
     (after, after)
 }
 
-// Combines the labels on ray `k` and after it with those that the other star gives there.
+// Combines the labels on ray `k` and just after it with the other star's labels there.
 fn combine_at(star: &mut Star, k: usize, other: &Star, op: Op)
     requires turned { IsTurned star.old }
     requires other { IsTurned other.now }
@@ -81,8 +79,7 @@ fn combine_at(star: &mut Star, k: usize, other: &Star, op: Op)
     star.sectors[k] = op.label(star.sectors[k], after);
 }
 
-// Combines the labels on each ray and after it with those that the other star gives there. Each ray of the other star
-// is one of this star's.
+// Combines the labels on each ray and just after it with the other star's there. The star has all rays of the other.
 fn combine_rays(star: &mut Star, other: &Star, op: Op)
     requires turned { IsTurned star.old }
     requires other { IsTurned other.now }
@@ -96,7 +93,7 @@ fn combine_rays(star: &mut Star, other: &Star, op: Op)
     }
 }
 
-// Combines the star with another one, whose rays it has.
+// Combines the star with another star all of whose rays the star has.
 fn combine(star: &mut Star, other: &Star, op: Op)
     requires turned { IsTurned star.old }
     requires other { IsTurned other.now }
@@ -113,7 +110,7 @@ fn combine(star: &mut Star, other: &Star, op: Op)
     combine_rays(star, other, op);
 }
 
-// Combines the star with any other.
+// Combines the star with any other star of the same axis.
 fn mix(star: &mut Star, other: &Star, op: Op) -> Result<(), OutOfMemory>
     requires turned { IsTurned star.old }
     requires other { IsTurned other.now }
@@ -132,9 +129,8 @@ fn mix(star: &mut Star, other: &Star, op: Op) -> Result<(), OutOfMemory>
     Ok(())
 }
 
-/// Combines two stars with one axis: the axis and each direction that isn't parallel to it have the label of the
-/// operation on their labels in the two stars. The first star becomes the result. `OutOfMemory` says that memory was wanted
-/// and not found.
+/// Combines two stars with one axis: the axis, and each direction that isn't parallel to it, gets the operation's
+/// label. The first star becomes the result. `OutOfMemory` says that memory was wanted and not found.
 pub fn merge(a: Star, b: &Star, op: Op) -> Result<Star, OutOfMemory>
     requires star_a { IsStar a }
     requires star_b { IsStar b.now }

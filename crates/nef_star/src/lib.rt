@@ -1,4 +1,4 @@
-//! Stars: what a sphere map looks like near one of its directions, from one ray round to the next.
+//! Stars: the neighbourhoods of directions on a sphere map, as rays and sectors in turn.
 #![tactic(auto)]
 
 mod combining;

@@ -1,11 +1,7 @@
-//! The rays of a star: put in, counted from another one on, and left out where they are needless.
+//! The rays of a star: added, counted from another ray on, and removed where they are needless.
 
 ghost use Rattle.std.specs.Prelude.{◌≡◌, ◌<◌, ◌↔◌, ◌-◌, ◌≤◌, ◌+◌, ◌⊎◌, ◌++◌};
-ghost use Rattle.nef_geo.specs.Prelude.{ℕ, length, IsTrue, OnOk, slice_index_or, take, drop, All, vector_of};
-ghost use Rattle.law_cyclic.specs.Arcs.{IsOnCircle};
-ghost use Rattle.nef_star.specs.Turning.{IsNext};
-ghost use Rattle.nef_star.specs.Stars.{left_of, left_at, IsRay, IsTurned, LeftPast, LeftUnder, HasLeft, IsKept, IsCut, star_of, IsRayBelow, IsStar, IsCountedFrom, IsNeedless, AreNeeded, IsPassed};
-ghost use Rattle.law_sphere.specs.Stars.{IsSimplified};
+ghost use Rattle.nef_star.specs.Prelude.{ℕ, length, IsTrue, OnOk, slice_index_or, take, drop, All, vector_of, IsOnCircle, IsNext, left_of, left_at, IsRay, IsTurned, LeftPast, LeftUnder, HasLeft, IsKept, IsCut, star_of, IsRayBelow, IsStar, IsCountedFrom, IsNeedless, AreNeeded, IsPassed, IsSimplified};
 
 use crate::OutOfMemory;
 use crate::star::{Ray, Star};
@@ -38,8 +34,8 @@ fn least_ray(rays: &[Ray]) -> usize
     least
 }
 
-// Counts the elements from number `first` on, by three reversals, which for a few elements take less than `rotate_left`
-// with its scratch memory.
+// Rotates the elements so that number `first` comes first, by three reversals: for a few elements these take less time
+// than `rotate_left` with its scratch memory.
 fn turn<T>(xs: &mut [T], first: usize)
     requires within { first ≤ length xs.old }
     ensures turned { xs.new ≡ drop first xs.old ++ take first xs.old }
@@ -54,7 +50,7 @@ fn turn<T>(xs: &mut [T], first: usize)
     xs.reverse();
 }
 
-// Counts the rays and sectors from number `first` on.
+// Rotates the rays and sectors so that number `first` comes first.
 fn count_from(star: &mut Star, first: usize)
     requires turned { IsTurned star.old }
     requires within { first < length star.old.rays.items }
@@ -66,7 +62,7 @@ fn count_from(star: &mut Star, first: usize)
     turn(star.sectors.as_mut_slice(), first);
 }
 
-// Lets the star begin with its least ray.
+// Rotates the star so that its least ray comes first.
 pub(crate) fn begin_with_least(star: &mut Star)
     requires turned { IsTurned star.old }
     ensures star { IsStar star.new }
@@ -86,7 +82,7 @@ fn are_one(a: Label, b: Label, c: Label) -> bool
     a == b && a == c
 }
 
-// Leaves the last ray out, whose mark is the label of both its sectors.
+// Removes the last ray, which is needless: its mark is the label of the sectors on both sides.
 fn drop_last(star: &mut Star)
     requires turned { IsTurned star.old }
     requires some { 0 < length star.old.rays.items }
@@ -103,7 +99,7 @@ fn drop_last(star: &mut Star)
     }
 }
 
-// Leaves the last ray out if it is needless, else counts from it on.
+// Removes the last ray if it is needless, or else rotates the star so that this ray comes first.
 fn pass_last(star: &mut Star)
     requires turned { IsTurned star.old }
     requires some { 0 < length star.old.rays.items }
@@ -119,7 +115,7 @@ fn pass_last(star: &mut Star)
     count_from(star, last);
 }
 
-/// The number of the ray before ray `k`, out of `count`.
+/// The number of the ray before ray `k`, of `count` rays.
 pub fn before_of(count: usize, k: usize) -> usize
     requires within { k < count }
     ensures before { IsNext count result k }
@@ -128,7 +124,7 @@ pub fn before_of(count: usize, k: usize) -> usize
     if k > 0 { k - 1 } else { count - 1 }
 }
 
-// Whether ray `k`'s mark is the label of both its sectors.
+// Whether ray `k` is needless: its mark is the label of the sectors on both sides.
 fn is_needless(star: &Star, k: usize) -> bool
     requires turned { IsTurned star.now }
     requires within { k < length star.now.rays.items }
@@ -151,8 +147,8 @@ fn is_simple(star: &Star) -> bool
     true
 }
 
-/// Removes every ray whose mark is the label of both its sectors. Each direction keeps its label, and so does the
-/// axis. It takes no memory.
+/// Removes every needless ray, whose mark is the label of the sectors on both sides. Each direction keeps its label,
+/// and so does the axis. No memory is taken.
 pub fn simplify(star: &mut Star)
     requires star { IsStar star.old }
     ensures star { IsStar star.new }
@@ -171,7 +167,6 @@ pub fn simplify(star: &mut Star)
     begin_with_least(star);
 }
 
-// The direction to the left of ray `k`.
 pub(crate) fn left_of_ray(star: &Star, k: usize) -> Dir
     requires within { k < length star.now.rays.items }
     ensures left { vector_of result ≡ left_at star.now.rays.items k }
@@ -179,7 +174,7 @@ pub(crate) fn left_of_ray(star: &Star, k: usize) -> Dir
     star.rays[k].left()
 }
 
-// The number of the ray after ray `k`, out of `count`.
+// The number of the ray after ray `k`, of `count` rays.
 fn next_of(count: usize, k: usize) -> usize
     requires within { k < count }
     ensures next { IsNext count k result }
@@ -188,7 +183,7 @@ fn next_of(count: usize, k: usize) -> usize
     if k + 1 < count { k + 1 } else { 0 }
 }
 
-// Whether a ray with this direction to its left is after ray `k` and before the next.
+// Whether a ray with this direction to its left lies strictly between ray `k` and the next ray.
 pub(crate) fn is_past(star: &Star, k: usize, left: &Dir) -> bool
     requires turned { IsTurned star.now }
     requires within { k < length star.now.rays.items }
@@ -199,7 +194,7 @@ pub(crate) fn is_past(star: &Star, k: usize, left: &Dir) -> bool
     strictly_on(&sector, left)
 }
 
-// Whether ray `k` is the last at or before a ray with this direction to its left.
+// Whether ray `k` is the last ray at or before a ray with this direction to its left.
 fn is_under(star: &Star, k: usize, left: &Dir) -> bool
     requires turned { IsTurned star.now }
     requires within { k < length star.now.rays.items }
@@ -224,7 +219,6 @@ pub(crate) fn place_of(star: &Star, left: &Dir) -> usize
     0
 }
 
-// The ray with another mark.
 pub(crate) fn with_mark(ray: &Ray, mark: Label) -> Ray
     ensures normal { result.normal ≡ ray.now.normal }
     ensures ahead { result.ahead ≡ ray.now.ahead }
@@ -233,7 +227,7 @@ pub(crate) fn with_mark(ray: &Ray, mark: Label) -> Ray
     Ray::of(ray.normal, ray.ahead, mark)
 }
 
-// Puts a ray into the last sector. Both parts of the sector and the ray have the sector's label.
+// Adds a ray in the last sector. The ray and both parts of the sector keep the sector's label.
 fn add_last(star: &mut Star, ray: &Ray) -> Result<(), OutOfMemory>
     requires turned { IsTurned star.old }
     requires ray { IsRay (vector_of star.old.axis) ray.now }
@@ -247,14 +241,14 @@ fn add_last(star: &mut Star, ray: &Ray) -> Result<(), OutOfMemory>
     Ok(())
 }
 
-// Puts a ray in, unless the star has one with the same direction to its left. Each direction keeps its label.
+// Adds a ray, unless the star has a ray with the same direction to its left. Each direction keeps its label.
 pub(crate) fn cut(star: &mut Star, ray: &Ray) -> Result<(), OutOfMemory>
     requires turned { IsTurned star.old }
     requires ray { IsRay (vector_of star.old.axis) ray.now }
     ensures cut { OnOk result (IsCut (left_of ray.now) star.old star.new) }
 {
     if star.rays.is_empty() {
-        // it has the label of the one sector
+        // the ray has the label of the one sector
         let label = star.sectors[0];
         star.rays.push(with_mark(ray, label))?;
         return Ok(());
@@ -269,7 +263,7 @@ pub(crate) fn cut(star: &mut Star, ray: &Ray) -> Result<(), OutOfMemory>
     add_last(star, ray)
 }
 
-// Puts each of the rays in that the star doesn't have. Each direction keeps its label.
+// Adds each of the rays that the star doesn't have. Each direction keeps its label.
 pub(crate) fn cut_by(star: &mut Star, rays: &[Ray]) -> Result<(), OutOfMemory>
     requires turned { IsTurned star.old }
     requires rays { All (IsRay (vector_of star.old.axis)) rays.now }

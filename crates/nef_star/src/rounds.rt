@@ -1,12 +1,7 @@
-//! Stars put together: of their rays, or of two great circles that cross.
+//! Stars made of rays with labels, or of two great circles that cross.
 
 ghost use Rattle.std.specs.Prelude.{◌≡◌, ◌<◌, ◌+◌, ◌∷◌};
-ghost use Rattle.nef_geo.specs.Prelude.{ℕ, [], length, IsTrue, IfOk, OnOk, svertex_limit, IsAt, IsAtMost, IsParallel, vector_of};
-ghost use Rattle.nef_star.specs.Rounds.{End, AreApart, IsRound, HasWays, IsEnded, IsWhole, AreTwoWays};
-ghost use Rattle.nef_star.specs.Stars.{left_of, IsRay, IsTurned, IsStar};
-ghost use Rattle.nef_star.specs.declared.star.Star.{Star};
-ghost use Rattle.nef_star.specs.Ops.{op_label};
-ghost use Rattle.nef_star.specs.Lines.{IsLine, IsCrossed, IsFourRays};
+ghost use Rattle.nef_star.specs.Prelude.{ℕ, [], length, IsTrue, IfOk, OnOk, svertex_limit, IsAt, IsAtMost, IsParallel, vector_of, End, AreApart, IsRound, HasWays, IsEnded, IsWhole, AreTwoWays, left_of, IsRay, IsTurned, IsStar, Star, op_label, IsLine, IsCrossed, IsFourRays};
 
 use crate::OutOfMemory;
 use crate::rays::{begin_with_least, cut, with_mark};
@@ -14,7 +9,7 @@ use crate::star::{Op, Ray, Star};
 use nef_geo::{Dir, Label, triple};
 use std::alloc::Global;
 
-/// The star without rays, whose one sector has the label `around`. `OutOfMemory` says that memory was wanted and not found.
+/// The star without rays, with one sector labelled `around`. `OutOfMemory` says that memory was wanted and not found.
 pub fn bare(alloc: Global, axis: Dir, mark: Label, around: Label) -> Result<Star, OutOfMemory>
     requires small { IsAtMost svertex_limit (vector_of axis) }
     ensures star { IfOk result (λ t. IsStar t) }
@@ -27,7 +22,7 @@ pub fn bare(alloc: Global, axis: Dir, mark: Label, around: Label) -> Result<Star
     Ok(Star::of(axis, Vec::new(alloc), sectors, mark))
 }
 
-// Puts the rays into a star that has none.
+// Adds the rays of the ends to a star without rays.
 fn cut_ways(star: &mut Star, ends: &[(Ray, Label)]) -> Result<(), OutOfMemory>
     requires turned { IsTurned star.old }
     requires none { length star.old.rays.items ≡ 0 }
@@ -42,7 +37,7 @@ fn cut_ways(star: &mut Star, ends: &[(Ray, Label)]) -> Result<(), OutOfMemory>
     Ok(())
 }
 
-// The end that goes the way with this direction to its left.
+// The end whose ray has this direction to its left.
 fn end_with(ends: &[(Ray, Label)], left: &Dir) -> (Ray, Label)
     requires some { (i : ℕ) × (e : End) × IsAt ends.now i e × (left_of e.0 ≡ vector_of left.now) }
     ensures listed { (i : ℕ) × IsAt ends.now i result }
@@ -57,7 +52,7 @@ fn end_with(ends: &[(Ray, Label)], left: &Dir) -> (Ray, Label)
     ends[0]
 }
 
-// Gives ray `k` the mark of its end, and the sector after it the end's label.
+// Gives ray `k` the mark of its end's ray, and the sector after it the end's label.
 fn end_ray(star: &mut Star, k: usize, ends: &[(Ray, Label)])
     requires ended { (t : Star) × HasWays ends.now (length ends.now) t × IsEnded ends.now k t star.old }
     requires within { k < length star.old.rays.items }
@@ -69,7 +64,7 @@ fn end_ray(star: &mut Star, k: usize, ends: &[(Ray, Label)])
     star.sectors[k] = after;
 }
 
-// Gives each ray the mark of its end, and the sector after it the end's label.
+// Gives each ray the mark of its end's ray, and the sector after it the end's label.
 fn end_rays(star: &mut Star, ends: &[(Ray, Label)])
     requires ways { HasWays ends.now (length ends.now) star.old }
     ensures ended { IsEnded ends.now (length star.old.rays.items) star.old star.new }
@@ -79,7 +74,7 @@ fn end_rays(star: &mut Star, ends: &[(Ray, Label)])
     }
 }
 
-// The star with all of the rays.
+// The star of any number of ends.
 fn all_ways(
     alloc: Global,
     axis: Dir,
@@ -98,14 +93,14 @@ fn all_ways(
     Ok(star)
 }
 
-// Whether there are just two rays, which go different ways.
+// Whether there are just two ends, whose rays leave the axis different ways.
 fn are_two_ways(ends: &[(Ray, Label)]) -> bool
     ensures two { IsTrue result → AreTwoWays ends.now }
 {
     ends.len() == 2 && !ends[0].0.left().is_same(&ends[1].0.left())
 }
 
-// The star with two rays that go different ways. Either may be the first.
+// The star of two ends whose rays leave the axis different ways. Either ray may be the first.
 fn two_ways(
     alloc: Global,
     axis: Dir,
@@ -125,8 +120,8 @@ fn two_ways(
     Ok(Star::of(axis, rays, sectors, mark))
 }
 
-/// The star with this axis and these rays, in whatever order they are given, each with the label of the sector after
-/// it, counterclockwise. `OutOfMemory` says that memory was wanted and not found.
+/// The star with this axis and these rays, in any order, each with the label of the sector counterclockwise after it.
+/// `OutOfMemory` says that memory was wanted and not found.
 pub fn round(
     alloc: Global,
     axis: Dir,
@@ -151,9 +146,8 @@ pub fn round(
     Ok(star)
 }
 
-/// A great circle near one of its directions: the label on it, and those on the side to which the normal points and on
-/// the other.
-#[derive(Debug, Clone, Copy, PartialEq, Eq)]
+/// A great circle near one of its directions: the labels on it, on the side of its normal, and on the other side.
+#[derive(Clone, Copy)]
 pub struct Line {
     pub normal: Dir,
     pub mark: Label,
@@ -161,8 +155,7 @@ pub struct Line {
     pub neg: Label,
 }
 
-// The four rays of two lines that cross, from the first line's that goes ahead on. The second line's next ray goes ahead
-// if `left`.
+// The star of two lines that cross: the first ray goes ahead along x, and the next, along y, ahead if `left`.
 fn four_rays(
     alloc: Global,
     axis: Dir,
@@ -196,9 +189,8 @@ fn four_rays(
     Ok(Star::of(axis, rays, sectors, mark))
 }
 
-/// The star of a direction in which two great circles cross, with the labels of the operation on theirs. It isn't merged
-/// of two stars, since the order of the four rays is known at once. `OutOfMemory` says that memory was wanted and not
-/// found.
+/// The star of a direction in which two great circles cross, with the labels of the operation. The order of the four
+/// rays is known at once, so no two stars are merged. `OutOfMemory` says that memory was wanted and not found.
 pub fn crossed(alloc: Global, axis: Dir, x: &Line, y: &Line, op: Op) -> Result<Star, OutOfMemory>
     requires small { IsAtMost svertex_limit (vector_of axis) }
     requires first { IsLine (vector_of axis) x.now }
@@ -209,7 +201,7 @@ pub fn crossed(alloc: Global, axis: Dir, x: &Line, y: &Line, op: Op) -> Result<S
     ensures mark { IfOk result (λ t. t.mark ≡ op_label op x.now.mark y.now.mark) }
     ensures labels { IfOk result (IsCrossed op axis x.now y.now) }
 {
-    // whether the second line leaves the axis less than half a turn after the first, both ahead
+    // whether, both ahead, the second line leaves the axis less than half a turn after the first
     let left = triple(&axis, &x.normal, &y.normal).is_plus();
     let mut star = four_rays(alloc, axis, x, y, left, op)?;
     begin_with_least(&mut star);

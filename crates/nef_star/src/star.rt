@@ -1,18 +1,14 @@
-//! Rays, stars, and the operations whose labels they take.
+//! Rays, stars, and the boolean operations on labels.
 
 ghost use Rattle.std.specs.Prelude.{◌≡◌, ◌↔◌};
-ghost use Rattle.nef_geo.specs.Prelude.{IsTrue, vector_of, label_number};
-ghost use Rattle.law_sphere.specs.Stars.{IsPlain, IsStraight};
-ghost use Rattle.nef_star.specs.Stars.{star_of, left_of, AreStraight, IsStar};
-ghost use Rattle.nef_star.specs.Laws.{EachHasOneLabel};
-ghost use Rattle.nef_star.specs.Ops.{op_label};
+ghost use Rattle.nef_star.specs.Prelude.{IsTrue, vector_of, label_number, IsPlain, IsStraight, star_of, left_of, AreStraight, IsStar, EachHasOneLabel, op_label};
 
 use nef_case::{op_and, op_diff, op_or, op_xor};
 use nef_geo::{Dir, Label};
 
-/// A ray leaves the axis along `normal x axis` where it goes ahead, and the opposite way otherwise. Its normal is
-/// perpendicular to the axis. `mark` is the label on it.
-#[derive(Debug, Clone, Copy, PartialEq, Eq)]
+/// A ray leaves the axis of a star along `normal x axis` where it goes ahead, and the opposite way otherwise. The
+/// normal is perpendicular to the axis. `mark` is the label on the ray.
+#[derive(Clone, Copy)]
 pub struct Ray {
     pub normal: Dir,
     pub ahead: bool,
@@ -20,7 +16,6 @@ pub struct Ray {
 }
 
 impl Ray {
-    /// The ray with this normal that goes ahead or not, and has the label `mark`.
     pub fn of(normal: Dir, ahead: bool, mark: Label) -> Ray
         ensures normal { result.normal ≡ normal }
         ensures ahead { result.ahead ≡ ahead }
@@ -33,7 +28,7 @@ impl Ray {
         }
     }
 
-    /// The direction to the left of the ray, seen from outside.
+    /// The direction to the left of the ray, seen from outside the sphere.
     pub(crate) fn left(&self) -> Dir
         ensures left { vector_of result ≡ left_of self.now }
     {
@@ -46,9 +41,9 @@ impl Ray {
 }
 
 /// The neighbourhood of the direction `axis` on the sphere. The rays stand in counterclockwise order, seen from
-/// outside, and begin with the least by normal, with one that goes ahead before its opposite. Sector i lies after
+/// outside, from the least ray on: by normals, and with a ray that goes ahead before its opposite. Sector i lies after
 /// ray i, counterclockwise; a star without rays has one sector. `mark` is the label on the axis.
-#[derive(Debug, Drop)]
+#[derive(Drop)]
 pub struct Star {
     pub axis: Dir,
     pub rays: Vec<Ray>,
@@ -57,8 +52,8 @@ pub struct Star {
 }
 
 impl Star {
-    /// The star with these rays and the sectors after them, and the label `mark` on its axis. It is a star where the rays
-    /// are perpendicular to the axis, stand in counterclockwise order from the least on, and have a sector each.
+    /// The star with these rays, the sectors after them, and the label `mark` on the axis. The rays are to be
+    /// perpendicular to the axis, in counterclockwise order from the least ray on, with a sector each.
     pub fn of(axis: Dir, rays: Vec<Ray>, sectors: Vec<Label>, mark: Label) -> Star
         ensures axis { result.axis ≡ axis }
         ensures rays { result.rays.items ≡ rays.items }
@@ -75,7 +70,7 @@ impl Star {
     }
 }
 
-/// Whether the star has no ray, and its mark is its sector's label.
+/// Whether the star has no ray, and one label on its axis and in its sector.
 pub fn is_plain(star: &Star) -> bool
     requires star { IsStar star.now }
     ensures plain { IsTrue result ↔ IsPlain (star_of star.now) }
@@ -83,7 +78,7 @@ pub fn is_plain(star: &Star) -> bool
     star.rays.is_empty() && star.sectors[0] == star.mark
 }
 
-// Whether two rays have one normal, and both have the mark.
+// Whether the two rays have one normal, and both have this mark.
 fn are_straight(first: &Ray, second: &Ray, mark: Label) -> bool
     ensures both { IsTrue result ↔ AreStraight first.now second.now mark }
 {
@@ -93,8 +88,7 @@ fn are_straight(first: &Ray, second: &Ray, mark: Label) -> bool
     first.mark == mark && second.mark == mark
 }
 
-/// Whether the star has exactly two rays, which are opposite, both with its mark. The one that goes ahead then
-/// stands first.
+/// Whether the star has exactly two rays, which are opposite, both with its mark: the one ahead stands first.
 pub fn is_straight(star: &Star) -> bool
     requires star { IsStar star.now }
     ensures straight { IsTrue result ↔ IsStraight (star_of star.now) }
@@ -111,17 +105,17 @@ pub fn star_laws()
 {}
 
 /// A boolean operation on two sets: CGAL manual, "3D Boolean Operations on Nef Polyhedra".
-#[derive(Debug, Clone, Copy, PartialEq, Eq)]
+#[derive(Clone, Copy)]
 pub enum Op {
     And,
     Or,
-    /// The first without the second.
+    /// The first set without the second.
     Diff,
-    /// Where exactly one of the two holds.
+    /// Where exactly one of the two sets holds.
     Xor,
 }
 
-// The label of a number from -1 to 1.
+// The label with this number, from -1 to 1.
 fn label_of(number: i8) -> Label
     ensures label { (l : Label) → number ≡ label_number l → result ≡ l }
 {
@@ -133,8 +127,8 @@ fn label_of(number: i8) -> Label
 }
 
 impl Op {
-    /// The label of the combination, from the labels of its two sets: `Out` where one is `Out`; otherwise
-    /// `In` exactly where the combination holds.
+    /// The label of the combination, from the labels of both sets: `Out` where one of them is `Out`; otherwise `In`
+    /// exactly where the combination holds.
     pub fn label(self, a: Label, b: Label) -> Label
         ensures label { result ≡ op_label self a b }
     {

@@ -1,19 +1,7 @@
 -- The operation on the labels of two maps of sets gives the germs of the combination.
-use Rattle.std.proofs.Common.{◌≡◌, refl, sym, ◌↔◌, subst}
-use Rattle.nef_space.specs.Place.{Place}
-use Rattle.nef_space.specs.Sets.{Set}
-use Rattle.nef_space.specs.Vectors.{Vector, IsDirection}
-use Rattle.nef_space.specs.declared.label.Label.{Label}
-use Rattle.nef_space.specs.declared.label.Label.TheVariants.{Out, Not, In}
-use Rattle.nef_space.specs.Local.{HasLabel, Germ}
-use Rattle.law_near.specs.Cones.{label_and, label_or, label_less, label_one_of}
+use Rattle.nef_stopo.proofs.Prelude.{◌≡◌, refl, sym, ◌↔◌, subst, Place, Set, Vector, IsDirection, Label, Out, Not, In, HasLabel, Germ, label_and, label_or, label_less, label_one_of, ByOp, Cone, Map, MapLabel, Valid, Op, op_label}
 use Rattle.law_near.proofs.Combine.{and-label, or-label, less-label, one_of-label, germ-combines}
-use Rattle.law_sphere.specs.Labelling.{ByOp}
-use Rattle.law_sphere.specs.Least.{Cone}
-use Rattle.law_sphere.specs.Maps.{Map, MapLabel, Valid}
-use Rattle.nef_star.specs.declared.star.Op.{Op}
 use Rattle.nef_star.specs.declared.star.Op.TheVariants.{And, Or, Diff, Xor}
-use Rattle.nef_star.specs.Ops.{op_label}
 use Rattle.nef_stopo.specs.Sets.{op_set}
 
 -- ---- two ways to write the tables

@@ -1,16 +1,8 @@
 -- What is known of the labels of two lists is known of the two together.
-use Rattle.std.proofs.Common.{◌≡◌, ℕ, ◌+◌, ◌<◌, ◌≤◌, List, [], ◌∷◌, ◌++◌, map, length, get_or, take, Bool, true, false, ◌&&◌, ◌||◌, refl, sym, ap, ◌∙◌, add-one, append_assoc}
-use Rattle.std.proofs.lemmas.List.{take_all, map-append, append-nil}
+use Rattle.nef_stopo.proofs.Prelude.{◌≡◌, ℕ, ◌+◌, ◌<◌, ◌≤◌, List, [], ◌∷◌, ◌++◌, map, length, get_or, take, Bool, true, false, ◌&&◌, ◌||◌, refl, sym, ap, ◌∙◌, add-one, append_assoc, take_all, map-append, append-nil, Label, gather, Topology, is_in, all_in, some_in, label_by, label_from, ray_mark, Ray, ray_of, nearby_of}
 use Rattle.std.proofs.Math.Seq.{take-suc}
-use Rattle.nef_space.specs.declared.label.Label.{Label}
-use Rattle.law_sphere.specs.Forms.{gather}
 use Rattle.law_sphere.specs.Stars.{Ray as PlainRay}
-use Rattle.law_border.specs.Topology.{Topology}
-use Rattle.law_border.specs.Marks.{is_in, all_in, some_in, label_by, label_from, ray_mark}
-use Rattle.nef_star.specs.declared.star.Ray.{Ray}
-use Rattle.nef_star.specs.Stars.{ray_of}
 use Rattle.nef_stopo.specs.declared.topology.Nearby.{Nearby}
-use Rattle.nef_stopo.specs.Labels.{nearby_of}
 
 and-append : (a : Bool) (xs ys : List Label) → a && (all_in xs && all_in ys) ≡ (a && all_in xs) && all_in ys
 and-append true xs ys = refl

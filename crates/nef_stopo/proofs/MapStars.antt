@@ -1,23 +1,5 @@
 -- The stars of a map's svertices, one after another.
-use Rattle.std.proofs.Common.{◌≡◌, ℕ, ◌+◌, ◌<◌, List, [], ◌∷◌, ◌++◌, length, get_or, sym, ap, subst, ◌∙◌, inl, inr}
-use Rattle.std.proofs.lemmas.List.{length_push}
-use Rattle.nef_space.specs.Limits.{svertex_limit}
-use Rattle.nef_space.specs.Vectors.{IsAtMost}
-use Rattle.nef_geo.specs.Shapes.{vector_of}
-use Rattle.law_sphere.specs.Maps.{At}
-use Rattle.law_sphere.proofs.Lists.{at-one}
-use Rattle.law_border.specs.Topology.{Topology}
-use Rattle.law_border.specs.Marks.{IsRemarked, IsRemarkedAt}
-use Rattle.nef_star.specs.declared.star.Star.{Star}
-use Rattle.nef_star.specs.Stars.{star_of, IsStar}
-use Rattle.nef_smap.specs.declared.map.SVertex.{SVertex}
-use Rattle.nef_smap.specs.declared.map.SphereMap.{SphereMap}
-use Rattle.nef_smap.specs.Maps.{svertex_of, map_of, IsSphereMap}
-use Rattle.nef_smap.specs.Stars.{IsNeighbourhood}
-use Rattle.nef_smap.proofs.Lists.{map-at, get-at}
-use Rattle.nef_smap.proofs.WellFormed.{star-well_formed}
-use Rattle.nef_spair.proofs.Places.{at-more}
-use Rattle.nef_stopo.specs.Stars.{AreRemarked}
+use Rattle.nef_stopo.proofs.Prelude.{◌≡◌, ℕ, ◌+◌, ◌<◌, List, [], ◌∷◌, ◌++◌, length, get_or, sym, ap, subst, ◌∙◌, inl, inr, length_push, svertex_limit, IsAtMost, vector_of, At, at-one, Topology, IsRemarked, IsRemarkedAt, Star, star_of, IsStar, SVertex, SphereMap, svertex_of, map_of, IsSphereMap, IsNeighbourhood, map-at, get-at, star-well_formed, at-more, AreRemarked}
 
 pub at-read : {A : Type 0} (rs ss : List A) (i : ℕ) (x : A) → rs ≡ ss → i < length rs → x ≡ get_or rs i x → At ss i x
 at-read {A} rs ss i x e within is = subst (λ (l : List A). At l i x) e (subst (At rs i) (sym is) (get-at rs i x within))

@@ -1,20 +1,5 @@
 -- Rays with what their marks become, one after another.
-use Rattle.std.proofs.Common.{◌≡◌, ℕ, ◌+◌, ◌-◌, ◌<◌, List, [], ◌∷◌, ◌++◌, length, get_or, arith, refl, sym, ap, subst, ◌∙◌, inl, inr}
-use Rattle.std.proofs.lemmas.List.{length_push}
-use Rattle.nef_space.specs.declared.label.Label.{Label}
-use Rattle.nef_space.specs.declared.label.Label.TheVariants.{Out}
-use Rattle.law_sphere.specs.Maps.{At}
-use Rattle.law_sphere.proofs.Lists.{at-one}
-use Rattle.law_border.specs.Topology.{Topology}
-use Rattle.nef_star.specs.declared.star.Ray.{Ray}
-use Rattle.nef_star.specs.declared.star.Star.{Star}
-use Rattle.nef_star.specs.Stars.{sector_count, IsStar}
-use Rattle.nef_star.specs.Turning.{IsNext}
-use Rattle.nef_star.proofs.Labelled.{sectors-fill}
-use Rattle.nef_star.proofs.Counted.{count-some}
-use Rattle.nef_smap.proofs.Lists.{get-at}
-use Rattle.nef_spair.proofs.Places.{at-more}
-use Rattle.nef_stopo.specs.Stars.{IsMarked, AreMarked}
+use Rattle.nef_stopo.proofs.Prelude.{◌≡◌, ℕ, ◌+◌, ◌-◌, ◌<◌, List, [], ◌∷◌, ◌++◌, length, get_or, arith, refl, sym, ap, subst, ◌∙◌, inl, inr, length_push, Label, Out, At, at-one, Topology, Ray, Star, sector_count, IsStar, IsNext, sectors-fill, count-some, get-at, at-more, IsMarked, AreMarked}
 
 -- l is the label of the sector before ray n
 abbrev pub IsBefore : Star → ℕ → Label → Type 0

@@ -1,23 +1,7 @@
 -- A least map with In and Not exchanged everywhere is the least map of the complement.
-use Rattle.std.proofs.Common.{◌≡◌, List, [], ◌∷◌, Option, Some, None, Bool, map, refl, ap, sym, subst, ◌∙◌}
-use Rattle.std.specs.Prelude.{option_map}
-use Rattle.nef_space.specs.Limits.{normal_limit, svertex_limit}
-use Rattle.nef_space.specs.Place.{Place}
-use Rattle.nef_space.specs.Sets.{Set}
-use Rattle.nef_space.specs.Vectors.{IsAtMost}
-use Rattle.nef_space.specs.declared.label.Label.{Label}
-use Rattle.nef_space.specs.declared.label.Label.TheVariants.{Out, Not, In}
-use Rattle.law_sphere.specs.Maps.{MapVertex, Arc, MapSloop, Item, Map, item_normal, Valid}
-use Rattle.law_sphere.specs.Least.{Least, Ordered, Cone}
-use Rattle.law_border.specs.Topology.{complement}
-use Rattle.law_border.specs.Marks.{all_in, some_in, label_by, sloop_by, exchanged, exchanged_svertex, exchanged_arc, exchanged_sloop, exchanged_map}
-use Rattle.law_border.proofs.Cones.{topology-cone}
+use Rattle.nef_stopo.proofs.Prelude.{◌≡◌, List, [], ◌∷◌, Option, Some, None, Bool, map, refl, ap, sym, subst, ◌∙◌, option_map, normal_limit, svertex_limit, Place, Set, IsAtMost, Label, Out, Not, In, MapVertex, Arc, MapSloop, Item, Map, item_normal, Valid, Least, Ordered, Cone, complement, all_in, some_in, label_by, sloop_by, exchanged, exchanged_svertex, exchanged_arc, exchanged_sloop, exchanged_map, topology-cone, SArc, SphereMap, SVertex, svertex_of, arc_of, sloop_of, map_of, IsSmall, IsLeastMap}
 use Rattle.law_border.proofs.Exchanged.{item-same, svertex-was, item-was}
 use Rattle.law_border.proofs.ExchangedLabels.{exchanged-laws}
-use Rattle.nef_smap.specs.declared.map.SArc.{SArc}
-use Rattle.nef_smap.specs.declared.map.SphereMap.{SphereMap}
-use Rattle.nef_smap.specs.declared.map.SVertex.{SVertex}
-use Rattle.nef_smap.specs.Maps.{svertex_of, arc_of, sloop_of, map_of, IsSmall, IsLeastMap}
 
 -- the complement of a circle looks at no labels close to it
 other-label : (l : Label) (all some : Bool) → label_by complement l all some ≡ exchanged l

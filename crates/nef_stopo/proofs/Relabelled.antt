@@ -1,35 +1,9 @@
 -- The raw stars of a map with what its labels become, and the map that is built of them.
-use Rattle.std.proofs.Common.{◌≡◌, ℕ, List, length, map, Option, Some, None, Result, Ok, Err, IfOk, refl, sym, ap, subst, ◌∙◌}
-use Rattle.std.proofs.lemmas.List.{length-map}
-use Rattle.std.specs.Prelude.{option_map}
-use Rattle.nef_space.specs.Limits.{normal_limit}
-use Rattle.nef_space.specs.Place.{Place}
-use Rattle.nef_space.specs.Sets.{Set}
-use Rattle.nef_space.specs.Vectors.{Vector, IsDirection, IsAtMost}
-use Rattle.nef_space.specs.declared.label.Label.{Label}
-use Rattle.nef_geo.specs.Shapes.{vector_of}
-use Rattle.law_sphere.specs.Maps.{At, MapVertex, MapSloop, MapLabel, sloop_item}
-use Rattle.law_sphere.specs.Forms.{forms}
-use Rattle.law_sphere.specs.Least.{Cone}
+use Rattle.nef_stopo.proofs.Prelude.{◌≡◌, ℕ, List, length, map, Option, Some, None, Result, Ok, Err, IfOk, refl, sym, ap, subst, ◌∙◌, length-map, option_map, normal_limit, Place, Set, Vector, IsDirection, IsAtMost, Label, vector_of, At, MapVertex, MapSloop, MapLabel, sloop_item, forms, Cone, at-sloop, IsLabelling, IsRawOf, Topology, set_by, IsTopologyMap, MarkLabel, label_from, face_label, sloop_by, map_labels, IsRemarkedAt, IsTopologyRaw, at-other, topology-cone, Star, star_of, IsStar, SLoop, SphereMap, RawStars, svertex_of, sloop_of, map_of, raw_of, IsSphereMap, IsLeastMap, IsRawStars, at-map, at-all, AreRemarked}
 use Rattle.law_sphere.specs.Stars.{Star as PlainStar}
-use Rattle.law_sphere.proofs.Arcs.{at-sloop}
-use Rattle.law_sphere.specs.Raw.{IsLabelling, IsRawOf}
-use Rattle.law_border.specs.Topology.{Topology, set_by, IsTopologyMap, MarkLabel}
-use Rattle.law_border.specs.Marks.{label_from, face_label, sloop_by, map_labels, IsRemarkedAt, IsTopologyRaw}
-use Rattle.law_build.proofs.KeptStars.{at-other}
 use Rattle.law_border.proofs.RawTopology.{topology-stars}
 use Rattle.law_border.proofs.MarkMade.{topology-mark}
-use Rattle.law_border.proofs.Cones.{topology-cone}
-use Rattle.nef_star.specs.declared.star.Star.{Star}
-use Rattle.nef_star.specs.Stars.{star_of, IsStar}
-use Rattle.nef_smap.specs.declared.map.SLoop.{SLoop}
-use Rattle.nef_smap.specs.declared.map.SphereMap.{SphereMap}
-use Rattle.nef_smap.specs.declared.map.RawStars.{RawStars}
-use Rattle.nef_smap.specs.Maps.{svertex_of, sloop_of, map_of, raw_of, IsSphereMap, IsLeastMap, IsRawStars}
-use Rattle.nef_smap.proofs.Lists.{at-map}
-use Rattle.nef_spair.proofs.Places.{at-all}
 use Rattle.nef_stopo.specs.Made.{IsMadeBy}
-use Rattle.nef_stopo.specs.Stars.{AreRemarked}
 
 -- a circle was one with the same normal
 sloop-was : (k : Topology) (r s : Option SLoop) (l : SLoop) → option_map sloop_of r ≡ option_map (sloop_by k) (option_map sloop_of s) → r ≡ Some l

@@ -1,25 +1,7 @@
 -- A star with other marks is a star; and with what its marks and sectors become it is remarked.
-use Rattle.std.proofs.Common.{◌≡◌, ℕ, zero, suc, ◌-◌, ◌<◌, List, [], ◌∷◌, length, map, get_or, Bool, cond, arith, refl, sym, ap, subst, ◌∙◌, inl, inr}
-use Rattle.std.proofs.lemmas.List.{length-map}
-use Rattle.nef_space.specs.Limits.{normal_limit, svertex_limit}
-use Rattle.nef_space.specs.Numbers.{IsBelow}
-use Rattle.nef_space.specs.Vectors.{Vector, zero_vector, opposite, dot, triple_of, IsAtMost, IsNormal}
-use Rattle.nef_space.specs.declared.label.Label.{Label}
-use Rattle.nef_space.specs.declared.label.Label.TheVariants.{Out}
-use Rattle.nef_geo.specs.Shapes.{vector_of}
-use Rattle.nef_geo.specs.declared.dir.Dir.{Dir}
-use Rattle.law_sphere.specs.Maps.{At}
-use Rattle.law_sphere.specs.Stars.{Ray as PlainRay, Follows}
-use Rattle.law_border.specs.Topology.{Topology}
-use Rattle.law_border.specs.Marks.{label_from, face_label, star_labels, marked, IsRemarked}
-use Rattle.nef_star.specs.declared.star.Ray.{Ray}
-use Rattle.nef_star.specs.declared.star.Star.{Star}
-use Rattle.nef_star.specs.Stars.{ray_of, star_of, left_of, left_at, sector_count, IsRay, IsRayBelow, IsTurned, IsStar}
-use Rattle.nef_star.specs.Turning.{IsTurning, IsNext}
-use Rattle.nef_star.proofs.Labelled.{sectors-fill}
+use Rattle.nef_stopo.proofs.Prelude.{◌≡◌, ℕ, zero, suc, ◌-◌, ◌<◌, List, [], ◌∷◌, length, map, get_or, Bool, cond, arith, refl, sym, ap, subst, ◌∙◌, inl, inr, length-map, normal_limit, svertex_limit, IsBelow, Vector, zero_vector, opposite, dot, triple_of, IsAtMost, IsNormal, Label, Out, vector_of, Dir, At, Follows, Topology, label_from, face_label, star_labels, marked, IsRemarked, Ray, Star, ray_of, star_of, left_of, left_at, sector_count, IsRay, IsRayBelow, IsTurned, IsStar, IsTurning, IsNext, sectors-fill, map-at, at-map, at-within, get-at, IsMarked, AreMarked}
+use Rattle.law_sphere.specs.Stars.{Ray as PlainRay}
 use Rattle.nef_star.proofs.RayOrder.{one-value}
-use Rattle.nef_smap.proofs.Lists.{map-at, at-map, at-within, get-at}
-use Rattle.nef_stopo.specs.Stars.{IsMarked, AreMarked}
 
 -- the same ray but for the mark
 pub record IsAlike (r u : Ray) : Type 0 where

@@ -1,6 +1,5 @@
 -- A list whose elements are written over one after another, as seen through their views.
-use Rattle.std.proofs.Common.{◌≡◌, ℕ, ◌+◌, ◌<◌, ◌≤◌, List, ◌++◌, map, take, drop, length, get_or, slice_set, length-set, sym, ap, subst, ◌∙◌}
-use Rattle.std.proofs.lemmas.List.{get_or-map, map-set, length-map, take_all, drop_all, append-nil}
+use Rattle.nef_stopo.proofs.Prelude.{◌≡◌, ℕ, ◌+◌, ◌<◌, ◌≤◌, List, ◌++◌, map, take, drop, length, get_or, slice_set, length-set, sym, ap, subst, ◌∙◌, get_or-map, map-set, length-map, take_all, drop_all, append-nil}
 use Rattle.std.proofs.lemmas.List.Edits.{map_over_more}
 
 -- the first n of the views are f of what they were, and the others are as they were

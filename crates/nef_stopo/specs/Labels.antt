@@ -1,6 +1,5 @@
--- The operations of topology as those of the theory, and what is known of the labels close to something.
-use Rattle.std.specs.Prelude.{List}
-use Rattle.nef_space.specs.declared.label.Label.{Label}
+-- The program's operations of topology as those of the theory, and what is known of a list of labels.
+use Rattle.nef_geo.specs.Prelude.{List, Label}
 use Rattle.law_border.specs.Topology.{Topology as SetTopology, interior, closure, boundary, complement}
 use Rattle.law_border.specs.Marks.{all_in, some_in}
 use Rattle.nef_stopo.specs.declared.topology.Topology.{Topology}

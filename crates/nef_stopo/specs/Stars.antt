@@ -1,30 +1,27 @@
--- The rays and the stars with the marks that they get, as far as they have been made.
-use Rattle.std.specs.Prelude.{◌≡◌, ℕ, List, [], ◌∷◌, length}
+-- The rays and the stars with an operation's marks, as far as they have been made.
+use Rattle.std.specs.Prelude.{◌≡◌, ◌∷◌}
+use Rattle.nef_spair.specs.Prelude.{ℕ, List, [], length, vector_of, At, star_of, IsStar, map_of}
 use Rattle.nef_space.specs.declared.label.Label.{Label}
-use Rattle.nef_geo.specs.Shapes.{vector_of}
-use Rattle.law_sphere.specs.Maps.{At}
 use Rattle.law_border.specs.Topology.{Topology}
 use Rattle.law_border.specs.Marks.{label_from, IsRemarkedAt}
 use Rattle.nef_star.specs.declared.star.Ray.{Ray}
 use Rattle.nef_star.specs.declared.star.Star.{Star}
-use Rattle.nef_star.specs.Stars.{star_of, IsStar}
 use Rattle.nef_star.specs.Turning.{IsNext}
 use Rattle.nef_smap.specs.declared.map.SVertex.{SVertex}
 use Rattle.nef_smap.specs.declared.map.SphereMap.{SphereMap}
-use Rattle.nef_smap.specs.Maps.{map_of}
 
--- u is r with what its mark becomes between the sectors l and m
+-- u is the ray r with the operation's mark, where the sectors beside r have the labels l and m
 pub record IsMarked (k : Topology) (l m : Label) (r u : Ray) : Type 0 where
   pub normal : u.normal ≡ r.normal
   pub ahead : u.ahead ≡ r.ahead
   pub mark : u.mark ≡ label_from k r.mark (l ∷ m ∷ [])
 
--- us has the first n rays of t, with what their marks become
+-- us has the first n rays of t with the operation's marks
 pub record AreMarked (k : Topology) (t : Star) (n : ℕ) (us : List Ray) : Type 0 where
   pub as_many : length us ≡ n
   pub rays : (i j : ℕ) (r u : Ray) (l m : Label) → At t.rays.items j r → At us j u → IsNext (length t.rays.items) i j → At t.sectors.items i l → At t.sectors.items j m → IsMarked k l m r u
 
--- us has the stars at the first n svertices of the map, with what their marks become
+-- us has the stars at the first n svertices of the map with the operation's labels
 pub record AreRemarked (k : Topology) (m : SphereMap) (n : ℕ) (us : List Star) : Type 0 where
   pub as_many : length us ≡ n
   pub stars : (i : ℕ) (v : SVertex) (u : Star) → At m.svertices i v → At us i u → IsStar u × IsRemarkedAt k (map_of m) (vector_of v.dir) (star_of u)

@@ -1,5 +1,4 @@
-//! Operations on sphere maps: interior, closure, boundary and complement of the set that a map shows, and the combination of
-//! the sets that two maps show.
+//! Operations on sphere maps: topological operations on the set of a map, and combinations of the sets of two maps.
 #![tactic(auto)]
 
 mod operations;

@@ -1,20 +1,7 @@
-//! The operations on sphere maps: those of topology, of which the complement is made in place too, and the combination of the
-//! sets that two maps show at a point.
+//! The operations of topology on sphere maps, with the complement in place too, and combinations of two maps.
 
 ghost use Rattle.std.specs.Prelude.{◌≡◌, ◌↔◌};
-ghost use Rattle.nef_geo.specs.Prelude.{IfOk, length, map, Place, Set, Vector, IsDirection, Label as PlainLabel};
-ghost use Rattle.law_sphere.specs.Labelling.{ByOp};
-ghost use Rattle.law_sphere.specs.Least.{Cone};
-ghost use Rattle.law_sphere.specs.Maps.{MapLabel};
-ghost use Rattle.law_border.specs.Topology.{set_by, interior as made_interior, closure as made_closure, boundary as made_boundary, complement as made_complement};
-ghost use Rattle.nef_star.specs.Ops.{op_label};
-ghost use Rattle.nef_smap.specs.Maps.{map_of, IsSphereMap, IsLeastMap, svertex_of, arc_of};
-ghost use Rattle.nef_stopo.specs.Labels.{topology_of};
-ghost use Rattle.nef_stopo.specs.Made.{IsMadeBy};
-ghost use Rattle.nef_stopo.specs.Sets.{op_set};
-ghost use Rattle.law_border.specs.Marks.{IsRemarked, face_label, exchanged_svertex as other_svertex, exchanged_arc as other_arc};
-ghost use Rattle.nef_star.specs.Stars.{star_of, IsStar};
-ghost use Rattle.nef_stopo.specs.Stars.{AreMarked, AreRemarked};
+ghost use Rattle.nef_stopo.specs.Prelude.{IfOk, length, map, Place, Set, Vector, IsDirection, Label as PlainLabel, ByOp, Cone, MapLabel, set_by, interior as made_interior, closure as made_closure, boundary as made_boundary, complement as made_complement, op_label, map_of, IsSphereMap, IsLeastMap, svertex_of, arc_of, topology_of, IsMadeBy, op_set, IsRemarked, face_label, exchanged_svertex as other_svertex, exchanged_arc as other_arc, star_of, IsStar, AreMarked, AreRemarked};
 
 use crate::OutOfMemory;
 use crate::topology::{Nearby, Topology, near_map, near_star};
@@ -25,7 +12,7 @@ use nef_spair::build;
 use nef_star::{Op, Ray, Star};
 use std::alloc::Global;
 
-// The rays with what their marks become between the sectors on their two sides.
+// The rays of the star with the operation's marks, by each ray's mark and the labels of the sectors on both sides.
 fn remarked_rays(alloc: Global, star: &Star, topology: Topology) -> Result<Vec<Ray>, OutOfMemory>
     requires star { IsStar star.now }
     ensures rays { IfOk result (λ rays. AreMarked (topology_of topology) star.now (length star.now.rays.items) rays.items) }
@@ -43,7 +30,7 @@ fn remarked_rays(alloc: Global, star: &Star, topology: Topology) -> Result<Vec<R
     Ok(rays)
 }
 
-// What the labels of the sectors become.
+// The operation's labels of the sectors.
 fn remarked_sectors(
     alloc: Global,
     sectors: &[Label],
@@ -57,7 +44,7 @@ fn remarked_sectors(
         .collect(alloc)
 }
 
-// The star with what its marks and its sectors become.
+// The star with the operation's marks and labels.
 fn remarked(alloc: Global, star: &Star, topology: Topology) -> Result<Star, OutOfMemory>
     requires star { IsStar star.now }
     ensures star { IfOk result IsStar }
@@ -69,7 +56,7 @@ fn remarked(alloc: Global, star: &Star, topology: Topology) -> Result<Star, OutO
     Ok(Star::of(star.axis, rays, sectors, mark))
 }
 
-// The stars of the map's svertices with what their marks and their sectors become.
+// The stars of the map's svertices with the operation's marks and labels.
 fn remarked_stars(
     alloc: Global,
     map: &SphereMap,
@@ -86,7 +73,7 @@ fn remarked_stars(
     Ok(stars)
 }
 
-// The least map of the map's stars, its mark, its sloop and its one face with what they become.
+// The least map of the operation: of the map's stars, mark, sloop and ground with the operation's labels.
 fn made(alloc: Global, map: &SphereMap, topology: Topology) -> Result<SphereMap, OutOfMemory>
     requires map { IsSphereMap map.now }
     ensures made { IfOk result (IsMadeBy (topology_of topology) (set_by (topology_of topology)) map.now) }
@@ -100,9 +87,9 @@ fn made(alloc: Global, map: &SphereMap, topology: Topology) -> Result<SphereMap,
     build(alloc, raw)
 }
 
-/// The least map of the interior: what is In, and has only In close to it. An item is In exactly where it and every
-/// item of higher dimension that it borders, svertices, arcs and faces, is In; `Out` stays `Out`. It fails only where
-/// no memory is left.
+/// The least map of the interior: the points that are In with only In close to them. A svertex, an arc or a face
+/// becomes In exactly if it is In with all arcs and faces that it borders; `Out` stays `Out`. `OutOfMemory` says that
+/// memory was wanted and not found.
 pub fn interior(alloc: Global, map: &SphereMap) -> Result<SphereMap, OutOfMemory>
     requires map { IsSphereMap map.now }
     ensures made { IfOk result (IsMadeBy made_interior Set.inside map.now) }
@@ -110,9 +97,9 @@ pub fn interior(alloc: Global, map: &SphereMap) -> Result<SphereMap, OutOfMemory
     made(alloc, map, Topology::Interior)
 }
 
-/// The least map of the closure: what is In, or has some In close to it. An item is In exactly where it or some item of
-/// higher dimension that it borders, a svertex, an arc or a face, is In; `Out` stays `Out`. It fails only where no
-/// memory is left.
+/// The least map of the closure: the points that are In or have some In close to them. A svertex, an arc or a face
+/// becomes In exactly if it, or some arc or face that it borders, is In; `Out` stays `Out`. `OutOfMemory` says that
+/// memory was wanted and not found.
 pub fn closure(alloc: Global, map: &SphereMap) -> Result<SphereMap, OutOfMemory>
     requires map { IsSphereMap map.now }
     ensures made { IfOk result (IsMadeBy made_closure Set.closed map.now) }
@@ -120,7 +107,7 @@ pub fn closure(alloc: Global, map: &SphereMap) -> Result<SphereMap, OutOfMemory>
     made(alloc, map, Topology::Closure)
 }
 
-/// The least map of the boundary, which is the closure without the interior; `Out` stays `Out`. It fails only where no
+/// The least map of the boundary, the closure without the interior; `Out` stays `Out`. An error comes only where no
 /// memory is left.
 pub fn boundary(alloc: Global, map: &SphereMap) -> Result<SphereMap, OutOfMemory>
     requires map { IsSphereMap map.now }
@@ -137,9 +124,8 @@ pub fn complement(alloc: Global, map: &SphereMap) -> Result<SphereMap, OutOfMemo
     made(alloc, map, Topology::Complement)
 }
 
-/// The least map whose mark and labels are those of the operation on the marks and labels of two maps. Where the maps
-/// are those of two sets at a point, it is the map of the combination of the sets there. `OutOfMemory` says that memory
-/// was wanted and not found.
+/// The least map whose mark and labels the operation makes of the marks and labels of two maps. Where these show two
+/// sets at a point, the result shows the combination there. `OutOfMemory` says that memory was wanted and not found.
 pub fn combine(
     alloc: Global,
     a: &SphereMap,
@@ -181,8 +167,8 @@ fn exchanged_arcs(arcs: List<SArc>) -> List<SArc>
     List::from_vec(items)
 }
 
-/// The map with In and `Not` exchanged everywhere; `Out` stays `Out`. Of a least map it is the least map of the
-/// complement, which [`complement`](crate::complement) builds of any map. It takes no memory.
+/// The map with In and `Not` exchanged everywhere; `Out` stays `Out`. From a least map this is the least map of the
+/// complement, which [`complement`](crate::complement) builds from any map. No memory is taken.
 pub fn exchanged(map: SphereMap) -> SphereMap
     requires least { IsLeastMap map }
     ensures least { IsLeastMap result }

@@ -1,12 +1,7 @@
-//! The operations of topology, and what each makes of labels and of what is known of the labels close to them.
+//! The operations of topology, and the label that each makes of a label and of the labels close to it.
 
 ghost use Rattle.std.specs.Prelude.{◌≡◌, ◌∷◌, ◌++◌};
-ghost use Rattle.nef_geo.specs.Prelude.{option_map, List, [], map, Label};
-ghost use Rattle.law_border.specs.Marks.{in_by, label_by, face_label, sloop_by, is_in, ray_mark, star_labels, svertex_labels, arc_labels, sloop_labels, option_labels, map_labels};
-ghost use Rattle.nef_smap.specs.Maps.{sloop_of, svertex_of, arc_of, map_of};
-ghost use Rattle.nef_stopo.specs.Labels.{topology_of, nearby_of};
-ghost use Rattle.law_sphere.specs.Forms.{gather};
-ghost use Rattle.nef_star.specs.Stars.{ray_of, star_of};
+ghost use Rattle.nef_stopo.specs.Prelude.{option_map, List, [], map, Label, in_by, label_by, face_label, sloop_by, is_in, ray_mark, star_labels, svertex_labels, arc_labels, sloop_labels, option_labels, map_labels, sloop_of, svertex_of, arc_of, map_of, topology_of, nearby_of, gather, ray_of, star_of};
 
 use nef_geo::Label;
 use nef_smap::{SArc, SLoop, SVertex, SphereMap};
@@ -18,15 +13,15 @@ fn is_in(label: Label) -> bool
     label == Label::In
 }
 
-/// Of some labels, whether all and whether some are In.
-#[derive(Debug, Clone, Copy, PartialEq, Eq)]
+/// What is known of a list of labels: whether all and whether some of them are In.
+#[derive(Clone, Copy)]
 pub(crate) struct Nearby {
     all: bool,
     some: bool,
 }
 
 impl Nearby {
-    // Of no label.
+    // For the empty list.
     fn none() -> Nearby
         ensures { result ≡ nearby_of [] }
     {
@@ -36,7 +31,7 @@ impl Nearby {
         }
     }
 
-    /// Of one label.
+    /// For a list of one label.
     pub(crate) fn of(label: Label) -> Nearby
         ensures { result ≡ nearby_of (label ∷ []) }
     {
@@ -46,7 +41,7 @@ impl Nearby {
         }
     }
 
-    /// Of the labels of both.
+    /// For the labels of both lists together.
     pub(crate) fn and(self, other: Nearby) -> Nearby
         ensures { (xs ys : List Label) → self ≡ nearby_of xs → other ≡ nearby_of ys → result ≡ nearby_of (xs ++ ys) }
     {
@@ -77,7 +72,7 @@ fn near_rays(rays: &[Ray]) -> Nearby
     near
 }
 
-/// Of all labels of rays and sectors.
+/// For the labels of the star's rays and sectors.
 pub(crate) fn near_star(star: &Star) -> Nearby
     ensures { result ≡ nearby_of (star_labels (star_of star.now)) }
 {
@@ -103,7 +98,7 @@ fn near_svertices(svertices: &[SVertex]) -> Nearby
     near
 }
 
-/// Of the labels of an item and of its two sides.
+/// For the labels on an item and on both of its sides.
 fn near_item(pos: Label, mark: Label, neg: Label) -> Nearby
     ensures { result ≡ nearby_of (pos ∷ mark ∷ neg ∷ []) }
 {
@@ -132,7 +127,7 @@ fn near_circle(circle: Option<SLoop>) -> Nearby
     }
 }
 
-/// Of all labels that a map lists, except its mark.
+/// For all labels that the map lists, except its mark.
 pub(crate) fn near_map(map: &SphereMap) -> Nearby
     ensures { result ≡ nearby_of (map_labels (map_of map.now)) }
 {
@@ -140,8 +135,8 @@ pub(crate) fn near_map(map: &SphereMap) -> Nearby
     near_svertices(map.svertices.as_slice()).and(near_arcs(map.arcs.as_slice()).and(faces))
 }
 
-/// What is made of a set.
-#[derive(Debug, Clone, Copy, PartialEq, Eq)]
+/// An operation of topology on a set.
+#[derive(Clone, Copy)]
 pub(crate) enum Topology {
     Interior,
     Closure,
@@ -151,7 +146,7 @@ pub(crate) enum Topology {
 }
 
 impl Topology {
-    // Whether what is labelled `own`, with these labels close to it, becomes In.
+    // Whether a point labelled `own` becomes In, where `near` tells of the labels close to it.
     fn holds(self, own: Label, near: Nearby) -> bool
         ensures holds { result ≡ in_by (topology_of self) own near.all near.some }
     {
@@ -165,7 +160,7 @@ impl Topology {
         }
     }
 
-    /// What the label `own` becomes, with these labels close to it. `Out` stays `Out`.
+    /// What a label becomes, where `near` tells of the labels close to its point. `Out` stays `Out`.
     pub(crate) fn label(self, own: Label, near: Nearby) -> Label
         ensures label { result ≡ label_by (topology_of self) own near.all near.some }
     {
@@ -179,14 +174,14 @@ impl Topology {
         }
     }
 
-    /// What the label of a face becomes, which has no other label close to it.
+    /// What a face's label becomes. No other label is close to a point of a face.
     pub(crate) fn face_label(self, own: Label) -> Label
         ensures label { result ≡ face_label (topology_of self) own }
     {
         self.label(own, Nearby::none())
     }
 
-    /// The sloop, if there is one, with what its labels become.
+    /// The sloop, if there is one, with the operation's labels.
     pub(crate) fn sloop(self, sloop: Option<SLoop>) -> Option<SLoop>
         ensures sloop { option_map sloop_of result ≡ option_map (sloop_by (topology_of self)) (option_map sloop_of sloop) }
     {
@@ -200,7 +195,7 @@ impl Topology {
         })
     }
 
-    /// The label of the one face, if there is one, with what it becomes.
+    /// The ground, if there is one, with the operation's label.
     pub(crate) fn ground(self, ground: Option<Label>) -> Option<Label>
         ensures ground { result ≡ option_map (face_label (topology_of self)) ground }
     {

@@ -1,4 +1,4 @@
-use Rattle.std.proofs.Common.{take}
+use Rattle.nef_classes.proofs.Prelude.{take}
 use Rattle.nef_classes.proofs.ClassLists.{IsNumberedTo}
 use Rattle.nef_classes.proofs.forest.class_numbers.Given as goal
 

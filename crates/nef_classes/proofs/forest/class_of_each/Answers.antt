@@ -1,9 +1,5 @@
-use Rattle.std.proofs.Common.{◌≡◌, ◌<◌, ◌+◌, length, subst, sym, ap, ◌∙◌, arith, List, ℕ, get_or, take}
-use Rattle.std.proofs.lemmas.List.{take_all}
-use Rattle.nef_classes.specs.declared.forest.Link.{Link}
-use Rattle.nef_classes.specs.Classes.{AreClasses}
+use Rattle.nef_classes.proofs.Prelude.{◌≡◌, ◌<◌, ◌+◌, length, subst, sym, ap, ◌∙◌, arith, List, ℕ, get_or, take, take_all, Link, AreClasses, HasSameTrees, AreTogether}
 use Rattle.nef_classes.proofs.ClassLists.{is-at_get, take-more, refilled}
-use Rattle.nef_classes.specs.Forest.{HasSameTrees, AreTogether}
 use Rattle.nef_classes.proofs.Trees.{AreTrees, trees-alone, trees-more, trees-classes}
 use Rattle.nef_classes.proofs.forest.class_of_each.Goals as goal
 

@@ -1,4 +1,4 @@
-use Rattle.std.proofs.Common.{take}
+use Rattle.nef_classes.proofs.Prelude.{take}
 use Rattle.nef_classes.proofs.Trees.{AreTrees}
 use Rattle.nef_classes.proofs.forest.class_of_each.Given as goal
 

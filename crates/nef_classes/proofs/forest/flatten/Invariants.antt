@@ -1,6 +1,4 @@
-use Rattle.std.proofs.Common.{◌<◌, ℕ}
-use Rattle.nef_space.specs.Lists.{IsAt}
-use Rattle.nef_classes.specs.Forest.{HasSameTrees}
+use Rattle.nef_classes.proofs.Prelude.{◌<◌, ℕ, IsAt, HasSameTrees}
 use Rattle.nef_classes.proofs.forest.flatten.Given as goal
 
 abbrev pub invariant-loop-number : goal.invariant-loop-number

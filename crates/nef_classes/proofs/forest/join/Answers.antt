@@ -1,4 +1,4 @@
-use Rattle.std.proofs.Common.{inl, inr, ⊎_elim, arith}
+use Rattle.nef_classes.proofs.Prelude.{inl, inr, ⊎_elim, arith}
 use Rattle.nef_classes.proofs.Places.{less-or-not}
 use Rattle.nef_classes.proofs.Trees.{AreRootsOf, same-trans, made-one}
 use Rattle.nef_classes.proofs.forest.join.Goals as goal

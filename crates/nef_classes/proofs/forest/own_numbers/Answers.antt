@@ -1,10 +1,8 @@
 -- The numbers of a range stand in their own places.
-use Rattle.std.proofs.Common.{◌≡◌, ℕ, List, length, arith, refl, sym, ◌∙◌, subst, Result, Ok, Err, Vec, Global}
-use Rattle.std.specs.Prelude.{IfOk}
+use Rattle.nef_classes.proofs.Prelude.{◌≡◌, ℕ, List, length, arith, refl, sym, ◌∙◌, subst, Result, Ok, Err, Vec, Global, IfOk, IsAt}
 use Rattle.std.specs.List.{range_with_len}
 use Rattle.std.proofs.lemmas.Iterator.{YieldsList-from_range, items_from_collect}
 use Rattle.std.proofs.lemmas.List.FromFn.{length-range_with_len, get_or-range_with_len}
-use Rattle.nef_space.specs.Lists.{IsAt}
 use Rattle.nef_classes.proofs.ClassLists.{is-at_within, is-at_is}
 use Rattle.nef_classes.proofs.forest.own_numbers.Goals as goal
 

@@ -1,6 +1,4 @@
-use Rattle.std.proofs.Common.{◌<◌, length}
-use Rattle.nef_space.specs.Lists.{IsAt, Chained}
-use Rattle.nef_classes.specs.Forest.{HasSameTrees}
+use Rattle.nef_classes.proofs.Prelude.{◌<◌, length, IsAt, Chained, HasSameTrees}
 use Rattle.nef_classes.proofs.forest.root.Given as goal
 
 abbrev pub invariant-loop-parents : goal.invariant-loop-parents

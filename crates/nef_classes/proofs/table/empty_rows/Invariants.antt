@@ -1,5 +1,4 @@
-use Rattle.std.proofs.Common.{◌≡◌, ◌≤◌, ℕ, List, [], length}
-use Rattle.nef_space.specs.Lists.{IsAt}
+use Rattle.nef_classes.proofs.Prelude.{◌≡◌, ◌≤◌, ℕ, List, [], length, IsAt}
 use Rattle.nef_classes.proofs.table.empty_rows.Given as goal
 
 abbrev pub invariant-loop-number : goal.invariant-loop-number

@@ -1,12 +1,7 @@
-use Rattle.std.proofs.Common.{List, map, arith, subst, ap, ◌∙◌}
-use Rattle.std.proofs.lemmas.List.{take_all}
-use Rattle.nef_space.specs.Lists.{IsAt}
-use Rattle.nef_classes.specs.declared.forest.Link.{Link}
+use Rattle.nef_classes.proofs.Prelude.{List, map, arith, subst, ap, ◌∙◌, take_all, IsAt, Link, Tie, flat_tie}
 use Rattle.nef_classes.proofs.ClassLists.{is-at_get}
-use Rattle.nef_classes.specs.declared.table.Tie.{Tie}
-use Rattle.nef_classes.specs.Flat.{flat_tie}
 use Rattle.nef_classes.proofs.Places.{cell-within}
-use Rattle.nef_classes.proofs.Numbers.{map-at}
+use Rattle.nef_classes.proofs.Numbers.{is-at_map}
 use Rattle.nef_classes.proofs.table.flat_links.Goals as goal
 
 pub place_of-requires-in-loop-tie-clause-within : goal.place_of-requires-in-loop-tie-clause-within
@@ -16,7 +11,7 @@ pub returns-clause-within : goal.returns-clause-within
 returns-clause-within c = λ k l a.
     let counts = c.args.counts.now in
     let e = c.loop-tie.invariant ∙ ap (map (flat_tie counts)) (take_all c.loop-tie.tie-index c.args.ties.now (let h = c.loop-tie-test.false in omega arith)) in
-    let r = map-at (flat_tie counts) c.args.ties.now k l (subst (λ (ls : List Link). IsAt ls k l) e a) in
+    let r = is-at_map (flat_tie counts) c.args.ties.now k l (subst (λ (ls : List Link). IsAt ls k l) e a) in
     let t : Tie = r.0 in
     let w = c.requires.within k t (r.1) in
     let f = cell-within counts t.first (w.0) in

@@ -1,5 +1,4 @@
-use Rattle.std.proofs.Common.{◌≡◌, map, take}
-use Rattle.nef_classes.specs.Flat.{flat_tie}
+use Rattle.nef_classes.proofs.Prelude.{◌≡◌, map, take, flat_tie}
 use Rattle.nef_classes.proofs.table.flat_links.Given as goal
 
 abbrev pub invariant-loop-tie : goal.invariant-loop-tie

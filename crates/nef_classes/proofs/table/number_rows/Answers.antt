@@ -1,10 +1,4 @@
-use Rattle.std.proofs.Common.{◌≡◌, ℕ, List, length, map, subst, sym, ap, ◌∙◌}
-use Rattle.std.specs.Prelude.{IfOk}
-use Rattle.nef_classes.specs.declared.forest.Link.{Link}
-use Rattle.nef_classes.specs.Classes.{AreClasses, AreNumbered}
-use Rattle.nef_classes.specs.Tables.{total}
-use Rattle.nef_classes.specs.Forest.{AreRoots}
-use Rattle.nef_classes.specs.Flat.{AreCut, flat_tie}
+use Rattle.nef_classes.proofs.Prelude.{◌≡◌, ℕ, List, length, map, subst, sym, ap, ◌∙◌, IfOk, Link, AreClasses, AreNumbered, total, AreRoots, AreCut, flat_tie}
 use Rattle.nef_classes.proofs.Cutting.{starts-end}
 use Rattle.nef_classes.proofs.Numbers.{numbers-ok}
 use Rattle.nef_classes.proofs.table.number_rows.Goals as goal

@@ -1,9 +1,5 @@
-use Rattle.std.proofs.Common.{rules, ◌≡◌, ◌+◌, ◌-◌, ◌≤◌, ◌∷◌, [], ◌++◌, ℕ, List, length, take, drop, arith, get_or, subst, ap, sym, ◌∙◌}
-use Rattle.std.proofs.lemmas.List.{take_all}
-use Rattle.nef_space.specs.Lists.{IsAt}
+use Rattle.nef_classes.proofs.Prelude.{rules, ◌≡◌, ◌+◌, ◌-◌, ◌≤◌, ◌∷◌, [], ◌++◌, ℕ, List, length, take, drop, arith, get_or, subst, ap, sym, ◌∙◌, take_all, IsAt, total, HasCounts, AreCut}
 use Rattle.nef_classes.proofs.ClassLists.{take-more, is-at_get}
-use Rattle.nef_classes.specs.Tables.{total, HasCounts}
-use Rattle.nef_classes.specs.Flat.{AreCut}
 use Rattle.nef_classes.proofs.Cutting.{more-cut, more-counts, total-append, total-take}
 use Rattle.nef_classes.proofs.table.rows_of.Goals as goal
 

@@ -1,6 +1,4 @@
-use Rattle.std.proofs.Common.{◌≡◌, take}
-use Rattle.nef_classes.specs.Tables.{total, HasCounts}
-use Rattle.nef_classes.specs.Flat.{AreCut}
+use Rattle.nef_classes.proofs.Prelude.{◌≡◌, take, total, HasCounts, AreCut}
 use Rattle.nef_classes.proofs.table.rows_of.Given as goal
 
 abbrev pub invariant-loop-count : goal.invariant-loop-count

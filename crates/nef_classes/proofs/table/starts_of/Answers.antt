@@ -1,7 +1,5 @@
-use Rattle.std.proofs.Common.{◌≡◌, ◌+◌, ◌∷◌, [], ◌++◌, ℕ, List, take, arith, get_or, subst, ap, sym}
+use Rattle.nef_classes.proofs.Prelude.{◌≡◌, ◌+◌, ◌∷◌, [], ◌++◌, ℕ, List, take, arith, get_or, subst, ap, sym, total, AreStarts}
 use Rattle.nef_classes.proofs.ClassLists.{take-more}
-use Rattle.nef_classes.specs.Tables.{total}
-use Rattle.nef_classes.specs.Flat.{AreStarts}
 use Rattle.nef_classes.proofs.Cutting.{more-starts, total-append}
 use Rattle.nef_classes.proofs.table.starts_of.Goals as goal
 

@@ -1,6 +1,4 @@
-use Rattle.std.proofs.Common.{◌≡◌, ◌<◌, ◌^◌, take}
-use Rattle.nef_classes.specs.Tables.{total}
-use Rattle.nef_classes.specs.Flat.{AreStarts}
+use Rattle.nef_classes.proofs.Prelude.{◌≡◌, ◌<◌, ◌^◌, take, total, AreStarts}
 use Rattle.nef_classes.proofs.table.starts_of.Given as goal
 
 abbrev pub invariant-loop-count : goal.invariant-loop-count

@@ -1,6 +1,4 @@
-use Rattle.std.proofs.Common.{arith}
-use Rattle.nef_space.specs.Vectors.{up}
-use Rattle.nef_smap.specs.Maps.{map_of}
+use Rattle.nef_smap.proofs.Prelude.{arith, up, map_of}
 use Rattle.nef_smap.proofs.FirstOf.{all-first}
 use Rattle.nef_smap.proofs.Upward.{map-ahead}
 use Rattle.nef_smap.proofs.above.above.Goals as goal

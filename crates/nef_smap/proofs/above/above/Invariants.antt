@@ -1,9 +1,4 @@
-use Rattle.std.proofs.Common.{◌<◌, IfSome, length}
-use Rattle.nef_space.specs.Vectors.{Vector, up}
-use Rattle.law_sphere.specs.Maps.{items}
-use Rattle.nef_smap.specs.Maps.{map_of}
-use Rattle.nef_smap.specs.Above.{IsFirstOf}
-use Rattle.nef_smap.specs.Close.{IsClose}
+use Rattle.nef_smap.proofs.Prelude.{◌<◌, IfSome, length, Vector, up, items, map_of, IsFirstOf, IsClose}
 use Rattle.nef_smap.proofs.above.above.Given as goal
 
 pub record IsFirstSoFar (within first : Type 0) : Type 0 where

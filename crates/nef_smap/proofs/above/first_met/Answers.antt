@@ -1,14 +1,4 @@
-use Rattle.std.proofs.Common.{◌≡◌, ◌≢◌, ℕ, pos, ◌≤ℤ◌, arith, sym, ap, ◌∙◌, subst, IsTrue, rules, Option}
-use Rattle.std.proofs.lemmas.Int.{ints}
-use Rattle.nef_space.proofs.Order.{minus, sign-minus, minus-is, by_order}
-use Rattle.nef_space.specs.Vectors.{Vector, dot, up}
-use Rattle.nef_geo.specs.Shapes.{vector_of}
-use Rattle.nef_geo.specs.declared.sign.Sign.TheVariants.{Minus}
-use Rattle.law_sphere.specs.Maps.{item_normal}
-use Rattle.nef_smap.specs.Maps.{map_of}
-use Rattle.nef_smap.specs.Items.{item_of}
-use Rattle.nef_smap.specs.Above.{rise, rise_form, IsFirstOf}
-use Rattle.nef_smap.specs.Close.{geo_sign, close_sign}
+use Rattle.nef_smap.proofs.Prelude.{◌≡◌, ◌≢◌, ℕ, pos, ◌≤ℤ◌, arith, sym, ap, ◌∙◌, subst, IsTrue, rules, Option, ints, minus, sign-minus, minus-is, by_order, Vector, dot, up, vector_of, Minus, item_normal, map_of, item_of, rise, rise_form, IsFirstOf, geo_sign, close_sign}
 use Rattle.nef_smap.proofs.CloseSigns.{geo-one}
 use Rattle.nef_smap.proofs.FirstOf.{pass-first, only-first, lower-first, higher-first}
 use Rattle.nef_smap.proofs.Upward.{map-ahead, rise-sign}

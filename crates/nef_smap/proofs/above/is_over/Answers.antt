@@ -1,18 +1,8 @@
-use Rattle.std.proofs.Common.{◌≡◌, ◌≢◌, ◌<ℤ◌, pos, refl, sym, ap, ◌∙◌, subst, IsTrue, ◌↔◌, rules, true, false}
+use Rattle.nef_smap.proofs.Prelude.{◌≡◌, ◌≢◌, ◌<ℤ◌, pos, refl, sym, ap, ◌∙◌, subst, IsTrue, ◌↔◌, rules, true, Vector, dot, up, Minus, At, Item, items, item_normal, map_of, arc_of, sloop_of, item_of, IsOver, geo_sign, close_sign, not_true}
 use Rattle.nef_space.specs.Signs.{minus}
-use Rattle.nef_space.specs.Vectors.{Vector, dot, up}
-use Rattle.nef_geo.specs.declared.sign.Sign.TheVariants.{Minus}
-use Rattle.law_sphere.specs.Maps.{At, Item, items, item_normal}
-use Rattle.nef_smap.specs.Maps.{map_of, arc_of, sloop_of}
-use Rattle.nef_smap.specs.Items.{item_of}
-use Rattle.nef_smap.specs.Above.{IsOver}
-use Rattle.nef_smap.specs.Close.{geo_sign, close_sign}
 use Rattle.nef_smap.proofs.CloseSigns.{geo-one}
 use Rattle.nef_smap.proofs.Upward.{map-ahead, below-is, sloop-over, arc-over, ends-within}
 use Rattle.nef_smap.proofs.above.is_over.Goals as goal
-
-false_true : IsTrue false → ⊥
-false_true h = absurd cc
 
 pub side-requires : goal.side-requires
 side-requires c = let l = c.requires.listed in record { ahead = subst (λ (n : Vector). pos 0 <ℤ dot n up) (sym c.normal.ensures.normal) (map-ahead c.args.map.now c.requires.map l.0 (item_of c.args.item.now) l.1) }
@@ -24,7 +14,7 @@ returns-then-ne c =
     let off : c.side.result ≢ Minus = search rules in
     record {
       over = λ d close. (
-        λ h. absurd (false_true h),
+        λ h. absurd (not_true h),
         λ o. let b = below-is c.args.map.now c.requires.map c.args.way.now c.requires.off d close l.0 (item_of c.args.item.now) l.1 in
             absurd (off (c.side.ensures.side ∙ ap geo_sign (ap (λ (r : Vector). close_sign r c.args.way.now) n ∙ b.1 o.below))),
       );

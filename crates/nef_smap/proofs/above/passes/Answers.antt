@@ -1,11 +1,5 @@
-use Rattle.std.proofs.Common.{◌≡◌, ℕ, sym, ◌∙◌, subst, IsTrue, ◌↔◌, nat_eq, rules, Bool}
-use Rattle.nef_geo.specs.declared.sign.Sign.TheVariants.{Minus, Plus}
+use Rattle.nef_smap.proofs.Prelude.{◌≡◌, ℕ, sym, ◌∙◌, subst, IsTrue, ◌↔◌, nat_eq, rules, Bool, Minus, Plus, Vector, cross, triple, up, vector_of, dir_of, map_of, close_sign, ArcPasses}
 use Rattle.nef_space.specs.Signs.{Sign, minus, plus, sign}
-use Rattle.nef_space.specs.Vectors.{Vector, cross, triple, up}
-use Rattle.nef_geo.specs.Shapes.{vector_of}
-use Rattle.law_sphere.specs.Maps.{dir_of}
-use Rattle.nef_smap.specs.Maps.{map_of}
-use Rattle.nef_smap.specs.Close.{close_sign, ArcPasses}
 use Rattle.nef_smap.proofs.CloseSigns.{geo-of, sign-test, passes-alike, passes-agreed, dir-from_get}
 use Rattle.nef_smap.proofs.above.passes.Goals as goal
 

@@ -1,5 +1,4 @@
-use Rattle.std.proofs.Common.{refl}
-use Rattle.nef_geo.specs.Shapes.{vector_of}
+use Rattle.nef_smap.proofs.Prelude.{refl, vector_of}
 use Rattle.nef_smap.proofs.Joining.{cross-level, plane-some}
 use Rattle.nef_smap.proofs.item.on_circle.Goals as goal
 

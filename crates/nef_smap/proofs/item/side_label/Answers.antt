@@ -1,9 +1,8 @@
-use Rattle.std.proofs.Common.{arith, is_some, ap, sym, ◌∙◌}
+use Rattle.nef_smap.proofs.Prelude.{arith, is_some, ap, sym, ◌∙◌, whole, item_of}
 use mir.Val.{bool_byte}
-use Rattle.law_sphere.specs.Maps.{whole}
-use Rattle.nef_smap.specs.Items.{item_of}
-use Rattle.nef_smap.proofs.SideLists.{length-sides, get-past, side-around, side-item, side-whole}
+use Rattle.nef_smap.proofs.SideLists.{length-sides, side-around, side-item, side-whole}
 use Rattle.nef_smap.proofs.item.side_label.Goals as goal
+use Rattle.nef_smap.proofs.Lists.{get-past}
 
 pub returns-in-Some : goal.returns-in-Some
 returns-in-Some c = record { label = side-around c.args.map.now c.args.side c.in-Some.label (sym c.in-Some.ensures.label) }

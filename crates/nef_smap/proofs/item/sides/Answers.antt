@@ -1,4 +1,4 @@
-use Rattle.std.proofs.Common.{◌≤◌, Bool, true, false, arith}
+use Rattle.nef_smap.proofs.Prelude.{◌≤◌, Bool, true, false, arith}
 use mir.Val.{bool_byte}
 use Rattle.nef_smap.proofs.SideLists.{length-sides}
 use Rattle.nef_smap.proofs.item.sides.Goals as goal

@@ -1,11 +1,6 @@
-use Rattle.std.proofs.Common.{List, true, false, sym, subst}
-use Rattle.std.proofs.lemmas.Bool.{eqb-true, eq-eqb}
+use Rattle.nef_smap.proofs.Prelude.{List, true, false, sym, subst, eqb-true, eq-eqb, IsAt, At, SArc}
 use lib.Dec.{eqb}
-use Rattle.nef_space.specs.Lists.{IsAt}
-use Rattle.law_sphere.specs.Maps.{At}
-use Rattle.nef_smap.specs.declared.map.SArc.{SArc}
-use Rattle.nef_smap.proofs.Lists.{get-at}
-use Rattle.nef_smap.proofs.SideLists.{get-from_at}
+use Rattle.nef_smap.proofs.Lists.{get-at, get-from_at}
 use Rattle.nef_smap.proofs.NeighbourhoodEnds.{ray-is, ends-none, ends-more, ends-all}
 use Rattle.nef_smap.proofs.locate.arc_ends.Goals as goal
 

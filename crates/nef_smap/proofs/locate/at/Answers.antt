@@ -1,5 +1,4 @@
-use Rattle.std.proofs.Common.{arith}
-use Rattle.nef_geo.specs.Shapes.{vector_of}
+use Rattle.nef_smap.proofs.Prelude.{arith, vector_of}
 use Rattle.nef_smap.proofs.Found.{arc-place, sloop-place}
 use Rattle.nef_smap.proofs.locate.at.Goals as goal
 

@@ -1,8 +1,4 @@
-use Rattle.std.proofs.Common.{arith, sym, ◌∙◌}
-use Rattle.nef_arc.proofs.SignNumbers.{not_true}
-use Rattle.nef_geo.specs.Shapes.{vector_of}
-use Rattle.law_sphere.specs.Maps.{Item, OnItem}
-use Rattle.nef_smap.specs.Maps.{map_of}
+use Rattle.nef_smap.proofs.Prelude.{arith, sym, ◌∙◌, not_true, vector_of, Item, OnItem, map_of}
 use Rattle.nef_smap.proofs.Found.{none-more, none-of_all}
 use Rattle.nef_smap.proofs.locate.item_on.Goals as goal
 

@@ -1,7 +1,4 @@
-use Rattle.std.proofs.Common.{ℕ, ◌<◌}
-use Rattle.nef_geo.specs.Shapes.{vector_of}
-use Rattle.law_sphere.specs.Maps.{At, Item, items, OnItem}
-use Rattle.nef_smap.specs.Maps.{map_of}
+use Rattle.nef_smap.proofs.Prelude.{ℕ, ◌<◌, vector_of, At, Item, items, OnItem, map_of}
 use Rattle.nef_smap.proofs.locate.item_on.Given as goal
 
 abbrev pub invariant-loop-number : goal.invariant-loop-number

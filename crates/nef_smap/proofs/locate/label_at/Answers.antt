@@ -1,9 +1,6 @@
-use Rattle.nef_geo.specs.Shapes.{vector_of}
-use Rattle.law_sphere.specs.Maps.{items}
-use Rattle.nef_smap.specs.Items.{item_of}
-use Rattle.nef_smap.specs.Maps.{map_of}
+use Rattle.nef_smap.proofs.Prelude.{vector_of, items, item_of, map_of}
 use Rattle.nef_smap.proofs.Found.{svertex-within, side-within, label-svertex, arc-placed, sloop-placed, label-item, label-by_side}
-use Rattle.nef_smap.proofs.MapLists.{at-within}
+use Rattle.nef_smap.proofs.Lists.{at-within}
 use Rattle.nef_smap.proofs.locate.label_at.Goals as goal
 
 pub at-requires-in-SVertex : goal.at-requires-in-SVertex

@@ -1,5 +1,4 @@
-use Rattle.nef_geo.specs.Shapes.{vector_of}
-use Rattle.nef_smap.specs.Maps.{map_of}
+use Rattle.nef_smap.proofs.Prelude.{vector_of, map_of}
 use Rattle.nef_smap.proofs.Found.{side-within, arc-placed, sloop-placed}
 use Rattle.nef_smap.proofs.Neighbourhood.{face-ok}
 use Rattle.nef_smap.proofs.locate.star_at.Goals as goal

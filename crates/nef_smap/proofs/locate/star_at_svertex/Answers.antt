@@ -1,6 +1,5 @@
-use Rattle.std.proofs.lemmas.List.{length-map}
-use Rattle.nef_smap.specs.Maps.{svertex_of, map_of}
-use Rattle.nef_smap.proofs.MapLists.{at-within}
+use Rattle.nef_smap.proofs.Prelude.{length-map, svertex_of, map_of}
+use Rattle.nef_smap.proofs.Lists.{at-within}
 use Rattle.nef_smap.proofs.Neighbourhood.{svertex-here, lone-ok}
 use Rattle.nef_smap.proofs.NeighbourhoodSvertex.{ends-some, ends-rays, ends-apart, ends-ok}
 use Rattle.nef_smap.proofs.locate.star_at_svertex.Goals as goal

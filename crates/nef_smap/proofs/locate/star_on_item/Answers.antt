@@ -1,14 +1,5 @@
-use Rattle.std.proofs.Common.{◌≡◌, [], ◌∷◌, sym, subst, ◌∙◌, pos}
-use Rattle.nef_space.specs.Limits.{svertex_limit}
-use Rattle.nef_space.specs.Vectors.{dot, IsAtMost}
-use Rattle.nef_geo.specs.Shapes.{vector_of}
-use Rattle.nef_geo.specs.declared.dir.Dir.{Dir}
-use Rattle.law_sphere.specs.Maps.{item_normal}
-use Rattle.law_sphere.proofs.Forms.{on-level}
-use Rattle.nef_star.specs.Stars.{IsStar}
-use Rattle.nef_smap.specs.Maps.{map_of}
-use Rattle.nef_smap.specs.Items.{item_of}
-use Rattle.nef_smap.proofs.MapLists.{at-within}
+use Rattle.nef_smap.proofs.Prelude.{◌≡◌, [], ◌∷◌, sym, subst, ◌∙◌, pos, svertex_limit, dot, IsAtMost, vector_of, Dir, item_normal, on-level, IsStar, map_of, item_of}
+use Rattle.nef_smap.proofs.Lists.{at-within}
 use Rattle.nef_smap.proofs.Neighbourhood.{rays-along, star-along, along-here, on-listed}
 use Rattle.nef_smap.proofs.locate.star_on_item.Goals as goal
 

@@ -1,10 +1,5 @@
-use Rattle.std.proofs.Common.{length, arith, ap, sym, ◌∙◌}
-use Rattle.nef_arc.proofs.SignNumbers.{not_true}
-use Rattle.nef_geo.specs.Shapes.{vector_of}
-use Rattle.law_sphere.specs.Maps.{MapVertex}
-use Rattle.nef_space.specs.Vectors.{SameDirection}
-use Rattle.nef_smap.specs.Maps.{svertex_of}
-use Rattle.nef_smap.proofs.ArcEnds.{at-map}
+use Rattle.nef_smap.proofs.Prelude.{length, arith, ap, sym, ◌∙◌, not_true, vector_of, MapVertex, SameDirection, svertex_of}
+use Rattle.nef_smap.proofs.Lists.{map-from_get}
 use Rattle.nef_smap.proofs.Found.{read, next-none, all-none}
 use Rattle.nef_smap.proofs.locate.svertex_at.Goals as goal
 
@@ -12,7 +7,7 @@ pub returns-then-is_same : goal.returns-then-is_same
 returns-then-is_same c = record {
   svertex = (
     svertex_of c.svertex-item.result,
-    at-map svertex_of c.args.map.now.svertices c.loop-number.number c.svertex-item.result (read c.args.map.now.svertices c.as_slice-svertex-items.result.now c.loop-number.number c.svertex-item.result c.as_slice-svertex-items.ensures.all c.loop-number-test.true c.svertex-item.is),
+    map-from_get svertex_of c.args.map.now.svertices c.loop-number.number c.svertex-item.result (read c.args.map.now.svertices c.as_slice-svertex-items.result.now c.loop-number.number c.svertex-item.result c.as_slice-svertex-items.ensures.all c.loop-number-test.true c.svertex-item.is),
     c.is_same.ensures.direction.0 c.if-is_same.true,
   );
 }

@@ -1,11 +1,5 @@
-use Rattle.std.proofs.Common.{◌≡◌, ℕ, arith, sym, ◌∙◌, subst, true}
-use Rattle.nef_arc.proofs.SignNumbers.{not_true}
-use Rattle.nef_smap.specs.Items.{item_of}
-use Rattle.nef_smap.specs.Maps.{map_of}
-use Rattle.nef_smap.specs.WideVectors.{start_at, end_at}
-use Rattle.nef_smap.specs.Paths.{IsFirstMet}
-use Rattle.law_sphere.specs.Maps.{items}
-use Rattle.nef_smap.proofs.MapLists.{at-within}
+use Rattle.nef_smap.proofs.Prelude.{◌≡◌, ℕ, arith, sym, ◌∙◌, subst, true, not_true, item_of, map_of, start_at, end_at, IsFirstMet, items}
+use Rattle.nef_smap.proofs.Lists.{at-within}
 use Rattle.nef_smap.proofs.FirstSoFar.{so_far-begins, so_far-stays, so_far-changes}
 use Rattle.nef_smap.proofs.meets.first_met.Goals as goal
 use Rattle.nef_smap.proofs.meets.first_met.Goals.{then-is_before+then-is_met, else-is_before, else-is_before-via-then-is_before+else-is_met, else-is_before-via-else-is_before}

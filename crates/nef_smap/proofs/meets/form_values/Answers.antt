@@ -1,9 +1,5 @@
-use Rattle.std.proofs.Common.{rules, ◌≡◌, ℕ, ◌*◌, ◌^◌, ◌≤◌, ℤ, nat_abs, FitsSigned, lit≤, to_z, of_z, arith, sym, ◌∙◌, subst}
+use Rattle.nef_smap.proofs.Prelude.{rules, ◌≡◌, ℕ, ◌*◌, ◌^◌, ◌≤◌, ℤ, nat_abs, FitsSigned, lit≤, to_z, of_z, arith, sym, ◌∙◌, subst, to_z-of_z, Vector, dot, IsAtMost, dot_size, IsAtMost-weaken, wide_vector}
 use mir.Syntax.{w128}
-use Rattle.std.proofs.lemmas.Int.{to_z-of_z}
-use Rattle.nef_space.specs.Vectors.{Vector, dot, IsAtMost}
-use Rattle.nef_geo.proofs.Products.{dot_size, IsAtMost-weaken}
-use Rattle.nef_geo.specs.Triples.{wide_vector}
 use Rattle.nef_smap.proofs.meets.form_values.Goals as goal
 
 size : (m : ℕ) (g v : Vector) (r : ℤ) → IsAtMost m g → IsAtMost (2 ^ 37) v → FitsSigned w128 r → r ≡ dot g v → nat_abs (to_z w128 (of_z w128 r)) ≤ m * 2 ^ 39

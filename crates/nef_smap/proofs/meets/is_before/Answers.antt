@@ -1,5 +1,4 @@
-use Rattle.std.proofs.Common.{◌*ℤ◌}
-use Rattle.nef_smap.specs.Linear.{linear_at, turn_value}
+use Rattle.nef_smap.proofs.Prelude.{◌*ℤ◌, linear_at, turn_value}
 use Rattle.nef_smap.proofs.MeetSigns.{turned-less}
 use Rattle.nef_smap.proofs.meets.is_before.Goals as goal
 

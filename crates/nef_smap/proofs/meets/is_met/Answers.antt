@@ -1,16 +1,6 @@
-use Rattle.std.proofs.Common.{ℤ, ◌*ℤ◌, ◌<ℤ◌, pos, arith, refl, sym, ◌∙◌, subst, ◌↔◌, true}
+use Rattle.nef_smap.proofs.Prelude.{ℤ, ◌*ℤ◌, ◌<ℤ◌, pos, arith, refl, sym, ◌∙◌, subst, ◌↔◌, true, not_true, dot, IsDirection, vector_of, At, items, item_normal, arc-at, slid-level, item_of, map_of, start_at, end_at, meet_of, IsMet}
 use Rattle.std.specs.Bool.{IsTrue}
-use Rattle.nef_arc.proofs.SignNumbers.{not_true}
-use Rattle.nef_space.specs.Vectors.{dot, IsDirection}
-use Rattle.nef_geo.specs.Shapes.{vector_of}
-use Rattle.law_sphere.specs.Maps.{At, items, item_normal}
-use Rattle.law_sphere.proofs.Shot.{arc-at}
-use Rattle.law_sphere.proofs.Direct.{slid-level}
 use Rattle.nef_smap.specs.declared.item.Item.{Item}
-use Rattle.nef_smap.specs.Items.{item_of}
-use Rattle.nef_smap.specs.Maps.{map_of}
-use Rattle.nef_smap.specs.WideVectors.{start_at, end_at}
-use Rattle.nef_smap.specs.Paths.{meet_of, IsMet}
 use Rattle.nef_smap.proofs.MeetSigns.{parted-by}
 use Rattle.nef_smap.proofs.MeetTests.{met-direction}
 use Rattle.nef_smap.proofs.meets.is_met.Goals as goal

@@ -1,19 +1,6 @@
-use Rattle.std.proofs.Common.{◌*◌, ◌^◌, lit≤, arith, ap, sym, ◌∙◌, subst, ◌↔◌}
+use Rattle.nef_smap.proofs.Prelude.{◌*◌, ◌^◌, lit≤, arith, ap, sym, ◌∙◌, subst, ◌↔◌, normal_limit, svertex_limit, direction_limit, Vector, dot, IsAtMost, IsStrictlyOn, read_sign, five_signs, between_read, test_of, true_of, vector_of, sign_of, IsAtMost-weaken, cross_is, dir_within, dir_of, slid-level, map_of, meet_of, start_at, end_at, triple-dot}
 use Rattle.std.specs.Bool.{IsTrue}
-use Rattle.nef_space.specs.Limits.{normal_limit, svertex_limit, direction_limit}
-use Rattle.nef_space.specs.Vectors.{Vector, dot, IsAtMost}
-use Rattle.law_cyclic.specs.Arcs.{IsStrictlyOn}
 use Rattle.law_cyclic.proofs.Directions.{classes_are_arcs}
-use Rattle.law_near.proofs.FlatDecided.{triple-dot}
-use Rattle.nef_arc.proofs.SignNumbers.{read_sign, five_signs, between_read, test_of, true_of}
-use Rattle.nef_geo.specs.Shapes.{vector_of}
-use Rattle.nef_geo.specs.Signs.{sign_of}
-use Rattle.nef_geo.proofs.Products.{IsAtMost-weaken, cross_is, dir_within}
-use Rattle.law_sphere.specs.Maps.{dir_of}
-use Rattle.law_sphere.proofs.Direct.{slid-level}
-use Rattle.nef_smap.specs.Maps.{map_of}
-use Rattle.nef_smap.specs.Paths.{meet_of}
-use Rattle.nef_smap.specs.WideVectors.{start_at, end_at}
 use Rattle.nef_smap.proofs.ArcEnds.{source-within, target-within, source-end, target-end, normal-direction, normal-small}
 use Rattle.nef_smap.proofs.MeetSigns.{own-sign, turn-target}
 use Rattle.nef_smap.proofs.meets.is_met_on_arc.Goals as goal

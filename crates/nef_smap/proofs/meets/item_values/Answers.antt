@@ -1,7 +1,4 @@
-use Rattle.std.proofs.Common.{sym, subst}
-use Rattle.nef_space.specs.Limits.{normal_limit}
-use Rattle.nef_space.specs.Vectors.{IsAtMost}
-use Rattle.std.proofs.Common.{◌∙◌}
+use Rattle.nef_smap.proofs.Prelude.{sym, subst, normal_limit, IsAtMost, ◌∙◌}
 use Rattle.nef_smap.proofs.meets.item_values.Goals as goal
 
 pub returns-clause-small : goal.returns-clause-small

@@ -1,6 +1,5 @@
-use Rattle.std.proofs.Common.{◌^◌, [], ◌∷◌}
+use Rattle.nef_smap.proofs.Prelude.{◌^◌, [], ◌∷◌, load, wrap, ◌⊟◌, ◌⊠◌, exact_of, fits_of}
 use mir.Syntax.{w128}
-use Rattle.nef_space.proofs.Machine.{load, wrap, ◌⊟◌, ◌⊠◌, exact_of, fits_of}
 use Rattle.nef_smap.proofs.meets.minor.Goals as goal
 
 pub overflow_mul-result : goal.overflow_mul-result

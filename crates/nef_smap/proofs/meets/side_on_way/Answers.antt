@@ -1,30 +1,21 @@
-use Rattle.std.proofs.Common.{ℕ, ◌+◌, ◌^◌, arith, ap, sym, ◌∙◌, length}
-use Rattle.nef_space.specs.Vectors.{Vector, dot, cross, blend, up}
-use Rattle.nef_geo.specs.Shapes.{vector_of}
-use Rattle.nef_geo.specs.Signs.{sign_of}
-use Rattle.law_sphere.specs.Maps.{At, Item, items, item_normal, dir_of}
-use Rattle.law_sphere.specs.Forms.{forms}
-use Rattle.law_sphere.proofs.Generic.{amount}
-use Rattle.law_sphere.proofs.Lists.{at-one}
-use Rattle.nef_smap.specs.Items.{item_of}
-use Rattle.nef_smap.specs.Maps.{map_of, arc_of}
-use Rattle.nef_geo.specs.Triples.{wide_vector}
-use Rattle.nef_smap.proofs.ArcEnds.{at-map, source-within, source-end, normal-small}
-use Rattle.nef_smap.proofs.MapLists.{length-items, at-within}
+use Rattle.nef_smap.proofs.Prelude.{ℕ, ◌+◌, ◌^◌, arith, ap, sym, ◌∙◌, length, Vector, dot, cross, blend, up, vector_of, sign_of, At, Item, items, item_normal, dir_of, forms, amount, at-one, item_of, map_of, arc_of, wide_vector}
+use Rattle.nef_smap.proofs.ArcEnds.{source-within, source-end, normal-small}
+use Rattle.nef_smap.proofs.MapLists.{length-items}
 use Rattle.nef_smap.proofs.MeetSigns.{start-value}
 use Rattle.nef_smap.proofs.FreeSeen.{first-above, first-below, first-parts, up-leads, side-chosen, firsts-carried}
 use Rattle.nef_smap.proofs.meets.side_on_way.Goals as goal
+use Rattle.nef_smap.proofs.Lists.{map-from_get, at-within}
 
 pub at-requires : goal.at-requires
-at-requires c = record { within = source-within c.args.map.now c.requires.map 0 c.at-arc.result.now (at-map arc_of c.args.map.now.arcs 0 c.at-arc.result.now c.at-arc.ensures.element) }
+at-requires c = record { within = source-within c.args.map.now c.requires.map 0 c.at-arc.result.now (map-from_get arc_of c.args.map.now.arcs 0 c.at-arc.result.now c.at-arc.ensures.element) }
 
 pub way_to-way-requires-clause-svertex_small : goal.way_to-way-requires-clause-svertex_small
 way_to-way-requires-clause-svertex_small c =
-    let e = source-end c.args.map.now c.requires.map 0 c.at-arc.result.now (at-map arc_of c.args.map.now.arcs 0 c.at-arc.result.now c.at-arc.ensures.element) c.at.result.now c.at.ensures.element in
+    let e = source-end c.args.map.now c.requires.map 0 c.at-arc.result.now (map-from_get arc_of c.args.map.now.arcs 0 c.at-arc.result.now c.at-arc.ensures.element) c.at.result.now c.at.ensures.element in
     e.small
 
 pub way_to-way-requires-clause-normal_small : goal.way_to-way-requires-clause-normal_small
-way_to-way-requires-clause-normal_small c = normal-small c.args.map.now c.requires.map 0 c.at-arc.result.now (at-map arc_of c.args.map.now.arcs 0 c.at-arc.result.now c.at-arc.ensures.element)
+way_to-way-requires-clause-normal_small c = normal-small c.args.map.now c.requires.map 0 c.at-arc.result.now (map-from_get arc_of c.args.map.now.arcs 0 c.at-arc.result.now c.at-arc.ensures.element)
 
 pub first_met-first-requires-clause-some : goal.first_met-first-requires-clause-some
 first_met-first-requires-clause-some c = let e = length-items c.args.map.now.arcs c.args.map.now.sloop in let f = c.requires.arcs in omega arith
@@ -42,7 +33,7 @@ returns c =
     let M = map_of m in
     let d = vector_of c.args.d.now in
     let arc = c.at-arc.result.now in
-    let h = at-map arc_of m.arcs 0 arc c.at-arc.ensures.element in
+    let h = map-from_get arc_of m.arcs 0 arc c.at-arc.ensures.element in
     let v = source-end m S 0 arc h c.at.result.now c.at.ensures.element in
     let w = c.way_to-way.result in
     let n = vector_of arc.normal in

@@ -1,4 +1,4 @@
-use Rattle.std.proofs.Common.{sym, ◌∙◌}
+use Rattle.nef_smap.proofs.Prelude.{sym, ◌∙◌}
 use Rattle.nef_smap.proofs.LargeNumbers.{times-minus, times-zero, times-plus}
 use Rattle.nef_smap.proofs.meets.sign_at_meet.Goals as goal
 

@@ -1,6 +1,4 @@
-use Rattle.std.proofs.Common.{◌^◌, ap, ◌∙◌}
-use Rattle.nef_geo.specs.Signs.{sign_of}
-use Rattle.nef_geo.specs.Triples.{wide_vector}
+use Rattle.nef_smap.proofs.Prelude.{◌^◌, ap, ◌∙◌, sign_of, wide_vector}
 use Rattle.nef_smap.proofs.MeetSigns.{meet-value}
 use Rattle.nef_smap.proofs.meets.sign_where_met.Goals as goal
 

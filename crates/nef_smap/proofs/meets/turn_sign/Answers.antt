@@ -1,6 +1,5 @@
-use Rattle.std.proofs.Common.{◌^◌, FitsSigned, lit≤, arith}
+use Rattle.nef_smap.proofs.Prelude.{◌^◌, FitsSigned, lit≤, arith, kept_small}
 use mir.Syntax.{w128}
-use Rattle.nef_geo.proofs.Products.{kept_small}
 use Rattle.nef_smap.proofs.LargeNumbers.{Fitting, fitting, turn-read}
 use Rattle.nef_smap.proofs.meets.turn_sign.Goals as goal
 

@@ -1,8 +1,4 @@
-use Rattle.std.proofs.Common.{◌*◌, ◌^◌, lit≤, sym, subst}
-use Rattle.nef_space.specs.Limits.{normal_limit, svertex_limit, direction_limit}
-use Rattle.nef_space.specs.Vectors.{IsAtMost}
-use Rattle.nef_geo.specs.Triples.{wide_vector}
-use Rattle.nef_geo.proofs.Products.{IsAtMost-weaken, dir_within}
+use Rattle.nef_smap.proofs.Prelude.{◌*◌, ◌^◌, lit≤, sym, subst, normal_limit, svertex_limit, direction_limit, IsAtMost, wide_vector, IsAtMost-weaken, dir_within}
 use Rattle.nef_smap.proofs.meets.way_to.Goals as goal
 
 pub cross_wide-requires : goal.cross_wide-requires

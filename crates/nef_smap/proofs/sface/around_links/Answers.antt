@@ -1,9 +1,4 @@
-use Rattle.std.proofs.Common.{◌≡◌, ◌+◌, List, arith, refl, sym, ap, ◌∙◌, subst, rules, Option, Some, None, is_some, true, false, Vec, Global}
-use Rattle.nef_space.specs.declared.label.Label.{Label}
-use Rattle.nef_classes.specs.declared.forest.Link.{Link}
-use Rattle.nef_smap.specs.Maps.{map_of, svertex_of}
-use Rattle.nef_smap.specs.SideNumbers.{one_if}
-use Rattle.nef_smap.specs.JoinLinks.{AreArounds}
+use Rattle.nef_smap.proofs.Prelude.{◌≡◌, ◌+◌, List, arith, refl, sym, ap, ◌∙◌, subst, rules, Option, Some, None, is_some, true, false, Vec, Global, Label, Link, map_of, svertex_of, one_if, AreArounds}
 use Rattle.nef_smap.proofs.Joining.{svertex-listed}
 use Rattle.nef_smap.proofs.LinkLists.{around-of_below, arounds-none, arounds-more, arounds-pass, arounds-start, arounds-next}
 use Rattle.nef_smap.proofs.sface.around_links.Goals as goal

@@ -1,7 +1,4 @@
-use Rattle.std.proofs.Common.{◌≡◌, ◌≤◌}
-use Rattle.nef_smap.specs.Maps.{map_of}
-use Rattle.nef_smap.specs.SideNumbers.{arounds_before}
-use Rattle.nef_smap.specs.JoinLinks.{AreArounds}
+use Rattle.nef_smap.proofs.Prelude.{◌≡◌, ◌≤◌, map_of, arounds_before, AreArounds}
 use Rattle.nef_smap.proofs.sface.around_links.Given as goal
 
 pub record AreSoFar (links side few : Type 0) : Type 0 where

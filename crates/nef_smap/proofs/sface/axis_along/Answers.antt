@@ -1,8 +1,4 @@
-use Rattle.std.proofs.Common.{pos, sym, ◌∙◌}
-use Rattle.nef_space.specs.Vectors.{dot}
-use Rattle.nef_geo.specs.Shapes.{vector_of}
-use Rattle.nef_space.proofs.Order.{by_order}
-use Rattle.nef_arc.proofs.SignNumbers.{not_true}
+use Rattle.nef_smap.proofs.Prelude.{pos, sym, ◌∙◌, dot, vector_of, by_order, not_true}
 use Rattle.nef_smap.proofs.Axes.{back-along}
 use Rattle.nef_smap.proofs.sface.axis_along.Goals as goal
 

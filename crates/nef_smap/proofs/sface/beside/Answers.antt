@@ -1,7 +1,4 @@
-use Rattle.std.proofs.Common.{◌≡◌, ◌≢◌, rules}
-use Rattle.nef_space.specs.Vectors.{cross, dot, up}
-use Rattle.nef_geo.specs.Shapes.{vector_of}
-use Rattle.nef_geo.specs.declared.sign.Sign.TheVariants.{Zero}
+use Rattle.nef_smap.proofs.Prelude.{◌≡◌, ◌≢◌, rules, cross, dot, up, vector_of, Zero}
 use Rattle.nef_smap.proofs.Axes.{zero-of, off-of, axes-nought, up-triple}
 use Rattle.nef_smap.proofs.sface.beside.Goals as goal
 

@@ -1,4 +1,4 @@
-use Rattle.nef_smap.specs.JoinLinks.{ComesOf, AreEach}
+use Rattle.nef_smap.proofs.Prelude.{ComesOf, AreEach}
 use Rattle.nef_smap.proofs.sface.each_link.Given as goal
 
 abbrev pub invariant-loop-number : goal.invariant-loop-number

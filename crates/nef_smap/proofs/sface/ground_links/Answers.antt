@@ -1,9 +1,4 @@
-use Rattle.std.proofs.Common.{◌≡◌, ◌-◌, List, [], ◌∷◌, arith, refl, sym, subst, Option, Some, None, is_some, true}
-use Rattle.std.proofs.lemmas.Result.{IfOk-weaker}
-use Rattle.nef_space.specs.declared.label.Label.{Label}
-use Rattle.nef_classes.specs.declared.forest.Link.{Link}
-use Rattle.nef_smap.specs.Maps.{map_of}
-use Rattle.nef_smap.specs.JoinLinks.{AreGrounds}
+use Rattle.nef_smap.proofs.Prelude.{◌≡◌, ◌-◌, List, [], ◌∷◌, arith, refl, sym, subst, Option, Some, None, is_some, true, IfOk-weaker, Label, Link, map_of, AreGrounds}
 use Rattle.nef_smap.proofs.LinkLists.{grounds-some, whole-last}
 use Rattle.nef_smap.proofs.sface.ground_links.Goals as goal
 

@@ -1,11 +1,6 @@
-use Rattle.std.proofs.Common.{pos, ◌<ℤ◌, sym, subst}
-use Rattle.nef_space.specs.Vectors.{Vector, triple, up}
-use Rattle.nef_geo.specs.Shapes.{vector_of}
-use Rattle.law_sphere.specs.Maps.{arc_item, items}
-use Rattle.nef_smap.specs.Maps.{map_of, arc_of}
-use Rattle.nef_smap.specs.Joined.{FirstNear}
+use Rattle.nef_smap.proofs.Prelude.{pos, ◌<ℤ◌, sym, subst, Vector, triple, up, vector_of, arc_item, items, map_of, arc_of, FirstNear}
 use Rattle.nef_smap.proofs.CloseSigns.{dir-from_get}
-use Rattle.nef_smap.proofs.MapLists.{at-within}
+use Rattle.nef_smap.proofs.Lists.{at-within}
 use Rattle.nef_smap.proofs.Upward.{ends-within, map-ahead}
 use Rattle.nef_smap.proofs.Joining.{arc-listed, arc-item_listed, source-level, normal-small, cross-level, along-some, along-forward, along-off, dir-small}
 use Rattle.nef_smap.proofs.sface.join_arc.Goals as goal

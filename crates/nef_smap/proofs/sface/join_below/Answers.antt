@@ -1,8 +1,4 @@
-use Rattle.std.proofs.Common.{subst}
-use Rattle.nef_space.specs.Vectors.{Vector, cross, up, opposite}
-use Rattle.nef_geo.specs.Shapes.{vector_of}
-use Rattle.nef_smap.specs.Maps.{map_of, svertex_of}
-use Rattle.nef_smap.specs.Joined.{FirstNear}
+use Rattle.nef_smap.proofs.Prelude.{subst, Vector, cross, up, opposite, vector_of, map_of, svertex_of, FirstNear}
 use Rattle.nef_smap.proofs.Joining.{svertex-listed, dir-across, dir-small, back-off, back-small, one-small}
 use Rattle.nef_smap.proofs.sface.join_below.Goals as goal
 

@@ -1,11 +1,8 @@
-use Rattle.std.proofs.Common.{ℕ, length, arith, refl, ap, ◌∙◌}
-use Rattle.nef_geo.specs.Shapes.{vector_of}
-use Rattle.law_sphere.specs.Maps.{sloop_item, items, pos_item}
-use Rattle.nef_smap.specs.SideNumbers.{number_of}
-use Rattle.nef_smap.specs.Maps.{map_of, sloop_of}
-use Rattle.nef_smap.proofs.MapLists.{at-within, item-sloop}
+use Rattle.nef_smap.proofs.Prelude.{ℕ, length, arith, refl, ap, ◌∙◌, vector_of, sloop_item, items, pos_item, number_of, map_of, sloop_of}
+use Rattle.nef_smap.proofs.MapLists.{item-sloop}
 use Rattle.nef_smap.proofs.Joining.{normal-small, plane-across}
 use Rattle.nef_smap.proofs.sface.join_sloop.Goals as goal
+use Rattle.nef_smap.proofs.Lists.{at-within}
 
 pub on_circle-at-requires : goal.on_circle-at-requires
 on_circle-at-requires c =

@@ -1,11 +1,4 @@
-use Rattle.std.proofs.Common.{◌≡◌, List, ◌++◌, length, refl, sym, ap, subst, ◌∙◌}
-use Rattle.std.proofs.lemmas.List.{length-map}
-use Rattle.nef_space.specs.Vectors.{up}
-use Rattle.nef_classes.specs.declared.forest.Link.{Link}
-use Rattle.nef_smap.specs.Maps.{map_of, svertex_of, arc_of}
-use Rattle.nef_classes.specs.Classes.{AreLinked}
-use Rattle.nef_smap.specs.JoinLinks.{JoinsBelow, JoinsArc}
-use Rattle.nef_smap.specs.Links.{AreJoins}
+use Rattle.nef_smap.proofs.Prelude.{◌≡◌, List, ◌++◌, length, refl, sym, ap, subst, ◌∙◌, length-map, up, Link, map_of, svertex_of, arc_of, AreLinked, JoinsBelow, JoinsArc, AreJoins}
 use Rattle.nef_smap.proofs.LinkLists.{each-joined, all-joins}
 use Rattle.nef_smap.proofs.sface.links.Goals as goal
 

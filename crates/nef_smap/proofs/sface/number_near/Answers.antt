@@ -1,4 +1,4 @@
-use Rattle.std.proofs.Common.{Some, None}
+use Rattle.nef_smap.proofs.Prelude.{Some, None}
 use Rattle.nef_smap.proofs.sface.number_near.Goals as goal
 
 pub item_side-requires : goal.item_side-requires

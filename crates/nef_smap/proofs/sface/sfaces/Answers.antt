@@ -1,12 +1,5 @@
-use Rattle.std.proofs.Common.{◌≡◌, ℕ, ◌+◌, List, length, take, arith, sym, subst}
-use Rattle.std.proofs.lemmas.Result.{IfOk-weaker}
-use Rattle.nef_space.specs.Vectors.{up}
+use Rattle.nef_smap.proofs.Prelude.{◌≡◌, ℕ, ◌+◌, List, length, take, arith, sym, subst, IfOk-weaker, up, Link, map_of, sides_of, AreWithin, AreClasses, AreNumbered, AreRoots}
 use Rattle.nef_geo.proofs.InPlane.{up-direction}
-use Rattle.nef_classes.specs.declared.forest.Link.{Link}
-use Rattle.nef_smap.specs.Maps.{map_of}
-use Rattle.nef_smap.specs.Sides.{sides_of}
-use Rattle.nef_classes.specs.Classes.{AreWithin, AreClasses, AreNumbered}
-use Rattle.nef_classes.specs.Forest.{AreRoots}
 use Rattle.nef_classes.proofs.Trees.{roots-take}
 use Rattle.nef_smap.proofs.Upward.{map-ahead, map-across}
 use Rattle.nef_smap.proofs.SfaceNumbers.{links-within, sface-numbers}

@@ -1,7 +1,4 @@
-use Rattle.std.proofs.Common.{◌≡◌, ◌≢◌, pos, rules, arith, subst, sym, ◌∙◌}
-use Rattle.std.proofs.lemmas.Int.{ints}
-use Rattle.nef_space.specs.Vectors.{Vector, dot}
-use Rattle.nef_geo.specs.Shapes.{vector_of}
+use Rattle.nef_smap.proofs.Prelude.{◌≡◌, ◌≢◌, pos, rules, arith, subst, sym, ◌∙◌, ints, Vector, dot, vector_of}
 use Rattle.nef_smap.proofs.Axes.{x_axis, y_axis, z_axis}
 use Rattle.nef_smap.proofs.sface.slanted_axis.Goals as goal
 

@@ -1,8 +1,4 @@
-use Rattle.std.proofs.Common.{◌≡◌, List, [], ◌∷◌, length, sym, ap, subst, option_map}
-use Rattle.std.proofs.lemmas.Result.{IfOk-weaker}
-use Rattle.nef_classes.specs.declared.forest.Link.{Link}
-use Rattle.nef_smap.specs.Maps.{map_of, sloop_of}
-use Rattle.nef_smap.specs.JoinLinks.{AreSloops}
+use Rattle.nef_smap.proofs.Prelude.{◌≡◌, List, [], ◌∷◌, length, sym, ap, subst, option_map, IfOk-weaker, Link, map_of, sloop_of, AreSloops}
 use Rattle.nef_smap.proofs.LinkLists.{sloops-none, sloops-some}
 use Rattle.nef_smap.proofs.sface.sloop_links.Goals as goal
 

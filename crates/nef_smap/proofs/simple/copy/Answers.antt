@@ -1,7 +1,4 @@
-use Rattle.std.proofs.Common.{◌≡◌, List, ap, ◌∙◌}
-use Rattle.nef_smap.specs.declared.map.SVertex.{SVertex}
-use Rattle.nef_smap.specs.declared.map.SArc.{SArc}
-use Rattle.nef_smap.specs.declared.map.SphereMap.{SphereMap}
+use Rattle.nef_smap.proofs.Prelude.{◌≡◌, List, ap, ◌∙◌, SVertex, SArc, SphereMap}
 use Rattle.nef_smap.proofs.simple.copy.Goals as goal
 
 abbrev with_lists : SphereMap → List SVertex → List SArc → SphereMap

@@ -1,5 +1,4 @@
-use Rattle.law_sphere.proofs.Simple.{sloop-valid, sloop-least}
-use Rattle.nef_smap.specs.Maps.{sloop_of}
+use Rattle.nef_smap.proofs.Prelude.{sloop-valid, sloop-least, sloop_of}
 use Rattle.nef_smap.proofs.SimpleMaps.{plane-labels, plane-ordered, plane-small}
 use Rattle.nef_smap.proofs.simple.plane_map.Goals as goal
 

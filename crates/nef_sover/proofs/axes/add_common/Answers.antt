@@ -1,7 +1,4 @@
-use Rattle.std.proofs.Common.{◌≡◌, true, sym, subst, rules, ◌∙◌}
-use Rattle.std.proofs.lemmas.Bool.{false≢true}
-use Rattle.nef_geo.specs.Shapes.{vector_of}
-use Rattle.nef_sover.specs.Axes.{Adds, IsMeetAlong}
+use Rattle.nef_sover.proofs.Prelude.{◌≡◌, true, sym, subst, rules, ◌∙◌, false≢true, vector_of, Adds, IsMeetAlong}
 use Rattle.nef_sover.proofs.Meets.{common-adds, apart-adds}
 use Rattle.nef_sover.proofs.axes.add_common.Goals as goal
 use Rattle.nef_sover.proofs.axes.add_common.Goals.{else-holds-via-then-holds+else-holds-2, else-holds-via-else-holds}

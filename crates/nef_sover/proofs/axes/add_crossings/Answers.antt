@@ -1,5 +1,4 @@
-use Rattle.nef_sover.specs.declared.axes.Track.{Track}
-use Rattle.nef_sover.specs.Axes.{MeetsOne}
+use Rattle.nef_sover.proofs.Prelude.{Track, MeetsOne}
 use Rattle.nef_sover.proofs.Places.{read-at}
 use Rattle.nef_sover.proofs.Adding.{any-none, any-more, any-all}
 use Rattle.nef_sover.proofs.axes.add_crossings.Goals as goal

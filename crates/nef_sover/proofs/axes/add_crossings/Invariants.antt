@@ -1,5 +1,4 @@
-use Rattle.nef_sover.specs.declared.axes.Track.{Track}
-use Rattle.nef_sover.specs.Axes.{Adds, MeetsOne}
+use Rattle.nef_sover.proofs.Prelude.{Track, Adds, MeetsOne}
 use Rattle.nef_sover.proofs.Adding.{AnyFirst}
 use Rattle.nef_sover.proofs.axes.add_crossings.Given as goal
 

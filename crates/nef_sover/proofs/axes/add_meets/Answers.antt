@@ -1,9 +1,5 @@
-use Rattle.std.proofs.Common.{refl, subst}
+use Rattle.nef_sover.proofs.Prelude.{refl, subst, svertex_limit, Vector, cross, IsParallel, SameDirection, vector_of, normal_of}
 use Rattle.std.proofs.lemmas.Result.{on_ok_weaker}
-use Rattle.nef_space.specs.Limits.{svertex_limit}
-use Rattle.nef_space.specs.Vectors.{Vector, cross, IsParallel, SameDirection}
-use Rattle.nef_geo.specs.Shapes.{vector_of}
-use Rattle.nef_sover.specs.Tracks.{normal_of}
 use Rattle.nef_sover.proofs.Meets.{meets-add, back-small, parallel-adds}
 use Rattle.nef_sover.proofs.axes.add_meets.Goals as goal
 

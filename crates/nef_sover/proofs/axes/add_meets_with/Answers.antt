@@ -1,4 +1,4 @@
-use Rattle.nef_sover.specs.Axes.{IsMeet}
+use Rattle.nef_sover.proofs.Prelude.{IsMeet}
 use Rattle.nef_sover.proofs.Places.{read-at}
 use Rattle.nef_sover.proofs.Adding.{any-none, any-more, any-all}
 use Rattle.nef_sover.proofs.axes.add_meets_with.Goals as goal

@@ -1,4 +1,4 @@
-use Rattle.nef_sover.specs.Axes.{Adds, IsMeet}
+use Rattle.nef_sover.proofs.Prelude.{Adds, IsMeet}
 use Rattle.nef_sover.proofs.Adding.{AnyFirst}
 use Rattle.nef_sover.proofs.axes.add_meets_with.Given as goal
 

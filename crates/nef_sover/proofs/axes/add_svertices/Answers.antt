@@ -1,5 +1,4 @@
-use Rattle.std.proofs.Common.{◌≡◌, ◌<◌, ◌≤◌, List, length, get_or, subst}
-use Rattle.nef_smap.specs.declared.map.SVertex.{SVertex}
+use Rattle.nef_sover.proofs.Prelude.{◌≡◌, ◌<◌, ◌≤◌, List, length, get_or, subst, SVertex}
 use Rattle.nef_sover.proofs.Adding.{any-none}
 use Rattle.nef_sover.proofs.Meets.{IsAlong, svertex-more, svertices-all}
 use Rattle.nef_sover.proofs.axes.add_svertices.Goals as goal

@@ -1,4 +1,4 @@
-use Rattle.nef_sover.specs.Axes.{Adds}
+use Rattle.nef_sover.proofs.Prelude.{Adds}
 use Rattle.nef_sover.proofs.Adding.{AnyFirst}
 use Rattle.nef_sover.proofs.Meets.{IsAlong}
 use Rattle.nef_sover.proofs.axes.add_svertices.Given as goal

@@ -1,11 +1,5 @@
-use Rattle.std.proofs.Common.{◌≡◌, List, [], rules, sym, subst}
-use Rattle.std.specs.List.{dedup}
-use Rattle.std.specs.List.Sorted.{IsSorted}
+use Rattle.nef_sover.proofs.Prelude.{◌≡◌, List, [], rules, sym, subst, dedup, IsSorted, map_of, Axis, AreTracks, AreSmall, Adds, AreInOrder, HasEachOf, IsOnSvertex}
 use Rattle.std.proofs.lemmas.Fn.{always_returns_same, dedup_same}
-use Rattle.nef_smap.specs.Maps.{map_of}
-use Rattle.nef_sover.specs.declared.axes.Axis.{Axis}
-use Rattle.nef_sover.specs.Tracks.{AreTracks, AreSmall}
-use Rattle.nef_sover.specs.Axes.{Adds, AreInOrder, HasEachOf, IsOnSvertex}
 use Rattle.nef_sover.proofs.Crossed.{all-found, axes-are}
 use Rattle.nef_sover.proofs.Sorted.{axis_order, axis_test, once-in_order, once-each}
 use Rattle.nef_sover.proofs.axes.axes_of.Goals as goal

@@ -1,7 +1,4 @@
-use Rattle.std.proofs.Common.{refl}
-use Rattle.law_sphere.specs.Maps.{arc_item, sloop_item}
-use Rattle.law_sphere.proofs.Shot.{arc-at}
-use Rattle.nef_smap.specs.Maps.{map_of, arc_of, sloop_of}
+use Rattle.nef_sover.proofs.Prelude.{refl, arc_item, sloop_item, arc-at, map_of, arc_of, sloop_of}
 use Rattle.nef_sover.proofs.axes.track_at.Goals as goal
 
 pub great_arc-requires-clause-arc : goal.great_arc-requires-clause-arc

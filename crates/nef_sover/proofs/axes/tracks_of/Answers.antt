@@ -1,7 +1,4 @@
-use Rattle.std.proofs.Common.{◌+◌, arith, sym, subst, List}
-use Rattle.nef_smap.specs.Maps.{map_of}
-use Rattle.nef_sover.specs.declared.axes.Track.{Track}
-use Rattle.nef_sover.specs.Tracks.{AreTracks}
+use Rattle.nef_sover.proofs.Prelude.{◌+◌, arith, sym, subst, List, map_of, Track, AreTracks}
 use Rattle.nef_sover.proofs.TrackLists.{AreFirst, first-more, first-all, tracks-small}
 use Rattle.nef_sover.proofs.axes.tracks_of.Goals as goal
 

@@ -1,4 +1,4 @@
-use Rattle.nef_smap.specs.Maps.{map_of}
+use Rattle.nef_sover.proofs.Prelude.{map_of}
 use Rattle.nef_sover.proofs.TrackLists.{AreFirst}
 use Rattle.nef_sover.proofs.axes.tracks_of.Given as goal
 

@@ -1,4 +1,4 @@
-use Rattle.std.proofs.Common.{refl}
+use Rattle.nef_sover.proofs.Prelude.{refl}
 use Rattle.nef_sover.proofs.overlaid.bare_normal.Goals as goal
 
 pub returns-then-is_bare : goal.returns-then-is_bare

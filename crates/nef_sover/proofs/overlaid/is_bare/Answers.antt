@@ -1,12 +1,4 @@
-use Rattle.std.proofs.Common.{◌≡◌, ℕ, ◌<◌, pos, arith, refl, subst, inl, inr, ◌⊎◌, rules}
-use Rattle.std.proofs.Math.Nat.{eq-or-lt_of_le}
-use Rattle.nef_space.specs.Vectors.{dot}
-use Rattle.nef_geo.specs.Shapes.{vector_of}
-use Rattle.nef_sover.specs.declared.axes.Axis.{Axis}
-use Rattle.law_sphere.specs.Maps.{At}
-use Rattle.law_sphere.proofs.Lists.{at-one}
-use Rattle.nef_arc.proofs.SignNumbers.{not_true}
-use Rattle.nef_smap.proofs.Lists.{at-within, at-contains, contains-at}
+use Rattle.nef_sover.proofs.Prelude.{◌≡◌, ℕ, ◌<◌, pos, arith, refl, subst, inl, inr, ◌⊎◌, rules, eq-or-lt_of_le, dot, vector_of, Axis, At, at-one, not_true, at-within, at-contains, contains-at}
 use Rattle.nef_sover.proofs.Places.{read-at}
 use Rattle.nef_sover.proofs.overlaid.is_bare.Goals as goal
 

@@ -1,8 +1,4 @@
-use Rattle.std.proofs.Common.{◌≡◌, ℕ, ◌<◌, pos}
-use Rattle.nef_space.specs.Vectors.{dot}
-use Rattle.nef_geo.specs.Shapes.{vector_of}
-use Rattle.nef_sover.specs.declared.axes.Axis.{Axis}
-use Rattle.law_sphere.specs.Maps.{At}
+use Rattle.nef_sover.proofs.Prelude.{◌≡◌, ℕ, ◌<◌, pos, dot, vector_of, Axis, At}
 use Rattle.nef_sover.proofs.overlaid.is_bare.Given as goal
 
 abbrev pub invariant-loop-axis : goal.invariant-loop-axis

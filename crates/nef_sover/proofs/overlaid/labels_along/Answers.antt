@@ -1,5 +1,4 @@
-use Rattle.std.proofs.Common.{refl}
-use Rattle.nef_geo.specs.Shapes.{vector_of}
+use Rattle.nef_sover.proofs.Prelude.{refl, vector_of}
 use Rattle.nef_sover.proofs.Sloops.{along-sloop, along-face}
 use Rattle.nef_sover.proofs.overlaid.labels_along.Goals as goal
 

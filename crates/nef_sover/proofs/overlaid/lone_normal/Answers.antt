@@ -1,9 +1,4 @@
-use Rattle.std.proofs.Common.{refl}
-use Rattle.nef_geo.specs.declared.dir.Dir.{Dir}
-use Rattle.law_sphere.specs.Maps.{MapSloop}
-use Rattle.law_build.specs.Overlays.{IsLoneSloop}
-use Rattle.nef_smap.specs.Maps.{map_of}
-use Rattle.nef_sover.specs.Circles.{IsBareNormal, IsLoneNormal}
+use Rattle.nef_sover.proofs.Prelude.{refl, Dir, MapSloop, IsLoneSloop, map_of, IsBareNormal, IsLoneNormal}
 use Rattle.nef_sover.proofs.Places.{match-option}
 use Rattle.nef_sover.proofs.Sloops.{lone-first, lone-second, lone-none}
 use Rattle.nef_sover.proofs.overlaid.lone_normal.Goals as goal

@@ -1,10 +1,4 @@
-use Rattle.std.proofs.Common.{◌≡◌, refl, subst}
-use Rattle.nef_space.specs.Limits.{normal_limit}
-use Rattle.nef_space.specs.Vectors.{IsAtMost}
-use Rattle.nef_geo.specs.Shapes.{vector_of}
-use Rattle.nef_star.specs.Ops.{op_label}
-use Rattle.nef_smap.specs.declared.map.SLoop.{SLoop}
-use Rattle.nef_smap.specs.Maps.{map_of}
+use Rattle.nef_sover.proofs.Prelude.{◌≡◌, refl, subst, normal_limit, IsAtMost, vector_of, op_label, SLoop, map_of}
 use Rattle.nef_sover.proofs.Sloops.{along-both, lone-uncrossed_a, lone-uncrossed_b, merged-sloop}
 use Rattle.nef_sover.proofs.overlaid.merged_sloop.Goals as goal
 

@@ -1,10 +1,4 @@
-use Rattle.nef_geo.specs.Shapes.{vector_of}
-use Rattle.law_sphere.specs.Maps.{items}
-use Rattle.nef_star.specs.Ops.{op_label}
-use Rattle.nef_star.specs.Stars.{IsStar, IsCombined}
-use Rattle.nef_smap.specs.Maps.{map_of}
-use Rattle.nef_smap.proofs.Lists.{at-within}
-use Rattle.nef_sover.specs.Merged.{IsMergedAt}
+use Rattle.nef_sover.proofs.Prelude.{vector_of, items, op_label, IsStar, IsCombined, map_of, at-within, IsMergedAt}
 use Rattle.nef_sover.proofs.CrossedStars.{crossed-at, item-line, line-at, lines-apart, crossed-ok}
 use Rattle.nef_sover.proofs.Places.{if-ok}
 use Rattle.nef_sover.proofs.StarsMerged.{merged-at}

@@ -1,10 +1,4 @@
-use Rattle.std.proofs.Common.{◌+◌, List, take, sym, subst}
-use Rattle.nef_star.specs.declared.star.Star.{Star}
-use Rattle.nef_star.specs.Ops.{op_label}
-use Rattle.nef_smap.specs.Maps.{map_of}
-use Rattle.nef_sover.specs.declared.axes.Axis.{Axis}
-use Rattle.nef_sover.specs.Merged.{IsMergedAt, AreMerged}
-use Rattle.nef_smap.proofs.Lists.{at-contains}
+use Rattle.nef_sover.proofs.Prelude.{◌+◌, List, take, sym, subst, Star, op_label, map_of, Axis, IsMergedAt, AreMerged, at-contains}
 use Rattle.nef_sover.proofs.Places.{read-at, zip-more, zip-all}
 use Rattle.nef_sover.proofs.overlaid.merged_stars.Goals as goal
 

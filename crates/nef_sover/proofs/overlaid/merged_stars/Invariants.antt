@@ -1,7 +1,4 @@
-use Rattle.std.proofs.Common.{take}
-use Rattle.nef_star.specs.Ops.{op_label}
-use Rattle.nef_smap.specs.Maps.{map_of}
-use Rattle.nef_sover.specs.Merged.{AreMerged}
+use Rattle.nef_sover.proofs.Prelude.{take, op_label, map_of, AreMerged}
 use Rattle.nef_sover.proofs.overlaid.merged_stars.Given as goal
 
 abbrev pub invariant-loop-axis : goal.invariant-loop-axis

@@ -1,7 +1,4 @@
-use Rattle.std.proofs.Common.{sym, subst}
-use Rattle.nef_star.specs.Ops.{op_label}
-use Rattle.nef_smap.specs.Maps.{map_of}
-use Rattle.nef_sover.specs.Axes.{AreAxes}
+use Rattle.nef_sover.proofs.Prelude.{sym, subst, op_label, map_of, AreAxes}
 use Rattle.nef_sover.proofs.StarsMerged.{all-merged, all-complete, all-ordered, all-stars}
 use Rattle.nef_sover.proofs.overlaid.overlay.Goals as goal
 

@@ -1,9 +1,4 @@
-use Rattle.std.proofs.Common.{List, length, get_or, arith, refl, ap, subst}
-use Rattle.nef_space.specs.declared.label.Label.{Label}
-use Rattle.nef_space.specs.declared.label.Label.TheVariants.{Out}
-use Rattle.nef_star.specs.Stars.{IsStar}
-use Rattle.nef_star.specs.Turning.{IsNext}
-use Rattle.nef_smap.proofs.Lists.{at-within, get-at}
+use Rattle.nef_spair.proofs.Prelude.{List, length, get_or, arith, refl, ap, subst, Label, Out, IsStar, IsNext, at-within, get-at}
 use Rattle.nef_spair.proofs.Places.{all-at}
 use Rattle.nef_spair.proofs.Leaving.{as-many-sectors, ray-leaves, arc-from}
 use Rattle.nef_spair.proofs.along.arc_along.Goals as goal

@@ -1,4 +1,4 @@
-use Rattle.nef_spair.specs.Arcs.{AreArcs}
+use Rattle.nef_spair.proofs.Prelude.{AreArcs}
 use Rattle.nef_spair.proofs.along.arcs_of.Given as goal
 
 abbrev pub invariant-loop-from : goal.invariant-loop-from

@@ -1,5 +1,4 @@
-use Rattle.std.proofs.Common.{get_or, sym, ap, ◌∙◌}
-use Rattle.nef_geo.specs.Shapes.{vector_of}
+use Rattle.nef_spair.proofs.Prelude.{get_or, sym, ap, ◌∙◌, vector_of}
 use Rattle.nef_spair.proofs.TwoEnds.{two-of}
 use Rattle.nef_spair.proofs.along.are_two_ends.Goals as goal
 

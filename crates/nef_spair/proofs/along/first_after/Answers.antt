@@ -1,8 +1,4 @@
-use Rattle.std.proofs.Common.{ℕ, ◌+◌, ◌<◌, length, get_or, refl, sym, ap, subst, ◌∙◌}
-use Rattle.law_sphere.proofs.Lists.{at-one}
-use Rattle.nef_star.specs.declared.star.Star.{Star}
-use Rattle.nef_star.proofs.Needed.{true_or_false}
-use Rattle.nef_smap.proofs.Lists.{get-at}
+use Rattle.nef_spair.proofs.Prelude.{ℕ, ◌+◌, ◌<◌, length, get_or, refl, sym, ap, subst, ◌∙◌, at-one, Star, true_or_false, get-at}
 use Rattle.nef_spair.proofs.Places.{index-at}
 use Rattle.nef_spair.proofs.Firsts.{IsFirstOf, first-stays, first-changes, first-all, on-named}
 use Rattle.nef_spair.proofs.along.first_after.Goals as goal

@@ -1,13 +1,4 @@
-use Rattle.std.proofs.Common.{◌+◌, List, length, get_or, Vec, Global, arith, sym, ap, subst, ◌∙◌}
-use Rattle.law_sphere.specs.Maps.{At}
-use Rattle.law_sphere.proofs.Lists.{at-one}
-use Rattle.nef_star.specs.declared.star.Ray.{Ray}
-use Rattle.nef_star.specs.declared.star.Star.{Star}
-use Rattle.nef_star.specs.Stars.{IsStar}
-use Rattle.nef_star.proofs.Needed.{true_or_false}
-use Rattle.nef_smap.specs.declared.map.SArc.{SArc}
-use Rattle.nef_smap.proofs.Lists.{get-at}
-use Rattle.nef_spair.specs.Arcs.{AreArcs}
+use Rattle.nef_spair.proofs.Prelude.{◌+◌, List, length, get_or, Vec, Global, arith, sym, ap, subst, ◌∙◌, At, at-one, Ray, Star, IsStar, true_or_false, SArc, get-at, AreArcs}
 use Rattle.nef_spair.proofs.Places.{index-at, all-at}
 use Rattle.nef_spair.proofs.Leaving.{arcs-past, arcs-more, arcs-next}
 use Rattle.nef_spair.proofs.along.push_arcs.Goals as goal

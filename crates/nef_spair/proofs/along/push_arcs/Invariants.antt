@@ -1,4 +1,4 @@
-use Rattle.nef_spair.specs.Arcs.{AreArcs}
+use Rattle.nef_spair.proofs.Prelude.{AreArcs}
 use Rattle.nef_spair.proofs.along.push_arcs.Given as goal
 
 abbrev pub invariant-loop-number : goal.invariant-loop-number

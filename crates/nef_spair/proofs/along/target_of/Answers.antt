@@ -1,4 +1,4 @@
-use Rattle.nef_geo.specs.Shapes.{vector_of}
+use Rattle.nef_spair.proofs.Prelude.{vector_of}
 use Rattle.nef_spair.proofs.TwoEnds.{first-other}
 use Rattle.nef_spair.proofs.along.target_of.Goals as goal
 

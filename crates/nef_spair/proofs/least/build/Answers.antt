@@ -1,7 +1,4 @@
-use Rattle.std.proofs.Common.{refl, ◌∙◌}
-use Rattle.std.proofs.lemmas.Result.{IfOk-weaker}
-use Rattle.nef_smap.specs.declared.map.RawStars.{RawStars}
-use Rattle.nef_spair.specs.Made.{IsMadeOfSimple, IsMadeFrom}
+use Rattle.nef_spair.proofs.Prelude.{refl, ◌∙◌, IfOk-weaker, RawStars, IsMadeOfSimple, IsMadeFrom}
 use Rattle.nef_spair.proofs.Answered.{built-least, built-labels, built-op, built-only}
 use Rattle.nef_spair.proofs.Built.{all-stars}
 use Rattle.nef_spair.proofs.least.build.Goals as goal

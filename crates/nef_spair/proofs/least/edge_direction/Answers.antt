@@ -1,4 +1,4 @@
-use Rattle.std.proofs.Common.{◌≡◌, [], ◌∷◌, rules}
+use Rattle.nef_spair.proofs.Prelude.{◌≡◌, [], ◌∷◌, rules}
 use Rattle.nef_spair.proofs.OneKind.{edge-if, two-listed, edge-fields, opposite-if, opposite-then}
 use Rattle.nef_spair.proofs.least.edge_direction.Goals as goal
 use Rattle.nef_spair.proofs.least.edge_direction.Goals.{else-eq-via-then-eq+then-eq-2+else-is_same, else-eq-via-then-eq+else-eq-2, else-eq-via-else-eq}

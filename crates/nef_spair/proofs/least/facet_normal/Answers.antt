@@ -1,4 +1,4 @@
-use Rattle.std.proofs.Common.{rules}
+use Rattle.nef_spair.proofs.Prelude.{rules}
 use Rattle.nef_spair.proofs.OneKind.{facet-then}
 use Rattle.nef_spair.proofs.least.facet_normal.Goals as goal
 use Rattle.nef_spair.proofs.least.facet_normal.Goals.{else-is_empty-via-then-is_empty+else-eq, else-is_empty-via-else-is_empty}

@@ -1,4 +1,4 @@
-use Rattle.std.proofs.Common.{rules}
+use Rattle.nef_spair.proofs.Prelude.{rules}
 use Rattle.nef_spair.proofs.OneKind.{volume-then}
 use Rattle.nef_spair.proofs.least.is_in_volume.Goals as goal
 use Rattle.nef_spair.proofs.least.is_in_volume.Goals.{then-is_empty, else-is_empty}

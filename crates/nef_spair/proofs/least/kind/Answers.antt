@@ -1,7 +1,4 @@
-use Rattle.std.proofs.Common.{rules}
-use Rattle.nef_smap.specs.Maps.{map_of}
-use Rattle.nef_spair.specs.Kinds.{IsVertex}
-use Rattle.nef_spair.specs.declared.answer.Kind.TheVariants.{Vertex, OnEdge, InFacet, InVolume}
+use Rattle.nef_spair.proofs.Prelude.{rules, map_of, IsVertex, Vertex, OnEdge, InFacet, InVolume}
 use Rattle.nef_spair.proofs.OneKind.{exactly, fits}
 use Rattle.nef_spair.proofs.least.kind.Goals as goal
 

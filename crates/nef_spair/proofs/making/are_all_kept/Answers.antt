@@ -1,6 +1,4 @@
-use Rattle.std.proofs.Common.{sym, ◌∙◌}
-use Rattle.nef_star.proofs.Needed.{true_or_false}
-use Rattle.nef_spair.specs.Pieces.{IsDropped}
+use Rattle.nef_spair.proofs.Prelude.{sym, ◌∙◌, true_or_false, IsDropped}
 use Rattle.nef_spair.proofs.Places.{index-at}
 use Rattle.nef_spair.proofs.Circles.{none-more, none-all}
 use Rattle.nef_spair.proofs.Parting.{not-dropped}

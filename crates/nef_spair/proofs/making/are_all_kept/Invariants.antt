@@ -1,4 +1,4 @@
-use Rattle.nef_spair.specs.Pieces.{IsDropped}
+use Rattle.nef_spair.proofs.Prelude.{IsDropped}
 use Rattle.nef_spair.proofs.Circles.{NoneUpTo}
 use Rattle.nef_spair.proofs.making.are_all_kept.Given as goal
 

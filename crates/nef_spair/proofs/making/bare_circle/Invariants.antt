@@ -1,4 +1,4 @@
-use Rattle.nef_spair.specs.Pieces.{IsBareCircle}
+use Rattle.nef_spair.proofs.Prelude.{IsBareCircle}
 use Rattle.nef_spair.proofs.Circles.{NoneUpTo}
 use Rattle.nef_spair.proofs.making.bare_circle.Given as goal
 

@@ -1,6 +1,4 @@
-use Rattle.std.proofs.Common.{List, get_or, refl, ap}
-use Rattle.nef_space.specs.declared.label.Label.{Label}
-use Rattle.nef_space.specs.declared.label.Label.TheVariants.{Out}
+use Rattle.nef_spair.proofs.Prelude.{List, get_or, refl, ap, Label, Out}
 use Rattle.nef_spair.proofs.Parting.{circle-is}
 use Rattle.nef_spair.proofs.making.circle_of.Goals as goal
 

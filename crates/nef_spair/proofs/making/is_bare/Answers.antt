@@ -1,6 +1,4 @@
-use Rattle.std.proofs.Common.{refl, sym, ◌∙◌}
-use Rattle.nef_geo.specs.Shapes.{vector_of}
-use Rattle.nef_star.proofs.Needed.{true_or_false}
+use Rattle.nef_spair.proofs.Prelude.{refl, sym, ◌∙◌, vector_of, true_or_false}
 use Rattle.nef_spair.proofs.Places.{index-at}
 use Rattle.nef_spair.proofs.Circles.{IsLevel, none-more, bare-all, not-bare}
 use Rattle.nef_spair.proofs.making.is_bare.Goals as goal

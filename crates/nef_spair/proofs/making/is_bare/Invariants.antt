@@ -1,4 +1,4 @@
-use Rattle.nef_geo.specs.Shapes.{vector_of}
+use Rattle.nef_spair.proofs.Prelude.{vector_of}
 use Rattle.nef_spair.proofs.Circles.{NoneUpTo, IsLevel}
 use Rattle.nef_spair.proofs.making.is_bare.Given as goal
 

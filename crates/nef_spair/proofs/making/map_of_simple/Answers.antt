@@ -1,15 +1,5 @@
-use Rattle.std.proofs.Common.{List, length, map, refl, sym, ap, subst, ◌∙◌}
-use Rattle.law_sphere.specs.Least.{InOrder}
-use Rattle.law_build.specs.From.{svertex_at}
-use Rattle.nef_star.specs.declared.star.Star.{Star}
-use Rattle.nef_star.specs.Stars.{star_of, IsStar}
-use Rattle.nef_smap.specs.declared.map.SArc.{SArc}
-use Rattle.nef_smap.specs.declared.map.SLoop.{SLoop}
-use Rattle.nef_smap.specs.Maps.{svertex_of}
+use Rattle.nef_spair.proofs.Prelude.{List, length, map, refl, sym, ap, subst, ◌∙◌, InOrder, svertex_at, Star, star_of, IsStar, SArc, SLoop, svertex_of, All, AreArcs, IsArcBelow, Pieces, IsChosen, ArePiecesOf}
 use Rattle.std.specs.Prelude.{MatchOption}
-use Rattle.std.specs.List.{All}
-use Rattle.nef_spair.specs.Arcs.{AreArcs, IsArcBelow}
-use Rattle.nef_spair.specs.Pieces.{Pieces, IsChosen, ArePiecesOf}
 use Rattle.nef_spair.proofs.Built.{kept-stars}
 use Rattle.nef_spair.proofs.Sorted.{sorted-arcs}
 use Rattle.nef_spair.proofs.making.map_of_simple.Goals as goal

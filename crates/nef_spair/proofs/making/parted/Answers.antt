@@ -1,8 +1,4 @@
-use Rattle.std.proofs.Common.{List, [], ◌∷◌, ◌++◌, sym, subst, ◌∙◌, inl, inr}
-use Rattle.nef_star.specs.declared.star.Star.{Star}
-use Rattle.nef_star.proofs.Needed.{true_or_false}
-use Rattle.nef_smap.specs.declared.map.SLoop.{SLoop}
-use Rattle.nef_spair.specs.Pieces.{IsDropped, AreAllKept, AreOthers, AreCircles}
+use Rattle.nef_spair.proofs.Prelude.{List, [], ◌∷◌, ◌++◌, sym, subst, ◌∙◌, inl, inr, Star, true_or_false, SLoop, IsDropped, AreAllKept, AreOthers, AreCircles}
 use Rattle.nef_spair.proofs.Places.{others-same, others-keep, others-leave}
 use Rattle.nef_spair.proofs.Parting.{no-circles, circles-more, circles-same, not-dropped}
 use Rattle.nef_spair.proofs.making.parted.Goals as goal

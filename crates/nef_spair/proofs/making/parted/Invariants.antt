@@ -1,4 +1,4 @@
-use Rattle.nef_spair.specs.Pieces.{IsDropped, AreOthers, AreCircles}
+use Rattle.nef_spair.proofs.Prelude.{IsDropped, AreOthers, AreCircles}
 use Rattle.nef_spair.proofs.making.parted.Given as goal
 
 abbrev pub invariant-loop-star : goal.invariant-loop-star

@@ -1,6 +1,4 @@
-use Rattle.std.proofs.Common.{◌≡◌, ◌<◌, length, arith, sym, subst, ◌∙◌}
-use Rattle.nef_star.proofs.Counted.{refilled}
-use Rattle.nef_spair.specs.Pieces.{AreSimple}
+use Rattle.nef_spair.proofs.Prelude.{◌≡◌, ◌<◌, length, arith, sym, subst, ◌∙◌, refilled, AreSimple}
 use Rattle.nef_spair.proofs.Simple.{simple-current, simple-more, simple-all}
 use Rattle.nef_spair.proofs.making.simplified.Goals as goal
 

@@ -1,6 +1,4 @@
-use Rattle.std.proofs.Common.{inl, inr, refl}
-use Rattle.nef_star.specs.Stars.{star_of}
-use Rattle.nef_smap.proofs.Lists.{map-at}
+use Rattle.nef_spair.proofs.Prelude.{inl, inr, refl, star_of, map-at}
 use Rattle.nef_spair.proofs.Places.{some-at}
 use Rattle.nef_spair.proofs.making.some_label.Goals as goal
 

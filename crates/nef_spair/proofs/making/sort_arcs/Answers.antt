@@ -1,5 +1,4 @@
-use Rattle.std.proofs.Common.{rules}
-use Rattle.std.proofs.lemmas.List.Sorted.{answers_always}
+use Rattle.nef_spair.proofs.Prelude.{rules, answers_always}
 use Rattle.nef_spair.proofs.ArcOrder.{arc_lt, weak, lt-same, ordered}
 use Rattle.nef_spair.proofs.making.sort_arcs.Goals as goal
 

@@ -1,7 +1,4 @@
-use Rattle.std.proofs.Common.{◌≡◌, map, take}
-use Rattle.law_build.specs.From.{svertex_at}
-use Rattle.nef_star.specs.Stars.{star_of}
-use Rattle.nef_smap.specs.Maps.{svertex_of}
+use Rattle.nef_spair.proofs.Prelude.{◌≡◌, map, take, svertex_at, star_of, svertex_of}
 use Rattle.nef_spair.proofs.making.svertices_of.Given as goal
 
 abbrev pub invariant-loop-star : goal.invariant-loop-star

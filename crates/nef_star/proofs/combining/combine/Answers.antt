@@ -1,6 +1,4 @@
-use Rattle.std.proofs.Common.{◌≡◌, length, refl, rules}
-use Rattle.nef_star.specs.declared.star.Star.{Star}
-use Rattle.nef_star.specs.Stars.{IsTurned}
+use Rattle.nef_star.proofs.Prelude.{◌≡◌, length, refl, rules, Star, IsTurned}
 use Rattle.nef_star.proofs.Joined.{none-too, only-turned, only-combined, left-to_star}
 use Rattle.nef_star.proofs.combining.combine.Goals as goal
 

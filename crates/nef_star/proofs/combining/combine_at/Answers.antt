@@ -1,9 +1,4 @@
-use Rattle.std.proofs.Common.{refl, sym, subst, ◌∙◌}
-use Rattle.nef_space.specs.Vectors.{Vector}
-use Rattle.nef_geo.specs.Shapes.{vector_of}
-use Rattle.nef_geo.specs.declared.dir.Dir.{Dir}
-use Rattle.law_cyclic.specs.Arcs.{IsOnCircle}
-use Rattle.nef_star.specs.Stars.{LeftGives, LeftAfter}
+use Rattle.nef_star.proofs.Prelude.{refl, sym, subst, ◌∙◌, Vector, vector_of, Dir, IsOnCircle, LeftGives, LeftAfter}
 use Rattle.nef_star.proofs.Joined.{item-on, changed}
 use Rattle.nef_star.proofs.combining.combine_at.Goals as goal
 

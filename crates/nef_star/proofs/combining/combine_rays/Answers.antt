@@ -1,4 +1,4 @@
-use Rattle.std.proofs.Common.{◌≡◌, ℕ, length, arith, subst}
+use Rattle.nef_star.proofs.Prelude.{◌≡◌, ℕ, length, arith, subst}
 use Rattle.nef_star.proofs.Combined.{IsCombinedTo, combined-more, left-combined}
 use Rattle.nef_star.proofs.combining.combine_rays.Goals as goal
 

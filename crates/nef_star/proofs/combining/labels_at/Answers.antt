@@ -1,6 +1,4 @@
-use Rattle.std.proofs.Common.{sym, ◌∙◌}
-use Rattle.nef_geo.specs.Shapes.{vector_of}
-use Rattle.nef_star.specs.Stars.{left_at}
+use Rattle.nef_star.proofs.Prelude.{sym, ◌∙◌, vector_of, left_at}
 use Rattle.nef_star.proofs.Needed.{true_or_false}
 use Rattle.nef_star.proofs.LastAt.{same-as, as-same}
 use Rattle.nef_star.proofs.Cuts.{only-past}

@@ -1,4 +1,4 @@
-use Rattle.std.proofs.Common.{◌≡◌, ℕ, ◌-◌, suc, length, get_or, arith, refl, subst}
+use Rattle.nef_star.proofs.Prelude.{◌≡◌, ℕ, ◌-◌, suc, length, get_or, arith, refl, subst}
 use Rattle.nef_star.proofs.Cuts.{cut-last}
 use Rattle.nef_star.proofs.rays.add_last.Goals as goal
 

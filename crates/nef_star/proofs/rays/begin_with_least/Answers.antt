@@ -1,5 +1,4 @@
-use Rattle.std.proofs.Common.{◌<◌, subst, List, length}
-use Rattle.nef_star.specs.declared.star.Ray.{Ray}
+use Rattle.nef_star.proofs.Prelude.{◌<◌, subst, List, length, Ray}
 use Rattle.nef_star.proofs.RayOrder.{LeastOf}
 use Rattle.nef_star.proofs.Needed.{counted-least}
 use Rattle.nef_star.proofs.rays.begin_with_least.Goals as goal

@@ -1,10 +1,5 @@
-use Rattle.std.proofs.Common.{◌≡◌, ℕ, ◌<◌, length, arith, rules, refl, sym, ap, subst, ◌∙◌}
+use Rattle.nef_star.proofs.Prelude.{◌≡◌, ℕ, ◌<◌, length, arith, rules, refl, sym, ap, subst, ◌∙◌, Vector, vector_of, IsOnCircle, IsNext, left_of, left_at, LeftPast}
 use Rattle.std.proofs.lemmas.Result.{on_ok_weaker}
-use Rattle.nef_space.specs.Vectors.{Vector}
-use Rattle.nef_geo.specs.Shapes.{vector_of}
-use Rattle.law_cyclic.specs.Arcs.{IsOnCircle}
-use Rattle.nef_star.specs.Turning.{IsNext}
-use Rattle.nef_star.specs.Stars.{left_of, left_at, LeftPast}
 use Rattle.nef_star.proofs.Needed.{true_or_false}
 use Rattle.nef_star.proofs.LastAt.{as-same}
 use Rattle.nef_star.proofs.Pushed.{left-on_circle}

@@ -1,4 +1,4 @@
-use Rattle.std.proofs.Common.{rules}
+use Rattle.nef_star.proofs.Prelude.{rules}
 use Rattle.nef_star.proofs.Cuts.{cut-none, cut-more}
 use Rattle.nef_star.proofs.rays.cut_by.Goals as goal
 

@@ -1,4 +1,4 @@
-use Rattle.std.proofs.Common.{arith, sym, ◌∙◌}
+use Rattle.nef_star.proofs.Prelude.{arith, sym, ◌∙◌}
 use Rattle.nef_star.proofs.Needed.{needed-more, true_or_false}
 use Rattle.nef_star.proofs.rays.is_simple.Goals as goal
 

@@ -1,4 +1,4 @@
-use Rattle.nef_star.specs.Stars.{AreNeeded}
+use Rattle.nef_star.proofs.Prelude.{AreNeeded}
 use Rattle.nef_star.proofs.rays.is_simple.Given as goal
 
 abbrev pub invariant-loop-k : goal.invariant-loop-k

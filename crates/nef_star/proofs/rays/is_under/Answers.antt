@@ -1,5 +1,4 @@
-use Rattle.std.proofs.Common.{sym, ◌∙◌, inl, inr}
-use Rattle.nef_star.specs.Stars.{left_at}
+use Rattle.nef_star.proofs.Prelude.{sym, ◌∙◌, inl, inr, left_at}
 use Rattle.nef_star.proofs.Needed.{true_or_false}
 use Rattle.nef_star.proofs.LastAt.{same-as, as-same}
 use Rattle.nef_star.proofs.rays.is_under.Goals as goal

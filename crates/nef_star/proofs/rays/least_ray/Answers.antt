@@ -1,4 +1,4 @@
-use Rattle.std.proofs.Common.{ℕ, ◌+◌, ◌<◌, length, sym, subst, rules}
+use Rattle.nef_star.proofs.Prelude.{ℕ, ◌+◌, ◌<◌, length, sym, subst, rules}
 use Rattle.nef_star.proofs.RayOrder.{LeastOf, least-stays, least-changes}
 use Rattle.nef_star.proofs.rays.least_ray.Goals as goal
 use Rattle.nef_star.proofs.rays.least_ray.Goals.{then-is_below, else-is_below}

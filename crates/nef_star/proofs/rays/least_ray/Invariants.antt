@@ -1,4 +1,4 @@
-use Rattle.std.proofs.Common.{◌<◌, length}
+use Rattle.nef_star.proofs.Prelude.{◌<◌, length}
 use Rattle.nef_star.proofs.RayOrder.{LeastOf}
 use Rattle.nef_star.proofs.rays.least_ray.Given as goal
 

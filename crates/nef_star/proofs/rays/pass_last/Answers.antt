@@ -1,5 +1,4 @@
-use Rattle.std.proofs.Common.{◌≡◌, ◌-◌, length, arith, sym, subst, ◌∙◌, inl}
-use Rattle.nef_star.specs.Stars.{IsCountedFrom}
+use Rattle.nef_star.proofs.Prelude.{◌≡◌, ◌-◌, length, arith, sym, subst, ◌∙◌, inl, IsCountedFrom}
 use Rattle.nef_star.proofs.Needed.{last-needless, passed-needed, true_or_false}
 use Rattle.nef_star.proofs.rays.pass_last.Goals as goal
 

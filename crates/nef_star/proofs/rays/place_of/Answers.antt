@@ -1,5 +1,4 @@
-use Rattle.std.proofs.Common.{arith, sym, ◌∙◌}
-use Rattle.nef_geo.specs.Shapes.{vector_of}
+use Rattle.nef_star.proofs.Prelude.{arith, sym, ◌∙◌, vector_of}
 use Rattle.nef_star.proofs.Needed.{true_or_false}
 use Rattle.nef_star.proofs.LastAt.{none-more, first-under}
 use Rattle.nef_star.proofs.rays.place_of.Goals as goal

@@ -1,4 +1,4 @@
-use Rattle.nef_geo.specs.Shapes.{vector_of}
+use Rattle.nef_star.proofs.Prelude.{vector_of}
 use Rattle.nef_star.proofs.LastAt.{NoneUnder}
 use Rattle.nef_star.proofs.rays.place_of.Given as goal
 

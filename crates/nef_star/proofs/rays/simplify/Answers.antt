@@ -1,4 +1,4 @@
-use Rattle.std.proofs.Common.{◌≡◌, ◌+◌, ◌-◌, length, arith}
+use Rattle.nef_star.proofs.Prelude.{◌≡◌, ◌+◌, ◌-◌, length, arith}
 use Rattle.nef_star.proofs.Needed.{kept-self, kept-trans, seen-first, seen-more, seen-all, still-needed, simplified}
 use Rattle.nef_star.proofs.rays.simplify.Goals as goal
 

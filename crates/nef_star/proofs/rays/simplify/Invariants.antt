@@ -1,4 +1,4 @@
-use Rattle.nef_star.specs.Stars.{IsTurned, IsKept}
+use Rattle.nef_star.proofs.Prelude.{IsTurned, IsKept}
 use Rattle.nef_star.proofs.Needed.{IsSeen}
 use Rattle.nef_star.proofs.rays.simplify.Given as goal
 

@@ -1,7 +1,4 @@
-use Rattle.std.proofs.Common.{length, sym, ap, subst}
-use Rattle.nef_geo.specs.Shapes.{vector_of}
-use Rattle.nef_geo.specs.declared.dir.Dir.{Dir}
-use Rattle.nef_star.specs.Stars.{IsRay}
+use Rattle.nef_star.proofs.Prelude.{length, sym, ap, subst, vector_of, Dir, IsRay}
 use Rattle.nef_star.proofs.rounds.all_ways.Goals as goal
 
 pub cut_ways-requires-clause-turned : goal.cut_ways-requires-clause-turned

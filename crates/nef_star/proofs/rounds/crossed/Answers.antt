@@ -1,5 +1,4 @@
-use Rattle.nef_space.specs.Vectors.{triple}
-use Rattle.nef_geo.specs.Shapes.{vector_of}
+use Rattle.nef_star.proofs.Prelude.{triple, vector_of}
 use Rattle.nef_star.proofs.Crossings.{to-side, four-turned, four-crossed}
 use Rattle.nef_star.proofs.rounds.crossed.Goals as goal
 

@@ -1,8 +1,4 @@
-use Rattle.std.proofs.Common.{rules, length, refl, sym, subst}
-use Rattle.std.proofs.lemmas.Option.{slice_get_read}
-use Rattle.nef_geo.specs.Shapes.{vector_of}
-use Rattle.nef_geo.specs.declared.dir.Dir.{Dir}
-use Rattle.nef_star.specs.Stars.{IsRay}
+use Rattle.nef_star.proofs.Prelude.{rules, length, refl, sym, subst, slice_get_read, vector_of, Dir, IsRay}
 use Rattle.nef_star.proofs.RoundStars.{cut-start, cut-next, cut-all}
 use Rattle.nef_star.proofs.rounds.cut_ways.Goals as goal
 

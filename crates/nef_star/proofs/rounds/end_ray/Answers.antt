@@ -1,5 +1,4 @@
-use Rattle.std.proofs.Common.{refl, ◌∙◌}
-use Rattle.nef_geo.specs.Shapes.{vector_of}
+use Rattle.nef_star.proofs.Prelude.{refl, ◌∙◌, vector_of}
 use Rattle.nef_star.proofs.RoundStars.{way-of_end, ended-next}
 use Rattle.nef_star.proofs.rounds.end_ray.Goals as goal
 

@@ -1,4 +1,4 @@
-use Rattle.std.proofs.Common.{arith}
+use Rattle.nef_star.proofs.Prelude.{arith}
 use Rattle.nef_star.proofs.RoundStars.{ended-start}
 use Rattle.nef_star.proofs.rounds.end_rays.Goals as goal
 

@@ -1,4 +1,4 @@
-use Rattle.nef_star.specs.Rounds.{IsEnded}
+use Rattle.nef_star.proofs.Prelude.{IsEnded}
 use Rattle.nef_star.proofs.rounds.end_rays.Given as goal
 
 abbrev pub invariant-loop-k : goal.invariant-loop-k

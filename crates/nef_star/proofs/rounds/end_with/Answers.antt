@@ -1,6 +1,4 @@
-use Rattle.std.proofs.Common.{rules, ◌<◌, length, arith, refl, sym, ◌∙◌}
-use Rattle.std.proofs.lemmas.Option.{slice_get_read, slice_get_within}
-use Rattle.nef_geo.specs.Shapes.{vector_of}
+use Rattle.nef_star.proofs.Prelude.{rules, ◌<◌, length, arith, refl, sym, ◌∙◌, slice_get_read, slice_get_within, vector_of}
 use Rattle.nef_star.proofs.Needed.{true_or_false}
 use Rattle.nef_star.proofs.RoundStars.{none-next, first-goes, same-dirs}
 use Rattle.nef_star.proofs.rounds.end_with.Goals as goal

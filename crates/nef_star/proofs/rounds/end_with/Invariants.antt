@@ -1,4 +1,4 @@
-use Rattle.nef_geo.specs.Shapes.{vector_of}
+use Rattle.nef_star.proofs.Prelude.{vector_of}
 use Rattle.nef_star.proofs.RoundStars.{NoneBefore}
 use Rattle.nef_star.proofs.rounds.end_with.Given as goal
 

@@ -1,6 +1,4 @@
-use Rattle.std.proofs.Common.{sym, ap, subst, ◌∙◌}
-use Rattle.nef_star.specs.Rounds.{IsWhole}
-use Rattle.nef_star.specs.declared.star.Star.{Star}
+use Rattle.nef_star.proofs.Prelude.{sym, ap, subst, ◌∙◌, IsWhole, Star}
 use Rattle.nef_star.proofs.TwoWays.{whole-round}
 use Rattle.nef_star.proofs.rounds.round.Goals as goal
 use Rattle.nef_star.proofs.rounds.round.Goals.{then-are_two_ways+in_ok-star, else-are_two_ways+in_ok-star-2}

@@ -1,12 +1,4 @@
-use Rattle.std.proofs.Common.{ℕ, ◌<◌, length, arith, refl, sym, subst, ◌∙◌}
-use Rattle.std.proofs.lemmas.Option.{slice_get_read}
-use Rattle.nef_space.specs.Limits.{svertex_limit}
-use Rattle.nef_space.specs.Lists.{IsAt}
-use Rattle.nef_space.specs.Vectors.{IsAtMost}
-use Rattle.nef_geo.specs.Shapes.{vector_of}
-use Rattle.nef_geo.specs.declared.dir.Dir.{Dir}
-use Rattle.nef_star.specs.Rounds.{End}
-use Rattle.nef_star.specs.Stars.{IsRay}
+use Rattle.nef_star.proofs.Prelude.{ℕ, ◌<◌, length, arith, refl, sym, subst, ◌∙◌, slice_get_read, svertex_limit, IsAt, IsAtMost, vector_of, Dir, End, IsRay}
 use Rattle.nef_star.proofs.TwoWays.{two-whole}
 use Rattle.nef_star.proofs.rounds.two_ways.Goals as goal
 

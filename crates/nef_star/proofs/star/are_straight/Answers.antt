@@ -1,4 +1,4 @@
-use Rattle.std.proofs.Common.{◌≡◌, ◌↔◌, IsTrue, rules}
+use Rattle.nef_star.proofs.Prelude.{◌≡◌, ◌↔◌, IsTrue, rules}
 use Rattle.nef_star.proofs.star.are_straight.Goals as goal
 
 pub returns-then-eq : goal.returns-then-eq

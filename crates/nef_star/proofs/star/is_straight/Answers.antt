@@ -1,4 +1,4 @@
-use Rattle.std.proofs.Common.{◌≡◌, length, rules}
+use Rattle.nef_star.proofs.Prelude.{◌≡◌, length, rules}
 use Rattle.nef_star.proofs.Straight.{two_items, straight_if, straight_two, straight_then}
 use Rattle.nef_star.proofs.star.is_straight.Goals as goal
 

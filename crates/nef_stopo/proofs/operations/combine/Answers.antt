@@ -1,10 +1,6 @@
-use Rattle.std.proofs.Common.{◌∙◌}
-use Rattle.law_sphere.specs.Forms.{forms}
+use Rattle.nef_stopo.proofs.Prelude.{◌∙◌, forms, raw-shows_op, map_of, raw_of, op_label}
 use Rattle.std.specs.Prelude.{◌++◌}
 use Rattle.law_build.proofs.Chosen.{op-labels}
-use Rattle.law_build.proofs.RawGround.{raw-shows_op}
-use Rattle.nef_smap.specs.Maps.{map_of, raw_of}
-use Rattle.nef_star.specs.Ops.{op_label}
 use Rattle.nef_stopo.proofs.Cones.{cone-by_op}
 use Rattle.nef_stopo.proofs.operations.combine.Goals as goal
 

@@ -1,6 +1,4 @@
-use Rattle.std.proofs.Common.{◌∙◌}
-use Rattle.std.specs.Prelude.{option_map}
-use Rattle.nef_smap.specs.Maps.{sloop_of}
+use Rattle.nef_stopo.proofs.Prelude.{◌∙◌, option_map, sloop_of}
 use Rattle.nef_stopo.proofs.Others.{other-sloop, other-least, other-cone}
 use Rattle.nef_stopo.proofs.operations.exchanged.Goals as goal
 

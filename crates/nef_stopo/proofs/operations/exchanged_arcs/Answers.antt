@@ -1,7 +1,4 @@
-use Rattle.std.proofs.Common.{◌≡◌, ◌<◌, ◌≤◌, length, map, get_or, arith, sym, ap, ◌∙◌}
-use Rattle.law_border.specs.Marks.{exchanged_arc}
-use Rattle.nef_star.proofs.Counted.{refilled}
-use Rattle.nef_smap.specs.Maps.{arc_of}
+use Rattle.nef_stopo.proofs.Prelude.{◌≡◌, ◌<◌, ◌≤◌, length, map, get_or, arith, sym, ap, ◌∙◌, exchanged_arc, refilled, arc_of}
 use Rattle.nef_stopo.proofs.Written.{written-none, written-more, written-all}
 use Rattle.nef_stopo.proofs.Others.{arc-other}
 use Rattle.nef_stopo.proofs.operations.exchanged_arcs.Goals as goal

@@ -1,5 +1,4 @@
-use Rattle.law_border.specs.Marks.{exchanged_arc}
-use Rattle.nef_smap.specs.Maps.{arc_of}
+use Rattle.nef_stopo.proofs.Prelude.{exchanged_arc, arc_of}
 use Rattle.nef_stopo.proofs.Written.{AreWritten}
 use Rattle.nef_stopo.proofs.operations.exchanged_arcs.Given as goal
 

@@ -1,5 +1,4 @@
-use Rattle.law_border.specs.Marks.{exchanged_svertex}
-use Rattle.nef_smap.specs.Maps.{svertex_of}
+use Rattle.nef_stopo.proofs.Prelude.{exchanged_svertex, svertex_of}
 use Rattle.nef_stopo.proofs.Written.{AreWritten}
 use Rattle.nef_stopo.proofs.operations.exchanged_svertices.Given as goal
 

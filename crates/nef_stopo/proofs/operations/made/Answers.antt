@@ -1,7 +1,4 @@
-use Rattle.law_border.specs.Marks.{map_labels}
-use Rattle.nef_smap.specs.declared.map.RawStars.{RawStars}
-use Rattle.nef_smap.specs.Maps.{map_of}
-use Rattle.nef_stopo.specs.Labels.{topology_of}
+use Rattle.nef_stopo.proofs.Prelude.{map_labels, RawStars, map_of, topology_of}
 use Rattle.nef_stopo.proofs.Labels.{label-near}
 use Rattle.nef_stopo.proofs.Relabelled.{raw-stars, topology-raw, is-labelled, made-if_ok}
 use Rattle.nef_stopo.proofs.operations.made.Goals as goal

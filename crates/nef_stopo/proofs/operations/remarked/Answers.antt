@@ -1,10 +1,4 @@
-use Rattle.std.proofs.Common.{List, length, map, sym, ap, subst, ◌∙◌}
-use Rattle.nef_space.specs.declared.label.Label.{Label}
-use Rattle.law_border.specs.Marks.{face_label, star_labels}
-use Rattle.nef_star.specs.declared.star.Ray.{Ray}
-use Rattle.nef_star.specs.Stars.{star_of}
-use Rattle.nef_stopo.specs.Labels.{topology_of}
-use Rattle.nef_stopo.specs.Stars.{AreMarked}
+use Rattle.nef_stopo.proofs.Prelude.{List, length, map, sym, ap, subst, ◌∙◌, Label, face_label, star_labels, Ray, star_of, topology_of, AreMarked}
 use Rattle.nef_stopo.proofs.Labels.{label-near}
 use Rattle.nef_stopo.proofs.Remarked.{star-remarked, labels-remarked}
 use Rattle.nef_stopo.proofs.operations.remarked.Goals as goal

@@ -1,7 +1,4 @@
-use Rattle.std.proofs.Common.{[], ◌∷◌, get_or, ◌∙◌}
-use Rattle.nef_space.specs.declared.label.Label.TheVariants.{Out}
-use Rattle.nef_stopo.specs.Labels.{topology_of}
-use Rattle.nef_stopo.specs.Stars.{IsMarked}
+use Rattle.nef_stopo.proofs.Prelude.{[], ◌∷◌, get_or, ◌∙◌, Out, topology_of, IsMarked}
 use Rattle.nef_stopo.proofs.Labels.{label-near}
 use Rattle.nef_stopo.proofs.Marking.{first-read, more-read}
 use Rattle.nef_stopo.proofs.operations.remarked_rays.Goals as goal

@@ -1,4 +1,4 @@
-use Rattle.nef_stopo.specs.Labels.{topology_of}
+use Rattle.nef_stopo.proofs.Prelude.{topology_of}
 use Rattle.nef_stopo.proofs.Marking.{IsMarkedUpTo}
 use Rattle.nef_stopo.proofs.operations.remarked_rays.Given as goal
 

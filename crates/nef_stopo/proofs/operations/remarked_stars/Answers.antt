@@ -1,4 +1,4 @@
-use Rattle.nef_stopo.specs.Labels.{topology_of}
+use Rattle.nef_stopo.proofs.Prelude.{topology_of}
 use Rattle.nef_stopo.proofs.MapStars.{at-read, svertex-small, remarked-at, remarked-more}
 use Rattle.nef_stopo.proofs.operations.remarked_stars.Goals as goal
 

@@ -1,5 +1,4 @@
-use Rattle.nef_stopo.specs.Labels.{topology_of}
-use Rattle.nef_stopo.specs.Stars.{AreRemarked}
+use Rattle.nef_stopo.proofs.Prelude.{topology_of, AreRemarked}
 use Rattle.nef_stopo.proofs.operations.remarked_stars.Given as goal
 
 abbrev pub invariant-loop-svertex : goal.invariant-loop-svertex

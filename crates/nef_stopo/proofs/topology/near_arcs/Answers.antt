@@ -1,8 +1,4 @@
-use Rattle.std.proofs.Common.{List, [], ◌∷◌, take, map, arith}
-use Rattle.law_sphere.specs.Forms.{gather}
-use Rattle.law_border.specs.Marks.{arc_labels}
-use Rattle.nef_smap.specs.declared.map.SArc.{SArc}
-use Rattle.nef_smap.specs.Maps.{arc_of}
+use Rattle.nef_stopo.proofs.Prelude.{List, [], ◌∷◌, take, map, arith, gather, arc_labels, SArc, arc_of}
 use Rattle.nef_stopo.proofs.Labels.{gather-parts, nearby-more, nearby-all}
 use Rattle.nef_stopo.proofs.topology.near_arcs.Goals as goal
 

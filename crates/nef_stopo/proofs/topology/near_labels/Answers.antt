@@ -1,7 +1,4 @@
-use Rattle.std.proofs.Common.{◌<◌, List, [], ◌∷◌, length, get_or, take, arith, refl}
-use Rattle.std.proofs.lemmas.List.{get_or_default}
-use Rattle.nef_space.specs.declared.label.Label.{Label}
-use Rattle.nef_space.specs.declared.label.Label.TheVariants.{Out}
+use Rattle.nef_stopo.proofs.Prelude.{◌<◌, List, [], ◌∷◌, length, get_or, take, arith, refl, get_or_default, Label, Out}
 use Rattle.nef_stopo.proofs.Labels.{nearby-more, nearby-all}
 use Rattle.nef_stopo.proofs.topology.near_labels.Goals as goal
 

@@ -1,5 +1,4 @@
-use Rattle.std.proofs.Common.{◌≡◌, take}
-use Rattle.nef_stopo.specs.Labels.{nearby_of}
+use Rattle.nef_stopo.proofs.Prelude.{◌≡◌, take, nearby_of}
 use Rattle.nef_stopo.proofs.topology.near_labels.Given as goal
 
 abbrev pub invariant-loop-label : goal.invariant-loop-label

@@ -1,7 +1,4 @@
-use Rattle.std.proofs.Common.{List, [], ◌∷◌, take, map, arith}
-use Rattle.nef_star.specs.declared.star.Ray.{Ray}
-use Rattle.law_border.specs.Marks.{ray_mark}
-use Rattle.nef_star.specs.Stars.{ray_of}
+use Rattle.nef_stopo.proofs.Prelude.{List, [], ◌∷◌, take, map, arith, Ray, ray_mark, ray_of}
 use Rattle.nef_stopo.proofs.Labels.{marks-append, nearby-more, nearby-all}
 use Rattle.nef_stopo.proofs.topology.near_rays.Goals as goal
 

@@ -1,7 +1,4 @@
-use Rattle.std.proofs.Common.{◌≡◌, take, map}
-use Rattle.law_border.specs.Marks.{ray_mark}
-use Rattle.nef_star.specs.Stars.{ray_of}
-use Rattle.nef_stopo.specs.Labels.{nearby_of}
+use Rattle.nef_stopo.proofs.Prelude.{◌≡◌, take, map, ray_mark, ray_of, nearby_of}
 use Rattle.nef_stopo.proofs.topology.near_rays.Given as goal
 
 abbrev pub invariant-loop-ray : goal.invariant-loop-ray

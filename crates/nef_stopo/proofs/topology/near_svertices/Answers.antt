@@ -1,8 +1,4 @@
-use Rattle.std.proofs.Common.{List, [], ◌∷◌, ◌++◌, take, map, arith, ◌∙◌}
-use Rattle.law_sphere.specs.Forms.{gather}
-use Rattle.law_border.specs.Marks.{option_labels, svertex_labels}
-use Rattle.nef_smap.specs.declared.map.SVertex.{SVertex}
-use Rattle.nef_smap.specs.Maps.{svertex_of}
+use Rattle.nef_stopo.proofs.Prelude.{List, [], ◌∷◌, ◌++◌, take, map, arith, ◌∙◌, gather, option_labels, svertex_labels, SVertex, svertex_of}
 use Rattle.nef_stopo.proofs.Labels.{gather-parts, nearby-nil, nearby-more, nearby-all}
 use Rattle.nef_stopo.proofs.topology.near_svertices.Goals as goal
 

@@ -1,8 +1,4 @@
-use Rattle.std.proofs.Common.{◌≡◌, take, map}
-use Rattle.law_sphere.specs.Forms.{gather}
-use Rattle.law_border.specs.Marks.{svertex_labels}
-use Rattle.nef_smap.specs.Maps.{svertex_of}
-use Rattle.nef_stopo.specs.Labels.{nearby_of}
+use Rattle.nef_stopo.proofs.Prelude.{◌≡◌, take, map, gather, svertex_labels, svertex_of, nearby_of}
 use Rattle.nef_stopo.proofs.topology.near_svertices.Given as goal
 
 abbrev pub invariant-loop-svertex : goal.invariant-loop-svertex

@@ -1,10 +1,5 @@
-use Rattle.std.proofs.Common.{◌≡◌, sym, ap, ◌∙◌}
+use Rattle.nef_smap.proofs.Prelude.{◌≡◌, sym, ap, ◌∙◌, Vector, dot, up, vector_of, Close, rise_form, first_sign, geo_sign, close_sign}
 use Rattle.nef_space.specs.Signs.{sign}
-use Rattle.nef_space.specs.Vectors.{Vector, dot, up}
-use Rattle.nef_geo.specs.Shapes.{vector_of}
-use Rattle.nef_smap.specs.declared.above.Close.{Close}
-use Rattle.nef_smap.specs.Above.{rise_form, first_sign}
-use Rattle.nef_smap.specs.Close.{geo_sign, close_sign}
 use Rattle.nef_smap.proofs.Rise.{rise_form-level}
 use Rattle.nef_smap.proofs.CloseSigns.{read-meeting, level-sign, first-minus, first-nought, first-plus}
 use Rattle.nef_smap.proofs.above.Close.meeting.Goals as goal

@@ -1,7 +1,5 @@
 use Rattle.nef_space.specs.Signs.{sign}
-use Rattle.nef_space.specs.Vectors.{dot}
-use Rattle.nef_geo.specs.Shapes.{vector_of}
-use Rattle.nef_smap.specs.Close.{beyond_sign}
+use Rattle.nef_smap.proofs.Prelude.{dot, vector_of, beyond_sign}
 use Rattle.nef_smap.proofs.CloseSigns.{read-dot, first-minus, first-nought, first-plus}
 use Rattle.nef_smap.proofs.above.Close.side.Goals as goal
 

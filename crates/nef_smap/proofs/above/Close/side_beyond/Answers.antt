@@ -1,8 +1,5 @@
-use Rattle.std.proofs.Common.{refl}
+use Rattle.nef_smap.proofs.Prelude.{refl, dot, vector_of, Minus, Plus}
 use Rattle.nef_space.specs.Signs.{plus, sign}
-use Rattle.nef_space.specs.Vectors.{dot}
-use Rattle.nef_geo.specs.Shapes.{vector_of}
-use Rattle.nef_geo.specs.declared.sign.Sign.TheVariants.{Minus, Plus}
 use Rattle.nef_smap.proofs.CloseSigns.{read-dot, beyond-down, beyond-up, beyond-along, first-minus, first-nought, first-plus}
 use Rattle.nef_smap.proofs.above.Close.side_beyond.Goals as goal
 

@@ -1,11 +1,5 @@
-use Rattle.std.proofs.Common.{◌≡◌, sym, ap, ◌∙◌}
+use Rattle.nef_smap.proofs.Prelude.{◌≡◌, sym, ap, ◌∙◌, Vector, dot, cross, up, vector_of, cross-self, Close, first_sign, geo_sign, close_sign}
 use Rattle.nef_space.specs.Signs.{sign}
-use Rattle.nef_space.specs.Vectors.{Vector, dot, cross, up}
-use Rattle.nef_geo.specs.Shapes.{vector_of}
-use Rattle.law_sphere.proofs.Direct.{cross-self}
-use Rattle.nef_smap.specs.declared.above.Close.{Close}
-use Rattle.nef_smap.specs.Above.{first_sign}
-use Rattle.nef_smap.specs.Close.{geo_sign, close_sign}
 use Rattle.nef_smap.proofs.CloseSigns.{read-turn, level-sign, first-minus, first-nought, first-plus}
 use Rattle.nef_smap.proofs.above.Close.turn.Goals as goal
 

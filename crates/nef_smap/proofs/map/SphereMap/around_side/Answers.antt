@@ -1,7 +1,4 @@
-use Rattle.std.proofs.Common.{◌≡◌, arith, refl, sym, ap, ◌∙◌, rules, Option, Some, None, is_some, true, false}
-use Rattle.nef_space.specs.declared.label.Label.{Label}
-use Rattle.nef_smap.specs.Maps.{map_of, svertex_of}
-use Rattle.nef_smap.specs.SideNumbers.{one_if, arounds_before}
+use Rattle.nef_smap.proofs.Prelude.{◌≡◌, arith, refl, sym, ap, ◌∙◌, rules, Option, Some, None, is_some, true, false, Label, map_of, svertex_of, one_if, arounds_before}
 use Rattle.nef_smap.proofs.Joining.{svertex-listed}
 use Rattle.nef_smap.proofs.LinkLists.{arounds-start, arounds-next}
 use Rattle.nef_smap.proofs.map.SphereMap.around_side.Goals as goal

@@ -1,6 +1,4 @@
-use Rattle.std.proofs.Common.{◌≡◌, ◌≤◌}
-use Rattle.nef_smap.specs.Maps.{map_of}
-use Rattle.nef_smap.specs.SideNumbers.{arounds_before}
+use Rattle.nef_smap.proofs.Prelude.{◌≡◌, ◌≤◌, map_of, arounds_before}
 use Rattle.nef_smap.proofs.map.SphereMap.around_side.Given as goal
 
 abbrev pub invariant-loop-number : goal.invariant-loop-number

@@ -1,12 +1,9 @@
-use Rattle.std.proofs.Common.{◌≡◌, ℕ, ◌+◌, map, option_map, length, is_some, arith, ap, sym}
+use Rattle.nef_smap.proofs.Prelude.{◌≡◌, ℕ, ◌+◌, map, option_map, length, is_some, arith, ap, sym, dot, vector_of, At, Item, items, map_of, arc_of, sloop_of}
 use mir.Val.{bool_byte}
-use Rattle.nef_space.specs.Vectors.{dot}
-use Rattle.nef_geo.specs.Shapes.{vector_of}
-use Rattle.law_sphere.specs.Maps.{At, Item, items}
-use Rattle.nef_smap.specs.Maps.{map_of, arc_of, sloop_of}
-use Rattle.nef_smap.proofs.MapLists.{length-items, item-sloop, at-within}
+use Rattle.nef_smap.proofs.MapLists.{length-items, item-sloop}
 use Rattle.nef_smap.proofs.FreeSeen.{bare-seen, circle-off, circle-above, circle-below, side-chosen}
 use Rattle.nef_smap.proofs.map.SphereMap.face_toward.Goals as goal
+use Rattle.nef_smap.proofs.Lists.{at-within}
 
 pub item_side-requires : goal.item_side-requires
 item_side-requires c =

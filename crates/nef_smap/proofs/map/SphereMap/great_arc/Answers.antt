@@ -1,9 +1,4 @@
-use Rattle.std.proofs.Common.{◌≡◌, sym, ap, ◌∙◌, subst, ◌↔◌}
-use Rattle.nef_space.specs.Vectors.{Vector}
-use Rattle.law_cyclic.specs.Arcs.{IsStrictlyOn}
-use Rattle.nef_geo.specs.Shapes.{vector_of}
-use Rattle.law_sphere.specs.Maps.{dir_of}
-use Rattle.nef_smap.specs.Maps.{map_of}
+use Rattle.nef_smap.proofs.Prelude.{◌≡◌, sym, ap, ◌∙◌, subst, ◌↔◌, Vector, IsStrictlyOn, vector_of, dir_of, map_of}
 use Rattle.nef_smap.proofs.ArcEnds.{source-within, target-within, source-end, target-end}
 use Rattle.nef_smap.proofs.map.SphereMap.great_arc.Goals as goal
 

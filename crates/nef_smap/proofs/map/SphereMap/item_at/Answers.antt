@@ -1,4 +1,4 @@
-use Rattle.std.proofs.Common.{arith, is_some, ap}
+use Rattle.nef_smap.proofs.Prelude.{arith, is_some, ap}
 use mir.Val.{bool_byte}
 use Rattle.nef_smap.proofs.MapLists.{length-items, item-arc, item-sloop}
 use Rattle.nef_smap.proofs.map.SphereMap.item_at.Goals as goal

@@ -1,4 +1,4 @@
-use Rattle.std.proofs.Common.{arith}
+use Rattle.nef_smap.proofs.Prelude.{arith}
 use Rattle.nef_smap.proofs.MapLists.{length-items}
 use Rattle.nef_smap.proofs.map.SphereMap.item_count.Goals as goal
 

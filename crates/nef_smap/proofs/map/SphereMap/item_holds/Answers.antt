@@ -1,7 +1,4 @@
-use Rattle.law_sphere.specs.Maps.{arc_item, sloop_item}
-use Rattle.law_sphere.proofs.Shot.{arc-at}
-use Rattle.nef_geo.specs.Shapes.{vector_of}
-use Rattle.nef_smap.specs.Maps.{map_of, arc_of, sloop_of}
+use Rattle.nef_smap.proofs.Prelude.{arc_item, sloop_item, arc-at, vector_of, map_of, arc_of, sloop_of}
 use Rattle.nef_smap.proofs.map.SphereMap.item_holds.Goals as goal
 
 pub great_arc-requires-clause-arc : goal.great_arc-requires-clause-arc

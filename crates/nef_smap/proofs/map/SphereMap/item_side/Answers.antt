@@ -1,6 +1,4 @@
-use Rattle.std.proofs.Common.{◌+◌, ◌*◌, cond}
-use Rattle.law_sphere.specs.Maps.{item_pos, item_neg, pos_item, neg_item}
-use Rattle.nef_smap.specs.Maps.{map_of}
+use Rattle.nef_smap.proofs.Prelude.{◌+◌, ◌*◌, cond, item_pos, item_neg, pos_item, neg_item, map_of}
 use Rattle.nef_smap.proofs.SideLists.{side-of}
 use Rattle.nef_smap.proofs.SideNumbers.{number-one}
 use Rattle.nef_smap.proofs.map.SphereMap.item_side.Goals as goal

@@ -1,11 +1,4 @@
-use Rattle.std.proofs.Common.{arith, sym, ◌∙◌, subst}
-use Rattle.nef_arc.proofs.SignNumbers.{not_true}
-use Rattle.nef_space.specs.Vectors.{Vector, SameDirection}
-use Rattle.nef_geo.specs.Shapes.{vector_of}
-use Rattle.law_sphere.specs.Maps.{Item, items, item_normal, OnItem}
-use Rattle.law_sphere.proofs.Lists.{at-one}
-use Rattle.nef_smap.specs.Items.{item_of}
-use Rattle.nef_smap.specs.Maps.{map_of}
+use Rattle.nef_smap.proofs.Prelude.{arith, sym, ◌∙◌, subst, not_true, Vector, SameDirection, vector_of, Item, items, item_normal, OnItem, at-one, item_of, map_of}
 use Rattle.nef_smap.proofs.Found.{none-more, none-of_all}
 use Rattle.nef_smap.proofs.map.SphereMap.item_through.Goals.{else-is_same-via-then-is_same+else-item_holds, else-is_same-via-else-is_same}
 use Rattle.nef_smap.proofs.map.SphereMap.item_through.Goals as goal

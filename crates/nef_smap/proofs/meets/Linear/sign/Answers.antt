@@ -1,4 +1,4 @@
-use Rattle.std.proofs.Common.{rules, FitsSigned}
+use Rattle.nef_smap.proofs.Prelude.{rules, FitsSigned}
 use mir.Syntax.{w128}
 use Rattle.nef_smap.proofs.LargeNumbers.{linear-read}
 use Rattle.nef_smap.proofs.meets.Linear.sign.Goals as goal

@@ -1,4 +1,4 @@
-use Rattle.std.proofs.Common.{Bool, ◌&&◌, ◌||◌, sym, ap, ◌∙◌}
+use Rattle.nef_stopo.proofs.Prelude.{Bool, ◌&&◌, ◌||◌, sym, ap, ◌∙◌}
 use Rattle.nef_stopo.proofs.Labels.{both-as}
 use Rattle.nef_stopo.proofs.topology.Nearby.and.Goals as goal
 use Rattle.nef_stopo.proofs.topology.Nearby.and.Goals.{then-self, else-self}

@@ -1,13 +1,4 @@
-use Rattle.std.proofs.Common.{Option, Some, [], ◌∷◌, sym, ap, ◌∙◌}
-use Rattle.std.specs.Prelude.{option_map}
-use Rattle.nef_space.specs.Vectors.{Vector}
-use Rattle.nef_space.specs.declared.label.Label.{Label}
-use Rattle.law_sphere.specs.Maps.{MapSloop}
-use Rattle.law_border.specs.Marks.{face_label, label_from, sloop_by}
-use Rattle.nef_geo.specs.Shapes.{vector_of}
-use Rattle.nef_smap.specs.declared.map.SLoop.{SLoop}
-use Rattle.nef_smap.specs.Maps.{sloop_of}
-use Rattle.nef_stopo.specs.Labels.{topology_of}
+use Rattle.nef_stopo.proofs.Prelude.{Option, Some, [], ◌∷◌, sym, ap, ◌∙◌, option_map, Vector, Label, MapSloop, face_label, label_from, sloop_by, vector_of, SLoop, sloop_of, topology_of}
 use Rattle.nef_stopo.proofs.Labels.{label-near}
 use Rattle.nef_stopo.proofs.topology.Topology.sloop.Goals as goal
 
