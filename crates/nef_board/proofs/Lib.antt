@@ -1,3 +1,4 @@
+pub mod Prelude
 pub mod Sounds
 pub mod Turns
 pub mod Opens

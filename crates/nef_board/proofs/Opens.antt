@@ -1,22 +1,5 @@
 -- The board when it is made.
-use Rattle.std.proofs.Common.{◌≡◌, ℕ, zero, suc, ◌*◌, ◌<◌, ◌≤◌, List, [], ◌∷◌, length, refl, ap, sym, ◌∙◌, Option, Some, None, slice_get, arith, subst, replicate}
-use Rattle.std.proofs.lemmas.List.{length-replicate}
-use Rattle.std.proofs.lemmas.Option.{slice_get_within}
-use Rattle.atomic_table.specs.Table.{opening}
-use Rattle.nef_core.specs.Machine.{State as Machine, start}
-use Rattle.nef_core.specs.declared.machine.Slot.{Slot}
-use Rattle.nef_core.specs.declared.machine.Slot.TheVariants.{Open, InHand}
-use Rattle.nef_core.specs.declared.machine.Event.{Event}
-use Rattle.nef_core.proofs.Places.{get_replicate, only_one}
-use Rattle.nef_core.proofs.Deposits.{open_not_held, same_slot}
-use Rattle.nef_core.specs.Results.{HasResult}
-use Rattle.nef_board.specs.declared.state.BoardState.{BoardState}
-use Rattle.nef_board.specs.declared.board.LockView.{LockView}
-use Rattle.nef_board.specs.Sound.{owed, Sound, IsSound}
-use Rattle.nef_board.specs.Views.{first_view}
-use Rattle.nef_core.specs.Passes.{Fits}
-use Rattle.nef_core.proofs.Passes.{fits_first}
-use Rattle.nef_board.specs.Rule.{SawIs, Kept}
+use Rattle.nef_board.proofs.Prelude.{◌≡◌, ℕ, zero, suc, ◌*◌, ◌<◌, ◌≤◌, List, [], ◌∷◌, length, refl, ap, sym, ◌∙◌, Option, Some, None, slice_get, arith, subst, replicate, length-replicate, slice_get_within, opening, State as Machine, start, Slot, Open, InHand, Event, get_replicate, only_one, open_not_held, same_slot, HasResult, BoardState, LockView, owed, Sound, IsSound, first_view, Fits, fits_first, SawIs, Kept}
 
 owed_start : (n : ℕ) → owed 0 (replicate n Open) ≡ 2 * n
 owed_start zero = refl

@@ -1,22 +1,10 @@
 -- The board shows the replay of the history that it keeps.
-use Rattle.std.proofs.Common.{◌≡◌, ℕ, length, ap, sym, ◌∙◌, Option, Some, None, slice_get, slice_set, arith, subst, IfSome}
-use Rattle.std.proofs.lemmas.List.{set-get_or}
+use Rattle.nef_board.proofs.Prelude.{◌≡◌, ℕ, length, ap, sym, ◌∙◌, Option, Some, None, slice_get, slice_set, arith, subst, IfSome, set-get_or, set_else, set_again, State as Machine, start, after, replay, IsLegal, AllDone, ResultsFit, InHand, Claim, Deposit, GiveBack, claim_answers, past_answers, past_is_same, held_in, BoardState, LockView, IsPlaced, Shows, seeing, taken_in}
 use mathlib.Core.Option.{some, none, some-injective, some-ne-none}
 use lib.ListN.{get_elem?}
 use Rattle.atomic_table.specs.Table.{State}
-use Rattle.atomic_table.proofs.Lists.{set_else, set_again}
-use Rattle.nef_core.specs.Machine.{State as Machine, start, after, replay, IsLegal}
 use Rattle.nef_core.specs.Accounts.{IsAccounted}
-use Rattle.nef_core.specs.Results.{AllDone, ResultsFit}
-use Rattle.nef_core.specs.declared.machine.Slot.TheVariants.{InHand}
-use Rattle.nef_core.specs.declared.machine.Event.TheVariants.{Claim, Deposit, GiveBack}
-use Rattle.nef_core.proofs.Schedules.{claim_answers, past_answers, past_is_same}
 use Rattle.nef_core.proofs.Accounts.{accounted}
-use Rattle.nef_core.proofs.Passes.{held_in}
-use Rattle.nef_board.specs.declared.state.BoardState.{BoardState}
-use Rattle.nef_board.specs.declared.board.LockView.{LockView}
-use Rattle.nef_board.specs.Rule.{IsPlaced, Shows}
-use Rattle.nef_board.specs.Views.{seeing, taken_in}
 use Rattle.nef_board.specs.Laws.{IsSeat, SplitIsNothing, JoinIsNothing, TakingIsNothing, FailingIsNothing, TurnIsAway, FreeingIsClaim, FreeingIsNone, FreeingIsDeposit, FreeingIsGiveBack, BoardRuns}
 use Rattle.nef_board.proofs.Turns.{split_shown, join_shown, takes_turn, claim_freed, end_freed, deposit_freed, back_freed}
 

@@ -1,17 +1,5 @@
 -- One event keeps the state sound.
-use Rattle.std.proofs.Common.{◌≡◌, ℕ, zero, suc, ◌+◌, ◌<◌, ◌≢◌, List, [], ◌∷◌, ◌++◌, length, refl, ap, sym, ◌∙◌, Option, Some, None, slice_get, slice_set, arith, inl, inr, subst, set, length-append, add-one, lt_of_not-le}
-use Rattle.std.proofs.Math.ListN.{length-set}
-use Rattle.std.proofs.lemmas.Option.{slice_get_within}
-use Rattle.nef_core.specs.Machine.{State as Machine, start, after, replay, IsLegal}
-use Rattle.nef_core.specs.declared.machine.Slot.{Slot}
-use Rattle.nef_core.specs.declared.machine.Slot.TheVariants.{Open, InHand, Done}
-use Rattle.nef_core.specs.declared.machine.Event.{Event}
-use Rattle.nef_core.specs.declared.machine.Event.TheVariants.{Claim, Deposit, GiveBack}
-use Rattle.nef_core.proofs.Places.{get_set_here, get_set_other, same_or_not}
-use Rattle.nef_core.proofs.Schedules.{claimed, replay_append, fresh, fresh_start, IsFresh, legal_more}
-use Rattle.nef_core.proofs.Deposits.{open_not_held, same_slot}
-use Rattle.nef_core.specs.Results.{HasResult}
-use Rattle.nef_board.specs.Sound.{weight, owed, Sound}
+use Rattle.nef_board.proofs.Prelude.{◌≡◌, ℕ, zero, suc, ◌+◌, ◌<◌, ◌≢◌, List, [], ◌∷◌, ◌++◌, length, refl, ap, sym, ◌∙◌, Option, Some, None, slice_get, slice_set, arith, inl, inr, subst, set, length-append, add-one, lt_of_not-le, length-set, slice_get_within, State as Machine, start, after, replay, IsLegal, Slot, Open, InHand, Done, Event, Claim, Deposit, GiveBack, get_set_here, get_set_other, same_or_not, claimed, replay_append, fresh, fresh_start, IsFresh, legal_more, open_not_held, same_slot, HasResult, weight, owed, Sound}
 
 no_slot : (w : ℕ) → None ≡ Some (InHand w) → ⊥
 no_slot w e = cc

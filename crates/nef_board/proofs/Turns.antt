@@ -1,34 +1,13 @@
 -- Taking the turn and freeing it keep the rule.
-use Rattle.std.proofs.Common.{◌≡◌, ℕ, ◌+◌, ◌<◌, ◌≤◌, ◌≢◌, List, [], ◌∷◌, ◌++◌, length, refl, ap, sym, ◌∙◌, Option, Some, None, slice_get, slice_set, slice_index, arith, ◌⊎◌, inl, inr, Bool, true, false, subst, set, IfSome, MatchBool, ◌==◌}
-use Rattle.std.proofs.Math.ListN.{length-set}
-use Rattle.std.proofs.lemmas.List.{get_or-set_same, set-get_or}
-use Rattle.std.proofs.lemmas.Option.{slice_get_within}
+use Rattle.nef_board.proofs.Prelude.{◌≡◌, ℕ, ◌+◌, ◌<◌, ◌≤◌, ◌≢◌, List, [], ◌∷◌, ◌++◌, length, refl, ap, sym, ◌∙◌, Option, Some, None, slice_get, slice_set, slice_index, arith, ◌⊎◌, inl, inr, Bool, true, false, subst, set, IfSome, MatchBool, ◌==◌, length-set, get_or-set_same, set-get_or, slice_get_within, Me, rest, step, Act, keeps, takes, gives, stepped, Allows, Splits, Joins, Final, Seen, Valid, carried_after, at_set, set_here, set_else, set_again, State as Machine, after, Slot, Open, InHand, Done, Claim, Deposit, GiveBack, get_set_here, get_set_other, same_or_not, within, at_length, below_last, open_not_held, open_not_done, held_not_done, done_not_held, held_by, not_among, among, claimed, past_is_same, BoardState, deposited, Fits, fits_cut, fits_new, fits_beside, fits_taken_in, fits_at_end, fits_holding, fits_deposited, fits_gave_back, fits_moved, held_in, LockView, IsSound, seeing, claimed_view, ended_view, deposited_view, back_view, job_in, cut, new_view, taken_in, spent, IsPlaced, IsThere, SawIs, Shows, Kept, HasTurn, Found, Took, Claimed, Ended, Deposited, GaveBack, AllDone, ResultsFit, IsClosedWith, length-append, at_longer}
 use Rattle.std.proofs.lemmas.Bool.Decides.{nat_tests}
 use mathlib.Core.Option.{some, none, some-injective}
 use prog.Atomic.{either}
 use lib.ListN.{get_elem?}
-use Rattle.atomic_table.specs.Table.{State, Me, rest, step, Act, keeps, takes, gives, stepped, Allows, Splits, Joins, Final, Seen, Valid, carried_after}
-use Rattle.atomic_table.proofs.Lists.{at_set, set_here, set_else, set_again}
-use Rattle.nef_core.specs.Machine.{State as Machine, after}
-use Rattle.nef_core.specs.declared.machine.Slot.{Slot}
-use Rattle.nef_core.specs.declared.machine.Slot.TheVariants.{Open, InHand, Done}
-use Rattle.nef_core.specs.declared.machine.Event.TheVariants.{Claim, Deposit, GiveBack}
-use Rattle.nef_core.proofs.Places.{get_set_here, get_set_other, same_or_not, within, at_length, below_last}
-use Rattle.nef_core.proofs.Deposits.{open_not_held, open_not_done, held_not_done, done_not_held, held_by, not_among, among}
-use Rattle.nef_core.proofs.Schedules.{claimed, past_is_same}
-use Rattle.nef_board.specs.declared.state.BoardState.{BoardState}
+use Rattle.atomic_table.specs.Table.{State}
 use Rattle.nef_core.specs.declared.board.View.{View}
-use Rattle.nef_core.specs.Passes.{deposited, Fits}
-use Rattle.nef_core.proofs.Passes.{fits_cut, fits_new, fits_beside, fits_taken_in, fits_at_end, fits_holding, fits_deposited, fits_gave_back, fits_moved, held_in}
-use Rattle.nef_board.specs.declared.board.LockView.{LockView}
-use Rattle.nef_board.specs.Sound.{IsSound}
-use Rattle.nef_board.specs.Views.{seeing, claimed_view, ended_view, deposited_view, back_view, job_in, cut, new_view, taken_in, spent}
-use Rattle.nef_board.specs.Rule.{IsPlaced, IsThere, SawIs, Shows, Kept, HasTurn, Found, Took, Claimed, Ended, Deposited, GaveBack}
 use Rattle.nef_board.proofs.Sounds.{is_fresh}
-use Rattle.nef_core.specs.Results.{AllDone, ResultsFit, IsClosedWith}
 use Rattle.nef_core.specs.Views.{has_job}
-use Rattle.std.proofs.Common.{length-append}
-use Rattle.atomic_table.proofs.Lists.{at_longer}
 
 one_zero : (n : ℕ) → n ≡ 0 → n ≡ 1 → ⊥
 one_zero n a b = absurd (omega arith)

@@ -12,18 +12,18 @@ use Rattle.nef_board.specs.declared.board.LockView.{LockView}
 use Rattle.nef_board.specs.Sound.{IsSound}
 use Rattle.nef_board.specs.Views.{seeing, claimed_view, ended_view, deposited_view, back_view}
 
--- the turn is some pass's
+-- the turn is free, or one of the passes has it
 abbrev pub IsThere : Option ℕ → ℕ → Type 0
 IsThere None count = Unit {0}
 IsThere (Some k) count = k < count
 
 module _ {Out : Type 0} where
-  -- where the state is: at home, or out with the pass that has the turn
+  -- the board's state is at home where the turn is free, or out with the pass that has the turn
   abbrev pub IsPlaced : Option ℕ → BoardState Out → State (BoardState Out) (LockView Out) → Type 0
   IsPlaced None b s = (slice_index s.words 0 ≡ 0) × (get_elem? s.homes 0 ≡ some (some b))
   IsPlaced (Some k) b s = (slice_index s.words 0 ≡ 1) × (get_elem? s.homes 0 ≡ some none)
 
-  -- who has the turn knows the state that it found
+  -- the pass that has the turn knows the state that it found, and no other pass knows a state
   abbrev pub SawIs : Option ℕ → BoardState Out → ℕ → LockView Out → Type 0
   SawIs None b place v = v.saw ≡ None
   SawIs (Some k) b place v = (place ≡ k → v.saw ≡ Some b) × (place ≢ k → v.saw ≡ None)
@@ -50,7 +50,7 @@ module _ {Out : Type 0} where
     pub hand : IfSome v.hand (λ job. slice_get b.machine.slots job ≡ Some (InHand v.number))
     pub deposits : AllDone b.machine.slots v.deposits
 
-  -- a pass of this view took the turn, and carries the slot with the state
+  -- a pass of view v took the turn, and carries the slot with the state
   abbrev pub HasTurn : LockView Out → Me (BoardState Out) (LockView Out) → Type 0
   HasTurn v w = (b : BoardState Out) × (w.0 ≡ seeing v b) × (w.1 ≡ (0, b) ∷ []) × Found v.known b
 

@@ -7,19 +7,19 @@ use Rattle.nef_core.specs.declared.machine.Event.{Event}
 use Rattle.nef_core.specs.Results.{ResultsFit}
 use Rattle.nef_board.specs.declared.state.BoardState.{BoardState}
 
--- the events that may still come for a slot that was drawn
+-- how many events may still come for a slot that was drawn
 abbrev pub weight : Slot → ℕ
 weight Open = 0
 weight (InHand w) = 1
 weight (Done w) = 0
 
--- the events that may still come where the first `drawn` numbers were handed out
+-- how many events may still come where the first `drawn` numbers were handed out
 abbrev pub owed : ℕ → List Slot → ℕ
 owed drawn [] = 0
 owed zero (x ∷ xs) = 2 + owed zero xs
 owed (suc drawn) (x ∷ xs) = weight x + owed drawn xs
 
--- the machine is the replay of a legal history, the results fit it, and the history has room for all events that may still come
+-- the machine is the replay of a legal history, the results fit it, and the history has room for all events to come
 pub record Sound {Out : Type 0} (m : Machine) (history : List Event) (results : List (Option Out)) (capacity : ℕ) : Type 0 where
   pub replayed : m ≡ replay (start (length m.slots)) history
   pub legal : IsLegal (start (length m.slots)) history

@@ -10,7 +10,7 @@ job_in None = 0
 job_in (Some job) = job
 
 module _ {Out : Type 0} where
-  -- a pass that hasn't the turn
+  -- the view of a pass that hasn't the turn
   abbrev pub away : View → LockView Out
   away known = record { known = known; saw = None }
 
@@ -29,7 +29,7 @@ module _ {Out : Type 0} where
   abbrev pub spent : LockView Out
   spent = away passes.spent
 
-  -- a pass that took the turn, and the state that it found
+  -- the view of a pass that took the turn, with the state that it found
   abbrev pub seeing : LockView Out → BoardState Out → LockView Out
   seeing v b = record { known = v.known; saw = Some b }
 
@@ -37,7 +37,7 @@ module _ {Out : Type 0} where
   seen_next None = 0
   seen_next (Some b) = b.machine.next
 
-  -- a pass that freed the turn, after each kind of event
+  -- the view of a pass that freed the turn, after each kind of event
   abbrev pub claimed_view : LockView Out → LockView Out
   claimed_view v = away (passes.holding v.known (seen_next v.saw))
 

@@ -1,4 +1,4 @@
-//! The board, its passes, what holds between any two steps, and what holds on every schedule.
+//! The lock board and its passes, what holds between any two steps, and what holds on every schedule.
 ghost use Rattle.std.specs.Prelude.{◌≡◌, true, false, ◌+◌, ◌<◌, ◌≤◌, IfOk, Some, None, [], ◌∷◌, ◌==◌};
 ghost use Rattle.nef_board.specs.Rule.{HasTurn, Took, Kept, Claimed, Ended, Deposited, GaveBack};
 ghost use Rattle.atomic_table.specs.Table.{Allows, step};
@@ -14,10 +14,8 @@ use std::alloc::Global;
 use std::sync::Wait;
 use std::{hint, mem, thread};
 
-/// A board whose passes take turns.
-///
-/// One word is the turn, 0 while it is free and 1 while a pass has it. One slot has the state.
-/// The calls wait for the turn by the runtime that the board keeps.
+/// A board whose passes take turns. One word is the turn, 0 while the turn is free and 1 while a pass has it. One slot
+/// has the state. Calls wait for the turn by the runtime that the board keeps.
 #[derive(Drop)]
 pub struct LockBoard<'a, R, J: Job> {
     rt: &'a R,
@@ -26,8 +24,8 @@ pub struct LockBoard<'a, R, J: Job> {
     ghost slot_count: { table.shared.table_id.slots ≡ 1 },
 }
 
-/// What every pass knows, and the state that it found while it has the turn.
-// No value of it is made.
+/// What every pass knows, and the state that a pass found while it has the turn.
+// No value of this type is made.
 pub struct LockView<T> {
     pub known: View,
     pub saw: Option<BoardState<T>>,
@@ -50,9 +48,7 @@ pub struct LockPass<J: Job> {
 }
 
 impl<'a, R: Wait + Sync, J: Job> LockBoard<'a, R, J> {
-    /// Returns a board for this job value, and its first pass, which may make one pass fewer than
-    /// there are seats.
-    ///
+    /// Returns a board for this job value, and its first pass, which may make one pass fewer than there are seats.
     /// `OutOfMemory` says that memory was wanted and not found.
     pub fn new(
         rt: &'a R,
@@ -87,14 +83,14 @@ impl<'a, R: Wait + Sync, J: Job> LockBoard<'a, R, J> {
     }
 }
 
-// How often a pass asks for the turn before it lets others run: each pass has the turn for a short time only.
+// How often a pass asks for the turn before it lets other threads run: each pass has the turn for a short time only.
 const TRIES: u32 = 64;
 
-// How long a pass waits before it asks again. Each request takes the turn's memory from the pass that has the turn, and
-// one that has just given it back, and asks for it again at once, works on without waiting.
+// How long a pass waits before it asks for the turn again. A request takes the turn's memory away from the pass that
+// has the turn; a pass that gives the turn back and asks for it at once mostly works on without waiting.
 const PAUSES: u32 = 16;
 
-// Waits a little, or lets others run where the turn was asked for often. How often it was asked for since.
+// Waits a little, or lets other threads run after many requests. Returns how often the turn was asked for since then.
 fn wait(asked: u32) -> u32 {
     if asked < TRIES {
         for _ in 0..PAUSES {
@@ -107,7 +103,7 @@ fn wait(asked: u32) -> u32 {
     }
 }
 
-// Takes the turn, which mostly is free, and then is asked for once.
+// Takes the turn. Mostly the turn is free, and one request is enough.
 fn take_turn<R: Wait, T, K, P: TableRule<BoardState<T>, LockView<T>, K>>(
     rt: &R,
     shared: &Shared<BoardState<T>, LockView<T>, K, P>,
@@ -221,7 +217,7 @@ impl<'a, R: Wait + Sync, J: Job> Board<J> for LockBoard<'a, R, J> {
     }
 }
 
-/// The state at home, or seen by the pass that has the turn, is sound and fits all views.
+/// The rule of the board: the state at home, or seen by the pass that has the turn, is sound and fits all views.
 pub struct LockRule;
 
 impl<'a, J: Job> TableRule<BoardState<J::Out>, LockView<J::Out>, Order<'a, J>> for LockRule {
@@ -230,42 +226,42 @@ impl<'a, J: Job> TableRule<BoardState<J::Out>, LockView<J::Out>, Order<'a, J>> f
     ghost first = { λ order. first_view order.jobs order.seats };
 }
 
-/// Tries to take the turn.
+/// The step that tries to take the turn.
 pub struct Takes;
 
 impl<T> Play<BoardState<T>, LockView<T>> for Takes {
     ghost then = { Took };
 }
 
-/// Frees the turn after a claim that got a job.
+/// The step that frees the turn after a claim that got a job.
 pub struct Claims;
 
 impl<T> Play<BoardState<T>, LockView<T>> for Claims {
     ghost then = { Claimed };
 }
 
-/// Frees the turn after a claim that got none.
+/// The step that frees the turn after a claim that got no job.
 pub struct Ends;
 
 impl<T> Play<BoardState<T>, LockView<T>> for Ends {
     ghost then = { Ended };
 }
 
-/// Frees the turn after a deposit.
+/// The step that frees the turn after a deposit.
 pub struct Deposits;
 
 impl<T> Play<BoardState<T>, LockView<T>> for Deposits {
     ghost then = { Deposited };
 }
 
-/// Frees the turn after a giving back.
+/// The step that frees the turn after a giving back.
 pub struct GivesBack;
 
 impl<T> Play<BoardState<T>, LockView<T>> for GivesBack {
     ghost then = { GaveBack };
 }
 
-/// Cuts a pass in two, and takes one in.
+/// The cut of a pass into two, and the taking in of a pass by another.
 pub struct Cut;
 
 impl<T> Split<LockView<T>> for Cut {
@@ -282,11 +278,9 @@ impl<T> Join<LockView<T>> for Cut {
     ghost spent = { spent };
 }
 
-/// Each kind of atomic step leaves the machine as it is, but for the store that frees the turn,
-/// which is the one event of its call.
-///
-/// The steps are splitting and joining a seat, the compare-exchange of the turn, the change of the
-/// state in its slot by the pass that has the turn, and that store.
+/// Each kind of atomic step leaves the machine as it is, but for the store that frees the turn, which is the one event
+/// of its call. The steps are splitting and joining a seat, the compare-exchange of the turn, the change of the state
+/// in its slot by the pass that has the turn, and that store.
 pub fn steps_are_events<J: Job>()
     ensures split { (work : J) → SplitIsNothing (J.right work) }
     ensures join { (work : J) → JoinIsNothing (J.right work) }
@@ -299,10 +293,9 @@ pub fn steps_are_events<J: Job>()
     ensures give_back { (work : J) → FreeingIsGiveBack (J.right work) }
 {}
 
-/// Whenever the state is home, its machine is the replay of the legal history that it keeps,
-/// in which each pass has just its job in hand, one claim and one deposit for each job that it
-/// deposited or took in, and one giving back for each further claim. Each job that is done has
-/// its right result, and no other job has one.
+/// Whenever the state is home, its machine is the replay of the legal history that it keeps, in which each pass has
+/// just its job in hand, one claim and one deposit for each job that the pass deposited or took in, and one giving back
+/// for each further claim. Each job that is done has its right result, and no other job has a result.
 pub fn board_runs<J: Job>()
     ensures { (work : J) → BoardRuns (J.right work) }
 {}

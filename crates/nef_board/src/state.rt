@@ -1,10 +1,8 @@
-//! What the lock keeps.
+//! The state that the lock keeps.
 use nef_core::{Claim, Event, Machine, OutOfMemory, Receipt, empty_places};
 use std::alloc::Global;
 
-/// The machine, the events that led to it, and the results.
-///
-/// The machine is the replay of the history, and there is a result exactly where a job is done.
+/// The machine, which is the replay of the history; the history; and the results, one exactly where a job is done.
 #[derive(Drop)]
 pub struct BoardState<T> {
     pub(crate) machine: Machine,
@@ -19,9 +17,8 @@ impl<T: Drop> BoardState<T> {
     ghost use Rattle.nef_core.specs.declared.machine.Slot.TheVariants.{InHand};
     ghost use Rattle.nef_board.specs.Sound.{IsSound};
 
-    /// Returns the state with this many jobs, all open, and with room for two events a job.
-    ///
-    /// `OutOfMemory` says that memory was wanted and not found.
+    /// Returns the state with this many jobs, all open, and with room for two events a job. `OutOfMemory` says that
+    /// memory was wanted and not found.
     pub fn new(alloc: Global, jobs: u64) -> Result<BoardState<T>, OutOfMemory>
         ensures sound { IfOk result (λ b. IsSound b) }
         ensures machine { IfOk result (λ b. b.machine ≡ start jobs) }
@@ -38,9 +35,8 @@ impl<T: Drop> BoardState<T> {
         })
     }
 
-    /// Claims the next job for the pass, and adds the event to the history.
-    ///
-    /// `NoneLeft` says that every number was handed out, and adds no event. Takes no memory.
+    /// Claims the next job for the pass, and adds the event to the history. `NoneLeft` says that every number was
+    /// handed out, and adds no event. No memory is taken.
     pub fn claim(&mut self, pass: u64) -> Claim
         requires { IsSound self.old }
         ensures sound { IsSound self.new }
@@ -56,8 +52,7 @@ impl<T: Drop> BoardState<T> {
         claim
     }
 
-    /// Keeps the result of the job in the hand of the pass, and adds the event to the history.
-    /// Takes no memory.
+    /// Keeps the result of the job in the hand of the pass, and adds the event to the history. No memory is taken.
     pub fn deposit(&mut self, pass: u64, job: u64, out: T) -> Receipt
         requires sound { IsSound self.old }
         requires held { slice_get self.old.machine.slots job ≡ Some (InHand pass) }
@@ -73,8 +68,7 @@ impl<T: Drop> BoardState<T> {
         Receipt { job }
     }
 
-    /// Gives up the job in the hand of the pass, and adds the event to the history. Takes no
-    /// memory.
+    /// Gives up the job in the hand of the pass, and adds the event to the history. No memory is taken.
     pub fn give_back(&mut self, pass: u64, job: u64)
         requires sound { IsSound self.old }
         requires held { slice_get self.old.machine.slots job ≡ Some (InHand pass) }

@@ -1,10 +1,6 @@
 -- A history accounts for a pass whose view fits the machine.
-use Rattle.std.proofs.Common.{◌≡◌, ℕ, Bool, true, List, [], ◌∷◌, Option, Some, slice_get, IfSome, subst}
-use Rattle.nef_core.specs.Machine.{start, replay, IsLegal}
-use Rattle.nef_core.specs.Results.{AllDone}
+use Rattle.nef_core.proofs.Prelude.{◌≡◌, ℕ, Bool, true, List, [], ◌∷◌, Option, Some, slice_get, IfSome, subst, start, replay, IsLegal, AllDone, InHand, Event}
 use Rattle.nef_core.specs.Accounts.{AllCounted, IsAccounted}
-use Rattle.nef_core.specs.declared.machine.Slot.TheVariants.{InHand}
-use Rattle.nef_core.specs.declared.machine.Event.{Event}
 use Rattle.nef_core.proofs.Counting.{claims_accounted, each_claim_accounted, held_is_claimed, done_is_claimed}
 
 all_counted : (jobs : ℕ) (events : List Event) (ds : List (ℕ × ℕ)) → IsLegal (start jobs) events → AllDone (replay (start jobs) events).slots ds → AllCounted jobs events ds

@@ -1,13 +1,6 @@
 -- Each claim of a pass is a job in its hand, a job that it deposited, or one that it gave back.
-use Rattle.std.proofs.Common.{◌≡◌, ◌≢◌, ℕ, zero, suc, ◌+◌, ◌<◌, ◌≤◌, ◌==◌, ◌&&◌, List, [], ◌∷◌, refl, ap, sym, ◌∙◌, Some, None, slice_get, slice_set, arith, set, ◌⊎◌, inl, inr, Bool, true, false}
-use Rattle.std.proofs.lemmas.Bool.{eq-eqb, ne_eqb}
-use Rattle.std.proofs.lemmas.Option.{slice_get_within}
-use Rattle.nef_core.specs.Machine.{State, start, after, replay, IsLegal}
+use Rattle.nef_core.proofs.Prelude.{◌≡◌, ◌≢◌, ℕ, zero, suc, ◌+◌, ◌<◌, ◌≤◌, ◌==◌, ◌&&◌, List, [], ◌∷◌, refl, ap, sym, ◌∙◌, Some, None, slice_get, slice_set, arith, set, ◌⊎◌, inl, inr, Bool, true, false, eq-eqb, ne_eqb, slice_get_within, State, start, after, replay, IsLegal, Slot, Open, InHand, Done, Event, Claim, Deposit, GiveBack}
 use Rattle.nef_core.specs.Counts.{one_if, is_own, is_done_by, total, at_most_one, claims, deposits, givings_back, claims_of, deposits_of, givings_back_of, handings_out}
-use Rattle.nef_core.specs.declared.machine.Slot.{Slot}
-use Rattle.nef_core.specs.declared.machine.Slot.TheVariants.{Open, InHand, Done}
-use Rattle.nef_core.specs.declared.machine.Event.{Event}
-use Rattle.nef_core.specs.declared.machine.Event.TheVariants.{Claim, Deposit, GiveBack}
 use Rattle.nef_core.proofs.Places.{get_set_here, get_set_other, same_or_not}
 use Rattle.nef_core.proofs.Schedules.{claimed, IsFresh, fresh_after, fresh_start}
 

@@ -1,10 +1,6 @@
 -- Deposits and hands beside the slots of a machine.
-use Rattle.std.proofs.Common.{◌≡◌, ◌≢◌, ℕ, List, [], ◌∷◌, ◌++◌, refl, ap, sym, ◌∙◌, Option, Some, None, slice_get, slice_set, inl, inr, true, false, IfSome}
-use Rattle.std.proofs.lemmas.Bool.{ne_eqb, false≢true}
-use Rattle.nef_core.specs.Results.{AllDone}
+use Rattle.nef_core.proofs.Prelude.{◌≡◌, ◌≢◌, ℕ, List, [], ◌∷◌, ◌++◌, refl, ap, sym, ◌∙◌, Option, Some, None, slice_get, slice_set, inl, inr, true, false, IfSome, ne_eqb, false≢true, AllDone, Slot, Open, InHand, Done}
 use Rattle.nef_core.specs.Views.{has_job}
-use Rattle.nef_core.specs.declared.machine.Slot.{Slot}
-use Rattle.nef_core.specs.declared.machine.Slot.TheVariants.{Open, InHand, Done}
 use Rattle.nef_core.proofs.Places.{get_set_other, same_or_not}
 
 -- the kinds of slot are told apart

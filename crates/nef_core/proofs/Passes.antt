@@ -1,11 +1,6 @@
 -- What a pass knows still fits the machine after each kind of step.
-use Rattle.std.proofs.Common.{◌≡◌, ◌≢◌, ℕ, ◌+◌, ◌<◌, [], ◌∷◌, length, refl, ap, sym, ◌∙◌, Option, Some, slice_get, slice_set, inl, inr, subst, IfSome, arith}
-use Rattle.std.proofs.lemmas.Bool.{false≢true}
-use Rattle.std.proofs.lemmas.Option.{slice_get_within}
-use Rattle.nef_core.specs.Machine.{State as Machine}
+use Rattle.nef_core.proofs.Prelude.{◌≡◌, ◌≢◌, ℕ, ◌+◌, ◌<◌, [], ◌∷◌, length, refl, ap, sym, ◌∙◌, Option, Some, slice_get, slice_set, inl, inr, subst, IfSome, arith, false≢true, slice_get_within, State as Machine, Slot, Open, InHand, Done}
 use Rattle.nef_core.specs.Passes.{first_view, cut, new_view, taken_in, holding, at_end, deposited, gave_back, Fits}
-use Rattle.nef_core.specs.declared.machine.Slot.{Slot}
-use Rattle.nef_core.specs.declared.machine.Slot.TheVariants.{Open, InHand, Done}
 use Rattle.nef_core.specs.declared.board.View.{View}
 use Rattle.nef_core.proofs.Places.{get_set_here, same_or_not}
 use Rattle.nef_core.proofs.Deposits.{open_not_done, held_not_done, done_moved, done_append, keeps_done, hand_moved}

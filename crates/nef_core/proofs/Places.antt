@@ -1,5 +1,5 @@
 -- Places of lists, with one of them set.
-use Rattle.std.proofs.Common.{◌≡◌, ℕ, zero, suc, ◌+◌, ◌<◌, ◌≢◌, List, [], ◌∷◌, ◌++◌, length, refl, ap, sym, Some, slice_get, slice_set, replicate, arith, ◌⊎◌, ◌∙◌, inl, inr, Option, None}
+use Rattle.nef_core.proofs.Prelude.{◌≡◌, ℕ, zero, suc, ◌+◌, ◌<◌, ◌≢◌, List, [], ◌∷◌, ◌++◌, length, refl, ap, sym, Some, slice_get, slice_set, replicate, arith, ◌⊎◌, ◌∙◌, inl, inr, Option, None}
 use mathlib.Core.Option.{some, some-injective, some-ne-none}
 use lib.ListN.{get_elem?}
 

@@ -1,14 +1,8 @@
 -- What holds over every legal list of events.
-use Rattle.std.proofs.Common.{◌≡◌, ℕ, zero, suc, ◌+◌, ◌<◌, ◌≤◌, List, [], ◌∷◌, ◌++◌, length, refl, ap, sym, ◌∙◌, Option, Some, slice_get, slice_set, arith, ◌⊎◌, inl, inr, Bool, true, false, nat_lt, if◌then◌else◌}
+use Rattle.nef_core.proofs.Prelude.{◌≡◌, ℕ, zero, suc, ◌+◌, ◌<◌, ◌≤◌, List, [], ◌∷◌, ◌++◌, length, refl, ap, sym, ◌∙◌, Option, Some, slice_get, slice_set, arith, ◌⊎◌, inl, inr, Bool, true, false, nat_lt, if◌then◌else◌, lt-ltb, State, start, after, reply, IsLegalStep, replay, IsLegal, Slot, Open, InHand, Done, Event, Claim, Deposit, GiveBack}
 use Rattle.std.proofs.lemmas.Bool.Decides.{nat_tests}
-use Rattle.std.proofs.lemmas.Bool.{lt-ltb}
 use Rattle.std.proofs.Math.ListN.{length-set, length-replicate}
-use Rattle.nef_core.specs.Machine.{State, start, after, reply, IsLegalStep, replay, IsLegal}
 use Rattle.nef_core.specs.declared.board.Claim.TheVariants.{Got, NoneLeft}
-use Rattle.nef_core.specs.declared.machine.Slot.{Slot}
-use Rattle.nef_core.specs.declared.machine.Slot.TheVariants.{Open, InHand, Done}
-use Rattle.nef_core.specs.declared.machine.Event.{Event}
-use Rattle.nef_core.specs.declared.machine.Event.TheVariants.{Claim, Deposit, GiveBack}
 use Rattle.nef_core.proofs.Places.{get_set_other, same_or_not, get_replicate}
 
 -- a claim that finds a number

@@ -1,5 +1,5 @@
 -- How an operation runs, and how many workers share work.
-use Rattle.std.specs.Prelude.{ℕ, Bool, ◌&&◌, ◌/◌, min, max, nat_le, nat_lt, if◌then◌else◌}
+use Rattle.std.specs.Prelude.{ℕ, ◌&&◌, ◌/◌, min, max, nat_le, nat_lt, if◌then◌else◌}
 use Rattle.nef_core.specs.declared.work.BoardKind.{BoardKind}
 use Rattle.nef_core.specs.declared.work.BoardKind.TheVariants.{Lock, Free}
 use Rattle.nef_core.specs.declared.work.Work.{Work}

@@ -1,21 +1,9 @@
 -- The board when it is made and when it is closed.
-use Rattle.std.proofs.Common.{◌≡◌, ℕ, zero, suc, ◌+◌, ◌^◌, ◌<◌, List, [], ◌∷◌, map, length, refl, ap, sym, ◌∙◌, Option, Some, None, slice_get, slice_index, arith, ◌⊎◌, inl, inr, true, subst, replicate, if◌then◌else◌, ◌==◌}
-use Rattle.std.proofs.lemmas.List.{get_or-replicate, length-replicate}
-use Rattle.std.proofs.lemmas.Option.{slice_get_within}
+use Rattle.nef_free.proofs.Prelude.{◌≡◌, ℕ, zero, suc, ◌+◌, ◌^◌, ◌<◌, List, [], ◌∷◌, map, length, refl, ap, sym, ◌∙◌, Option, Some, None, slice_get, slice_index, arith, ◌⊎◌, inl, inr, true, subst, replicate, if◌then◌else◌, ◌==◌, get_or-replicate, length-replicate, slice_get_within, State, opening, Final, Seen, start, replay, has_job, Slot, Open, InHand, Done, get_replicate, only_one, among, same_slot, View, first_view, Fits, fits_first, SlotIs, Shows, Kept}
 use mathlib.Core.Option.{some}
 use lib.ListN.{get_elem?}
-use Rattle.atomic_table.specs.Table.{State, opening, Final, Seen}
-use Rattle.nef_core.specs.Machine.{State as Machine, start, replay}
+use Rattle.nef_core.specs.Machine.{State as Machine}
 use Rattle.nef_core.specs.Results.{HasResult, IsClosedWith}
-use Rattle.nef_core.specs.Views.{has_job}
-use Rattle.nef_core.specs.declared.machine.Slot.{Slot}
-use Rattle.nef_core.specs.declared.machine.Slot.TheVariants.{Open, InHand, Done}
-use Rattle.nef_core.proofs.Places.{get_replicate, only_one}
-use Rattle.nef_core.proofs.Deposits.{among, same_slot}
-use Rattle.nef_core.specs.declared.board.View.{View}
-use Rattle.nef_core.specs.Passes.{first_view, Fits}
-use Rattle.nef_core.proofs.Passes.{fits_first}
-use Rattle.nef_free.specs.Rule.{SlotIs, Shows, Kept}
 
 some_none : {X : Type 0} (x : X) → Some (Some x) ≡ Some None → ⊥
 some_none x e = cc

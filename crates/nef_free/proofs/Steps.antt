@@ -1,31 +1,16 @@
 -- Each kind of step keeps the rule.
-use Rattle.std.proofs.Common.{◌≡◌, ℕ, ◌+◌, ◌^◌, ◌%◌, ◌<◌, ◌≤◌, ◌≢◌, List, [], ◌∷◌, ◌++◌, length, refl, ap, sym, ◌∙◌, Option, Some, None, slice_get, slice_set, slice_index, arith, inl, inr, Bool, true, false, subst, set, nat_lt, MatchBool}
+use Rattle.nef_free.proofs.Prelude.{◌≡◌, ℕ, ◌+◌, ◌^◌, ◌%◌, ◌<◌, ◌≤◌, ◌≢◌, List, [], ◌∷◌, ◌++◌, length, refl, ap, sym, ◌∙◌, Option, Some, None, slice_get, slice_set, slice_index, arith, inl, inr, Bool, true, false, subst, set, nat_lt, MatchBool, get_or-set_same, get_or-set_other, slice_get_within, length-append, State, step, Act, keeps, takes, gives, stepped, Allows, Splits, Joins, Valid, carried_after, at_set, set_here, set_else, at_longer, start, after, replay, IsLegal, has_job, Slot, Open, InHand, Done, get_set_here, get_set_other, same_or_not, within, at_length, below_last, open_not_held, open_not_done, held_not_done, held_by, same_slot, not_among, claimed, replay_append, legal_more, View, holding, at_end, deposited, gave_back, cut, new_view, taken_in, spent, Fits, fits_cut, fits_new, fits_beside, fits_taken_in, fits_at_end, fits_holding, fits_deposited, fits_gave_back, fits_moved, held_in, is_below, over, SlotIs, Shows, Kept, Claimed, Deposited, GaveBack}
 use Rattle.std.proofs.Math.ListN.{length-set}
-use Rattle.std.proofs.lemmas.List.{get_or-set_same, get_or-set_other}
 use Rattle.std.proofs.lemmas.Bool.Decides.{nat_tests}
-use Rattle.std.proofs.lemmas.Option.{slice_get_within}
-use Rattle.std.proofs.Common.{length-append}
 use Rattle.std.proofs.Math.Nat.{mod-eq_of_lt}
 use mathlib.Core.Option.{some, none, some-injective}
 use lib.ListN.{get_elem?}
-use Rattle.atomic_table.specs.Table.{State, step, Act, keeps, takes, gives, stepped, Allows, Splits, Joins, Valid, carried_after}
-use Rattle.atomic_table.proofs.Lists.{at_set, set_here, set_else, at_longer}
-use Rattle.nef_core.specs.Machine.{State as Machine, start, after, replay, IsLegal}
-use Rattle.nef_core.specs.Views.{has_job}
-use Rattle.nef_core.specs.declared.machine.Slot.{Slot}
-use Rattle.nef_core.specs.declared.machine.Slot.TheVariants.{Open, InHand, Done}
+use Rattle.nef_core.specs.Machine.{State as Machine}
 use Rattle.nef_core.specs.declared.machine.Event.{Event}
 use Rattle.nef_core.specs.declared.machine.Event.TheVariants.{Claim, Deposit, GiveBack}
-use Rattle.nef_core.proofs.Places.{get_set_here, get_set_other, same_or_not, within, at_length, below_last}
-use Rattle.nef_core.proofs.Deposits.{open_not_held, open_not_done, held_not_done, held_by, same_slot, not_among}
-use Rattle.nef_core.proofs.Schedules.{claimed, replay_append, legal_more}
-use Rattle.nef_core.specs.declared.board.View.{View}
 use Rattle.nef_core.specs.Accounts.{IsAccounted}
 use Rattle.nef_core.proofs.Accounts.{accounted}
 use Rattle.nef_free.specs.Laws.{IsSeat}
-use Rattle.nef_core.specs.Passes.{holding, at_end, deposited, gave_back, cut, new_view, taken_in, spent, Fits}
-use Rattle.nef_core.proofs.Passes.{fits_cut, fits_new, fits_beside, fits_taken_in, fits_at_end, fits_holding, fits_deposited, fits_gave_back, fits_moved, held_in}
-use Rattle.nef_free.specs.Rule.{is_below, over, SlotIs, Shows, Kept, Claimed, Deposited, GaveBack}
 use Rattle.nef_free.proofs.Views.{over_small, overs_set, overs_length, overs_snoc, still, moved, undrawn}
 
 true_not_false : (b : Bool) → b ≡ true → b ≡ false → ⊥

@@ -1,14 +1,7 @@
 -- Lists of views, and what a step leaves as it was.
-use Rattle.std.proofs.Common.{◌≡◌, ℕ, zero, suc, ◌+◌, ◌<◌, ◌≤◌, List, [], ◌∷◌, ◌++◌, length, refl, ap, sym, ◌∙◌, Option, Some, None, slice_index, arith, inl, inr, true, false, set, cond, not, ◌&&◌}
+use Rattle.nef_free.proofs.Prelude.{◌≡◌, ℕ, zero, suc, ◌+◌, ◌<◌, ◌≤◌, List, [], ◌∷◌, ◌++◌, length, refl, ap, sym, ◌∙◌, Option, Some, None, slice_index, arith, inl, inr, true, false, set, cond, not, ◌&&◌, State, set_here, set_else, Slot, Open, InHand, Done, same_or_not, within, View, over, overs, SlotIs}
 use mathlib.Core.Option.{some, some-injective, some-ne-none}
 use lib.ListN.{get_elem?}
-use Rattle.atomic_table.specs.Table.{State}
-use Rattle.atomic_table.proofs.Lists.{set_here, set_else}
-use Rattle.nef_core.specs.declared.machine.Slot.{Slot}
-use Rattle.nef_core.specs.declared.machine.Slot.TheVariants.{Open, InHand, Done}
-use Rattle.nef_core.proofs.Places.{same_or_not, within}
-use Rattle.nef_core.specs.declared.board.View.{View}
-use Rattle.nef_free.specs.Rule.{over, overs, SlotIs}
 
 pub overs_set : (views : List View) (k : ℕ) (v w : View) → get_elem? views k ≡ some v → overs (set views k w) + over v ≡ overs views + over w
 overs_set [] k v w e = absurd (some-ne-none v (sym e))

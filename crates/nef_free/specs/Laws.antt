@@ -1,4 +1,4 @@
--- What each kind of step does to the machine that the words, homes and views show, and what the history has of each pass.
+-- What each kind of step does to the machine that words, homes and views show, and what the history has of each pass.
 use Rattle.std.specs.Prelude.{◌≡◌, ◌≢◌, ℕ, true, false, ◌+◌, ◌<◌, ◌≤◌, List, [], ◌∷◌, ◌++◌, Option, Some, None, slice_get, slice_set, slice_index}
 use mathlib.Core.Option.{none, some}
 use lib.ListN.{get_elem?}
@@ -13,12 +13,12 @@ use Rattle.nef_core.specs.declared.board.View.{View}
 use Rattle.nef_free.specs.Rule.{Shows, Kept}
 use Rattle.nef_core.specs.Passes.{holding, at_end, deposited, gave_back, cut, new_view, taken_in, spent}
 
--- the seat k has this view, of a pass that wasn't taken in
+-- seat k has the view v, of a pass that wasn't taken in
 abbrev pub IsSeat : {S : Type 0} → State S View → ℕ → View → Type 0
 IsSeat s k v = (get_elem? s.views k ≡ some v) × (v.live ≡ true)
 
 module _ {Out : Type 0} (right : ℕ → Out → Type 0) where
-  -- the first word is added to, and the number found is a job: the claim of it
+  -- the first word is added to, and the number found is that of a job: this is the claim of the job
   abbrev pub DrawIsClaim : Type 0
   DrawIsClaim = (jobs seats : ℕ) (m : Machine) (s : State (Option Out) View) (k : ℕ) (v : View) → Shows right jobs seats m s → IsSeat s k v → v.hand ≡ None → v.ended ≡ false → slice_index s.words 0 < jobs
       → IsLegalStep m (Claim k) × (reply m (Claim k) ≡ Got (slice_index s.words 0))
@@ -30,13 +30,13 @@ module _ {Out : Type 0} (right : ℕ → Out → Type 0) where
       → (m.next ≡ jobs) × (reply m (Claim k) ≡ NoneLeft) × (after m (Claim k) ≡ m)
       × Shows right jobs seats m (stepped s 0 (slice_index s.words 0 + 1) k [] (at_end v) keeps)
 
-  -- 1 is stored in the word of the job in hand: the deposit, with the result that lies in the slot
+  -- 1 is stored in the word of the job in hand: this is the deposit of the result in the job's slot
   abbrev pub StoreIsDeposit : Type 0
   StoreIsDeposit = (jobs seats : ℕ) (m : Machine) (s : State (Option Out) View) (k : ℕ) (v : View) (job : ℕ) (out : Out) → Shows right jobs seats m s → IsSeat s k v → v.hand ≡ Some job → right job out
       → IsLegalStep m (Deposit k job)
       × Shows right jobs seats (after m (Deposit k job)) (stepped s (job + 1) 1 k ((job, Some out) ∷ []) (deposited v job) gives)
 
-  -- 2 is stored: the giving back
+  -- 2 is stored in the word of the job in hand: this is the giving back of the job
   abbrev pub StoreIsGiveBack : Type 0
   StoreIsGiveBack = (jobs seats : ℕ) (m : Machine) (s : State (Option Out) View) (k : ℕ) (v : View) (job : ℕ) → Shows right jobs seats m s → IsSeat s k v → v.hand ≡ Some job
       → IsLegalStep m (GiveBack k job)
@@ -47,12 +47,12 @@ module _ {Out : Type 0} (right : ℕ → Out → Type 0) where
   SplitIsNothing = (jobs seats : ℕ) (m : Machine) (s : State (Option Out) View) (k : ℕ) (v : View) → Shows right jobs seats m s → IsSeat s k v → 0 < v.spare
       → Shows right jobs seats m (record { words = s.words; homes = s.homes; views = slice_set s.views k (cut v) ++ new_view v ∷ [] })
 
-  -- a seat takes another one in: the machine stays
+  -- a seat takes another seat in: the machine stays
   abbrev pub JoinIsNothing : Type 0
   JoinIsNothing = (jobs seats : ℕ) (m : Machine) (s : State (Option Out) View) (k : ℕ) (v : View) (other : ℕ) (w : View) → Shows right jobs seats m s → IsSeat s k v → IsSeat s other w → other ≢ k → w.hand ≡ None
       → Shows right jobs seats m (record { words = s.words; homes = s.homes; views = slice_set (slice_set s.views k (taken_in v w)) other spent })
 
-  -- while a job is in hand its slot isn't home, so what is exchanged in it changes no word, home or view, and the job stays in hand
+  -- while a job is in hand its slot isn't home: an exchange in the slot changes no word, home or view, and no held job
   abbrev pub HeldIsAway : Type 0
   HeldIsAway = (jobs seats : ℕ) (m : Machine) (s : State (Option Out) View) (k : ℕ) (v : View) (job : ℕ) → Shows right jobs seats m s → IsSeat s k v → v.hand ≡ Some job
       → (get_elem? s.homes job ≡ some none) × (slice_get m.slots job ≡ Some (InHand k))

@@ -11,7 +11,7 @@ use Rattle.nef_core.specs.declared.machine.Event.{Event}
 use Rattle.nef_core.specs.declared.board.View.{View}
 use Rattle.nef_core.specs.Passes.{holding, at_end, deposited, gave_back, Fits}
 
--- the slots that a pass holds: that of the job in its hand, which is empty
+-- the slots that a pass holds: the empty slot of the job in the pass's hand
 abbrev pub carried : {Out : Type 0} → Option ℕ → List (ℕ × Option Out)
 carried None = []
 carried (Some job) = (job, None) ∷ []
@@ -20,7 +20,7 @@ abbrev pub is_below : ℕ → Option ℕ → Bool
 is_below jobs None = true
 is_below jobs (Some job) = nat_lt job jobs
 
--- a view that may have drawn a number past the last one
+-- 1 for a view that may have drawn a number past the last one, else 0
 abbrev pub over : View → ℕ
 over v = cond (v.live && not v.ended) 0 1
 
@@ -29,7 +29,7 @@ overs [] = 0
 overs (v ∷ vs) = over v + overs vs
 
 module _ {Out : Type 0} (right : ℕ → Out → Type 0) where
-  -- what the words, the homes and the views say of a job
+  -- the words, the homes and the views show this slot for the job
   abbrev pub SlotIs : State (Option Out) View → ℕ → Slot → Type 0
   SlotIs s job Open =
       (get_elem? s.homes job ≡ some (some None))
@@ -53,7 +53,7 @@ module _ {Out : Type 0} (right : ℕ → Out → Type 0) where
     pub few : length s.views ≤ seats
     pub drawn : slice_index s.words 0 ≤ jobs + overs s.views
 
--- the board shows the replay of one legal history
+-- the board shows the replay of a legal history
 abbrev pub Kept : {Out : Type 0} → ℕ → ℕ → (ℕ → Out → Type 0) → State (Option Out) View → Type 0
 Kept jobs seats right s = (log : List Event) × IsLegal (start jobs) log × Shows right jobs seats (replay (start jobs) log) s
 

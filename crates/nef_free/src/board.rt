@@ -1,4 +1,4 @@
-//! The board, its passes, what holds between any two steps, and what holds on every schedule.
+//! The lock-free board and its passes, what holds between any two steps, and what holds on every schedule.
 ghost use Rattle.std.specs.Prelude.{◌≡◌, ℕ, true, false, ◌+◌, ◌<◌, ◌≤◌, IfOk, Some, None, [], ◌==◌, if◌then◌else◌, vec_len, vec_capacity, slice_get};
 ghost use Rattle.std.specs.Mem.Slots.{slots_items, slots_len, IsFull};
 ghost use mathlib.Core.Option.{some};
@@ -11,10 +11,8 @@ use atomic_table::{Closed, Join, Play, Seat, Split, Table, TableRule};
 use nef_core::{Board, Claim, Job, Order, OutOfMemory, Receipt, View};
 use std::alloc::Global;
 
-/// A board whose passes wait for nobody.
-///
-/// The first word is the next number. Each job has a word, 0 while it isn't settled, 1 once it is
-/// done and 2 once it was given back, and a slot for its result.
+/// A board whose passes wait for nobody. The first word is the next number. Each job has a word, 0 while the job isn't
+/// settled, 1 once it is done and 2 once it was given back, and a slot for its result.
 #[derive(Drop)]
 pub struct FreeBoard<'a, J: Job> {
     jobs: u64,
@@ -36,9 +34,7 @@ pub struct FreePass<J: Job> {
 }
 
 impl<'a, J: Job> FreeBoard<'a, J> {
-    /// Returns a board for this job value, and its first pass, which may make one pass fewer than
-    /// there are seats.
-    ///
+    /// Returns a board for this job value, and its first pass, which may make one pass fewer than there are seats.
     /// `OutOfMemory` says that memory was wanted and not found.
     pub fn new(
         alloc: Global,
@@ -52,7 +48,7 @@ impl<'a, J: Job> FreeBoard<'a, J> {
         ensures idle { IfOk result (λ b. (⟦<FreeBoard<'a, J> as Board<J>>⟧.hand b.1 ≡ None) × (⟦<FreeBoard<'a, J> as Board<J>>⟧.ended b.1 ≡ false) × (⟦<FreeBoard<'a, J> as Board<J>>⟧.deposits b.1 ≡ [])) }
     {
         let jobs = job.jobs();
-        // No memory holds as many words as an address can count.
+        // no memory holds as many words as an address can count
         let Some(count) = (jobs as usize).checked_add(1) else {
             return Err(OutOfMemory);
         };
@@ -129,14 +125,14 @@ impl<'a, J: Job> Board<J> for FreeBoard<'a, J> {
     }
 }
 
-// What is kept of a slot.
+// The result of a job, where the job's word is 1, which says that the job is done.
 fn kept<T: Drop>(word: u64, out: Option<T>) -> Option<T>
     ensures { result ≡ (if word == 1 then out else None) }
 {
     if word == 1 { out } else { None }
 }
 
-// The slots whose word is 1.
+// The results in the slots of all jobs, where the job's word is 1, and `None` for each other job.
 fn gathered<T: Drop>(
     mut closed: Closed<Option<T>, Global>,
     mut results: Vec<Option<T>>,
@@ -159,7 +155,7 @@ fn gathered<T: Drop>(
     results
 }
 
-/// The words, homes and views show the machine after some legal history.
+/// The rule of the board: the words, homes and views show the machine after some legal history.
 pub struct FreeRule;
 
 impl<'a, J: Job> TableRule<Option<J::Out>, View, Order<'a, J>> for FreeRule {
@@ -168,28 +164,28 @@ impl<'a, J: Job> TableRule<Option<J::Out>, View, Order<'a, J>> for FreeRule {
     ghost first = { λ order. first_view order.jobs order.seats };
 }
 
-/// Adds to the first word, and takes the slot of the job found.
+/// The step that adds to the first word, and takes the slot of the job with the number found.
 pub struct Claims;
 
 impl<T> Play<Option<T>, View> for Claims {
     ghost then = { Claimed };
 }
 
-/// Stores 1 in the word of the job in hand.
+/// The step that stores 1 in the word of the job in hand.
 pub struct Deposits;
 
 impl<T> Play<Option<T>, View> for Deposits {
     ghost then = { Deposited };
 }
 
-/// Stores 2 in the word of the job in hand.
+/// The step that stores 2 in the word of the job in hand.
 pub struct GivesBack;
 
 impl<T> Play<Option<T>, View> for GivesBack {
     ghost then = { GaveBack };
 }
 
-/// Cuts a pass in two, and takes one in.
+/// The cut of a pass into two, and the taking in of a pass by another.
 pub struct Cut;
 
 impl Split<View> for Cut {
@@ -206,11 +202,8 @@ impl Join<View> for Cut {
     ghost spent = { spent };
 }
 
-/// Each kind of atomic step is one event of the machine that the words, homes and views show, or
-/// leaves it as it is.
-///
-/// The steps are adding to the first word, the stores of 1 and of 2, splitting and joining a
-/// seat, and the exchange on a slot.
+/// Each kind of atomic step is one event of the machine that the words, homes and views show, or leaves the machine as
+/// it is: adding to the first word, the stores of 1 and of 2, splitting and joining a seat, and the exchange on a slot.
 pub fn steps_are_events<J: Job>()
     ensures draw { (work : J) → DrawIsClaim (J.right work) }
     ensures past { (work : J) → DrawPastIsNone (J.right work) }
@@ -221,9 +214,8 @@ pub fn steps_are_events<J: Job>()
     ensures exchange { (work : J) → HeldIsAway (J.right work) }
 {}
 
-/// Between any two steps the board shows the replay of a legal history, in which each pass has
-/// just its job in hand, one claim and one deposit for each job that it deposited or took in, and
-/// one giving back for each further claim.
+/// Between any two steps the board shows the replay of a legal history, in which each pass has just its job in hand, a
+/// claim and a deposit for each job that it deposited or took in, and a giving back for each further claim.
 pub fn board_runs<J: Job>()
     ensures { (work : J) → BoardRuns (J.right work) }
 {}

@@ -1,8 +1,7 @@
 -- Told bytes over two steps, and over one write to a buffer.
-use Rattle.std.proofs.Common.{◌≡◌, ℕ, ◌-◌, ◌≤◌, ◌<◌, Bool, true, false, List, ◌++◌, length, Option, None, Some, refl, ap, ◌∙◌, append_assoc, inl, inr}
+use Rattle.nef_io.proofs.Prelude.{◌≡◌, ℕ, ◌-◌, ◌≤◌, ◌<◌, Bool, true, false, List, ◌++◌, length, Option, None, Some, refl, ap, ◌∙◌, append_assoc, inl, inr, Grows}
 use Rattle.std.specs.Prelude.{if◌then◌else◌}
 use Rattle.std.proofs.lemmas.Bool.{cases_lt}
-use Rattle.nef_io.specs.Bytes.{Grows}
 use Rattle.nef_io.specs.Memory.{Kept, written_of}
 
 -- xs is written, and then ys

@@ -1,5 +1,5 @@
-//! Std's readers and writers as a source and a sink. What standard input gave is told by nobody, and
-//! what standard output took by its own answers alone, so these few lines are trusted for it.
+//! Std's readers and writers as a source and a sink. Nothing tells what standard input gave, and only its own answers
+//! tell what standard output took: for this these few lines are trusted.
 ghost use Rattle.std.specs.Prelude.{◌≡◌, ℕ, List, ◌<◌, ◌≤◌, ◌++◌, Some, IfOk, OnOk, OnErr, length, take};
 ghost use Rattle.std.specs.Borrow.{ftrue};
 ghost use Rattle.std.specs.Io.KnownBytes.{Appends, Keeps};
@@ -11,7 +11,7 @@ use crate::traits::{Failed, Sink, Source};
 use std::io::{Read, Write};
 use std::marker::Model;
 
-/// A reader as a source. It tells what the reader tells, and counts each error of it.
+/// A reader as a source, which tells what the reader tells and counts each error of the reader.
 #[derive(Drop)]
 pub struct FromReader<R> {
     reader: R,
@@ -44,7 +44,7 @@ impl<R: Read> Source for FromReader<R> {
     }
 }
 
-// The bytes that a writer took so far, which only clauses read. They take no memory.
+// The bytes that a writer took so far, for clauses alone: no memory is taken.
 #[derive(Drop)]
 struct Taken {
     ghost bytes: { List ℕ },
@@ -55,7 +55,7 @@ impl Model for Taken {
 }
 
 impl Taken {
-    // These bytes to begin with. What they are may be told of the writer.
+    // These bytes to begin with, which may be told of the writer.
     fn new<W>(_writer: &W) -> Taken
         ghost bytes: { List ℕ }
         ensures { result.bytes ≡ bytes }
@@ -63,16 +63,15 @@ impl Taken {
         Taken {}
     }
 
-    // The piece comes behind what was taken.
+    // Adds the piece behind the bytes that were taken before.
     fn note(&mut self, _piece: &[u8])
         ensures { self.new.bytes ≡ self.old.bytes ++ _piece.now }
     {}
 }
 
-/// A writer as a sink. It tells the bytes that the writer held and told when the sink was made, and
-/// behind them those that the writer has answered to have taken since. So of a writer that always tells
-/// what it holds it tells that. It counts each error, and each write that took nothing of a piece that
-/// isn't empty.
+/// A writer as a sink. The sink tells the bytes that the writer held and told when the sink was made, and behind them
+/// the bytes that the writer has since answered to have taken. So if a writer always tells what it holds, the sink
+/// tells the same. Errors are counted, and so are writes that took nothing of a piece that isn't empty.
 #[derive(Drop)]
 pub struct IntoWriter<W: Write> {
     writer: W,
@@ -95,7 +94,7 @@ impl<W: Write> IntoWriter<W> {
         }
     }
 
-    /// The writer. If it is of a kind that always tells what it holds, it holds what the sink tells.
+    /// The writer, which holds what the sink tells if the writer always tells what it holds.
     pub fn into_inner(self) -> W
         ensures held { AlwaysTells W.contents → W.contents result ≡ ⟦<IntoWriter<W> as Sink>⟧.written self }
     {
@@ -108,7 +107,7 @@ impl<W: Write> Sink for IntoWriter<W> {
 
     ghost faults = { λ s. s.faults };
 
-    /// Where the writer tells what it holds, that grows by what was taken.
+    /// Where the writer tells what it holds, the taken bytes come behind what the writer held.
     fn write(&mut self, piece: &[u8]) -> Result<usize, Failed>
         ensures within { IfOk result (λ n. (0 < n) × (n ≤ length piece.now)) }
         ensures taken { IfOk result (λ n. self.new.taken.bytes ≡ self.old.taken.bytes ++ take n piece.now) }

@@ -1,6 +1,4 @@
-//! Bytes in and out, with counts of faults.
-//!
-//! A [`Source`] gives bytes and a [`Sink`] takes them. Each keeps a count of its faults, so that a
+//! Bytes in and out. A [`Source`] gives bytes and a [`Sink`] takes bytes. Each keeps a count of its faults, so that a
 //! caller's contract can say of a failed read or write that it was the object's own.
 #![tactic(auto)]
 

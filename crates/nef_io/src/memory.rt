@@ -1,4 +1,4 @@
-//! Sources and sinks in memory: a source and a sink that never fail, and such whose calls fail where they are told to.
+//! Sources and sinks in memory: a source and a sink that never fail, and a source and a sink whose listed calls fail.
 ghost use Rattle.std.specs.Prelude.{◌≡◌, ◌-◌, ◌<◌, ◌≤◌, ◌⊎◌, ◌++◌, [], Some, IfOk, IsErr, MatchResult, length, vec_len, min, take, drop, ◌↔◌, Contains, ◌+◌, ℕ, List, true, false};
 ghost use Rattle.nef_io.specs.Memory.{last_count, counted, SourceState, SinkState, Kept, written_of};
 ghost use Rattle.nef_io.specs.Bytes.{Rose};
@@ -8,7 +8,7 @@ use crate::traits::{Failed, Sink, Source};
 use std::alloc::Global;
 use std::marker::Model;
 
-/// Gives its bytes, and never fails. Clauses see the list of the bytes that are left.
+/// A source that gives its bytes, and never fails. Clauses see the list of the bytes that are left.
 #[derive(Drop)]
 pub struct SureSource {
     bytes: Vec<u8>,
@@ -38,7 +38,7 @@ impl Source for SureSource {
 
     ghost faults = { λ s. 0 };
 
-    /// Gives all the bytes that are left, or as many as `buf` holds.
+    /// Gives all bytes that are left, or as many as `buf` holds.
     fn read(&mut self, buf: &mut [u8]) -> Result<usize, Failed>
         ensures gives { result ≡ Ok (min (length self.old) (length buf.old)) }
         ensures buffer { buf.new ≡ take (length buf.old) self.old ++ drop (length self.old) buf.old }
@@ -53,10 +53,8 @@ impl Source for SureSource {
     }
 }
 
-/// Writes from the front of a buffer, takes each piece whole, and never fails.
-///
-/// A piece that fits into the rest of the buffer is kept. Another is taken and not kept, and from then
-/// on the sink doesn't tell what was written.
+/// A sink that writes from the front of a buffer, takes each piece whole, and never fails. A piece that fits into the
+/// rest of the buffer is kept. Another is taken and not kept, and from then on the sink doesn't tell what was written.
 #[derive(Drop)]
 pub struct SureSink<'a> {
     buffer: &'a mut [u8],
@@ -84,7 +82,7 @@ impl<'a> SureSink<'a> {
         }
     }
 
-    /// The bytes that were kept, which are all that was written where the sink tells that.
+    /// The bytes that were kept: all that was written, where the sink tells what was written.
     pub fn kept(&self) -> &[u8]
         ensures { result.now ≡ self.now.bytes }
     {
@@ -114,14 +112,14 @@ impl Sink for SureSink<'_> {
     }
 }
 
-/// The counts of a [`SureSource`] and of a [`SureSink`] never rise. So where a fault comes only with a
-/// count that rose, it comes of neither.
+/// The counts of a [`SureSource`] and of a [`SureSink`] never rise. So a fault that comes with a risen count isn't
+/// theirs.
 pub fn sure_counts()
     ensures source { (old new : List ℕ) → ¬ (Rose (⟦<SureSource as Source>⟧.faults old) (⟦<SureSource as Source>⟧.faults new)) }
     ensures sink { (old new : Kept) → ¬ (Rose (⟦<SureSink<'static> as Sink>⟧.faults old) (⟦<SureSink<'static> as Sink>⟧.faults new)) }
 {}
 
-/// How many calls were made and how many of them failed, and which are to fail.
+/// How many calls were made, how many of them failed, and the numbers of the calls that are to fail.
 #[derive(Drop)]
 struct Calls {
     fails: Vec<u64>,
@@ -141,8 +139,7 @@ impl Calls {
         })
     }
 
-    // One more call, which fails where its number is listed. Numbers past the last value of the counter
-    // are in no list.
+    // Counts one more call, and fails where its number is listed. A number past the counter's last value isn't listed.
     fn begin(&mut self) -> Result<(), Failed>
         ensures failed { IsErr result ↔ Contains self.old.fails.items (self.old.made + 1) }
         ensures fails { self.new.fails.items ≡ self.old.fails.items }
@@ -166,8 +163,7 @@ impl Calls {
     }
 }
 
-/// A source in memory. It gives at most a fixed number of bytes a read, and fails at the reads whose
-/// numbers are listed. Clauses see its state.
+/// A source in memory that gives a limited number of bytes a read, and fails at listed reads. Clauses see its state.
 #[derive(Drop)]
 pub struct MemSource {
     bytes: Vec<u8>,
@@ -185,8 +181,7 @@ impl Model for MemSource {
 }
 
 impl MemSource {
-    /// A source of a copy of `bytes` that gives at most `most` bytes a read. The reads that `fails` lists
-    /// fail; the first has the number 1.
+    /// A source of a copy of `bytes` that gives at most `most` bytes a read. The listed reads fail, counted from 1.
     pub fn new(
         alloc: Global,
         bytes: &[u8],
@@ -233,8 +228,8 @@ impl Source for MemSource {
     }
 }
 
-/// A sink in memory. It takes at most a fixed number of bytes a write, and fails at the writes whose
-/// numbers are listed, and where no room is left. Clauses see its state.
+/// A sink in memory that takes at most a fixed number of bytes a write, and fails at the writes whose numbers are
+/// listed, and where no room is left. Clauses see its state.
 #[derive(Drop)]
 pub struct MemSink {
     room: Vec<u8>,
@@ -252,8 +247,8 @@ impl Model for MemSink {
 }
 
 impl MemSink {
-    /// A sink with room for `room` bytes that takes at most `most` bytes a write. The writes that `fails`
-    /// lists fail; the first has the number 1. All its room is made here, so that a write takes no memory.
+    /// A sink with room for `room` bytes that takes at most `most` bytes a write. The writes that `fails` lists fail;
+    /// the first write has the number 1. All the room is made here, so that a write takes no memory.
     pub fn new(
         alloc: Global,
         room: usize,
@@ -273,7 +268,7 @@ impl MemSink {
         })
     }
 
-    /// The bytes that it took.
+    /// The bytes that the sink took.
     pub fn taken(&self) -> &[u8]
         ensures { result.now ≡ self.now.taken }
     {

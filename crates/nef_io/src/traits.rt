@@ -1,26 +1,24 @@
-//! What is read from and what is written to, each to its end, and what is told of each job.
+//! Sources and sinks, reading and writing to the end, and gates, which are told of each job.
 ghost use Rattle.std.specs.Prelude.{◌≡◌, ℕ, false, ◌<◌, ◌≤◌, IfOk, OnOk, OnErr, Option, List, [], take, length, ◌+◌, vec_len};
 ghost use Rattle.std.specs.Io.KnownBytes.{Consumes, Keeps, IsAtEnd};
 ghost use Rattle.nef_io.specs.Bytes.{Rose, Grows, GrowsWithin, input_limit};
 
 use std::alloc::{AllocError, Global};
 
-/// A read or a write failed. The count of faults of the object that failed tells it.
+/// A read or a write failed, as the count of faults of the object that failed tells.
 #[derive(Debug, Clone, Copy, PartialEq, Eq)]
 pub struct Failed;
 
-/// Bytes to be read.
-///
-/// `rest` is the bytes that are left, where the source tells them. `faults` is the number of failed
+/// Bytes to be read. `rest` is the bytes that are left, where the source tells them. `faults` is the number of failed
 /// reads, which stops at the last value of a `u64`.
 pub trait Source {
     ghost rest: { Self → Option (List ℕ) };
 
     ghost faults: { Self → ℕ };
 
-    /// Reads the next bytes into the front of `buf`, at most as many as it holds, and returns how many
-    /// they were. That is 0 only at the end; a source that tells its rest, and has bytes left, gives at
-    /// least one. At `Failed` the rest is what it was. The count rises at `Failed` alone.
+    /// Reads the next bytes into the front of `buf`, at most as many as `buf` holds, and returns their number, which is
+    /// 0 only at the end; a source that tells its rest, and has bytes left, gives at least one. At `Failed` the rest is
+    /// what it was. The count rises at `Failed` alone.
     fn read(&mut self, buf: &mut [u8]) -> Result<usize, Failed>
         requires { 0 < length buf.old }
         ensures within { IfOk result (λ n. n ≤ length buf.new) }
@@ -31,18 +29,15 @@ pub trait Source {
         ensures count { faults self.old ≤ faults self.new };
 }
 
-/// A place for bytes.
-///
-/// `written` is the bytes that were written so far, where the sink tells them. A sink that tells after
-/// a call told before it. `faults` is the number of failed writes, which stops at the last value of a
-/// `u64`.
+/// A taker of bytes. `written` is the bytes written so far, where the sink tells them. A sink that tells after a call
+/// told before the call. `faults` is the number of failed writes, which stops at the last value of a `u64`.
 pub trait Sink {
     ghost written: { Self → Option (List ℕ) };
 
     ghost faults: { Self → ℕ };
 
-    /// Takes bytes from the front of `piece`, one at least, and returns how many. At `Failed` it took
-    /// none. The count rises at `Failed` alone.
+    /// Takes bytes from the front of `piece`, one at least, and returns how many. At `Failed` the sink took no byte.
+    /// The count rises at `Failed` alone.
     fn write(&mut self, piece: &[u8]) -> Result<usize, Failed>
         requires { 0 < length piece.now }
         ensures within { IfOk result (λ n. (0 < n) × (n ≤ length piece.now)) }
@@ -52,10 +47,9 @@ pub trait Sink {
         ensures count { faults self.old ≤ faults self.new };
 }
 
-/// Writes the whole piece. It takes no memory.
-///
-/// At `Failed` the sink took some front of the piece, and its count of faults rose in this call, or
-/// stands at its last value; otherwise the count stays as it was. Each write that doesn't fail takes at least one byte, so the call returns.
+/// Writes the whole piece. No memory is taken. At `Failed` the sink took some front of the piece, and its count of
+/// faults rose in this call, or stands at its last value; otherwise the count stays as it was. Each write that doesn't
+/// fail takes at least one byte, so the call returns.
 pub fn put_all<K: Sink>(sink: &mut K, piece: &[u8]) -> Result<(), Failed>
     ensures ok { OnOk result (Grows (K.written sink.old) (K.written sink.new) piece.now) }
     ensures failed { OnErr result (Rose (K.faults sink.old) (K.faults sink.new)) }
@@ -70,10 +64,10 @@ pub fn put_all<K: Sink>(sink: &mut K, piece: &[u8]) -> Result<(), Failed>
     Ok(())
 }
 
-/// The greatest number of bytes that an input may have.
+/// How many bytes an input has at most.
 pub const INPUT_LIMIT: usize = 1_048_576;
 
-/// The greatest number of bytes that a source is asked for at once.
+/// How many bytes a source is asked for at once, at most.
 const BUFFER_SIZE: usize = 4096;
 
 /// Why [`read_all`] gave no bytes.
@@ -98,11 +92,10 @@ impl From<AllocError> for ReadAll {
     }
 }
 
-/// Reads `source` to its end, and returns the bytes that it still had, where it tells them.
-///
-/// `TooLong` comes exactly where `INPUT_LIMIT + 1` bytes were taken, and no further one is asked for.
-/// `ReadFault` comes only where the source's count of faults rose in this call, or stands at its last
-/// value; else the count stays as it was. Each read but the last takes at least one byte, so the call returns.
+/// Reads `source` to its end, and returns the bytes that the source still had, where it tells them. `TooLong` comes
+/// exactly where `INPUT_LIMIT + 1` bytes were taken, and no further byte is asked for. `ReadFault` comes only where the
+/// source's count of faults rose in this call, or stands at its last value; else the count stays as it was. Each read
+/// but the last takes at least one byte, so the call returns.
 pub fn read_all<S: Source>(alloc: Global, source: &mut S) -> Result<Vec<u8>, ReadAll>
     ensures bytes { IfOk result (λ v. Consumes (S.rest source.old) (S.rest source.new) v.items × IsAtEnd (S.rest source.new)) }
     ensures most { IfOk result (λ v. vec_len v ≤ input_limit) }
@@ -130,22 +123,21 @@ pub fn read_all<S: Source>(alloc: Global, source: &mut S) -> Result<Vec<u8>, Rea
     Err(ReadAll::TooLong)
 }
 
-/// Is called for each job that was claimed, before the job is worked.
-///
-/// It tells nothing and can't fail. `free` is true where the job was claimed from the board that has no
-/// lock. A test counts the calls, or holds one job back until another began.
+/// What is called for each job that was claimed, before the job is worked. The call tells nothing and can't fail.
+/// `free` is true where the job was claimed from the board without a lock. A test counts the calls, or holds a job
+/// back.
 pub trait Gate {
     fn before(&self, job: u64, free: bool);
 
-    /// Whether it may hold a job back until another began. Then as many workers start as were asked
-    /// for, whether the jobs pay for them or not.
+    /// Whether the gate may hold a job back until another job began. Then as many workers start as were asked for,
+    /// whether the jobs pay for them or not.
     fn holds(&self) -> bool {
         true
     }
 }
 
-/// The gate of the program. It does nothing, and holds no job back.
-#[derive(Debug, Clone, Copy, PartialEq, Eq)]
+/// The gate of the program: it does nothing, and holds no job back.
+#[derive(Clone, Copy)]
 pub struct OpenGate;
 
 impl Gate for OpenGate {

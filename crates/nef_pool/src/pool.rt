@@ -1,4 +1,4 @@
-//! The workers, and the caller that finishes what they leave.
+//! The workers, and the caller that finishes what the workers leave.
 ghost use Rattle.std.specs.Prelude.{◌≡◌, ℕ, ◌<◌, ◌≤◌, IfOk, Some, None, slice_get, All, vec_len, vec_capacity, ◌++◌, ◌∷◌, []};
 
 use nef_core::{Board, Claim, Job, OutOfMemory};
@@ -20,7 +20,7 @@ fn work_all<J: Job, B: Board<J>, G: Gate>(
     requires pass { B.belongs board.now pass × (B.hand pass ≡ None) }
     ensures pass { B.belongs board.now result × (B.hand result ≡ None) }
 {
-    // A worker claims each job once at most, so this many rounds are enough.
+    // a worker claims each job once at most, so this many rounds are enough
     for _ in 0..job.jobs() {
         let Claim::Got(number) = board.claim(&mut pass) else {
             break;
@@ -39,7 +39,7 @@ fn work_all<J: Job, B: Board<J>, G: Gate>(
     pass
 }
 
-// Makes so many passes.
+// Makes `count` passes of the pass.
 fn passes_of<J: Job, B: Board<J>>(
     alloc: Global,
     board: &B,
@@ -60,9 +60,9 @@ fn passes_of<J: Job, B: Board<J>>(
     Ok(passes)
 }
 
-// Works the jobs by all passes, and takes the other ones in, which work each in a thread of its own where one can be made.
-// The first pass works in this thread, which starts all others itself: one that another new thread starts often waits for
-// its turn on the processor of that one, while a processor is free. Where there are no others no thread starts.
+// Works the jobs by all passes, and takes the other passes in. Each other pass works in a thread of its own where one
+// can be made. `pass` works in this thread, which starts all other threads itself: a thread that a new thread starts
+// often waits for its starter's processor, while another is free. Without other passes no thread starts.
 #[cycle(by_threads)]
 fn work_by_threads<R: Threads + Sync, J: Job, B: Board<J>, G: Gate + Sync>(
     rt: &R,
@@ -95,7 +95,7 @@ fn work_by_threads<R: Threads + Sync, J: Job, B: Board<J>, G: Gate + Sync>(
     pass
 }
 
-// Adds the result that is there, or else that of the job, worked now.
+// Adds the result in the slot, or else the result of the job, which is worked now.
 fn add_result<J: Job>(
     alloc: Global,
     job: &J,
@@ -119,7 +119,7 @@ fn add_result<J: Job>(
     Ok(())
 }
 
-// The results, each as it is there, with each job that isn't done worked now.
+// The results in the slots, where each job without a result is worked now.
 fn filled<J: Job>(
     alloc: Global,
     job: &J,
@@ -138,13 +138,12 @@ fn filled<J: Job>(
     Ok(outs)
 }
 
-/// Works every job of the board, and returns one right result for each, in the order of the jobs.
+/// Works every job of the board, and returns one right result for each job, in the order of the jobs.
 ///
-/// The board was made for this job value, whose jobs can be worked. The pass is its first one,
-/// holds nothing, and may make one for each worker. The calling thread is one of the workers, so
-/// where one is asked for it works alone, and no thread starts. A worker claims a job, tells the
-/// gate, works the job and deposits the result; where it finds no memory it gives the job back and
-/// ends. Then the caller works what isn't done itself.
+/// The board was made for this job value, whose jobs can be worked. The pass is the board's first one, holds nothing,
+/// and may make one pass for each worker. The calling thread is one of the workers, so a single worker starts no
+/// thread. A worker claims a job, tells the gate, works the job and deposits the result; where no memory is found the
+/// worker gives the job back and ends. Then the caller works the jobs that aren't done.
 ///
 /// `OutOfMemory` says that the caller wanted memory and found none; the results are gone then.
 pub fn finish<R: Threads + Sync, J: Job, B: Board<J>, G: Gate + Sync>(

@@ -1,6 +1,6 @@
+pub mod Prelude
 pub mod Totals
 pub mod Lines
 pub mod Steps
 pub mod Outs
-pub mod Marking
 pub mod Planning

@@ -1,6 +1,5 @@
 -- What the queue of a round holds after a number or an end is put.
-use Rattle.std.proofs.Common.{◌≡◌, ◌∙◌, ℕ, ◌+◌, List, [], ◌∷◌, ◌++◌, length, refl, ap, arith, Option, Some, None, Bool, true, false, ◌||◌, ◌⊎◌, inl, inr}
-use Rattle.nef_sched.specs.Line.{numbers_in, ends_in, EndsLast}
+use Rattle.nef_sched.proofs.Prelude.{◌≡◌, ◌∙◌, ℕ, ◌+◌, List, [], ◌∷◌, ◌++◌, length, refl, ap, arith, Option, Some, None, Bool, true, false, ◌||◌, ◌⊎◌, inl, inr, numbers_in, ends_in, EndsLast}
 
 pub not_true : (b : Bool) → (b ≡ true → ⊥) → b ≡ false
 not_true true n = absurd (n refl)

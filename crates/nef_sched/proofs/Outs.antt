@@ -1,14 +1,7 @@
 -- Lists of results that are there.
-use Rattle.std.proofs.Common.{◌≡◌, ◌≢◌, ℕ, zero, suc, ◌+◌, ◌<◌, List, [], ◌∷◌, ◌++◌, length, refl, ap, sym, ◌∙◌, arith, ◌⊎◌, inl, inr, Option, Some, None, slice_get, slice_set, slice_index_or, All, IfSome, IsSomeAnd, cond, Bool, true, false, subst}
-use Rattle.std.specs.Prelude.{option_map, is_some, is_err, OnOk, Result, Ok, Err, ◌≤◌}
-use Rattle.std.proofs.lemmas.List.{length-append, length-set}
-use Rattle.std.proofs.lemmas.Bool.{ne_eqb}
-use Rattle.nef_sched.specs.declared.pass.RoundPass.{RoundPass}
-use Rattle.nef_sched.specs.Counts.{one, times}
-use Rattle.nef_sched.specs.Results.{flat, kept, IsKept, IsReady, AreSound, AreReady, HasWorked}
-use Rattle.nef_sched.specs.Rounds.{parts, total_parts, total_worked}
+use Rattle.nef_sched.proofs.Prelude.{◌≡◌, ℕ, zero, suc, ◌+◌, ◌<◌, List, [], ◌∷◌, ◌++◌, length, refl, ap, sym, ◌∙◌, arith, ◌⊎◌, inl, inr, Option, Some, None, slice_get, slice_set, slice_index_or, All, IfSome, IsSomeAnd, true, false, subst, option_map, is_some, is_err, OnOk, Result, Ok, Err, length-append, length-set, RoundPass, times, flat, kept, IsKept, IsReady, AreSound, AreReady, HasWorked, parts, total_parts, total_worked}
+use Rattle.std.specs.Prelude.{◌≤◌}
 use Rattle.nef_sched.proofs.Totals.{counts, counts_itself, same_or_not}
-use Rattle.nef_sched.proofs.Marking.{set_other}
 
 none_differs : {X : Type 0} (x : X) → None ≡ Some x → ⊥
 none_differs x e = cc
@@ -82,22 +75,18 @@ module _ {X : Type 0} where
       each (Some k) h = still k (was_kept (fits k) (kept old k) h)
 
   -- what work leaves: after none, after one work and another, and where one number's result is kept
-  pub worked_none : (size : ℕ) (fits : ℕ → X → Type 0) (numbers : List ℕ) (list : List (Option X)) → AreSound size fits list → HasWorked size fits numbers list list
-  worked_none size fits numbers list s = record { sound = s; still = λ k h. h; only = λ k none. refl }
+  pub worked_none : (size : ℕ) (fits : ℕ → X → Type 0) (list : List (Option X)) → AreSound size fits list → HasWorked size fits list list
+  worked_none size fits list s = record { sound = s; still = λ k h. h }
 
-  pub worked_both : (size : ℕ) (fits : ℕ → X → Type 0) (numbers : List ℕ) (a b c : List (Option X)) → HasWorked size fits numbers a b → HasWorked size fits numbers b c → HasWorked size fits numbers a c
-  worked_both size fits numbers a b c m n = record { sound = n.sound; still = λ k h. n.still k (m.still k h); only = λ k none. n.only k none ∙ m.only k none }
+  pub worked_both : (size : ℕ) (fits : ℕ → X → Type 0) (a b c : List (Option X)) → HasWorked size fits a b → HasWorked size fits b c → HasWorked size fits a c
+  worked_both size fits a b c m n = record { sound = n.sound; still = λ k h. n.still k (m.still k h) }
 
-  pub worked_set : (size : ℕ) (fits : ℕ → X → Type 0) (numbers : List ℕ) (list : List (Option X)) (j : ℕ) (new : X) → fits j new → 0 < times j numbers → AreSound size fits list → HasWorked size fits numbers list (slice_set list j (Some new))
-  worked_set size fits numbers list j new f some s = record {
-    sound = sound_set size fits list j new f s;
-    still = still_set list j new;
-    only = λ k none. set_other list j (Some new) k (λ e. let same : times k numbers ≡ times j numbers = ap (λ z. times z numbers) e in omega arith);
-  }
+  pub worked_set : (size : ℕ) (fits : ℕ → X → Type 0) (list : List (Option X)) (j : ℕ) (new : X) → fits j new → AreSound size fits list → HasWorked size fits list (slice_set list j (Some new))
+  worked_set size fits list j new f s = record { sound = sound_set size fits list j new f s; still = still_set list j new }
 
   -- numbers that have what they need have it after work
-  pub ready_after : (size : ℕ) (fits : ℕ → X → Type 0) (first second : ℕ → Option ℕ) (numbers more : List ℕ) (old new : List (Option X)) → AreReady size fits first second numbers old → HasWorked size fits more old new → AreReady size fits first second numbers new
-  ready_after size fits first second numbers more old new r w = record { sound = w.sound; each = λ k d low. let e = r.each k d low in (e.0, ready_still size fits (first _) (second _) old new w.sound w.still e.1) }
+  pub ready_after : (size : ℕ) (fits : ℕ → X → Type 0) (first second : ℕ → Option ℕ) (numbers : List ℕ) (old new : List (Option X)) → AreReady size fits first second numbers old → HasWorked size fits old new → AreReady size fits first second numbers new
+  ready_after size fits first second numbers old new r w = record { sound = w.sound; each = λ k d low. let e = r.each k d low in (e.0, ready_still size fits (first _) (second _) old new w.sound w.still e.1) }
 
   -- where a result is kept, the place holds one
   pub kept_holds : (list : List (Option X)) (i : ℕ) (d : Option X) → IsKept list i → slice_index_or list i d ≡ None → ⊥
@@ -110,15 +99,15 @@ module _ {X : Type 0} where
   mid (y ∷ ys) rest o = mid ys rest o
 
   -- where every number has its result, a list of results is nowhere empty
-  pub slot_holds : (size : ℕ) (list ys rest : List (Option X)) (o : Option X) → list ≡ ys ++ o ∷ rest → length list ≡ size → ((k : ℕ) → k < size → IsKept list k) → o ≡ None → ⊥
-  slot_holds size list ys rest o e l all n =
+  pub slot_holds : (list ys rest : List (Option X)) (o : Option X) → list ≡ ys ++ o ∷ rest → ((k : ℕ) → k < length list → IsKept list k) → o ≡ None → ⊥
+  slot_holds list ys rest o e all n =
       let m : length list ≡ length (ys ++ o ∷ rest) = ap length e in
       let h = all (length ys) (omega (arith, length-append ys (o ∷ rest))) in
       none_differs h.0 (sym n ∙ sym (mid ys rest o) ∙ ap (λ (z : List (Option X)). kept z (length ys)) (sym e) ∙ h.1)
 
-  -- and what stands at a place fits it
-  pub slot_fits : (size : ℕ) (fits : ℕ → X → Type 0) (list ys rest : List (Option X)) (o : Option X) (out : X) → list ≡ ys ++ o ∷ rest → AreSound size fits list → o ≡ Some out → fits (length ys) out
-  slot_fits size fits list ys rest o out e s n = s.1 (length ys) out (ap (λ (z : List (Option X)). kept z (length ys)) e ∙ mid ys rest o ∙ n)
+  -- what stands at a place is kept for its number
+  pub slot_kept : (list ys rest : List (Option X)) (o : Option X) → list ≡ ys ++ o ∷ rest → kept list (length ys) ≡ o
+  slot_kept list ys rest o e = ap (λ (z : List (Option X)). kept z (length ys)) e ∙ mid ys rest o
 
   pub pushed_fits : (P : ℕ → X → Type 0) (outs : List X) (new : X) → ((i : ℕ) (out : X) → slice_get outs i ≡ Some out → P i out) → P (length outs) new → (i : ℕ) (out : X) → slice_get (outs ++ new ∷ []) i ≡ Some out → P i out
   pushed_fits P [] new h f zero out e = subst (P 0) (same new out e) f
@@ -172,17 +161,3 @@ pub times_at : (xs : List ℕ) (i d : ℕ) → i < length xs → 0 < times (slic
 times_at [] i d low = absurd (omega arith)
 times_at (x ∷ xs) zero d low = let e = counts_itself x in omega arith
 times_at (x ∷ xs) (suc i) d low = let h = times_at xs i d (omega arith) in omega arith
-
-pub not_listed : (xs : List ℕ) (i d k : ℕ) → i < length xs → times k xs ≡ 0 → k ≢ slice_index_or xs i d
-not_listed xs i d k low none e = let h = times_at xs i d low in let same : times k xs ≡ times (slice_index_or xs i d) xs = ap (λ z. times z xs) e in omega arith
-
-pub found : (k : ℕ) (xs : List ℕ) → 0 < times k xs → (i : ℕ) × (i < length xs) × (slice_index_or xs i 0 ≡ k)
-found k [] some = absurd (omega arith)
-found k (x ∷ xs) some = elim (same_or_not x k) [
-  | inl same ↦ (0, omega arith, same)
-  | inr other ↦
-      let none : one k x ≡ 0 = ap (λ (b : Bool). cond b 1 0) (ne_eqb x k other) in
-      let h = found k xs (omega arith) in
-      let i = h.1 in
-      (suc h.0, omega arith, h.2)
-]

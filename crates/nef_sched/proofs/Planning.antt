@@ -1,12 +1,6 @@
--- Rounds of numbers, and which results are there after each.
-use Rattle.std.proofs.Common.{◌≡◌, ◌≢◌, ℕ, zero, suc, ◌+◌, ◌<◌, ◌≤◌, ◌⊎◌, inl, inr, max, cond, Bool, false, List, [], ◌∷◌, ◌++◌, length, refl, ap, sym, ◌∙◌, arith, subst, Option, Some, None, slice_get, slice_set, slice_index_or, All, IfSome, ne_eqb}
-use Rattle.std.specs.Prelude.{slice_index}
+-- Rounds of numbers, and which results are there before each.
+use Rattle.nef_sched.proofs.Prelude.{◌≡◌, ◌≢◌, ℕ, zero, suc, ◌+◌, ◌<◌, ◌≤◌, ◌⊎◌, inl, inr, max, cond, Bool, List, [], ◌∷◌, ◌++◌, length, refl, ap, sym, ◌∙◌, arith, subst, Option, Some, None, slice_get, slice_set, slice_index_or, All, IfSome, ne_eqb, slice_index, length-append, get_or_append_left, get_or_at, get_or-set_same, slice_get_read, get_or_from_slice_get, one, times, NeedsOf, IsKept, HasNeeds, AreSound, after, AreRounds, IsGroup}
 use Rattle.std.proofs.Math.Nat.{le-max_left, le-max_right, max-le}
-use Rattle.std.proofs.lemmas.List.{length-append, get_or_append_left, get_or_at, get_or-set_same}
-use Rattle.std.proofs.lemmas.Option.{slice_get_within, slice_get_read, get_or_from_slice_get}
-use Rattle.nef_sched.specs.Counts.{one, times}
-use Rattle.nef_sched.specs.Results.{IsMarked, IsUnmarked, NeedsOf, kept, IsKept, HasNeeds, AreSound}
-use Rattle.nef_sched.specs.Plans.{after, AreRounds, AreLasts, IsGroup}
 use Rattle.nef_sched.proofs.Totals.{weigh_append, counts_itself, same_or_not}
 use Rattle.nef_sched.proofs.Outs.{all_in, all_next, ready_of, times_at}
 
@@ -74,12 +68,6 @@ needed_before size first second rounds n k a low needs =
       | inr s ↦ let p : after rounds (second n) ≡ slice_index rounds k + 1 = ap (after rounds) s in omega arith
     ]
 
-pub last_low : (size : ℕ) (first second : ℕ → Option ℕ) (rounds lasts : List ℕ) (k : ℕ) → AreRounds size first second rounds → AreLasts size first second rounds lasts → k < size → slice_index lasts k < size
-last_low size first second rounds lasts k a l low = elim (l.reached k low) [
-  | inl e ↦ let h = a.low k low in omega arith
-  | inr u ↦ let h = a.low u.0 u.1 in let e = u.3 in let i = u.1 in omega arith
-]
-
 -- groups of numbers by their rounds
 pub group_here : (n : ℕ) (rounds : List ℕ) (r : ℕ) (xs : List ℕ) → slice_index rounds n ≡ r → IsGroup n rounds r xs → IsGroup (n + 1) rounds r (xs ++ n ∷ [])
 group_here n rounds r xs e g = (every, only)
@@ -146,23 +134,13 @@ group_differs size rounds r xs g x = elim (none_or_some (times x xs)) [
   | inr s ↦ let h = g.1 x s in let e = g.0 x h.0 h.1 in omega arith
 ]
 
-group_not : (size : ℕ) (rounds : List ℕ) (r : ℕ) (xs : List ℕ) (k : ℕ) → IsGroup size rounds r xs → (slice_index rounds k ≡ r → ⊥) → times k xs ≡ 0
-group_not size rounds r xs k g ne = elim (none_or_some (times k xs)) [ inl z ↦ z | inr s ↦ absurd (ne (g.1 k s).1) ]
+-- before this round the results of all earlier ones are there
+abbrev pub AreThere : {X : Type 0} → ℕ → List ℕ → ℕ → List (Option X) → Type 0
+AreThere size rounds round list = (k : ℕ) → k < size → slice_index rounds k < round → IsKept list k
 
--- the result of k is wanted at the end, or a number of this round or a later one needs it
-abbrev pub IsAsked : ℕ → (ℕ → Option ℕ) → (ℕ → Option ℕ) → List ℕ → List Bool → ℕ → ℕ → Type 0
-IsAsked size first second rounds wanted round k = IsMarked wanted k ⊎ ((n : ℕ) × (n < size) × (round ≤ slice_index rounds n) × NeedsOf first second n k)
-
--- before this round the results that are there: all those of earlier rounds that are asked for, and none that is asked for no more
-abbrev pub AreThere : {X : Type 0} → ℕ → (ℕ → Option ℕ) → (ℕ → Option ℕ) → List ℕ → List Bool → ℕ → List (Option X) → Type 0
-AreThere size first second rounds wanted round list = (k : ℕ) → k < size → slice_index rounds k < round → IsAsked size first second rounds wanted round k → IsKept list k
-
-abbrev pub AreGone : {X : Type 0} → List ℕ → List Bool → ℕ → List (Option X) → Type 0
-AreGone lasts wanted round list = (k : ℕ) → IsUnmarked wanted k → slice_index lasts k < round → kept list k ≡ None
-
-module _ {X : Type 0} (size : ℕ) (fits : ℕ → X → Type 0) (first second : ℕ → Option ℕ) (rounds lasts : List ℕ) (wanted : List Bool) (r : ℕ) where
+module _ {X : Type 0} (size : ℕ) (fits : ℕ → X → Type 0) (first second : ℕ → Option ℕ) (rounds : List ℕ) (r : ℕ) where
   -- the numbers of a round have what they need
-  pub round_ready : (group : List ℕ) (list : List (Option X)) → AreRounds size first second rounds → AreSound size fits list → AreThere size first second rounds wanted r list → IsGroup size rounds r group → All (HasNeeds size fits first second list) group
+  pub round_ready : (group : List ℕ) (list : List (Option X)) → AreRounds size first second rounds → AreSound size fits list → AreThere size rounds r list → IsGroup size rounds r group → All (HasNeeds size fits first second list) group
   round_ready group list a sound there g = all_listed (HasNeeds size fits first second list) group (λ k some.
       let h = g.1 k some in
       (h.0, ready_of size fits (first k) (second k) list sound (some_of (IsKept list) (first k) (λ j e. of k j h.0 h.1 (inl e))) (some_of (IsKept list) (second k) (λ j e. of k j h.0 h.1 (inr e)))))
@@ -171,37 +149,11 @@ module _ {X : Type 0} (size : ℕ) (fits : ℕ → X → Type 0) (first second :
       of k j low is needs =
           let b = a.below k j low needs in
           let e = needed_before size first second rounds k j a low needs in
-          there j (omega arith) (omega arith) (inr (k, low, omega arith, needs))
+          there j (omega arith) (omega arith)
 
-  -- and after it what is there is what the next round begins with
-  pub there_next : (begins ends : List ℕ) (list worked left : List (Option X)) → AreRounds size first second rounds → AreLasts size first second rounds lasts → IsGroup size rounds r begins → IsGroup size lasts r ends
-      → AreThere size first second rounds wanted r list → ((k : ℕ) → IsKept list k → IsKept worked k) → All (IsKept worked) begins
-      → ((k : ℕ) → IsMarked wanted k → kept left k ≡ kept worked k) → ((k : ℕ) → times k ends ≡ 0 → kept left k ≡ kept worked k)
-      → AreThere size first second rounds wanted (r + 1) left
-  there_next begins ends list worked left a l b e there still new marked other k low early asked = elim asked [
-    | inl m ↦ (before.0, marked k m ∙ before.1)
-    | inr u ↦ (before.0, other k (group_not size lasts r ends k e (λ q. let h = l.used u.0 k u.1 u.3 in let i = u.2 in omega arith)) ∙ before.1)
+  -- and after it the results of its numbers are there too
+  pub there_next : (group : List ℕ) (list worked : List (Option X)) → IsGroup size rounds r group → AreThere size rounds r list → ((k : ℕ) → IsKept list k → IsKept worked k) → All (IsKept worked) group → AreThere size rounds (r + 1) worked
+  there_next group list worked g there still new k low early = elim (same_or_not (slice_index rounds k) r) [
+    | inl same ↦ all_in (IsKept worked) group k (g.0 k low same) new
+    | inr differs ↦ still k (there k low (omega arith))
   ]
-    where
-      sooner : IsAsked size first second rounds wanted r k
-      sooner = elim asked [ inl m ↦ inl m | inr u ↦ inr (u.0, u.1, (let i = u.2 in omega arith), u.3) ]
-
-      before : IsKept worked k
-      before = elim (same_or_not (slice_index rounds k) r) [
-        | inl same ↦ all_in (IsKept worked) begins k (b.0 k low same) new
-        | inr differs ↦ still k (there k low (omega arith) sooner)
-      ]
-
-  pub gone_next : (begins ends : List ℕ) (list worked left : List (Option X)) → length wanted ≡ size → AreLasts size first second rounds lasts → IsGroup size rounds r begins → IsGroup size lasts r ends
-      → AreGone lasts wanted r list → ((k : ℕ) → times k begins ≡ 0 → kept worked k ≡ kept list k)
-      → ((k : ℕ) → times k ends ≡ 0 → kept left k ≡ kept worked k) → ((k : ℕ) → 0 < times k ends → IsUnmarked wanted k → kept left k ≡ None)
-      → AreGone lasts wanted (r + 1) left
-  gone_next begins ends list worked left len l b e gone only other away k off late = elim (same_or_not (slice_index lasts k) r) [
-    | inl same ↦ let t = e.0 k inside same in away k (omega arith) off
-    | inr differs ↦
-        let o = l.own k inside in
-        other k (group_not size lasts r ends k e differs) ∙ only k (group_not size rounds r begins k b (λ q. omega arith)) ∙ gone k off (omega arith)
-  ]
-    where
-      inside : k < size
-      inside = let w = slice_get_within wanted k false off in omega arith

@@ -1,20 +1,11 @@
 -- Each kind of step keeps the queue's rule, and what a pass learns from it.
-use Rattle.std.proofs.Common.{◌≡◌, ◌≢◌, ℕ, zero, suc, ◌+◌, ◌^◌, ◌<◌, ◌≤◌, List, [], ◌∷◌, ◌++◌, length, set, refl, ap, sym, ◌∙◌, arith, ◌⊎◌, inl, inr, ⊎_elim, subst, take, drop, slice_index_or, slice_get, Option, Some, None, Bool, true, false, ◌||◌}
-use Rattle.std.proofs.lemmas.Bool.{false≢true}
-use Rattle.std.proofs.lemmas.List.{length-append, length-take-le}
-use Rattle.std.proofs.lemmas.Option.{slice_get_within}
+use Rattle.nef_sched.proofs.Prelude.{◌≡◌, ◌≢◌, ℕ, zero, suc, ◌+◌, ◌^◌, ◌<◌, ◌≤◌, List, [], ◌∷◌, ◌++◌, length, set, refl, ap, sym, ◌∙◌, arith, ◌⊎◌, inl, inr, ⊎_elim, subst, take, drop, slice_index_or, slice_get, Option, Some, None, IfSome, Bool, true, false, ◌||◌, MatchOption, false≢true, length-append, slice_get_within, View, weigh, one, times, Differ, IsDealt, numbers_in, ends_in, whole, first_view, put, took, at_end, cut, share, both, spent, Fits, Shows, Kept, Sees, Took, TookEach, RoundPass, parts, known, taken, ended, any_ended, total_parts, times_taken, numbers_of}
+use Rattle.std.specs.Option.{option_flatten}
 use mathlib.Core.Option.{some, some-injective, some-ne-none}
 use lib.ListN.{get_elem?}
 use Rattle.crossbeam_queue.specs.Fifo.{Pushes, Pops, Forks, Merges, Learns, Held}
 use Rattle.crossbeam_queue.proofs.Lists.{at_set, at_snoc}
-use Rattle.nef_sched.specs.declared.pass.View.{View}
-use Rattle.nef_sched.specs.Counts.{weigh, one, times, Differ, IsDealt}
-use Rattle.nef_sched.specs.Line.{numbers_in, ends_in}
-use Rattle.nef_sched.specs.Views.{whole, first_view, put, took, at_end, cut, share, both, spent}
-use Rattle.nef_sched.specs.Rule.{Fits, Shows, Kept, Sees, Took, TookEach}
 use Rattle.nef_sched.specs.Laws.{NumbersAreKnown, PassesAgree, NoneTwice, NoneTakenIsLeft, NoneIsLost, EndedIsEmpty}
-use Rattle.nef_sched.specs.declared.pass.RoundPass.{RoundPass}
-use Rattle.nef_sched.specs.Rounds.{parts, known, taken, ended, any_ended, total_parts, times_taken, numbers_of}
 use Rattle.nef_sched.proofs.Totals.{weigh_append, weigh_one, counts, counts_itself, total_set, total_snoc, at_most, two_at_most, all_of_one}
 use Rattle.nef_sched.proofs.Lines.{not_true, one_of, cons_not_nil, numbers_more, numbers_end, ends_more, ends_end, last_more, last_end, last_none, length_in}
 
@@ -289,6 +280,11 @@ never_empty v owes held =
     let k = length_in items in
     absurd (omega arith)
 
+-- so what it takes is a number or an end
+pub took_some : (v w : View) (o : Option (Option ℕ)) → 0 < v.due → MatchOption o ((w ≡ v) × Held 0 (Sees v)) (λ x. Took v x w) → Took v (option_flatten o) w
+took_some v w None owes h = absurd (never_empty v owes h.1)
+took_some v w (Some x) owes h = h
+
 -- a pass that has ended, and has every part, took all
 pub ended_took : (v : View) (items : List (Option ℕ)) → v.ended ≡ true → Sees v items → v.parts ≡ 2 ^ 32 → TookEach v
 ended_took v items end seen all = took_each seen.3.0 items seen.0 seen.1 v seen.3.1 seen.2 ((seen.3.1.fits seen.1 v seen.2).ended end) all
@@ -373,23 +369,19 @@ not_before numbers i d differ low =
     omega arith
 
 -- a queue with room for all numbers and ends isn't full before the last
-pub never_full : (numbers : List ℕ) (i room : ℕ) (v : View) → v ≡ whole (take i numbers) 0 → i < length numbers → length numbers ≤ room → Held room (Sees v) → ⊥
-never_full numbers i room v e low wide held =
+pub never_full : (known : List ℕ) (due room : ℕ) (v : View) → v ≡ whole known due → length known + due < room → Held room (Sees v) → ⊥
+never_full known due room v e wide held =
     let seen = subst (λ z. Sees z held.0) e held.2 in
-    let few = seen_few (whole (take i numbers) 0) held.0 (omega arith) seen in
-    let no_end = seen_due (whole (take i numbers) 0) held.0 refl seen in
-    let all = held.1 in
-    let both = length_in held.0 in
-    omega (arith, length-take-le i numbers (omega arith))
-
-pub never_full_of_ends : (numbers : List ℕ) (i count room : ℕ) (v : View) → v ≡ whole numbers i → i < count → length numbers + count ≤ room → Held room (Sees v) → ⊥
-never_full_of_ends numbers i count room v e low wide held =
-    let seen = subst (λ z. Sees z held.0) e held.2 in
-    let few = seen_few (whole numbers i) held.0 (omega arith) seen in
-    let ends = seen_due (whole numbers i) held.0 refl seen in
+    let few = seen_few (whole known due) held.0 (omega arith) seen in
+    let ends = seen_due (whole known due) held.0 refl seen in
     let all = held.1 in
     let both = length_in held.0 in
     omega arith
+
+-- a pass that took nothing puts an end, or a number before it puts an end
+pub puts_item : (room place : ℕ) (known : List ℕ) (due : ℕ) (v : View) (item : Option ℕ) → v ≡ whole known due → IfSome item (λ x. (due ≡ 0) × (times x known ≡ 0)) → Pushes Kept room place v item (λ w. w ≡ put v item)
+puts_item room place known due v None e h = puts_end room place v (ap (λ (u : View). u.parts) e)
+puts_item room place known due v (Some x) e h = puts room place v x (ap (λ (u : View). u.parts) e) (ap (λ (u : View). u.due) e ∙ h.0) (ap (λ (u : View). u.ended) e) (ap (λ (u : View). times x u.known) e ∙ h.1)
 
 pub parts_snoc : (ps : List RoundPass) (p : RoundPass) → total_parts (ps ++ p ∷ []) ≡ total_parts ps + parts p
 parts_snoc [] p = omega arith

@@ -1,10 +1,7 @@
 -- Weights of lists and totals of views.
-use Rattle.std.proofs.Common.{◌≡◌, ◌≢◌, ℕ, zero, suc, ◌+◌, ◌≤◌, cond, List, [], ◌∷◌, ◌++◌, length, set, refl, ap, sym, arith, ◌⊎◌, inl, inr, Bool, eq-eqb, ne_eqb}
+use Rattle.nef_sched.proofs.Prelude.{◌≡◌, ◌≢◌, ℕ, zero, suc, ◌+◌, ◌≤◌, cond, List, [], ◌∷◌, ◌++◌, length, set, refl, ap, sym, arith, ◌⊎◌, inl, inr, Bool, eq-eqb, ne_eqb, View, weigh, one, total}
 use mathlib.Core.Option.{some, some-injective, some-ne-none}
 use lib.ListN.{get_elem?}
-use Rattle.nef_sched.specs.declared.pass.View.{View}
-use Rattle.nef_sched.specs.Counts.{weigh, one}
-use Rattle.nef_sched.specs.Views.{total}
 
 pub weigh_append : (h : ℕ → ℕ) (xs ys : List ℕ) → weigh h (xs ++ ys) ≡ weigh h xs + weigh h ys
 weigh_append h [] ys = omega arith

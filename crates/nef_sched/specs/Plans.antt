@@ -1,9 +1,8 @@
--- In which round a number is worked, and after which its result is let go.
-use Rattle.std.specs.Prelude.{◌≡◌, ℕ, ◌+◌, ◌<◌, ◌≤◌, ◌⊎◌, max, List, Option, Some, None, length, slice_get, slice_index}
+-- In which round a number is worked.
+use Rattle.std.specs.Prelude.{◌≡◌, ℕ, ◌+◌, ◌<◌, ◌≤◌, max, List, Option, Some, None, length, slice_get, slice_index}
 use Rattle.std.specs.declared.vec.Vec.{Vec}
 use Rattle.nef_sched.specs.Counts.{times}
 use Rattle.nef_sched.specs.Results.{NeedsOf}
-use Rattle.nef_sched.specs.declared.stage.Plan.{Plan}
 
 -- the round after that of a number, or the first one where there is no number
 abbrev pub after : List ℕ → Option ℕ → ℕ
@@ -17,13 +16,6 @@ pub record AreRounds (size : ℕ) (first second : ℕ → Option ℕ) (rounds : 
   pub below : (n k : ℕ) → n < size → NeedsOf first second n k → k < n
   pub low : (n : ℕ) → n < size → slice_index rounds n ≤ n
 
--- the last round in which the result of each number is needed, or its own one where none needs it
-pub record AreLasts (size : ℕ) (first second : ℕ → Option ℕ) (rounds lasts : List ℕ) : Type 0 where
-  pub len : length lasts ≡ size
-  pub own : (k : ℕ) → k < size → slice_index rounds k ≤ slice_index lasts k
-  pub used : (n k : ℕ) → n < size → NeedsOf first second n k → slice_index rounds n ≤ slice_index lasts k
-  pub reached : (k : ℕ) → k < size → (slice_index lasts k ≡ slice_index rounds k) ⊎ ((n : ℕ) × (n < size) × NeedsOf first second n k × (slice_index lasts k ≡ slice_index rounds n))
-
 -- the list has each of the first numbers whose round is r exactly once, and no other
 abbrev pub IsGroup : ℕ → List ℕ → ℕ → List ℕ → Type 0
 IsGroup count rounds r xs = ((k : ℕ) → k < count → slice_index rounds k ≡ r → times k xs ≡ 1) × ((k : ℕ) → 0 < times k xs → (k < count) × (slice_index rounds k ≡ r))
@@ -32,11 +24,8 @@ IsGroup count rounds r xs = ((k : ℕ) → k < count → slice_index rounds k �
 abbrev pub AreGroups : {Z : Type 0} → ℕ → List ℕ → List (Vec ℕ Z) → Type 0
 AreGroups {Z} count rounds groups = (length groups ≡ count) × ((r : ℕ) (group : Vec ℕ Z) → slice_get groups r ≡ Some group → IsGroup count rounds r group.items)
 
--- what a plan says of the numbers, each of which has its round and the last round in which its result is needed
-pub record IsPlan (size : ℕ) (first second : ℕ → Option ℕ) (plan : Plan) : Type 0 where
+-- the groups are those of the rounds in which the numbers are worked
+pub record IsPlan {Z : Type 0} (size : ℕ) (first second : ℕ → Option ℕ) (groups : List (Vec ℕ Z)) : Type 0 where
   pub round_of : List ℕ
-  pub last_of : List ℕ
   pub rounds : AreRounds size first second round_of
-  pub lasts : AreLasts size first second round_of last_of
-  pub begins : AreGroups size round_of plan.begins.items
-  pub ends : AreGroups size last_of plan.ends.items
+  pub each : AreGroups size round_of groups

@@ -1,14 +1,5 @@
--- Marks on numbers, which number needs which, and results that are there.
-use Rattle.std.specs.Prelude.{◌≡◌, ℕ, List, Option, Some, None, slice_get, length, IfSome, IsSomeAnd, All, ◌<◌, Bool, true, false, ◌⊎◌}
-use Rattle.nef_sched.specs.Counts.{times}
-
--- k is marked
-abbrev pub IsMarked : List Bool → ℕ → Type 0
-IsMarked marks k = slice_get marks k ≡ Some true
-
--- k is there, and isn't marked
-abbrev pub IsUnmarked : List Bool → ℕ → Type 0
-IsUnmarked marks k = slice_get marks k ≡ Some false
+-- Which number needs which, and results that are there.
+use Rattle.std.specs.Prelude.{◌≡◌, ℕ, List, Option, Some, None, slice_get, length, IfSome, IsSomeAnd, All, ◌<◌, ◌⊎◌}
 
 -- j needs the result of k
 abbrev pub NeedsOf : (ℕ → Option ℕ) → (ℕ → Option ℕ) → ℕ → ℕ → Type 0
@@ -43,12 +34,11 @@ pub record AreReady {X : Type 0} (size : ℕ) (fits : ℕ → X → Type 0) (fir
   pub sound : AreSound size fits list
   pub each : All (HasNeeds size fits first second list) numbers
 
--- what work on the numbers leaves: fitting results, all that were there, and of other numbers no more
-pub record HasWorked {X : Type 0} (size : ℕ) (fits : ℕ → X → Type 0) (numbers : List ℕ) (old new : List (Option X)) : Type 0 where
+-- what work leaves: fitting results, and all that were there
+pub record HasWorked {X : Type 0} (size : ℕ) (fits : ℕ → X → Type 0) (old new : List (Option X)) : Type 0 where
   pub sound : AreSound size fits new
   pub still : (k : ℕ) → IsKept old k → IsKept new k
-  pub only : (k : ℕ) → times k numbers ≡ 0 → kept new k ≡ kept old k
 
--- each number is one of these, and stands beside a result that fits it
-abbrev pub AreFitting : {X : Type 0} → ℕ → (ℕ → X → Type 0) → List ℕ → List (ℕ × X) → Type 0
-AreFitting size fits numbers outs = All (λ o. (o.0 < size) × (times o.0 numbers ≡ 1) × fits o.0 o.1) outs
+-- each number is one of so many, and stands beside a result that fits it
+abbrev pub AreFitting : {X : Type 0} → ℕ → (ℕ → X → Type 0) → List (ℕ × X) → Type 0
+AreFitting size fits outs = All (λ o. (o.0 < size) × fits o.0 o.1) outs

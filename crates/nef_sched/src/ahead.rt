@@ -1,14 +1,14 @@
 //! Works a stage round after round.
 ghost use Rattle.std.specs.Prelude.{◌≡◌, ℕ, ◌<◌, ◌≤◌, length, All, IfOk, OnOk, None, Some, slice_get, slice_index_or, vec_len};
 ghost use Rattle.nef_sched.specs.declared.pass.RoundPass.{RoundPass};
-ghost use Rattle.nef_sched.specs.Counts.{times, Differ};
-ghost use Rattle.nef_sched.specs.Results.{IsMarked, IsUnmarked, kept, IsKept, AreSound, AreFitting, AreReady, HasWorked};
+ghost use Rattle.nef_sched.specs.Counts.{Differ};
+ghost use Rattle.nef_sched.specs.Results.{kept, IsKept, AreSound, AreFitting, AreReady, HasWorked};
 ghost use Rattle.nef_sched.specs.Plans.{IsPlan};
 ghost use Rattle.nef_sched.specs.Rounds.{Belongs, parts, known, total_parts, total_worked};
 
 use crate::OutOfMemory;
 use crate::pass::{Round, RoundPass};
-use crate::stage::{Plan, Results, Stage, plan_of};
+use crate::stage::{Results, Stage, plan_of};
 use nef_core::{Work, empty_places};
 use std::alloc::Global;
 use std::sync::Wait;
@@ -34,83 +34,35 @@ pub fn run_ahead<R: Threads + Wait + Sync, T: Stage>(
     ensures len { IfOk result (λ v. vec_len v ≡ T.size stage.now) }
     ensures fits { IfOk result (λ v. (i : ℕ) (out : _) → slice_get v.items i ≡ Some out → T.fits stage.now i out) }
 {
-    let wanted = vec![in alloc; true; stage.count()]?;
-    let list = run_lean(rt, alloc, stage, workers, &wanted)?;
-    all_of(alloc, stage, list)
-}
-
-/// Works every number of the stage in the rounds of [`run_ahead`], and returns at each number's
-/// place its result, which fits, where `wanted` has the number marked, and `None` where it hasn't.
-///
-/// `wanted` has a place for each number. A result that isn't wanted is let go at the end of the
-/// round after which no number that isn't worked yet needs it.
-///
-/// `OutOfMemory` says that memory was wanted and not found; the results are gone then.
-pub fn run_lean<R: Threads + Wait + Sync, T: Stage>(
-    rt: &R,
-    alloc: Global,
-    stage: &T,
-    workers: u32,
-    wanted: &[bool],
-) -> Result<Vec<Option<T::Out>>, OutOfMemory>
-    requires workers { 1 ≤ workers }
-    requires workable { T.workable stage.now }
-    requires wanted { length wanted.now ≡ T.size stage.now }
-    ensures fits { IfOk result (λ v. AreSound (T.size stage.now) (T.fits stage.now) v.items) }
-    ensures wanted { IfOk result (λ v. (i : ℕ) → IsMarked wanted.now i → IsKept v.items i) }
-    ensures lean { IfOk result (λ v. (i : ℕ) → IsUnmarked wanted.now i → kept v.items i ≡ None) }
-{
     let plan = plan_of(alloc, stage)?;
     let mut done = Results {
         list: empty_places(alloc, stage.count())?,
     };
-    work_rounds(rt, alloc, stage, workers, wanted, &plan, &mut done)?;
-    Ok(done.list)
-}
-
-// Lets the result of each of these numbers go that isn't wanted, and keeps the others.
-fn let_go<X: Drop>(numbers: &[usize], wanted: &[bool], done: &mut Results<X>)
-    requires len { length wanted.now ≡ length done.old.list.items }
-    requires numbers { All (λ k. k < length done.old.list.items) numbers.now }
-    ensures len { length done.new.list.items ≡ length done.old.list.items }
-    ensures part { (k : ℕ) (out : X) → kept done.new.list.items k ≡ Some out → kept done.old.list.items k ≡ Some out }
-    ensures wanted { (k : ℕ) → IsMarked wanted.now k → kept done.new.list.items k ≡ kept done.old.list.items k }
-    ensures other { (k : ℕ) → times k numbers.now ≡ 0 → kept done.new.list.items k ≡ kept done.old.list.items k }
-    ensures gone { (k : ℕ) → 0 < times k numbers.now → IsUnmarked wanted.now k → kept done.new.list.items k ≡ None }
-{
-    for number in numbers {
-        if !wanted[*number] {
-            done.set(*number, None);
-        }
-    }
+    work_rounds(rt, alloc, stage, workers, &plan, &mut done)?;
+    all_of(alloc, done.list)
 }
 
 // Works the rounds of the plan: by workers, as far as its numbers pay for several, and then, by the caller, those that have
-// no result. A single number is told that it is alone. After each round the results go that aren't wanted and that no later
-// one needs.
+// no result. A single number is told that it is alone.
 fn work_rounds<R: Threads + Wait + Sync, T: Stage>(
     rt: &R,
     alloc: Global,
     stage: &T,
     workers: u32,
-    wanted: &[bool],
-    plan: &Plan,
+    plan: &[Vec<usize>],
     done: &mut Results<T::Out>,
 ) -> Result<(), OutOfMemory>
     requires workable { T.workable stage.now }
-    requires wanted { length wanted.now ≡ T.size stage.now }
     requires plan { IsPlan (T.size stage.now) (T.first stage.now) (T.second stage.now) plan.now }
     requires len { vec_len done.old.list ≡ T.size stage.now }
     requires none { (k : ℕ) (out : T.Out) → slice_get done.old.list.items k ≡ Some (Some out) → ⊥ }
     ensures fits { AreSound (T.size stage.now) (T.fits stage.now) done.new.list.items }
-    ensures wanted { OnOk result ((i : ℕ) → IsMarked wanted.now i → IsKept done.new.list.items i) }
-    ensures lean { OnOk result ((i : ℕ) → IsUnmarked wanted.now i → kept done.new.list.items i ≡ None) }
+    ensures all { OnOk result ((i : ℕ) → i < T.size stage.now → IsKept done.new.list.items i) }
 {
-    for round in 0..plan.begins.len() {
-        let numbers = plan.begins[round].as_slice();
+    for round in 0..plan.len() {
+        let numbers = plan[round].as_slice();
         work_by(rt, alloc, stage, workers, numbers, done)?;
         work_rest(alloc, stage, numbers, numbers.len() == 1, done)?;
-        let_go(&plan.ends[round], wanted, done);
     }
     Ok(())
 }
@@ -140,7 +92,7 @@ fn work_by<R: Threads + Wait + Sync, T: Stage>(
     requires workable { T.workable stage.now }
     requires differ { Differ numbers.now }
     requires ready { AreReady (T.size stage.now) (T.fits stage.now) (T.first stage.now) (T.second stage.now) numbers.now done.old.list.items }
-    ensures worked { HasWorked (T.size stage.now) (T.fits stage.now) numbers.now done.old.list.items done.new.list.items }
+    ensures worked { HasWorked (T.size stage.now) (T.fits stage.now) done.old.list.items done.new.list.items }
 {
     let load = total_load(stage, numbers, done);
     let crew = Work::Round(numbers.len(), load).crew(workers);
@@ -149,7 +101,7 @@ fn work_by<R: Threads + Wait + Sync, T: Stage>(
     }
     let (round, passes) = Round::new(rt, alloc, numbers, crew)?;
     let worked = work_apart(rt, alloc, stage, done, numbers, &round, passes)?;
-    let passes = gathered(alloc, stage, numbers, &round, done, worked)?;
+    let passes = gathered(alloc, stage, &round, done, worked)?;
     let _ = round.close(rt, passes);
     Ok(())
 }
@@ -171,7 +123,7 @@ fn work_all<R: Wait, T: Stage>(
     requires ready { AreReady (T.size stage.now) (T.fits stage.now) (T.first stage.now) (T.second stage.now) numbers.now done.now.list.items }
     ensures of { Belongs round.now result.0 }
     ensures parts { parts result.0 ≡ parts pass }
-    ensures outs { AreFitting (T.size stage.now) (T.fits stage.now) numbers.now result.1.items }
+    ensures outs { AreFitting (T.size stage.now) (T.fits stage.now) result.1.items }
 {
     let mut outs = Vec::new(alloc);
     for _ in 0..numbers.len() {
@@ -207,55 +159,47 @@ fn work_apart<R: Threads + Wait + Sync, T: Stage>(
     ensures of { IfOk result (λ v. All (λ w. Belongs round.now w.0) v.items) }
     ensures len { IfOk result (λ v. vec_len v ≡ vec_len passes) }
     ensures parts { IfOk result (λ v. (i : ℕ) (d : _) (e : RoundPass) → i < length passes.items → parts (slice_index_or v.items i d).0 ≡ parts (slice_index_or passes.items i e)) }
-    ensures outs { IfOk result (λ v. All (λ w. AreFitting (T.size stage.now) (T.fits stage.now) numbers.now w.1.items) v.items) }
+    ensures outs { IfOk result (λ v. All (λ w. AreFitting (T.size stage.now) (T.fits stage.now) w.1.items) v.items) }
 {
     thread::map_vec(
         rt,
         passes,
         &|mine: RoundPass| -> (RoundPass, Vec<(usize, T::Out)>)
             requires { T.workable stage.now × Belongs round.now mine × (known mine ≡ numbers.now) × AreReady (T.size stage.now) (T.fits stage.now) (T.first stage.now) (T.second stage.now) numbers.now done.now.list.items }
-            ensures { Belongs round.entry.now result.0 × (parts result.0 ≡ parts mine) × AreFitting (T.size stage.entry.now) (T.fits stage.entry.now) numbers.entry.now result.1.items }
+            ensures { Belongs round.entry.now result.0 × (parts result.0 ≡ parts mine) × AreFitting (T.size stage.entry.now) (T.fits stage.entry.now) result.1.items }
         { work_all(rt, alloc, stage, done, numbers, round, mine) },
     )
 }
 
-// Keeps these results, which are some of these numbers'.
-fn keep_outs<T: Stage>(
-    stage: &T,
-    numbers: &[usize],
-    done: &mut Results<T::Out>,
-    mut outs: Vec<(usize, T::Out)>,
-)
+// Puts each result to the place of the number beside it.
+fn keep_outs<T: Stage>(stage: &T, done: &mut Results<T::Out>, mut outs: Vec<(usize, T::Out)>)
     requires sound { AreSound (T.size stage.now) (T.fits stage.now) done.old.list.items }
-    requires each { AreFitting (T.size stage.now) (T.fits stage.now) numbers.now outs.items }
-    ensures worked { HasWorked (T.size stage.now) (T.fits stage.now) numbers.now done.old.list.items done.new.list.items }
+    requires each { AreFitting (T.size stage.now) (T.fits stage.now) outs.items }
+    ensures worked { HasWorked (T.size stage.now) (T.fits stage.now) done.old.list.items done.new.list.items }
 {
-    let _numbers = numbers;
     while let Some((number, out)) = outs.pop() {
         done.set(number, Some(out));
     }
 }
 
-// The passes, once the results are kept.
+// Keeps the results that stand beside the passes, and returns the passes.
 fn gathered<T: Stage>(
     alloc: Global,
     stage: &T,
-    numbers: &[usize],
     round: &Round,
     done: &mut Results<T::Out>,
     mut worked: Vec<(RoundPass, Vec<(usize, T::Out)>)>,
 ) -> Result<Vec<RoundPass>, OutOfMemory>
     requires sound { AreSound (T.size stage.now) (T.fits stage.now) done.old.list.items }
     requires of { All (λ w. Belongs round.now w.0) worked.items }
-    requires each { All (λ w. AreFitting (T.size stage.now) (T.fits stage.now) numbers.now w.1.items) worked.items }
-    ensures worked { HasWorked (T.size stage.now) (T.fits stage.now) numbers.now done.old.list.items done.new.list.items }
+    requires each { All (λ w. AreFitting (T.size stage.now) (T.fits stage.now) w.1.items) worked.items }
+    ensures worked { HasWorked (T.size stage.now) (T.fits stage.now) done.old.list.items done.new.list.items }
     ensures of { IfOk result (λ v. All (λ p. Belongs round.now p) v.items) }
     ensures parts { IfOk result (λ v. total_parts v.items ≡ total_worked worked.items) }
 {
-    let _round = round;
     let mut passes = Vec::with_capacity(alloc, worked.len())?;
     while let Some((pass, outs)) = worked.pop() {
-        keep_outs(stage, numbers, done, outs);
+        keep_outs(stage, done, outs);
         passes.push_reserved(pass);
     }
     Ok(passes)
@@ -271,7 +215,7 @@ fn work_rest<T: Stage>(
 ) -> Result<(), OutOfMemory>
     requires workable { T.workable stage.now }
     requires ready { AreReady (T.size stage.now) (T.fits stage.now) (T.first stage.now) (T.second stage.now) numbers.now done.old.list.items }
-    ensures worked { HasWorked (T.size stage.now) (T.fits stage.now) numbers.now done.old.list.items done.new.list.items }
+    ensures worked { HasWorked (T.size stage.now) (T.fits stage.now) done.old.list.items done.new.list.items }
     ensures there { OnOk result (All (IsKept done.new.list.items) numbers.now) }
 {
     for number in numbers {
@@ -283,22 +227,17 @@ fn work_rest<T: Stage>(
     Ok(())
 }
 
-// Every number has its result: the results alone.
-fn all_of<T: Stage>(
-    alloc: Global,
-    stage: &T,
-    list: Vec<Option<T::Out>>,
-) -> Result<Vec<T::Out>, OutOfMemory>
-    requires sound { AreSound (T.size stage.now) (T.fits stage.now) list.items }
-    requires all { (k : ℕ) → k < T.size stage.now → IsKept list.items k }
-    ensures len { IfOk result (λ v. vec_len v ≡ T.size stage.now) }
-    ensures fits { IfOk result (λ v. (i : ℕ) (out : _) → slice_get v.items i ≡ Some out → T.fits stage.now i out) }
+// The results themselves, where none is missing.
+fn all_of<X: Drop>(alloc: Global, list: Vec<Option<X>>) -> Result<Vec<X>, OutOfMemory>
+    requires all { (k : ℕ) → k < length list.items → IsKept list.items k }
+    ensures len { IfOk result (λ v. vec_len v ≡ length list.items) }
+    ensures same { IfOk result (λ v. (i : ℕ) (out : X) → slice_get v.items i ≡ Some out → kept list.items i ≡ Some out) }
 {
-    let _stage = stage;
     let mut outs = Vec::with_capacity(alloc, list.len())?;
     for slot in list {
-        let Some(out) = slot else { unreachable!() };
-        outs.push(out)?;
+        if let Some(out) = slot {
+            outs.push(out)?;
+        }
     }
     Ok(outs)
 }

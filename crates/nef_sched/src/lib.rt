@@ -6,7 +6,7 @@ mod pass;
 mod round;
 mod stage;
 
-pub use ahead::{run_ahead, run_lean};
+pub use ahead::run_ahead;
 pub use nef_core::empty_places;
 pub use pass::{Round, RoundPass, RoundRule, View};
 pub use round::{Taken, passes_agree, steps_keep_the_rule};

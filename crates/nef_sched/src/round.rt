@@ -1,9 +1,10 @@
 //! Numbers are put into a round, taken by its passes, and accounted for at the end; what holds on every schedule.
-ghost use Rattle.std.specs.Prelude.{◌≡◌, ℕ, true, false, ◌+◌, ◌^◌, ◌<◌, ◌≤◌, ◌||◌, None, [], ◌∷◌, ◌++◌, length, All, IfOk, MatchOption, vec_len, vec_capacity};
+ghost use Rattle.std.specs.Prelude.{◌≡◌, ℕ, true, false, ◌+◌, ◌^◌, ◌<◌, ◌≤◌, ◌||◌, None, [], ◌∷◌, ◌++◌, length, All, IfOk, IfSome, MatchOption, vec_len, vec_capacity};
 ghost use Rattle.crossbeam_queue.specs.Passes.{view, IsPassOf, ruled_capacity};
 ghost use Rattle.nef_sched.specs.Counts.{times, Differ, IsDealt};
 ghost use Rattle.nef_sched.specs.Rounds.{Belongs, parts, known, taken, ended, any_ended, total_parts, times_taken, numbers_of, TookAll, IsFresh};
-ghost use Rattle.nef_sched.specs.Views.{first_view, whole};
+ghost use Rattle.nef_sched.specs.Rule.{Took};
+ghost use Rattle.nef_sched.specs.Views.{first_view, put, whole};
 ghost use Rattle.nef_sched.specs.Laws.{BeginKeeps, PutKeeps, EndKeeps, TakeKeeps, ForkKeeps, MergeKeeps, NoneTwice, NoneTakenIsLeft, PassesAgree, NoneIsLost, EndedIsEmpty, NumbersAreKnown};
 
 use crate::OutOfMemory;
@@ -47,7 +48,7 @@ impl Round {
         let left = Vec::with_capacity(alloc, numbers.len())?;
         let (queue, pass) = Line::ruled(alloc, numbers.len() + passes as usize)?;
         let pass = put_all(rt, &queue, pass, numbers);
-        let pass = put_ends(rt, &queue, pass, numbers, passes);
+        let pass = put_ends(rt, &queue, pass, passes);
         let list = passes_of(alloc, &queue, pass, numbers.len(), passes)?;
         Ok((Round { queue, left }, list))
     }
@@ -71,18 +72,12 @@ impl Round {
         if pass.ended {
             return None;
         }
-        match self.queue.pop_as::<Takes, R>(rt, &mut pass.pass) {
-            Some(Some(number)) => {
-                pass.taken.push_reserved(number);
-                Some(number)
-            }
-            Some(None) => {
-                pass.ended = true;
-                None
-            }
-            // A pass that hasn't ended has an end in the queue.
-            None => unreachable!(),
+        let number = pop(rt, &self.queue, &mut pass.pass);
+        match number {
+            Some(number) => pass.taken.push_reserved(number),
+            None => pass.ended = true,
         }
+        number
     }
 
     /// Returns what the passes took and what no pass took, which together are the round's numbers,
@@ -110,6 +105,34 @@ impl Round {
     }
 }
 
+// Takes a number from the queue, or `None` where it takes an end, which stands there for each pass that hasn't ended.
+fn pop<R: Wait>(rt: &R, queue: &Line, pass: &mut Pass<Option<usize>, View>) -> Option<usize>
+    requires of { IsPassOf queue.now pass.old }
+    requires part { 0 < (view pass.old).parts }
+    requires due { 0 < (view pass.old).due }
+    ensures of { IsPassOf queue.now pass.new }
+    ensures took { Took (view pass.old) result (view pass.new) }
+{
+    queue.pop_as::<Takes, R>(rt, pass).flatten()
+}
+
+// Puts a number or an end into the queue, in which there is room for it.
+fn put_item<R: Wait>(
+    rt: &R,
+    queue: &Line,
+    pass: &mut Pass<Option<usize>, View>,
+    item: Option<usize>,
+)
+    requires of { IsPassOf queue.now pass.old }
+    requires whole { (known : _) × (due : ℕ) × (view pass.old ≡ whole known due) × (length known + due < ruled_capacity queue.now) × IfSome item (λ x. (due ≡ 0) × (times x known ≡ 0)) }
+    ensures of { IsPassOf queue.now pass.new }
+    ensures put { view pass.new ≡ put (view pass.old) item }
+{
+    let Ok(()) = queue.push_as::<Puts, R>(rt, pass, item) else {
+        unreachable!()
+    };
+}
+
 // Puts the numbers into the queue.
 fn put_all<R: Wait>(
     rt: &R,
@@ -125,32 +148,26 @@ fn put_all<R: Wait>(
     ensures all { view result ≡ whole numbers.now 0 }
 {
     for number in numbers {
-        let Ok(()) = queue.push_as::<Puts, R>(rt, &mut pass, Some(*number)) else {
-            unreachable!()
-        };
+        put_item(rt, queue, &mut pass, Some(*number));
     }
     pass
 }
 
-// Puts so many ends behind the numbers.
+// Puts so many ends behind the numbers that the pass knows.
 fn put_ends<R: Wait>(
     rt: &R,
     queue: &Line,
     mut pass: Pass<Option<usize>, View>,
-    numbers: &[usize],
     count: u32,
 ) -> Pass<Option<usize>, View>
     requires of { IsPassOf queue.now pass }
-    requires all { view pass ≡ whole numbers.now 0 }
-    requires room { length numbers.now + count ≤ ruled_capacity queue.now }
+    requires all { view pass ≡ whole (view pass).known 0 }
+    requires room { length (view pass).known + count ≤ ruled_capacity queue.now }
     ensures of { IsPassOf queue.now result }
-    ensures all { view result ≡ whole numbers.now count }
+    ensures all { view result ≡ whole (view pass).known count }
 {
-    let _numbers = numbers;
     for _ in 0..count {
-        let Ok(()) = queue.push_as::<Puts, R>(rt, &mut pass, None) else {
-            unreachable!()
-        };
+        put_item(rt, queue, &mut pass, None);
     }
     pass
 }
@@ -206,7 +223,18 @@ fn passes_of(
     Ok(list)
 }
 
-// Takes a pass in, with what it took.
+// Appends the numbers to the list, which has room for them.
+fn append(list: &mut Vec<usize>, more: &[usize])
+    requires room { vec_len list.old + length more.now ≤ vec_capacity list.old }
+    ensures items { list.new.items ≡ list.old.items ++ more.now }
+    ensures capacity { vec_capacity list.new ≡ vec_capacity list.old }
+{
+    for number in more {
+        list.push_reserved(*number);
+    }
+}
+
+// Takes the other pass in, with what it took.
 fn joined(queue: &Line, into: RoundPass, other: RoundPass) -> RoundPass
     requires of { IsPassOf queue.now into.pass × IsPassOf queue.now other.pass }
     ensures of { IsPassOf queue.now result.pass }
@@ -217,24 +245,17 @@ fn joined(queue: &Line, into: RoundPass, other: RoundPass) -> RoundPass
 {
     let RoundPass {
         mut pass,
-        taken: mut list,
-        ended: one,
+        mut taken,
+        ended,
     } = into;
-    let RoundPass {
-        pass: spent,
-        taken: mut more,
-        ended: two,
-    } = other;
-    queue.absorb::<Cut>(&mut pass, spent);
+    let more = other.taken;
+    queue.absorb::<Cut>(&mut pass, other.pass);
     queue.learn_as::<Takes>(&mut pass);
-    // There is room for all numbers.
-    let Ok(()) = list.append(&mut more) else {
-        unreachable!()
-    };
+    append(&mut taken, &more);
     RoundPass {
         pass,
-        taken: list,
-        ended: one | two,
+        taken,
+        ended: ended | other.ended,
     }
 }
 

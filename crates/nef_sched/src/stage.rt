@@ -1,8 +1,7 @@
-//! What is to be worked, number by number, the results that are there, in which round each number is worked, and after
-//! which its result is let go.
+//! What is to be worked, number by number, the results that are there, and in which round each number is worked.
 ghost use Rattle.std.specs.Prelude.{◌≡◌, ℕ, ◌<◌, Option, IfOk, IfSome, length, option_map, slice_set, ◌≢◌, ◌++◌, ◌∷◌, [], ◌≤◌, ◌⊎◌, Some, OnOk, slice_get, slice_index, vec_len};
 ghost use Rattle.nef_sched.specs.Results.{kept, IsReady};
-ghost use Rattle.nef_sched.specs.Plans.{after, AreRounds, AreLasts, AreGroups, IsPlan};
+ghost use Rattle.nef_sched.specs.Plans.{after, AreRounds, AreGroups, IsPlan};
 
 use crate::OutOfMemory;
 use std::alloc::Global;
@@ -30,7 +29,7 @@ impl<T> Results<T> {
 }
 
 impl<T: Drop> Results<T> {
-    // Puts this result to its number's place, or lets go what stands there.
+    // Puts this result, or none, to the place of the number.
     pub(crate) fn set(&mut self, i: usize, out: Option<T>)
         requires number { i < length self.old.list.items }
         ensures set { self.new.list.items ≡ slice_set self.old.list.items i out }
@@ -96,14 +95,6 @@ pub trait Stage: Sync {
         ensures { IfOk result (λ out. fits self.now i out) };
 }
 
-/// The rounds of a stage.
-#[derive(Drop)]
-pub(crate) struct Plan {
-    /// The numbers of each round, and those whose results are needed in it last.
-    pub(crate) begins: Vec<Vec<usize>>,
-    pub(crate) ends: Vec<Vec<usize>>,
-}
-
 // The round after that of the number, or the first one where there is no number.
 fn round_after(rounds: &[usize], number: Option<usize>) -> usize
     requires number { IfSome number (λ k. k < length rounds.now) }
@@ -131,36 +122,7 @@ fn rounds_of<T: Stage>(alloc: Global, stage: &T) -> Result<Vec<usize>, OutOfMemo
     Ok(rounds)
 }
 
-// Raises what stands at the place, if there is one, to this.
-fn raise(list: &mut [usize], place: Option<usize>, least: usize)
-    requires place { IfSome place (λ k. k < length list.old) }
-    ensures len { length list.new ≡ length list.old }
-    ensures grows { (k : ℕ) → slice_index list.old k ≤ slice_index list.new k }
-    ensures raised { (k : ℕ) → place ≡ Some k → least ≤ slice_index list.new k }
-    ensures only { (k : ℕ) → (slice_index list.new k ≡ slice_index list.old k) ⊎ ((place ≡ Some k) × (slice_index list.new k ≡ least)) }
-{
-    if let Some(place) = place {
-        list[place] = list[place].max(least);
-    }
-}
-
-// The last round in which the result of each number is needed, which is its own one where none needs it.
-fn lasts_of<T: Stage>(alloc: Global, stage: &T, rounds: &[usize]) -> Result<Vec<usize>, OutOfMemory>
-    requires workable { T.workable stage.now }
-    requires rounds { AreRounds (T.size stage.now) (T.first stage.now) (T.second stage.now) rounds.now }
-    ensures lasts { IfOk result (λ v. AreLasts (T.size stage.now) (T.first stage.now) (T.second stage.now) rounds.now v.items) }
-{
-    let mut lasts = Vec::from_slice(alloc, rounds)?;
-    let list = lasts.as_mut_slice();
-    for number in 0..stage.count() {
-        let needs = stage.needs(number);
-        raise(list, needs.first, rounds[number]);
-        raise(list, needs.second, rounds[number]);
-    }
-    Ok(lasts)
-}
-
-// So many groups without a number.
+// So many empty groups.
 fn no_groups(alloc: Global, count: usize) -> Result<Vec<Vec<usize>>, OutOfMemory>
     ensures len { IfOk result (λ v. vec_len v ≡ count) }
     ensures empty { IfOk result (λ v. (r : ℕ) (group : _) → slice_get v.items r ≡ Some group → group.items ≡ []) }
@@ -183,7 +145,7 @@ fn add_to(groups: &mut [Vec<usize>], place: usize, number: usize) -> Result<(), 
     Ok(())
 }
 
-// For each number up to how many rounds there are, those that have it as their round.
+// The numbers of each round, given the round of each number. There are as many groups as numbers, so the last may be empty.
 fn grouped(alloc: Global, rounds: &[usize]) -> Result<Vec<Vec<usize>>, OutOfMemory>
     requires low { (k : ℕ) → k < length rounds.now → slice_index rounds.now k < length rounds.now }
     ensures groups { IfOk result (λ v. AreGroups (length rounds.now) rounds.now v.items) }
@@ -196,17 +158,14 @@ fn grouped(alloc: Global, rounds: &[usize]) -> Result<Vec<Vec<usize>>, OutOfMemo
     Ok(groups)
 }
 
-/// Returns the rounds of the stage: each number comes into the first round after those of the numbers
+/// Returns the numbers of each round: each number comes into the first round after those of the numbers
 /// that it needs.
 ///
 /// `OutOfMemory` says that memory was wanted and not found.
-pub(crate) fn plan_of<T: Stage>(alloc: Global, stage: &T) -> Result<Plan, OutOfMemory>
+pub(crate) fn plan_of<T: Stage>(alloc: Global, stage: &T) -> Result<Vec<Vec<usize>>, OutOfMemory>
     requires workable { T.workable stage.now }
-    ensures plan { IfOk result (IsPlan (T.size stage.now) (T.first stage.now) (T.second stage.now)) }
+    ensures plan { IfOk result (λ v. IsPlan (T.size stage.now) (T.first stage.now) (T.second stage.now) v.items) }
 {
     let rounds = rounds_of(alloc, stage)?;
-    let lasts = lasts_of(alloc, stage, &rounds)?;
-    let begins = grouped(alloc, &rounds)?;
-    let ends = grouped(alloc, &lasts)?;
-    Ok(Plan { begins, ends })
+    grouped(alloc, &rounds)
 }

@@ -1,5 +1,4 @@
-use Rattle.std.proofs.Common.{subst, ◌∙◌}
-use Rattle.nef_board.specs.Rule.{HasTurn}
+use Rattle.nef_board.proofs.Prelude.{subst, ◌∙◌, HasTurn}
 use Rattle.nef_board.proofs.board.take_turn.Goals as goal
 
 pub compare_exchange-requires-in-loop : goal.compare_exchange-requires-in-loop

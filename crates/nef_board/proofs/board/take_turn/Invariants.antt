@@ -1,4 +1,4 @@
-use Rattle.std.proofs.Common.{◌≡◌}
+use Rattle.nef_board.proofs.Prelude.{◌≡◌}
 use Rattle.nef_board.proofs.board.take_turn.Given as goal
 
 abbrev pub invariant-loop : goal.invariant-loop

@@ -1,4 +1,4 @@
-use Rattle.std.proofs.Common.{arith, ap, ◌∙◌, ◌++◌, [], ◌∷◌, None}
+use Rattle.nef_core.proofs.Prelude.{arith, ap, ◌∙◌, ◌++◌, [], ◌∷◌, None}
 use Rattle.nef_core.proofs.Places.{none_more, replicate_more}
 use Rattle.nef_core.proofs.board.empty_places.Goals as goal
 

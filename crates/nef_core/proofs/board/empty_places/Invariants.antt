@@ -1,4 +1,4 @@
-use Rattle.std.proofs.Common.{◌≡◌, ◌≤◌, ℕ, None, Some, replicate, slice_get, vec_len, vec_capacity}
+use Rattle.nef_core.proofs.Prelude.{◌≡◌, ◌≤◌, ℕ, None, Some, replicate, slice_get, vec_len, vec_capacity}
 use Rattle.nef_core.proofs.board.empty_places.Given as goal
 
 abbrev pub invariant-loop : goal.invariant-loop

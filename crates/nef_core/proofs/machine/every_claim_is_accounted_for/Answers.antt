@@ -1,4 +1,4 @@
-use Rattle.nef_core.specs.Machine.{start}
+use Rattle.nef_core.proofs.Prelude.{start}
 use Rattle.nef_core.proofs.Counting.{claims_accounted, deposits_done, each_claim_accounted, each_deposit_done, once_at_most, held_is_claimed, done_is_claimed}
 use Rattle.nef_core.proofs.machine.every_claim_is_accounted_for.Goals as goal
 

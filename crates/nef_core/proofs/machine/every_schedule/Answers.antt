@@ -1,6 +1,4 @@
-use Rattle.std.proofs.Common.{◌≡◌, ◌+◌, ◌∷◌, ◌++◌, arith, ap, sym, ◌∙◌}
-use Rattle.nef_core.specs.Machine.{State, start, after, replay}
-use Rattle.nef_core.specs.declared.machine.Event.TheVariants.{Claim}
+use Rattle.nef_core.proofs.Prelude.{◌≡◌, ◌+◌, ◌∷◌, ◌++◌, arith, ap, sym, ◌∙◌, State, start, after, replay, Claim}
 use Rattle.nef_core.proofs.Schedules.{claimed, replay_append, legal_append, grows, done_stays, fresh, fresh_start, one_of_three, got_next, count_stays, claim_answers}
 use Rattle.nef_core.proofs.machine.every_schedule.Goals as goal
 

@@ -1,5 +1,4 @@
-use Rattle.std.proofs.Common.{arith}
-use Rattle.nef_core.proofs.Places.{within}
+use Rattle.nef_free.proofs.Prelude.{arith, within}
 use Rattle.nef_free.proofs.board.gathered.Goals as goal
 
 pub returns-clause-each : goal.returns-clause-each

@@ -1,4 +1,4 @@
-use Rattle.std.proofs.Common.{◌≡◌, ℕ, ◌+◌, ◌-◌, ◌<◌, ◌≤◌, ◌==◌, Some, None, slice_get, slice_index_or, vec_len, vec_capacity, true, false, if◌then◌else◌}
+use Rattle.nef_free.proofs.Prelude.{◌≡◌, ℕ, ◌+◌, ◌-◌, ◌<◌, ◌≤◌, ◌==◌, Some, None, slice_get, slice_index_or, vec_len, vec_capacity, true, false, if◌then◌else◌}
 use Rattle.std.specs.Mem.Slots.{slots_items, slots_filled, slots_len}
 use mathlib.Core.Option.{some}
 use lib.ListN.{get_elem?}

@@ -1,6 +1,4 @@
-use Rattle.std.proofs.Common.{◌≡◌, refl, arith, slice_index, ◌∙◌}
-use Rattle.atomic_table.proofs.Lists.{set_else}
-use Rattle.nef_core.proofs.Schedules.{claim_answers, past_answers, past_is_same}
+use Rattle.nef_free.proofs.Prelude.{◌≡◌, refl, arith, slice_index, ◌∙◌, set_else, claim_answers, past_answers, past_is_same}
 use Rattle.nef_free.proofs.Steps.{drawn_is_claim, drawn_past, stored_is_deposit, stored_is_giving_back, made_is_nothing, taken_is_nothing, held_is_away}
 use Rattle.nef_free.proofs.board.steps_are_events.Goals as goal
 

@@ -1,5 +1,4 @@
-use Rattle.std.proofs.Common.{◌≡◌, ◌∙◌, ◌-◌, arith, take, drop, length}
-use Rattle.std.proofs.Math.Seq.{take-add}
+use Rattle.nef_io.proofs.Prelude.{◌≡◌, ◌∙◌, ◌-◌, arith, take, drop, length, take-add}
 use Rattle.std.proofs.lemmas.Grind.{common_steps}
 use Rattle.nef_io.proofs.Told.{Grows-trans}
 use Rattle.nef_io.proofs.traits.put_all.Goals as goal

@@ -1,5 +1,4 @@
-use Rattle.std.proofs.Common.{◌≡◌, ◌-◌, ◌≤◌, take, length}
-use Rattle.nef_io.specs.Bytes.{Grows}
+use Rattle.nef_io.proofs.Prelude.{◌≡◌, ◌-◌, ◌≤◌, take, length, Grows}
 use Rattle.nef_io.proofs.traits.put_all.Given as goal
 
 abbrev pub invariant-loop-at : goal.invariant-loop-at

@@ -1,4 +1,4 @@
-use Rattle.std.proofs.Common.{◌++◌, take, arith, length-append}
+use Rattle.nef_io.proofs.Prelude.{◌++◌, take, arith, length-append}
 use Rattle.std.proofs.KnownBytes.{Consumes-trans}
 use Rattle.std.proofs.lemmas.List.{length-take}
 use Rattle.nef_io.proofs.traits.read_all.Goals as goal

@@ -1,4 +1,4 @@
-use Rattle.std.proofs.Common.{length}
+use Rattle.nef_pool.proofs.Prelude.{length}
 use Prim.Native.Nat.{◌+◌, ◌*◌}
 use Rattle.nef_pool.proofs.pool.+by_threads.Given as goal
 

@@ -1,4 +1,4 @@
-use Rattle.std.proofs.Common.{◌≡◌, ℕ, Some, slice_get, ◌≤◌, length, vec_len, vec_capacity}
+use Rattle.nef_pool.proofs.Prelude.{◌≡◌, ℕ, Some, slice_get, ◌≤◌, length, vec_len, vec_capacity}
 use Rattle.nef_pool.proofs.pool.filled.Given as goal
 
 abbrev pub invariant-loop-slot : goal.invariant-loop-slot

@@ -1,4 +1,4 @@
-use Rattle.std.proofs.Common.{◌≡◌, ◌+◌, ◌≤◌, None, All, vec_len}
+use Rattle.nef_pool.proofs.Prelude.{◌≡◌, ◌+◌, ◌≤◌, None, All, vec_len}
 use Rattle.nef_pool.proofs.pool.passes_of.Given as goal
 
 abbrev pub invariant-loop : goal.invariant-loop

@@ -1,4 +1,4 @@
-use Rattle.std.proofs.Common.{◌≡◌, None}
+use Rattle.nef_pool.proofs.Prelude.{◌≡◌, None}
 use Rattle.nef_pool.proofs.pool.work_all.Given as goal
 
 abbrev pub invariant-loop : goal.invariant-loop

@@ -1,8 +1,4 @@
-use Rattle.std.proofs.Common.{Some, ap, ◌∙◌, arith}
-use Rattle.std.proofs.lemmas.List.Elements.{All-pop, All-push}
-use Rattle.nef_sched.specs.declared.pass.RoundPass.{RoundPass}
-use Rattle.nef_sched.specs.Rounds.{Belongs, total_parts, total_worked}
-use Rattle.nef_sched.specs.Results.{AreFitting}
+use Rattle.nef_sched.proofs.Prelude.{Some, ap, ◌∙◌, arith, All-pop, All-push, RoundPass, Belongs, total_parts, total_worked, AreFitting}
 use Rattle.nef_sched.proofs.Steps.{parts_snoc}
 use Rattle.nef_sched.proofs.Outs.{worked_both, worked_snoc}
 use Rattle.nef_sched.proofs.ahead.gathered.Goals as goal
@@ -13,14 +9,14 @@ loop-pass-preserved g c =
     let i = c.loop-pass.invariant in
     let last = c.in-Some.ensures.items in
     let own = All-pop (λ (w : RoundPass × _). Belongs c.args.round.now w.0) _ _ (Some (c.in-Some.pass, c.in-Some.outs)) last i.worked in
-    let fit = All-pop (λ (w : RoundPass × _). AreFitting (g.T.Stage.size t) (g.T.Stage.fits t) c.args.numbers.now w.1.items) _ _ (Some (c.in-Some.pass, c.in-Some.outs)) last i.outs in
+    let fit = All-pop (λ (w : RoundPass × _). AreFitting (g.T.Stage.size t) (g.T.Stage.fits t) w.1.items) _ _ (Some (c.in-Some.pass, c.in-Some.outs)) last i.outs in
     let e = c.push_reserved.ensures in
     let more = ap total_parts e.items ∙ parts_snoc _ _ in
     let less = ap total_worked last ∙ worked_snoc _ _ in
     let p = i.parts in
     let room = i.room in
     record {
-      made = worked_both _ _ _ _ _ _ i.made c.keep_outs.ensures.worked;
+      made = worked_both _ _ _ _ _ i.made c.keep_outs.ensures.worked;
       worked = own.0;
       outs = fit.0;
       of = rw e.items (All-push (λ (q : RoundPass). Belongs c.args.round.now q) _ _ i.of own.1);
@@ -31,4 +27,4 @@ loop-pass-preserved g c =
 pub keep_outs-requires-clause-each : goal.keep_outs-requires-clause-each
 keep_outs-requires-clause-each g c κs within =
     let t = c.args.stage.now in
-    (All-pop (λ (w : RoundPass × _). AreFitting (g.T.Stage.size t) (g.T.Stage.fits t) c.args.numbers.now w.1.items) _ _ (Some (c.in-Some.pass, c.in-Some.outs)) c.in-Some.ensures.items c.loop-pass.invariant.outs).1
+    (All-pop (λ (w : RoundPass × _). AreFitting (g.T.Stage.size t) (g.T.Stage.fits t) w.1.items) _ _ (Some (c.in-Some.pass, c.in-Some.outs)) c.in-Some.ensures.items c.loop-pass.invariant.outs).1

@@ -1,7 +1,4 @@
-use Rattle.std.proofs.Common.{◌≡◌, ℕ, ◌<◌, ap, arith, refl, sym, ◌∙◌}
-use Rattle.std.proofs.lemmas.List.Elements.{All-push}
-use Rattle.nef_sched.specs.Counts.{times}
-use Rattle.nef_sched.specs.Results.{HasNeeds}
+use Rattle.nef_sched.proofs.Prelude.{ℕ, ◌<◌, ap, arith, refl, sym, ◌∙◌, All-push, times, HasNeeds}
 use Rattle.nef_sched.proofs.Outs.{all_in, room_of}
 use Rattle.nef_sched.proofs.ahead.work_all.Goals as goal
 use Rattle.nef_sched.proofs.ahead.work_all.Goals.{else-loop-test, then-loop-test+then-is_err, then-loop-test+else-is_err+in_default, then-loop-test+else-is_err+in-Some+in-Err}
@@ -32,7 +29,7 @@ loop-preserved g c =
       of = c.take.ensures.of;
       parts = c.take.ensures.same.0 ∙ i.parts;
       knows = c.take.ensures.same.1 ∙ i.knows;
-      outs = rw (c.push_reserved.ensures.items, c.reserve.ensures.items) (All-push (λ (o : ℕ × _). (o.0 < s.size t) × (times o.0 c.args.numbers.now ≡ 1) × s.fits t o.0 o.1) _ _ i.outs (due.0, among, c.in-Ok.ensures));
+      outs = rw (c.push_reserved.ensures.items, c.reserve.ensures.items) (All-push (λ (o : ℕ × _). (o.0 < s.size t) × s.fits t o.0 o.1) _ _ i.outs (due.0, c.in-Ok.ensures));
     }
 
 pub loop-init : goal.loop-init

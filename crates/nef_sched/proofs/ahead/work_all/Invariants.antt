@@ -1,6 +1,4 @@
-use Rattle.std.proofs.Common.{◌≡◌}
-use Rattle.nef_sched.specs.Rounds.{Belongs, parts, known}
-use Rattle.nef_sched.specs.Results.{AreFitting}
+use Rattle.nef_sched.proofs.Prelude.{◌≡◌, Belongs, parts, known, AreFitting}
 use Rattle.nef_sched.proofs.ahead.work_all.Given as goal
 
 abbrev pub invariant-loop : goal.invariant-loop
@@ -8,5 +6,5 @@ invariant-loop g l = record {
   of : Belongs l.round l.pass;
   parts : parts l.pass ≡ parts l.initial.pass;
   knows : known l.pass ≡ known l.initial.pass;
-  outs : AreFitting (g.T.Stage.size l.stage) (g.T.Stage.fits l.stage) l.numbers l.outs.items;
+  outs : AreFitting (g.T.Stage.size l.stage) (g.T.Stage.fits l.stage) l.outs.items;
 }

@@ -1,21 +1,19 @@
-use Rattle.std.proofs.Common.{◌∙◌, ap, arith, sym, subst, slice_index_or}
-use Rattle.std.specs.Prelude.{not}
-use Rattle.nef_sched.specs.Results.{IsKept}
-use Rattle.nef_sched.proofs.Outs.{all_next, any_default, kept_found, kept_here, ready_after, times_at, worked_both, worked_none, worked_set}
+use Rattle.nef_sched.proofs.Prelude.{◌∙◌, ap, arith, sym, subst, slice_index_or, not, IsKept}
+use Rattle.nef_sched.proofs.Outs.{all_next, any_default, kept_found, kept_here, ready_after, worked_both, worked_none, worked_set}
 use Rattle.nef_sched.proofs.ahead.work_rest.Goals.{then-is_none+in_ok-out, else-is_none}
 use Rattle.nef_sched.proofs.ahead.work_rest.Goals as goal
 
 pub loop-number-init : goal.loop-number-init
-loop-number-init g c = record { worked = worked_none _ _ _ _ c.requires.ready.sound; there = λ k low. absurd (omega arith) }
+loop-number-init g c = record { worked = worked_none _ _ _ c.requires.ready.sound; there = λ k low. absurd (omega arith) }
 
 pub work-requires-clause-number : goal.work-requires-clause-number
-work-requires-clause-number g c = ((ready_after _ _ _ _ _ _ _ _ c.requires.ready c.loop-number.invariant.worked).each c.loop-number.number-index 0 c.loop-number-test.true).0
+work-requires-clause-number g c = ((ready_after _ _ _ _ _ _ _ c.requires.ready c.loop-number.invariant.worked).each c.loop-number.number-index 0 c.loop-number-test.true).0
 
 pub work-requires-clause-workable : goal.work-requires-clause-workable
 work-requires-clause-workable g c = c.requires.workable
 
 pub work-requires-clause-there : goal.work-requires-clause-there
-work-requires-clause-there g c = ((ready_after _ _ _ _ _ _ _ _ c.requires.ready c.loop-number.invariant.worked).each c.loop-number.number-index 0 c.loop-number-test.true).1
+work-requires-clause-there g c = ((ready_after _ _ _ _ _ _ _ c.requires.ready c.loop-number.invariant.worked).each c.loop-number.number-index 0 c.loop-number-test.true).1
 
 pub loop-number-preserved : goal.loop-number-preserved
 loop-number-preserved g c =
@@ -24,14 +22,13 @@ loop-number-preserved g c =
     let place = c.loop-number.number-index in
     let n = slice_index_or numbers place 0 in
     let list = c.loop-number.done.list.items in
-    let some = times_at numbers place 0 c.loop-number-test.true in
-    let within = ((ready_after _ _ _ _ _ _ _ _ c.requires.ready i.worked).each place 0 c.loop-number-test.true).0 in
+    let within = ((ready_after _ _ _ _ _ _ _ c.requires.ready i.worked).each place 0 c.loop-number-test.true).0 in
     let len = i.worked.sound.0 in
     elim c.if-is_none.branch [
       | then-is_none+in_ok-out w ↦
-          let made = worked_set _ _ _ list n w.in_ok-out.out w.in_ok-out.ensures some i.worked.sound in
+          let made = worked_set _ _ list n w.in_ok-out.out w.in_ok-out.ensures i.worked.sound in
           rw (w.done-is, w.set.ensures.set) (record {
-            worked = worked_both _ _ _ _ _ _ i.worked made;
+            worked = worked_both _ _ _ _ _ i.worked made;
             there = all_next (λ k. IsKept _ (slice_index_or numbers k 0)) place (λ k low. made.still _ (i.there k low)) (kept_here list n w.in_ok-out.out (omega (arith, within, len)));
           })
       | else-is_none w ↦

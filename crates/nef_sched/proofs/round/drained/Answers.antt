@@ -1,4 +1,4 @@
-use Rattle.std.proofs.Common.{arith, inr}
+use Rattle.nef_sched.proofs.Prelude.{arith, inr}
 use Rattle.nef_sched.proofs.Steps.{takes, sees, ends}
 use Rattle.nef_sched.proofs.round.drained.Goals as goal
 

@@ -1,5 +1,4 @@
-use Rattle.std.proofs.Common.{◌≡◌, ◌++◌, ◌+◌, ◌-◌, ◌≤◌, ◌^◌, [], true, length, vec_capacity}
-use Rattle.crossbeam_queue.specs.Passes.{view, IsPassOf}
+use Rattle.nef_sched.proofs.Prelude.{◌≡◌, ◌++◌, ◌+◌, ◌-◌, ◌≤◌, ◌^◌, [], true, length, vec_capacity, view, IsPassOf}
 use Rattle.nef_sched.proofs.round.drained.Given as goal
 
 abbrev pub invariant-loop-item : goal.invariant-loop-item

@@ -1,7 +1,4 @@
-use Rattle.std.proofs.Common.{arith, sym, ◌∙◌, subst}
-use Rattle.crossbeam_queue.specs.Passes.{view}
-use Rattle.nef_sched.specs.declared.pass.View.{View}
-use Rattle.nef_sched.specs.Rule.{Sees}
+use Rattle.nef_sched.proofs.Prelude.{arith, sym, ◌∙◌, subst, view, View, Sees}
 use Rattle.nef_sched.proofs.Steps.{merges, sees, fits_in, joined_ended, joined_owes, ended_took}
 use Rattle.nef_sched.proofs.round.joined.Goals as goal
 
@@ -11,15 +8,14 @@ absorb-requires-clause-rule c = merges _ _ _ _ c.args.into.some_part c.args.othe
 pub learn_as-requires-clause-rule : goal.learn_as-requires-clause-rule
 learn_as-requires-clause-rule c = sees _ _
 
-pub unreachable-requires : goal.unreachable-requires
-unreachable-requires c =
+pub append-requires : goal.append-requires
+append-requires c =
     let a = c.args.into in
     let b = c.args.other in
     let f = fits_in _ (view a.pass) (view b.pass) _ _ _ c.absorb.ensures.rule a.some_part a.same_taken b.same_taken a.room c.learn_as.ensures.rule in
     let k = a.taken.ok in
     let l = b.taken.ok in
-    let full = c.in_default.ensures.full in
-    omega arith
+    record { room = omega arith }
 
 pub invariant_of-result-clause-same_end : goal.invariant_of-result-clause-same_end
 invariant_of-result-clause-same_end c =

@@ -1,9 +1,4 @@
-use Rattle.std.proofs.Common.{◌≡◌, ◌-◌, rules, arith, ap, ◌∙◌, [], false}
-use Rattle.std.proofs.lemmas.List.Elements.{All-push}
-use Rattle.crossbeam_queue.specs.Passes.{view, IsPassOf}
-use Rattle.nef_sched.specs.declared.pass.View.{View}
-use Rattle.nef_sched.specs.declared.pass.RoundPass.{RoundPass}
-use Rattle.nef_sched.specs.Rounds.{parts, total_parts, IsFresh}
+use Rattle.nef_sched.proofs.Prelude.{◌≡◌, ◌-◌, rules, arith, ap, ◌∙◌, All-push, view, IsPassOf, View, RoundPass, parts, total_parts, IsFresh}
 use Rattle.nef_sched.proofs.Steps.{forks, parts_snoc}
 use Rattle.nef_sched.proofs.round.passes_of.Goals as goal
 

@@ -1,6 +1,4 @@
-use Rattle.std.proofs.Common.{◌≡◌, ◌+◌, ◌^◌, ◌≤◌, [], false, All, vec_len, vec_capacity}
-use Rattle.crossbeam_queue.specs.Passes.{view, IsPassOf}
-use Rattle.nef_sched.specs.Rounds.{total_parts, IsFresh}
+use Rattle.nef_sched.proofs.Prelude.{◌≡◌, ◌+◌, ◌^◌, ◌≤◌, [], false, All, vec_len, vec_capacity, view, IsPassOf, total_parts, IsFresh}
 use Rattle.nef_sched.proofs.round.passes_of.Given as goal
 
 abbrev pub invariant-loop : goal.invariant-loop

@@ -1,6 +1,4 @@
-use Rattle.std.proofs.Common.{◌≡◌, take}
-use Rattle.crossbeam_queue.specs.Passes.{view, IsPassOf}
-use Rattle.nef_sched.specs.Views.{whole}
+use Rattle.nef_sched.proofs.Prelude.{◌≡◌, take, view, IsPassOf, whole}
 use Rattle.nef_sched.proofs.round.put_all.Given as goal
 
 abbrev pub invariant-loop-number : goal.invariant-loop-number

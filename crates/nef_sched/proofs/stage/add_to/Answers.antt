@@ -1,5 +1,4 @@
-use Rattle.std.proofs.Common.{ℕ, slice_index_or, ◌∙◌, Vec, Global}
-use Rattle.std.proofs.lemmas.Option.{slice_get-get_or}
+use Rattle.nef_sched.proofs.Prelude.{ℕ, slice_index_or, ◌∙◌, Vec, Global, slice_get-get_or}
 use Rattle.nef_sched.proofs.Planning.{set_here, set_elsewhere}
 use Rattle.nef_sched.proofs.stage.add_to.Goals as goal
 

@@ -1,7 +1,5 @@
-use Rattle.std.proofs.Common.{◌≡◌, ◌+◌, arith, inl, inr, sym, ◌∙◌, subst, length, drop, Some, slice_get}
-use Rattle.std.specs.Prelude.{slice_index}
+use Rattle.nef_sched.proofs.Prelude.{◌≡◌, ◌+◌, arith, inl, inr, sym, ◌∙◌, subst, length, drop, Some, slice_get, slice_index, IsGroup}
 use Rattle.std.proofs.Math.Seq.{take-append_seam}
-use Rattle.nef_sched.specs.Plans.{IsGroup}
 use Rattle.nef_sched.proofs.Totals.{same_or_not}
 use Rattle.nef_sched.proofs.Planning.{group_here, group_other}
 use Rattle.nef_sched.proofs.stage.grouped.Goals as goal

@@ -1,5 +1,4 @@
-use Rattle.std.proofs.Common.{◌≡◌, ℕ, Some, length, slice_get}
-use Rattle.nef_sched.specs.Plans.{IsGroup}
+use Rattle.nef_sched.proofs.Prelude.{◌≡◌, ℕ, Some, length, slice_get, IsGroup}
 use Rattle.nef_sched.proofs.stage.grouped.Given as goal
 
 abbrev pub invariant-loop-number : goal.invariant-loop-number

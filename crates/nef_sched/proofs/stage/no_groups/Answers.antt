@@ -1,4 +1,4 @@
-use Rattle.std.proofs.Common.{◌≡◌, [], ℕ, Vec, Global, arith}
+use Rattle.nef_sched.proofs.Prelude.{◌≡◌, [], ℕ, Vec, Global, arith}
 use Rattle.nef_sched.proofs.Outs.{pushed_fits}
 use Rattle.nef_sched.proofs.stage.no_groups.Goals as goal
 

@@ -1,4 +1,4 @@
-use Rattle.std.proofs.Common.{◌≡◌, ◌≤◌, ℕ, [], Some, slice_get, vec_len, vec_capacity}
+use Rattle.nef_sched.proofs.Prelude.{◌≡◌, ◌≤◌, ℕ, [], Some, slice_get, vec_len, vec_capacity}
 use Rattle.nef_sched.proofs.stage.no_groups.Given as goal
 
 abbrev pub invariant-loop : goal.invariant-loop

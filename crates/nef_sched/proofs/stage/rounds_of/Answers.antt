@@ -1,5 +1,4 @@
-use Rattle.std.proofs.Common.{◌≡◌, ℕ, ◌<◌, max, arith, sym, ◌∙◌, subst, Option, IfSome}
-use Rattle.nef_sched.specs.Plans.{after, AreRounds}
+use Rattle.nef_sched.proofs.Prelude.{◌≡◌, ℕ, ◌<◌, max, arith, sym, ◌∙◌, subst, Option, IfSome, after, AreRounds}
 use Rattle.nef_sched.proofs.Planning.{rounds_next}
 use Rattle.nef_sched.proofs.stage.rounds_of.Goals as goal
 

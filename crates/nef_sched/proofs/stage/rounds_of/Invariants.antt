@@ -1,4 +1,4 @@
-use Rattle.nef_sched.specs.Plans.{AreRounds}
+use Rattle.nef_sched.proofs.Prelude.{AreRounds}
 use Rattle.nef_sched.proofs.stage.rounds_of.Given as goal
 
 abbrev pub invariant-loop-number : goal.invariant-loop-number

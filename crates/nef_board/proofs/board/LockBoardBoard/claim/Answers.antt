@@ -1,9 +1,4 @@
-use Rattle.std.proofs.Common.{◌∷◌, Some, arith, sym, ap, ◌∙◌}
-use Rattle.atomic_table.specs.Table.{rest}
-use Rattle.nef_board.specs.Views.{seen_next}
-use Rattle.nef_core.specs.Machine.{after}
-use Rattle.nef_core.specs.declared.machine.Event.TheVariants.{Claim}
-use Rattle.nef_core.proofs.Schedules.{got_free, got_next, got_none}
+use Rattle.nef_board.proofs.Prelude.{◌∷◌, Some, arith, sym, ap, ◌∙◌, rest, seen_next, after, Claim, got_free, got_next, got_none}
 use Rattle.nef_board.proofs.Sounds.{is_fresh}
 use Rattle.nef_board.proofs.Turns.{takes_at, slot_held, state_held, claims_of, ends_of, not_among_next}
 use Rattle.nef_board.proofs.board.LockBoardBoard.claim.Goals as goal

@@ -1,4 +1,4 @@
-use Rattle.std.proofs.Common.{◌∙◌}
+use Rattle.nef_board.proofs.Prelude.{◌∙◌}
 use Rattle.nef_board.proofs.Turns.{takes_at, slot_held, state_held, closed_right, closed_done, closed_with}
 use Rattle.nef_board.proofs.board.LockBoardBoard.close.Goals as goal
 

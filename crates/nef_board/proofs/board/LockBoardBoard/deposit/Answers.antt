@@ -1,7 +1,4 @@
-use Rattle.std.proofs.Common.{◌∷◌, arith, sym, ap, ◌∙◌}
-use Rattle.atomic_table.specs.Table.{rest}
-use Rattle.nef_core.specs.Machine.{after}
-use Rattle.nef_core.specs.declared.machine.Event.TheVariants.{Deposit}
+use Rattle.nef_board.proofs.Prelude.{◌∷◌, arith, sym, ap, ◌∙◌, rest, after, Deposit}
 use Rattle.nef_board.proofs.Turns.{takes_at, slot_held, state_held, deposits_of}
 use Rattle.nef_board.proofs.board.LockBoardBoard.deposit.Goals as goal
 

@@ -1,4 +1,4 @@
-use Rattle.std.proofs.Common.{arith}
+use Rattle.nef_board.proofs.Prelude.{arith}
 use Rattle.nef_board.proofs.Turns.{splits}
 use Rattle.nef_board.proofs.board.LockBoardBoard.split.Goals as goal
 

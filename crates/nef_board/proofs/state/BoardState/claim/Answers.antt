@@ -1,5 +1,4 @@
-use Rattle.std.proofs.Common.{arith, sym, ◌∙◌}
-use Rattle.nef_core.proofs.Schedules.{got_free}
+use Rattle.nef_board.proofs.Prelude.{arith, sym, ◌∙◌, got_free}
 use Rattle.nef_board.proofs.Sounds.{sound_claim}
 use Rattle.nef_board.proofs.state.BoardState.claim.Goals as goal
 

@@ -1,4 +1,4 @@
-use Rattle.std.proofs.Common.{arith}
+use Rattle.nef_board.proofs.Prelude.{arith}
 use Rattle.nef_board.proofs.Sounds.{sound_give_back}
 use Rattle.nef_board.proofs.state.BoardState.give_back.Goals as goal
 

@@ -1,4 +1,4 @@
-use Rattle.std.proofs.Common.{arith}
+use Rattle.nef_board.proofs.Prelude.{arith}
 use Rattle.nef_board.proofs.Opens.{sound_of}
 use Rattle.nef_board.proofs.state.BoardState.new.Goals as goal
 

@@ -1,4 +1,4 @@
-use Rattle.std.proofs.Common.{arith}
+use Rattle.nef_free.proofs.Prelude.{arith}
 use Rattle.nef_free.proofs.Ends.{opens}
 use Rattle.nef_free.proofs.board.FreeBoard.new.Goals as goal
 

@@ -1,5 +1,4 @@
-use Rattle.std.proofs.Common.{arith, ap, ◌∙◌}
-use Rattle.nef_free.specs.Rule.{carried}
+use Rattle.nef_free.proofs.Prelude.{arith, ap, ◌∙◌, carried}
 use Rattle.nef_free.proofs.Steps.{claims_at}
 use Rattle.nef_free.proofs.board.FreeBoardBoard.claim.Goals as goal
 

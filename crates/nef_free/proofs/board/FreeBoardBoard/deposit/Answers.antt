@@ -1,6 +1,4 @@
-use Rattle.std.proofs.Common.{◌≡◌, arith, ap, ◌∙◌, Some, [], ◌∷◌}
-use Rattle.nef_free.specs.Rule.{carried}
-use Rattle.atomic_table.specs.Table.{rest}
+use Rattle.nef_free.proofs.Prelude.{◌≡◌, arith, ap, ◌∙◌, Some, [], ◌∷◌, carried, rest}
 use Rattle.nef_free.proofs.Steps.{deposits_at, below_of}
 use Rattle.nef_free.proofs.board.FreeBoardBoard.deposit.Goals as goal
 

@@ -1,4 +1,4 @@
-use Rattle.std.proofs.Common.{arith}
+use Rattle.nef_free.proofs.Prelude.{arith}
 use Rattle.nef_free.proofs.Steps.{splits}
 use Rattle.nef_free.proofs.board.FreeBoardBoard.split.Goals as goal
 

@@ -1,5 +1,5 @@
 -- `new` makes the empty struct, with the bytes that its clause names.
-use Rattle.std.proofs.Common.{List, [], ◌∷◌, ◌++◌, refl}
+use Rattle.nef_io.proofs.Prelude.{List, [], ◌∷◌, ◌++◌, refl}
 use seplogic.Ra.Ura.{Ura}
 use mir.Syntax.{Fn, Args, a_type}
 use mir.Val.{Val, vptr, vstruct, vnil}

@@ -1,6 +1,5 @@
-use Rattle.std.proofs.Common.{refl}
+use Rattle.nef_io.proofs.Prelude.{refl, take-length}
 use Rattle.std.proofs.Math.Nat.{le_refl}
-use Rattle.std.proofs.Math.Seq.{take-length}
 use Rattle.nef_io.proofs.Told.{Grows-written_of}
 use Rattle.nef_io.proofs.memory.SureSinkSink.TheImpl.Goals as goal
 

@@ -1,9 +1,4 @@
-use Rattle.std.proofs.Common.{ap, sym, ◌∙◌, ◌||◌, arith, Some}
-use Rattle.std.proofs.lemmas.List.Elements.{All-pop}
-use Rattle.crossbeam_queue.specs.Passes.{IsPassOf}
-use Rattle.nef_sched.specs.declared.pass.RoundPass.{RoundPass}
-use Rattle.nef_sched.specs.Counts.{times}
-use Rattle.nef_sched.specs.Rounds.{Belongs, taken, ended, any_ended, total_parts, times_taken, numbers_of}
+use Rattle.nef_sched.proofs.Prelude.{ap, sym, ◌∙◌, ◌||◌, arith, Some, All-pop, IsPassOf, RoundPass, times, Belongs, taken, ended, any_ended, total_parts, times_taken, numbers_of}
 use Rattle.nef_sched.proofs.Steps.{parts_snoc, times_snoc, numbers_snoc, times_joined, dealt_as, none_took, ended_snoc, none_ended, or_none, or_move}
 use Rattle.nef_sched.proofs.pass.Round.close.Goals as goal
 

@@ -1,7 +1,4 @@
-use Rattle.std.proofs.Common.{◌≡◌, ◌+◌, ◌^◌, ◌≤◌, ◌||◌, ℕ, All, length, vec_capacity}
-use Rattle.crossbeam_queue.specs.Passes.{IsPassOf}
-use Rattle.nef_sched.specs.Counts.{times}
-use Rattle.nef_sched.specs.Rounds.{parts, known, taken, ended, any_ended, total_parts, times_taken, numbers_of}
+use Rattle.nef_sched.proofs.Prelude.{◌≡◌, ◌+◌, ◌^◌, ◌≤◌, ◌||◌, ℕ, All, length, vec_capacity, IsPassOf, times, parts, known, taken, ended, any_ended, total_parts, times_taken, numbers_of}
 use Rattle.nef_sched.proofs.pass.Round.close.Given as goal
 
 abbrev pub invariant-loop-other : goal.invariant-loop-other
