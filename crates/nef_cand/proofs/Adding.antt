@@ -1,18 +1,5 @@
 -- Candidates added to a list.
-use Rattle.std.proofs.Common.{◌≡◌, ℕ, ◌+◌, ◌<◌, ◌≤◌, List, [], ◌∷◌, ◌++◌, length, get_or, arith, subst, inl, inr, ◌⊎◌, ⊎_elim}
-use Rattle.std.specs.List.{Contains}
-use Rattle.std.proofs.Math.Nat.{eq-or-lt_of_le}
-use Rattle.std.proofs.lemmas.Bool.{cases_lt}
-use Rattle.std.proofs.lemmas.List.Elements.{Contains-append_left, Contains-push, Contains-push_cases}
-use Rattle.nef_space.specs.Place.{Place, SamePlace}
-use Rattle.nef_geo.specs.Shapes.{place_of}
-use Rattle.nef_cand.specs.declared.named.Named.{Named}
-use Rattle.law_sphere.specs.Maps.{At}
-use Rattle.law_sphere.proofs.Lists.{at-one}
-use Rattle.nef_smap.proofs.Lists.{at-within}
-use Rattle.nef_complex.proofs.Reading.{read-at}
-use Rattle.nef_cand.specs.Names.{IsAmong}
-use Rattle.nef_cand.specs.Points.{AddsAll}
+use Rattle.nef_cand.proofs.Prelude.{◌≡◌, ℕ, ◌+◌, ◌<◌, ◌≤◌, List, [], ◌∷◌, ◌++◌, length, get_or, arith, subst, inl, inr, ◌⊎◌, ⊎_elim, Contains, eq-or-lt_of_le, cases_lt, Contains-append_left, Contains-push, Contains-push_cases, Place, SamePlace, place_of, Named, At, at-one, at-within, read-at, IsAmong, AddsAll}
 
 pub listed-more : (ps qs : List Named) → ((p : Named) → Contains ps p → Contains qs p) → (y : Place) → IsAmong ps y → IsAmong qs y
 listed-more ps qs f y (p, h, s) = (p, f p h, s)

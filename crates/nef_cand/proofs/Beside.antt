@@ -1,33 +1,6 @@
 -- An edge reaches along x from its low end to its high end.
-use Rattle.std.proofs.Common.{ℕ, ℤ, pos, ◌*ℤ◌, ◌<ℤ◌, ◌≤ℤ◌, ◌≤◌, List, arith, ap, sym, subst, inl, inr, ⊎_elim}
-use Rattle.std.proofs.Math.Nat.{eq-or-lt_of_le}
-use Rattle.std.proofs.lemmas.Int.{ints}
-use Rattle.nef_space.proofs.Fractions.{fraction-le-trans}
-use Rattle.nef_space.specs.Lists.{IsAt}
-use Rattle.nef_space.specs.Place.{Place, IsPlaceBelow, IsBetween}
-use Rattle.nef_space.specs.Sets.{Set}
-use Rattle.nef_geo.specs.Shapes.{place_of}
-use Rattle.nef_geo.specs.declared.plane.Plane.{Plane}
-use Rattle.law_sphere.specs.Maps.{At}
-use Rattle.law_sphere.proofs.Lists.{at-one}
-use Rattle.nef_smap.proofs.Lists.{at-map, at-within, map-at}
-use Rattle.law_complex.specs.Complexes.{IsEdgeBelow}
-use Rattle.nef_classes.proofs.ClassLists.{is-at_some}
-use Rattle.law_complex.specs.Spans.{coordinate_x, IsWithin}
+use Rattle.nef_cand.proofs.Prelude.{ℕ, ℤ, pos, ◌*ℤ◌, ◌<ℤ◌, ◌≤ℤ◌, ◌≤◌, List, arith, ap, sym, subst, inl, inr, ⊎_elim, eq-or-lt_of_le, ints, fraction-le-trans, IsAt, Place, IsPlaceBelow, IsBetween, Set, place_of, Plane, At, at-one, at-map, at-within, map-at, IsEdgeBelow, is-at_some, coordinate_x, IsWithin, Complex, Edge, Vertex, Bounds, Span, vertex_of, edge_of, ShowsSet, AreAlone, IsInSpan, within-both, weight, get-from_at, CutsEdge, IsApart}
 use Rattle.law_complex.proofs.Spans.{within-between}
-use Rattle.nef_complex.specs.declared.complex.Complex.{Complex}
-use Rattle.nef_complex.specs.declared.complex.Edge.{Edge}
-use Rattle.nef_complex.specs.declared.complex.Vertex.{Vertex}
-use Rattle.nef_complex.specs.declared.spans.Bounds.{Bounds}
-use Rattle.nef_complex.specs.declared.spans.Span.{Span}
-use Rattle.nef_complex.specs.Complexes.{vertex_of, edge_of, ShowsSet}
-use Rattle.nef_complex.specs.Indexing.{AreAlone}
-use Rattle.nef_complex.specs.Spans.{IsInSpan}
-use Rattle.nef_complex.proofs.Spanned.{within-both}
-use Rattle.nef_complex.proofs.Spanning.{weight}
-use Rattle.nef_smap.proofs.SideLists.{get-from_at}
-use Rattle.nef_cand.specs.Points.{CutsEdge}
-use Rattle.nef_cand.specs.Near.{IsApart}
 
 -- ---- a point that is below another
 module _ (p q : Place) (b : IsPlaceBelow p q) where

@@ -1,30 +1,6 @@
 -- What is listed, and that all vertices of a combination are.
-use Rattle.std.proofs.Common.{◌≡◌, ℕ, pos, List, [], ◌++◌, map, arith, refl, sym, subst, ◌⊎◌, inl, inr, ⊎_elim}
-use Rattle.std.specs.List.{Contains}
-use Rattle.nef_space.specs.Local.{IsVertex}
-use Rattle.nef_space.specs.Place.{Place, Form, form_at, SamePlace, IsPlaceBelow, IsBetween}
-use Rattle.nef_space.specs.Sets.{Set}
-use Rattle.nef_geo.specs.Shapes.{place_of, form_of}
-use Rattle.nef_geo.specs.declared.plane.Plane.{Plane}
-use Rattle.nef_geo.specs.declared.point.Point.{Point}
-use Rattle.law_near.proofs.Mixed.{place-decided}
-use Rattle.law_sphere.specs.Maps.{At}
-use Rattle.law_sphere.specs.Least.{InOrder}
-use Rattle.law_sphere.proofs.Lists.{search_list, Found}
-use Rattle.nef_smap.proofs.Lists.{at-within, at-get, map-at, at-map, contains-at, at-contains}
-use Rattle.law_complex.specs.Complexes.{Vertex, Edge, Complex, HasEnds}
-use Rattle.law_complex.specs.Shows.{Shows}
-use Rattle.law_complex.specs.Laws.{IsCut, IsNearCut, HoldsEdge, IsVertexOfBoth}
-use Rattle.law_complex.proofs.Candidates.{candidates-suffice}
-use Rattle.nef_complex.specs.declared.complex.Complex.{Complex as ProgramComplex}
-use Rattle.nef_complex.specs.Complexes.{complex_of, ShowsSet}
-use Rattle.nef_cand.specs.declared.named.Named.{Named}
-use Rattle.nef_cand.specs.declared.named.Operand.TheVariants.{First, Second}
-use Rattle.nef_cand.specs.Names.{named_point, IsAmong, IsNamed, IsNamedIn, AreNamed, IsOnceEach}
-use Rattle.nef_cand.specs.Candidates.{IsListed, AreExactly, IsVertexOf, AreCandidates}
-use Rattle.nef_cand.specs.Points.{Adds, AddsAll, CutsOne, ListsCandidates}
-use Rattle.nef_cand.specs.Near.{HasTogether, IsCandidate}
-use Rattle.nef_complex.proofs.Reading.{read-at}
+use Rattle.nef_cand.proofs.Prelude.{◌≡◌, ℕ, pos, List, [], ◌++◌, map, arith, refl, sym, subst, ◌⊎◌, inl, inr, ⊎_elim, Contains, IsVertex, Place, Form, form_at, SamePlace, IsPlaceBelow, IsBetween, Set, place_of, form_of, Plane, Point, place-decided, At, InOrder, search_list, Found, at-within, at-get, map-at, at-map, contains-at, at-contains, HasEnds, Shows, IsCut, IsNearCut, HoldsEdge, IsVertexOfBoth, candidates-suffice, Complex as ProgramComplex, complex_of, ShowsSet, Named, First, Second, named_point, IsAmong, IsNamed, IsNamedIn, AreNamed, IsOnceEach, IsListed, AreExactly, IsVertexOf, AreCandidates, Adds, AddsAll, CutsOne, ListsCandidates, HasTogether, IsCandidate, read-at}
+use Rattle.law_complex.specs.Complexes.{Vertex, Edge, Complex}
 use Rattle.nef_cand.proofs.Adding.{adds-both, adds-with}
 use Rattle.nef_cand.proofs.Apart.{adds-after}
 use Rattle.nef_cand.proofs.Framed.{each-framed}

@@ -1,15 +1,5 @@
 -- Where a plane parts two points, it crosses the line between them in one point strictly between.
-use Rattle.nef_space.specs.Place.{Place, Form, form_at, normal_of, toward, SamePlace}
-use Rattle.nef_geo.specs.Meet.{HasDependentNormals, IsOnlyCommon}
-use Rattle.nef_geo.specs.Shapes.{form_of}
-use Rattle.nef_geo.specs.Steps.{HasOppositeSigns}
-use Rattle.nef_geo.specs.declared.plane.Plane.{Plane}
-use Rattle.law_near.proofs.Mixed.{between-same}
-use Rattle.law_near.proofs.Rays.{same-place_sym}
-use Rattle.law_complex.proofs.Planes.{plane-way}
-use Rattle.law_complex.proofs.Ways.{same-itself}
-use Rattle.nef_complex.proofs.Parted.{parted-slope, parted-cut, parted-apart, held-between, crossed-parted, independent}
-use Rattle.nef_cand.specs.Points.{IsCrossing}
+use Rattle.nef_cand.proofs.Prelude.{Place, Form, form_at, normal_of, toward, SamePlace, HasDependentNormals, IsOnlyCommon, form_of, HasOppositeSigns, Plane, between-same, same-place_sym, plane-way, same-itself, parted-slope, parted-cut, parted-apart, held-between, crossed-parted, independent, IsCrossing}
 use Rattle.nef_cand.proofs.Planes.{IsLineThrough}
 
 -- ---- three planes

@@ -1,16 +1,5 @@
 -- The line of an edge: the first two of the carriers that hold it are different planes, so they meet in it.
-use Rattle.std.proofs.Common.{◌≡◌, ℕ, ◌<◌, ◌≤◌, List, length, arith, subst, ⊎_elim}
-use Rattle.std.proofs.lemmas.Bool.{cases_lt}
-use Rattle.nef_space.specs.Lists.{IsAt}
-use Rattle.nef_space.specs.Numbers.{IsBelow}
-use Rattle.nef_space.specs.Place.{Place, form_numbers}
-use Rattle.nef_geo.specs.Shapes.{form_of}
-use Rattle.nef_geo.specs.declared.plane.Plane.{Plane}
-use Rattle.law_sphere.specs.Maps.{At}
-use Rattle.nef_classes.proofs.ClassLists.{is-at_one, is-at_within}
-use Rattle.nef_smap.proofs.SideLists.{get-from_at}
-use Rattle.nef_complex.specs.Index.{AreHolders, AreInOrder}
-use Rattle.nef_complex.specs.Planes.{HoldsBoth}
+use Rattle.nef_cand.proofs.Prelude.{◌≡◌, ℕ, ◌<◌, ◌≤◌, List, length, arith, subst, ⊎_elim, cases_lt, IsAt, IsBelow, Place, form_numbers, form_of, Plane, At, is-at_one, is-at_within, get-from_at, AreHolders, AreInOrder, HoldsBoth}
 use Rattle.nef_complex.proofs.PlaneSearch.{never-below}
 use Rattle.nef_cand.proofs.Planes.{IsLineThrough, line-of}
 

@@ -1,16 +1,5 @@
 -- All that is listed lies in the closed frame, since it stands on a skeleton.
-use Rattle.std.proofs.Common.{List, ⊎_elim}
-use Rattle.std.specs.List.{Contains}
-use Rattle.nef_space.specs.Place.{Form}
-use Rattle.nef_space.specs.Sets.{Set}
-use Rattle.nef_geo.specs.Shapes.{place_of}
-use Rattle.nef_geo.specs.declared.point.Point.{Point}
-use Rattle.law_complex.specs.Shows.{Shows}
-use Rattle.nef_complex.specs.declared.complex.Complex.{Complex}
-use Rattle.nef_complex.specs.Complexes.{complex_of}
-use Rattle.nef_complex.proofs.Framed.{vertex-framed, edge-framed}
-use Rattle.nef_cand.specs.Candidates.{AreCutCandidates, AreFramed}
-use Rattle.nef_cand.specs.Near.{IsCandidate}
+use Rattle.nef_cand.proofs.Prelude.{List, ⊎_elim, Contains, Form, Set, place_of, Point, Shows, Complex, complex_of, vertex-framed, edge-framed, AreCutCandidates, AreFramed, IsCandidate}
 
 pub each-framed : (s t : Set) (a b : Complex) (ps : List Point) → Shows s (complex_of a) → Shows t (complex_of b) → ((p : Point) → Contains ps p → IsCandidate (complex_of a) (complex_of b) (place_of p)) → AreFramed ps
 each-framed s t a b ps S T each p h =

@@ -1,40 +1,11 @@
 -- The vertices of a half are vertices of the frame, or points where its plane crosses an edge of the frame.
-use Rattle.std.proofs.Common.{◌≡◌, ℕ, zero, suc, ◌+◌, ◌<◌, ℤ, pos, neg_ℤ, ◌+ℤ◌, ◌-ℤ◌, ◌*ℤ◌, Bool, true, false, List, [], ◌∷◌, map, arith, ap, sym, ◌∙◌, ◌⊎◌, inl, inr, ⊎_elim, ◌↔◌}
-use Rattle.std.proofs.lemmas.Int.{ints}
-use Rattle.nef_space.specs.Signs.{sign}
-use Rattle.nef_space.proofs.Ring.{ring, Poly, at, num, neg, ◌⊕◌, ◌⊖◌, ◌⊗◌}
-use Rattle.nef_space.proofs.Combination.{given, none, follows}
-use Rattle.nef_space.proofs.Order.{by_order, sign-minus, minus-is, sign-plus, plus-is, sign-scaled, nought-is}
-use Rattle.nef_space.specs.Local.{HasLabel, Flat, HasFlat, FlatDim, IsVertex}
-use Rattle.nef_space.specs.Place.{Place, Form, Ratio, step, Within, form_at, slope, toward, InFrame}
-use Rattle.nef_space.specs.Sets.{Set, Holds, InHalf}
-use Rattle.nef_space.specs.Vectors.{Vector, cross, IsDirection}
-use Rattle.nef_space.specs.declared.label.Label.{Label}
-use Rattle.nef_space.specs.declared.label.Label.TheVariants.{Out, Not, In}
-use Rattle.nef_geo.specs.declared.point.Point.{Point}
-use Rattle.law_near.proofs.Directions.{square_pos}
-use Rattle.law_near.proofs.Far.{nought-or}
+use Rattle.nef_cand.proofs.Prelude.{◌≡◌, ℕ, zero, suc, ◌+◌, ◌<◌, ℤ, pos, neg_ℤ, ◌+ℤ◌, ◌-ℤ◌, ◌*ℤ◌, Bool, true, false, List, [], ◌∷◌, map, arith, ap, sym, ◌∙◌, ◌⊎◌, inl, inr, ⊎_elim, ◌↔◌, ints, sign, ring, Poly, at, num, neg, ◌⊕◌, ◌⊖◌, ◌⊗◌, given, none, follows, by_order, sign-minus, minus-is, sign-plus, plus-is, sign-scaled, nought-is, nought-or, square_pos, HasLabel, Flat, HasFlat, FlatDim, IsVertex, Place, Form, Ratio, step, Within, form_at, slope, toward, InFrame, Set, InHalf, Vector, cross, IsDirection, Label, Out, Not, In, Point, sign_at, combination, HasFlat-fewer, flat_dim-of, never-flat, Shows, SamePlane, IsEdgePoint, HoldsEdge, edge-points, edge-way, plane-turned, plane-point, plane-slope, plane-way, between-ends, Named, named_point, IsOnceEach, IsListed, IsVertexOf, IsCutBy, AreCutCandidates, Adds, times-nought}
+use Rattle.nef_space.specs.Sets.{Holds}
 use Rattle.law_near.proofs.Near.{reach, keeps, weaken, form-step}
-use Rattle.law_near.specs.Cells.{sign_at}
-use Rattle.law_near.specs.Cones.{combination}
-use Rattle.law_near.proofs.Alike.{HasFlat-fewer}
-use Rattle.law_near.proofs.FlatDecided.{flat_dim-of}
 use Rattle.law_near.proofs.FlatOperations.{flat-combination}
-use Rattle.law_complex.proofs.Candidates.{never-flat}
 use Rattle.law_complex.specs.Complexes.{Complex}
-use Rattle.law_complex.specs.Shows.{Shows, SamePlane}
-use Rattle.law_complex.specs.Skeleton.{IsEdgePoint}
-use Rattle.law_complex.specs.Laws.{HoldsEdge}
-use Rattle.law_complex.proofs.Edges.{edge-points, edge-way}
 use Rattle.law_complex.proofs.Joining.{edges-complete}
-use Rattle.law_complex.proofs.Planes.{plane-turned, plane-point, plane-slope, plane-way}
-use Rattle.law_complex.proofs.Ways.{between-ends}
-use Rattle.nef_cand.specs.declared.named.Named.{Named}
-use Rattle.nef_cand.specs.Names.{named_point, IsOnceEach}
-use Rattle.nef_cand.specs.Candidates.{IsListed, IsVertexOf, IsCutBy, AreCutCandidates}
-use Rattle.nef_cand.specs.Points.{Adds}
 use Rattle.nef_cand.proofs.Adding.{adds-both}
-use Rattle.nef_complex.proofs.Parted.{times-nought}
 use Rattle.nef_cand.proofs.Complete.{listed-decided, added-exactly, vertex-of}
 
 -- ---- what is flat for a half

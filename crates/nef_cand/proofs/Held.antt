@@ -1,48 +1,8 @@
 -- Two carriers hold each edge, and where planes cut edges.
-use Rattle.std.proofs.Common.{◌≡◌, ℕ, ℤ, pos, ◌-ℤ◌, ◌*ℤ◌, List, Option, Some, None, IsNone, IfSome, arith, refl, sym, subst, ◌↔◌}
-use Rattle.std.specs.Option.{MatchOption}
-use Rattle.std.proofs.lemmas.Int.{ints}
-use Rattle.nef_space.specs.Signs.{Lies}
-use Rattle.nef_space.proofs.Order.{nought-is}
-use Rattle.nef_space.specs.Local.{Flat}
-use Rattle.nef_space.specs.Place.{Place, Form, form_at, normal_of, toward, SamePlace, IsBetween}
-use Rattle.nef_space.specs.Sets.{Set}
-use Rattle.nef_space.specs.Vectors.{cross, IsZero, IsDirection}
-use Rattle.nef_geo.specs.Meet.{HasDependentNormals, IsOnlyCommon}
-use Rattle.nef_geo.specs.Shapes.{place_of, form_of}
-use Rattle.nef_geo.specs.Steps.{HasOppositeSigns}
-use Rattle.nef_geo.specs.declared.plane.Plane.{Plane}
-use Rattle.nef_geo.specs.declared.point.Point.{Point}
-use Rattle.law_near.specs.Cells.{carriers}
-use Rattle.law_near.specs.Laws.{EdgeSupport}
-use Rattle.law_near.proofs.Edges.{start, start-between}
-use Rattle.law_near.proofs.FlatDecided.{parallel-both}
-use Rattle.law_near.proofs.Supports.{edge-support}
-use Rattle.law_sphere.specs.Maps.{At}
-use Rattle.law_sphere.proofs.Lists.{at-one}
-use Rattle.nef_smap.proofs.Lists.{map-at, at-map}
-use Rattle.law_complex.specs.Complexes.{HasEnds}
+use Rattle.nef_cand.proofs.Prelude.{◌≡◌, ℕ, ℤ, pos, ◌-ℤ◌, ◌*ℤ◌, List, Option, Some, None, IsNone, IfSome, arith, refl, sym, subst, ◌↔◌, MatchOption, ints, Lies, nought-is, Flat, Place, Form, form_at, normal_of, toward, SamePlace, IsBetween, Set, cross, IsZero, IsDirection, HasDependentNormals, IsOnlyCommon, place_of, form_of, HasOppositeSigns, Plane, Point, carriers, EdgeSupport, start, start-between, edge-support, At, at-one, map-at, at-map, HasEnds, SamePlane, IsVertexPoint, IsEdgePoint, edge-points, edge-way, plane-turned, plane-point, same-itself, Vertex, Edge, Complex, vertex_of, edge_of, complex_of, ShowsSet, through-both, listed_edge, ends, apart, got-at, Named, Operand, IsVertexOf, IsCutBy, IsNamedIn, AreInOrder, HoldsBoth, IsCrossing, CutsEdge, Adds, parallel-both}
 use Rattle.law_complex.specs.Complexes.{Vertex as PlainVertex, Edge as PlainEdge}
 use Rattle.law_complex.specs.Complexes.{Complex as PlainComplex}
-use Rattle.law_complex.specs.Shows.{SamePlane}
-use Rattle.law_complex.specs.Skeleton.{IsVertexPoint, IsEdgePoint}
-use Rattle.law_complex.proofs.Edges.{edge-points, edge-way}
-use Rattle.law_complex.proofs.Planes.{plane-turned, plane-point}
-use Rattle.law_complex.proofs.Ways.{same-itself}
-use Rattle.nef_complex.specs.declared.complex.Vertex.{Vertex}
-use Rattle.nef_complex.specs.declared.complex.Edge.{Edge}
-use Rattle.nef_complex.specs.declared.complex.Complex.{Complex}
-use Rattle.nef_complex.specs.Complexes.{vertex_of, edge_of, complex_of, ShowsSet}
-use Rattle.nef_complex.proofs.Ends.{through-both, listed_edge, ends, apart}
-use Rattle.nef_complex.proofs.Reading.{got-at}
-use Rattle.nef_cand.specs.declared.named.Named.{Named}
-use Rattle.nef_cand.specs.declared.named.Operand.{Operand}
 use Rattle.nef_cand.specs.declared.named.Name.TheVariants as name
-use Rattle.nef_cand.specs.Candidates.{IsVertexOf, IsCutBy}
-use Rattle.nef_cand.specs.Names.{IsNamedIn}
-use Rattle.nef_complex.specs.Index.{AreInOrder}
-use Rattle.nef_complex.specs.Planes.{HoldsBoth}
-use Rattle.nef_cand.specs.Points.{IsCrossing, CutsEdge, Adds}
 use Rattle.nef_cand.proofs.Adding.{adds-as, AnyAt}
 use Rattle.nef_cand.proofs.Crossing.{never-dependent, meet-crosses, never-crosses}
 use Rattle.nef_cand.proofs.EdgeLines.{AreHeldByTwo}

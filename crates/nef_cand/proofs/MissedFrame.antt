@@ -1,11 +1,5 @@
 -- A plane whose last number outweighs the others anywhere in the frame holds no point of the open frame.
-use Rattle.std.proofs.Common.{◌≡◌, ℕ, ◌+◌, ◌-◌, ◌*◌, ◌<◌, ◌≤◌, ℤ, pos, ◌+ℤ◌, ◌*ℤ◌, nat_abs, arith, ap}
-use Rattle.std.proofs.lemmas.Int.{ints, unsigned_abs-mul}
-use Rattle.std.proofs.Math.Nat.{mul-le-mul_right}
-use Rattle.nef_space.proofs.Order.{abs_plus, abs_times}
-use Rattle.nef_space.specs.Limits.{half_side}
-use Rattle.nef_space.specs.Place.{Place, Form, form_at, normal_of, InFrame}
-use Rattle.nef_space.specs.Vectors.{IsDirection}
+use Rattle.nef_cand.proofs.Prelude.{◌≡◌, ℕ, ◌+◌, ◌-◌, ◌*◌, ◌<◌, ◌≤◌, ℤ, pos, ◌+ℤ◌, ◌*ℤ◌, nat_abs, arith, ap, ints, unsigned_abs-mul, mul-le-mul_right, abs_plus, abs_times, half_side, Place, Form, form_at, normal_of, InFrame, IsDirection}
 
 -- a + b + c is the sum of the numbers of the normal, n + 1 half the length of the frame's sides times w
 outweighed : (a b c d w n : ℕ) → half_side * (a + b + c) ≤ d → 0 < a + b + c → n + 1 ≡ half_side * w → a * n + b * n + c * n < d * w

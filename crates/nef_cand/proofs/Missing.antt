@@ -1,20 +1,7 @@
 -- A plane that leaves the open frame on one side crosses no edge.
-use Rattle.std.proofs.Common.{◌≡◌, ℕ, ℤ, pos, neg_ℤ, ◌+◌, ◌*◌, ◌<◌, ◌≤◌, ◌+ℤ◌, ◌*ℤ◌, ◌≤ℤ◌, ◌<ℤ◌, nat_abs, [], ◌∷◌, arith, ap, sym, subst, ◌∙◌, inr, ⊎_elim}
-use Rattle.std.proofs.lemmas.Bool.{cases_lt}
-use Rattle.std.proofs.lemmas.Int.{ints, by_lt_z, unsigned_abs-mul}
-use Rattle.std.proofs.Math.Nat.{mul-le-mul_right}
+use Rattle.nef_cand.proofs.Prelude.{◌≡◌, ℕ, ℤ, pos, neg_ℤ, ◌+◌, ◌*◌, ◌<◌, ◌≤◌, ◌+ℤ◌, ◌*ℤ◌, ◌≤ℤ◌, ◌<ℤ◌, nat_abs, [], ◌∷◌, arith, ap, sym, subst, ◌∙◌, inr, ⊎_elim, cases_lt, ints, by_lt_z, unsigned_abs-mul, mul-le-mul_right, ring, at, neg, ◌⊗◌, abs_plus, abs_times, mul_nonneg, mul_le_right, half_side, point_limit, Place, Form, form_at, InClosedFrame, Set, HasOppositeSigns, Shows, dim-framed, IsCutBy, MissesFrame}
 use lib.IntN.{zero-*ℤ}
-use Rattle.nef_space.proofs.Ring.{ring, at, neg, ◌⊗◌}
-use Rattle.nef_space.proofs.Order.{abs_plus, abs_times, mul_nonneg, mul_le_right}
-use Rattle.nef_space.specs.Limits.{half_side, point_limit}
-use Rattle.nef_space.specs.Place.{Place, Form, form_at, InClosedFrame}
-use Rattle.nef_space.specs.Sets.{Set}
-use Rattle.nef_geo.specs.Steps.{HasOppositeSigns}
-use Rattle.law_complex.specs.Shows.{Shows}
 use Rattle.law_complex.specs.Complexes.{Complex}
-use Rattle.nef_complex.proofs.Framed.{dim-framed}
-use Rattle.nef_cand.specs.Candidates.{IsCutBy}
-use Rattle.nef_cand.specs.Points.{MissesFrame}
 use Rattle.nef_cand.proofs.Crossing.{never-crosses}
 
 module _ (h : Form) (far : half_side * (nat_abs h.a + nat_abs h.b + nat_abs h.c) ≤ nat_abs h.d) where

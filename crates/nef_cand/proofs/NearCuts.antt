@@ -1,48 +1,10 @@
 -- Cuts where the other set has something in the carrier that cuts.
-use Rattle.std.proofs.Common.{◌≡◌, ℕ, ◌+◌, ◌<◌, pos, List, [], ◌∷◌, ◌++◌, length, map, None, arith, refl, sym, subst, ◌⊎◌, inl, inr}
-use Rattle.std.specs.List.{Contains}
-use Rattle.std.proofs.Math.Nat.{eq-or-lt_of_le}
-use Rattle.std.proofs.lemmas.List.Elements.{Contains-append_left, Contains-append_right, Contains-push, Contains-push_cases}
-use Rattle.nef_space.specs.Lists.{IsAt}
-use Rattle.nef_space.specs.Local.{IsVertex}
-use Rattle.nef_space.specs.Place.{Place, Form, form_at, SamePlace}
-use Rattle.nef_space.specs.Sets.{Set}
-use Rattle.nef_geo.specs.Shapes.{place_of, form_of}
-use Rattle.nef_geo.specs.declared.plane.Plane.{Plane}
-use Rattle.nef_geo.specs.declared.point.Point.{Point}
-use Rattle.law_near.proofs.Rays.{same-place_sym}
-use Rattle.law_sphere.specs.Maps.{At}
-use Rattle.law_sphere.proofs.Lists.{at-one}
-use Rattle.nef_smap.proofs.Lists.{at-within, at-map, at-contains, contains-at}
-use Rattle.nef_smap.proofs.SideLists.{get-from_at}
+use Rattle.nef_cand.proofs.Prelude.{◌≡◌, ℕ, ◌+◌, ◌<◌, pos, List, [], ◌∷◌, ◌++◌, length, map, None, arith, refl, sym, subst, ◌⊎◌, inl, inr, Contains, eq-or-lt_of_le, Contains-append_left, Contains-append_right, Contains-push, Contains-push_cases, IsAt, IsVertex, Place, Form, form_at, SamePlace, Set, place_of, form_of, Plane, Point, same-place_sym, At, at-one, at-within, at-map, at-contains, contains-at, get-from_at, IsNearCut, IsSkeletonIn, HoldsEdge, IsEdgePoint, candidates-suffice, same-place_trans, Complex, Edge, Span, complex_of, ShowsSet, AreAlone, IsInSpan, IsNarrower, got-at, span-between, spanned, span-wider, narrower-still, is-at_some, IsSkeletonAt, held-same, skeleton-same, Named, Operand, First, Second, Spanned, IsVertexOf, IsCutBy, named_point, IsNamedBetween, AddsAll, HasBoth, CutsEdge, MissesFrame, IsSpannedIn, AreSpannedIn, IsSpanned, AreSpannedCarriers, AreWithinSpan, AreThoseNear, IsApart, IsHeldIn, IsCarrierCut, IsHeldCut, CutsBy, CutsHeld, ListsCuts, CutsEdgeHeld, CutsEdgeByOne, CutsEdgeHeldOne, IsHeldCutOf, HasTogether, IsCandidate, ListsNear}
 use Rattle.law_complex.specs.Complexes.{Complex as PlainComplex}
-use Rattle.law_complex.specs.Laws.{IsNearCut, IsSkeletonIn, HoldsEdge}
-use Rattle.law_complex.specs.Skeleton.{IsEdgePoint}
-use Rattle.law_complex.proofs.Candidates.{candidates-suffice}
-use Rattle.law_complex.proofs.Ways.{same-place_trans}
-use Rattle.nef_complex.specs.declared.complex.Complex.{Complex}
-use Rattle.nef_complex.specs.declared.complex.Edge.{Edge}
-use Rattle.nef_complex.specs.declared.spans.Span.{Span}
-use Rattle.nef_complex.specs.Complexes.{complex_of, ShowsSet}
-use Rattle.nef_complex.specs.Indexing.{AreAlone}
-use Rattle.nef_complex.specs.Spans.{IsInSpan, IsNarrower}
-use Rattle.nef_complex.proofs.Reading.{got-at}
-use Rattle.nef_complex.proofs.Spanned.{span-between, spanned}
-use Rattle.nef_complex.proofs.Spanning.{span-wider, narrower-still}
-use Rattle.nef_classes.proofs.ClassLists.{is-at_some}
 use Rattle.nef_locate.specs.declared.point.Place.{Place as FoundPlace}
-use Rattle.nef_locate.specs.Rays.{IsSkeletonAt}
-use Rattle.nef_locate.proofs.Located.{held-same, skeleton-same}
-use Rattle.nef_cand.specs.declared.named.Named.{Named}
-use Rattle.nef_cand.specs.declared.named.Operand.{Operand}
-use Rattle.nef_cand.specs.declared.named.Operand.TheVariants.{First, Second}
 use Rattle.nef_cand.specs.declared.named.Name.TheVariants as name
-use Rattle.nef_cand.specs.declared.listing.Spanned.{Spanned}
-use Rattle.nef_cand.specs.Candidates.{IsVertexOf, IsCutBy}
-use Rattle.nef_cand.specs.Names.{named_point, IsNamedBetween}
-use Rattle.nef_cand.specs.Points.{AddsAll, CutsEdge, MissesFrame}
-use Rattle.nef_cand.specs.Near.{IsSpannedIn, AreSpannedIn, IsSpanned, AreSpannedCarriers, AreWithinSpan, AreThoseNear, AreClose, IsApart, IsHeldIn, CutsBy, CutsHeld, CutsEdgeHeld, CutsEdgeByOne, CutsEdgeHeldOne, IsHeldCutOf, HasTogether, IsCandidate, ListsNear}
 use Rattle.nef_cand.proofs.Adding.{AnyAt, adds-none, adds-as}
+use Rattle.nef_cand.proofs.Apart.{cuts-merged}
 use Rattle.nef_cand.proofs.Complete.{Has, vertex-of, cuts-any, together-ordered, together-each, together-all, together-named}
 use Rattle.nef_cand.proofs.Framed.{each-framed}
 use Rattle.nef_cand.proofs.Held.{edge-crosses, edge-named, some-cut, cut-some}
@@ -181,18 +143,11 @@ module _ (xs : List Spanned) (s : Span) (ys : List Spanned) (A : AreThoseNear xs
       all z y i j (inl h) = A.all z h y i j
       all z y i j (inr e) = absurd (far y (subst (λ (w : Spanned). IsInSpan w.span y) (sym e) i) j)
 
--- ---- the carriers close to the vertices
-pub close-near : (ss : List Span) (r : Span) → ((k : ℕ) (s : Span) → IsAt ss k s → IsNarrower s r) → (xs ys : List Spanned) → AreThoseNear xs r ys → AreClose ss xs ys
-close-near ss r wide xs ys T = record { only = T.only; all = λ x h y i f. T.all x h y i (f r wide) }
+-- ---- the carriers near the span of the vertices: their cuts are those by all
+pub close-spanned : (d : Complex) (r : Span) (xs ys : List Spanned) → AreSpannedIn d xs → AreThoseNear xs r ys → AreSpannedIn d ys
+close-spanned d r xs ys A T x h = A x (T.only x h)
 
-pub close-same : (ss : List Span) (xs ys : List Spanned) → ys ≡ xs → AreClose ss xs ys
-close-same ss xs ys e = subst (AreClose ss xs) (sym e) (record { only = λ x h. h; all = λ x h y i f. h })
-
--- the cuts by those close to the vertices are those by all
-module _ (c d : Complex) (ss : List Span) (E : AreAlone c.vertices ss) (xs ys : List Spanned) (A : AreSpannedIn d xs) (T : AreClose ss xs ys) where
-  pub close-spanned : AreSpannedIn d ys
-  close-spanned x h = A x (T.only x h)
-
+module _ (c d : Complex) (ss : List Span) (E : AreAlone c.vertices ss) (r : Span) (wide : (k : ℕ) (s : Span) → IsAt ss k s → IsNarrower s r) (xs ys : List Spanned) (A : AreSpannedIn d xs) (T : AreThoseNear xs r ys) where
   pub close-all : (N : Named → Type 0) (ps qs : List Named) → AddsAll (CutsBy (complex_of c) ys) (CutsHeld (complex_of c) d ys) N ps qs → AddsAll (CutsBy (complex_of c) xs) (CutsHeld (complex_of c) d xs) N ps qs
   close-all N ps qs = adds-as (CutsBy (complex_of c) ys) (CutsHeld (complex_of c) d ys) (CutsBy (complex_of c) xs) (CutsHeld (complex_of c) d xs) N ps qs forth back
     where
@@ -203,7 +158,7 @@ module _ (c d : Complex) (ss : List Span) (E : AreAlone c.vertices ss) (xs ys : 
       back y (i, x, a, (h, s)) =
           let has = at-contains xs i x a in
           let z = cut-some c x.plane y h in
-          let k = contains-at ys x (T.all x has y (held-spanned c d z.1 x (A x has) y (z.3, s)) (λ r wide. edge-around c ss E r wide x.plane z.1 y z.3)) in
+          let k = contains-at ys x (T.all x has y (held-spanned c d z.1 x (A x has) y (z.3, s)) (edge-around c ss E r wide x.plane z.1 y z.3)) in
           (k.0, x, k.1, (h, s))
 
 -- ---- all edges
@@ -279,3 +234,15 @@ module _ (s t : Set) (a b : Complex) (S : ShowsSet s a) (T : ShowsSet t b) (us v
       vertex : (y : Place) → IsVertexOf (complex_of a) y ⊎ IsVertexOf (complex_of b) y → Has a b R O y
       vertex y (inl h) = inl h
       vertex y (inr h) = inr (inl h)
+
+-- the same of lists that are read as slices
+pub near-listed : (s t : Set) (a b : Complex) → ShowsSet s a → ShowsSet t b → (xs hs ys gs : List Spanned) → hs ≡ xs → gs ≡ ys → AreSpannedCarriers b (length b.carriers) xs → AreSpannedCarriers a (length a.carriers) ys
+    → (ps us qs vs ns : List Named) → us ≡ ps → vs ≡ qs → ListsCuts First a b hs ps → ListsCuts Second b a gs qs → HasTogether a b us vs ns → ListsNear a b ns
+near-listed s t a b S T xs hs ys gs ex ey X Y ps us qs vs ns eu ev third fourth all = lists-near s t a b S T us vs ns all
+    xs X (subst (λ (zs : List Named). ListsCuts First a b xs zs) (sym eu) (subst (λ (zs : List Spanned). ListsCuts First a b zs ps) ex third))
+    ys Y (subst (λ (zs : List Named). ListsCuts Second b a ys zs) (sym ev) (subst (λ (zs : List Spanned). ListsCuts Second b a zs qs) ey fourth))
+
+-- what the carriers of two halves cut, merged
+pub cuts-halved : (o : Operand) (c d : Complex) (hs gs ks : List Spanned) → ks ≡ hs ++ gs → (ps us qs vs rs : List Named) → us ≡ ps → vs ≡ qs → ListsCuts o c d hs ps → ListsCuts o c d gs qs → HasBoth us vs rs → ListsCuts o c d ks rs
+cuts-halved o c d hs gs ks e ps us qs vs rs eu ev A B = cuts-merged (IsCarrierCut (complex_of c)) (IsHeldCut (complex_of c) d) (IsNamedBetween o (complex_of c) (complex_of d)) hs gs ks us vs rs e
+    (subst (λ (zs : List Named). ListsCuts o c d hs zs) (sym eu) A) (subst (λ (zs : List Named). ListsCuts o c d gs zs) (sym ev) B)

@@ -1,18 +1,6 @@
 -- Planes that are tested for equality, and two that hold one point.
-use Rattle.std.proofs.Common.{◌≡◌, ℤ, pos, ◌-ℤ◌, ◌*ℤ◌, Bool, true, false, [], ◌∷◌, refl, ap, sym, subst, ◌∙◌}
-use Rattle.std.specs.Bool.{IsTrue}
-use Rattle.std.specs.Ordering.{int_eq}
-use Rattle.std.specs.Prelude.{◌&&◌}
-use Rattle.std.proofs.lemmas.Bool.Decides.{Decides-int_eq}
+use Rattle.nef_cand.proofs.Prelude.{◌≡◌, ℤ, pos, ◌-ℤ◌, ◌*ℤ◌, Bool, true, false, [], ◌∷◌, refl, ap, sym, subst, ◌∙◌, IsTrue, int_eq, ◌&&◌, Decides-int_eq, ring, at, num, ◌⊖◌, ◌⊗◌, Place, Form, normal_of, IsDirection, cross, IsSamePlane, form_of, Plane, same_planes_equal, HoldsBoth}
 use lib.Dec.{T}
-use Rattle.nef_space.proofs.Ring.{ring, at, num, ◌⊖◌, ◌⊗◌}
-use Rattle.nef_space.specs.Place.{Place, Form, normal_of}
-use Rattle.nef_space.specs.Vectors.{IsDirection, cross}
-use Rattle.nef_geo.specs.Meet.{IsSamePlane}
-use Rattle.nef_geo.specs.Shapes.{form_of}
-use Rattle.nef_geo.specs.declared.plane.Plane.{Plane}
-use Rattle.nef_geo.proofs.Unique.{same_planes_equal}
-use Rattle.nef_complex.specs.Planes.{HoldsBoth}
 use Rattle.nef_complex.proofs.SamePlanes.{parallel-equal}
 
 -- ---- the program's test of equality

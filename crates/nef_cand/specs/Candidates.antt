@@ -1,13 +1,10 @@
 -- The points that may be vertices of a combination of two sets, and of a half.
-use Rattle.std.specs.Prelude.{◌≡◌, ℕ, pos, ◌⊎◌, List}
+use Rattle.std.specs.Prelude.{◌≡◌, ◌⊎◌}
+use Rattle.nef_complex.specs.Prelude.{ℕ, pos, List, place_of, Point, At, IsVertexPoint}
 use Rattle.std.specs.List.{Contains}
 use Rattle.nef_space.specs.Place.{Place, Form, form_at, SamePlace, InClosedFrame, IsPlaceBelow, IsBetween}
-use Rattle.nef_geo.specs.Shapes.{place_of}
-use Rattle.nef_geo.specs.declared.point.Point.{Point}
-use Rattle.law_sphere.specs.Maps.{At}
 use Rattle.law_sphere.specs.Least.{InOrder}
 use Rattle.law_complex.specs.Complexes.{Vertex, Edge, Complex, HasEnds}
-use Rattle.law_complex.specs.Skeleton.{IsVertexPoint}
 use Rattle.law_complex.specs.Laws.{HoldsEdge, IsCut}
 
 -- one of the points is y

@@ -1,3 +1,4 @@
+pub mod Prelude
 pub mod Candidates
 pub mod Names
 pub mod Points

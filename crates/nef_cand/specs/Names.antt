@@ -1,12 +1,9 @@
 -- Candidates that are named by a vertex or an edge of one of two complexes.
-use Rattle.std.specs.Prelude.{◌≡◌, List}
+use Rattle.std.specs.Prelude.{◌≡◌}
+use Rattle.nef_complex.specs.Prelude.{List, Place, SamePlace, IsPlaceBelow, place_of, Point, IsVertexPoint, IsEdgePoint}
 use Rattle.std.specs.List.{Contains}
-use Rattle.nef_space.specs.Place.{Place, SamePlace, IsPlaceBelow}
-use Rattle.nef_geo.specs.Shapes.{place_of}
-use Rattle.nef_geo.specs.declared.point.Point.{Point}
 use Rattle.law_sphere.specs.Least.{InOrder}
 use Rattle.law_complex.specs.Complexes.{Complex}
-use Rattle.law_complex.specs.Skeleton.{IsVertexPoint, IsEdgePoint}
 use Rattle.nef_locate.specs.Places.{IsPlaceIn, IsPlaceAt}
 use Rattle.nef_cand.specs.declared.named.Operand.{Operand}
 use Rattle.nef_cand.specs.declared.named.Operand.TheVariants.{First, Second}

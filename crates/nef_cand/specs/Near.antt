@@ -1,23 +1,14 @@
 -- Candidates near what the sets have in the planes that cut.
-use Rattle.std.specs.Prelude.{◌≡◌, ℕ, ◌<◌, ◌≤◌, ◌⊎◌, List, [], ◌++◌, take, map, Option}
+use Rattle.std.specs.Prelude.{◌≡◌, ◌<◌, ◌≤◌, ◌⊎◌, ◌++◌, ℕ, List, [], take, map, Option}
 use Rattle.std.specs.List.{Contains}
-use Rattle.std.specs.Option.{MatchOption}
-use Rattle.nef_space.specs.Lists.{IsAt}
-use Rattle.nef_space.specs.Place.{Place, SamePlace, IsPlaceBelow}
-use Rattle.nef_space.specs.Sets.{Set}
-use Rattle.nef_geo.specs.Shapes.{place_of, form_of}
-use Rattle.nef_geo.specs.declared.plane.Plane.{Plane}
-use Rattle.nef_geo.specs.declared.point.Point.{Point}
-use Rattle.law_sphere.specs.Maps.{At}
+use Rattle.nef_complex.specs.Prelude.{MatchOption, IsAt, Place, SamePlace, IsPlaceBelow, Set, place_of, form_of, Plane, Point, At, complex_of, ShowsSet, IsInSpan, IsNarrower}
 use Rattle.law_sphere.specs.Least.{InOrder}
 use Rattle.law_complex.specs.Complexes.{Complex as PlainComplex}
 use Rattle.law_complex.specs.Laws.{IsCut, IsSkeletonIn, IsVertexOfBoth}
 use Rattle.nef_complex.specs.declared.complex.Complex.{Complex}
 use Rattle.nef_complex.specs.declared.complex.Edge.{Edge}
 use Rattle.nef_complex.specs.declared.complex.Vertex.{Vertex}
-use Rattle.nef_complex.specs.Complexes.{complex_of, ShowsSet}
 use Rattle.nef_complex.specs.Index.{IsSpanOn}
-use Rattle.nef_complex.specs.Spans.{IsInSpan, IsNarrower}
 use Rattle.nef_complex.specs.declared.spans.Span.{Span}
 use Rattle.nef_cand.specs.declared.named.Named.{Named}
 use Rattle.nef_cand.specs.declared.named.Operand.{Operand}
@@ -34,6 +25,10 @@ IsSpannedIn c x = IsAt c.carriers x.number x.plane × IsSpanOn c.vertices (form_
 
 abbrev pub AreSpannedIn : Complex → List Spanned → Type 0
 AreSpannedIn c xs = (x : Spanned) → Contains xs x → IsSpannedIn c x
+
+-- both complexes show sets, and the carriers are some of the second one's
+abbrev pub MayBeCut : Complex → Complex → List Spanned → Type 0
+MayBeCut c d xs = ((s : Set) × ShowsSet s c) × ((t : Set) × ShowsSet t d) × AreSpannedIn d xs
 
 -- the carrier is listed
 abbrev pub IsSpanned : List Spanned → Plane → Type 0
@@ -52,11 +47,6 @@ AreWithinSpan xs s = (x : Spanned) → Contains xs x → IsNarrower x.span s
 pub record AreThoseNear (xs : List Spanned) (s : Span) (ys : List Spanned) : Type 0 where
   pub only : (x : Spanned) → Contains ys x → Contains xs x
   pub all : (x : Spanned) → Contains xs x → (y : Place) → IsInSpan x.span y → IsInSpan s y → Contains ys x
-
--- these are some of the carriers, among them all whose spans have a point of each span that is as wide as all of ss
-pub record AreClose (ss : List Span) (xs ys : List Spanned) : Type 0 where
-  pub only : (x : Spanned) → Contains ys x → Contains xs x
-  pub all : (x : Spanned) → Contains xs x → (y : Place) → IsInSpan x.span y → ((r : Span) → ((k : ℕ) (s : Span) → IsAt ss k s → IsNarrower s r) → IsInSpan r y) → Contains ys x
 
 -- ---- cuts where the other set has something
 -- the set that the complex shows has something in the plane at y

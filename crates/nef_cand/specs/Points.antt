@@ -1,22 +1,15 @@
 -- Points added to a list, and where a plane parts an edge.
-use Rattle.std.specs.Prelude.{◌≡◌, ℕ, pos, ◌⊎◌, List, map}
+use Rattle.std.specs.Prelude.{◌≡◌, ◌⊎◌}
+use Rattle.nef_complex.specs.Prelude.{ℕ, pos, List, map, place_of, form_of, Plane, Point, At, HoldsBoth, Set, IsVertexOfBoth, complex_of, ShowsSet}
 use Rattle.std.specs.List.{Contains}
 use Rattle.nef_space.specs.Place.{Place, Form, form_at, InClosedFrame, SamePlace, IsBetween}
-use Rattle.nef_geo.specs.Shapes.{place_of, form_of}
-use Rattle.nef_geo.specs.declared.plane.Plane.{Plane}
-use Rattle.nef_geo.specs.declared.point.Point.{Point}
 use Rattle.nef_geo.specs.Steps.{HasOppositeSigns}
-use Rattle.law_sphere.specs.Maps.{At}
 use Rattle.law_complex.specs.Complexes.{Complex as PlainComplex}
 use Rattle.nef_complex.specs.declared.complex.Complex.{Complex}
 use Rattle.nef_complex.specs.declared.complex.Edge.{Edge}
 use Rattle.nef_complex.specs.declared.complex.Vertex.{Vertex}
-use Rattle.nef_complex.specs.Planes.{HoldsBoth}
 use Rattle.nef_cand.specs.declared.named.Named.{Named}
 use Rattle.nef_cand.specs.Names.{IsAmong}
-use Rattle.nef_space.specs.Sets.{Set}
-use Rattle.law_complex.specs.Laws.{IsVertexOfBoth}
-use Rattle.nef_complex.specs.Complexes.{complex_of, ShowsSet}
 use Rattle.nef_cand.specs.Candidates.{IsListed, IsCutBy, AreCandidates, AreFramed}
 
 -- ms are ns and more, which have N and whose points have P; all points with Q are among them

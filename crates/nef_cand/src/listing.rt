@@ -4,16 +4,8 @@
 //! set there. So cuts where the other set has nothing in the carrier that cuts may be left out; and it has something only
 //! within a span of the vertices on the carrier.
 
-ghost use Rattle.std.specs.Prelude.{◌≡◌, ◌<◌, ◌≤◌, ◌<ℤ◌, ◌≤ℤ◌, ◌↔◌, ℕ};
-ghost use Rattle.nef_complex.specs.Prelude.{IfOk, Bool, pos, length, IsTrue, OnOk, [], MatchOption, Place, Form, InFrame, SamePlace, form_at, Set, IsVertex, IsAt, form_of, place_of, SamePlane, IsVertexOfBoth, complex_of, ShowsSet, AreAlone};
-ghost use Rattle.nef_complex.specs.declared.complex.Edge.{Edge};
-ghost use Rattle.nef_complex.specs.declared.complex.Vertex.{Vertex};
-ghost use Rattle.nef_complex.specs.declared.spans.Span.{Span as SpanValue};
-ghost use Rattle.nef_complex.specs.Spans.{IsNarrower};
-ghost use Rattle.nef_cand.specs.Candidates.{IsListed, IsCutBy, AreCandidates, AreCutCandidates, AreFramed};
-ghost use Rattle.nef_cand.specs.Names.{IsNamedIn, IsNamedBetween};
-ghost use Rattle.nef_cand.specs.Points.{Adds, AddsAll, CutsOne, CutsEdge, MissesFrame};
-ghost use Rattle.nef_cand.specs.Near.{AreSpannedIn, AreSpannedCarriers, AreWithinSpan, AreThoseNear, AreClose, IsApart, CutsBy, CutsHeld, CutsEdgeByOne, CutsEdgeHeldOne, IsHeldCutOf, ListsCuts, ListsNear};
+ghost use Rattle.nef_cand.specs.Prelude.{ℕ, IfOk, Bool, pos, length, IsTrue, OnOk, [], MatchOption, Place, Form, InFrame, SamePlace, form_at, Set, IsVertex, IsAt, form_of, place_of, SamePlane, IsVertexOfBoth, complex_of, ShowsSet, AreAlone, Edge, Vertex, Span as SpanValue, IsNarrower, IsListed, IsCutBy, AreCandidates, AreCutCandidates, AreFramed, IsNamedIn, IsNamedBetween, Adds, AddsAll, CutsOne, CutsEdge, MissesFrame, AreSpannedIn, AreSpannedCarriers, AreWithinSpan, AreThoseNear, IsApart, CutsBy, CutsHeld, CutsEdgeByOne, CutsEdgeHeldOne, IsHeldCutOf, ListsCuts, ListsNear};
+ghost use Rattle.std.specs.Prelude.{◌≡◌, ◌<◌, ◌≤◌, ◌<ℤ◌, ◌≤ℤ◌, ◌↔◌};
 
 use crate::OutOfMemory;
 use crate::named::{Name, Named, Operand, merged, named_points, sort_once, together, vertices_of};
@@ -23,7 +15,7 @@ use nef_locate::place_on;
 use std::alloc::Global;
 
 /// A carrier with its number, and a span of the vertices on it.
-#[derive(Debug, Clone, Copy)]
+#[derive(Clone, Copy)]
 pub(crate) struct Spanned {
     pub number: usize,
     pub plane: Plane,
@@ -269,21 +261,27 @@ fn add_near_cuts(
     Ok(())
 }
 
-// The carriers but for such as lie far from all vertices, of which the spans are given. Where they are no more than the
-// vertices all stay, since the edges soon tell.
-fn close_carriers(
+// As `add_near_cuts`, with the spans of the complex's vertices. Carriers that are more than the vertices are first left out
+// where they lie far from all vertices; of fewer carriers the edges tell that soon.
+fn add_close_cuts(
+    listed: &mut Vec<Named>,
     alloc: Global,
+    c: &Complex,
+    operand: Operand,
+    other: &Complex,
     near: &[Spanned],
-    ends: &[Span],
-) -> Result<Vec<Spanned>, OutOfMemory>
-    ensures close { IfOk result (λ v. AreClose ends.now near.now v.items) }
+) -> Result<(), OutOfMemory>
+    requires shows { (s : Set) × ShowsSet s c.now }
+    requires other { (t : Set) × ShowsSet t other.now }
+    requires near { AreSpannedIn other.now near.now }
+    ensures added { OnOk result (AddsAll (CutsBy (complex_of c.now) near.now) (CutsHeld (complex_of c.now) other.now near.now) (IsNamedBetween operand (complex_of c.now) (complex_of other.now)) listed.old.items listed.new.items) }
 {
-    if near.len() > ends.len() {
-        return carriers_near(alloc, near, &around_all(ends));
+    let ends = point_spans(c);
+    if near.len() <= ends.len() {
+        return add_near_cuts(listed, c, operand, ends, other, near);
     }
-    let mut all = Vec::new(alloc);
-    all.extend_from_slice(near)?;
-    Ok(all)
+    let close = carriers_near(alloc, near, &around_all(ends))?;
+    add_near_cuts(listed, c, operand, ends, other, close.as_slice())
 }
 
 // Few carriers cross more edges where they hold something, and few edges are crossed by more such carriers.
@@ -305,9 +303,7 @@ pub(crate) fn near_cuts(
 {
     let room = near.len().min(c.edges.len()).saturating_mul(CUTS_OF_ONE);
     let mut listed = Vec::with_capacity(alloc, room)?;
-    let ends = point_spans(c);
-    let close = close_carriers(alloc, near, ends)?;
-    add_near_cuts(&mut listed, c, operand, ends, other, close.as_slice())?;
+    add_close_cuts(&mut listed, alloc, c, operand, other, near)?;
     // Only speed needs the order: what is sorted is merged with the other candidates, which is cheap.
     listed.sort_unstable_by(|m, n| lex_cmp(&m.point, &n.point));
     Ok(listed)

@@ -1,15 +1,8 @@
 -- Lines written word by word.
-use Rattle.std.proofs.Common.{◌≡◌, List, ℕ, zero, suc, ℤ, ◌+◌, ◌<◌, ◌≤◌, [], ◌∷◌, ◌++◌, length, take, get_or, Option, Some, None, MatchOption, option_to_list, slice_get, decimal, arith, refl, ap, sym, ◌∙◌, subst, append_assoc}
-use Rattle.std.proofs.lemmas.List.{append-nil, take_more, take_all}
-use Rattle.std.proofs.lemmas.Option.{get_or_from_slice_get}
-use Rattle.std.specs.Fmt.{signed_decimal}
-use Rattle.std.specs.List.{flat_map, join_with_byte}
-use Rattle.nef_core.specs.declared.work.TextVersion.{TextVersion}
+use Rattle.nef_canon.proofs.Prelude.{◌≡◌, List, ℕ, zero, suc, ℤ, ◌+◌, ◌<◌, ◌≤◌, [], ◌∷◌, ◌++◌, length, take, get_or, Option, Some, None, MatchOption, option_to_list, slice_get, decimal, arith, refl, ap, sym, ◌∙◌, subst, append_assoc, append-nil, take_more, take_all, get_or_from_slice_get, signed_decimal, flat_map, join_with_byte, TextVersion, Word, line, with_rows, vertex_text, sface_line, vertices_text, volume_line, shell_line, volumes_text, blanked}
 use Rattle.nef_core.specs.declared.work.TextVersion.TheVariants.{One, Two}
 use Rattle.nef_complex.specs.declared.complex.Complex.{Complex}
 use Rattle.nef_complex.specs.declared.parts.Parts.{Parts}
-use Rattle.nef_complex.specs.Text.{Word, line, with_rows, vertex_text, sface_line, vertices_text, volume_line, shell_line, volumes_text}
-use Rattle.nef_canon.specs.Words.{blanked}
 
 pub blanked-append : (us vs : List Word) → blanked (us ++ vs) ≡ blanked us ++ blanked vs
 blanked-append [] vs = refl

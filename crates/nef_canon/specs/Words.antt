@@ -1,8 +1,8 @@
--- Words behind blanks.
+-- Words after blanks.
 use Rattle.std.specs.Prelude.{ℕ, List, [], ◌∷◌, ◌++◌}
 use Rattle.nef_complex.specs.Text.{Word}
 
--- each word behind a blank
+-- the words, each after a blank
 abbrev pub blanked : List Word → List ℕ
 blanked [] = []
 blanked (w ∷ ws) = 32 ∷ (w ++ blanked ws)

@@ -1,5 +1,4 @@
-//! The canonical text of a complex with its parts, written once into one buffer. Its grammar stands in
-//! docs/text-format.md.
+//! The canonical text of a complex with its parts, written into one buffer. Its grammar stands in docs/text-format.md.
 #![tactic(auto)]
 
 mod text;

@@ -72,8 +72,7 @@ fn add_faces(text: &mut Vec<u8>, faces: &[usize]) -> Result<(), OutOfMemory>
     Ok(())
 }
 
-// Adds the vertices, each followed by its svertices, its arcs and its sloop, and in the second version by the numbers of the
-// sfaces of its sides.
+// Adds the vertices, each followed by its svertices, arcs and sloop, and in version two by its sides' sface numbers.
 fn add_vertices(
     text: &mut Vec<u8>,
     c: &Complex,
@@ -132,7 +131,7 @@ fn add_shell(text: &mut Vec<u8>, shell: &Shell) -> Result<(), OutOfMemory>
     Ok(())
 }
 
-// Adds the volumes, in the second version each followed by its shells.
+// Adds the volumes, each followed by its shells in version two.
 fn add_volumes(text: &mut Vec<u8>, parts: &Parts, version: TextVersion) -> Result<(), OutOfMemory>
     requires as_many { length parts.now.shells ≡ length parts.now.volumes }
     ensures added { OnOk result (text.new.items ≡ text.old.items ++ volumes_text version parts.now) }
@@ -187,10 +186,10 @@ fn add_edge(text: &mut Vec<u8>, e: &Edge) -> Result<(), OutOfMemory>
     Ok(())
 }
 
-/// The text of the complex with its parts, in this version: the first line with the numbers of vertices, edges, facets and
-/// volumes; the vertices with their sphere maps; the edges; the facets with their cycles; the volumes. In the second
-/// version the numbers of the sfaces of its sides follow each vertex, and its shells each volume. The parts are those of
-/// the complex. `OutOfMemory` says that memory was wanted and not found.
+/// The text of the complex with its parts, in this version: the first line with the numbers of vertices, edges, facets
+/// and volumes; the vertices with their sphere maps; the edges; the facets with their cycles; the volumes. In version
+/// two each vertex is followed by the numbers of its sides' sfaces, and each volume by its shells. The parts are those
+/// of the complex. `OutOfMemory` says that memory was wanted and not found.
 pub fn write_text(
     alloc: Global,
     c: &Complex,

@@ -1,4 +1,4 @@
-//! Words of a line, each behind a blank.
+//! Words of a line, each after a blank.
 
 ghost use Rattle.std.specs.Prelude.{◌≡◌, ◌++◌, ◌∷◌};
 ghost use Rattle.nef_complex.specs.Prelude.{ℕ, List, [], flat_map, decimal, OnOk, signed_decimal, label_word, option_word, dir_words, point_words, plane_words};
@@ -8,7 +8,7 @@ use crate::OutOfMemory;
 use itoa::Buffer;
 use nef_geo::{Dir, Label, Plane, Point};
 
-/// Adds the text of each item, of which one is added by `add`.
+/// Adds the text of each item in turn, by `add`.
 pub(crate) fn add_each<T, F: Fn(&mut Vec<u8>, &T) -> Result<(), OutOfMemory>>(
     text: &mut Vec<u8>,
     items: &[T],
@@ -43,7 +43,7 @@ pub(crate) fn add_number(text: &mut Vec<u8>, n: i64) -> Result<(), OutOfMemory>
     Ok(())
 }
 
-/// Adds a blank and the label.
+/// Adds a blank and the label's letter.
 pub(crate) fn add_label(text: &mut Vec<u8>, label: Label) -> Result<(), OutOfMemory>
     ensures added { OnOk result (text.new.items ≡ text.old.items ++ blanked (label_word label ∷ [])) }
 {
@@ -57,7 +57,7 @@ pub(crate) fn add_label(text: &mut Vec<u8>, label: Label) -> Result<(), OutOfMem
     Ok(())
 }
 
-/// Adds a blank and the label, or a dash where none is given.
+/// Adds a blank and the label's letter, or a dash without a label.
 pub(crate) fn add_option(text: &mut Vec<u8>, label: Option<Label>) -> Result<(), OutOfMemory>
     ensures added { OnOk result (text.new.items ≡ text.old.items ++ blanked (option_word label ∷ [])) }
 {
@@ -67,7 +67,7 @@ pub(crate) fn add_option(text: &mut Vec<u8>, label: Option<Label>) -> Result<(),
     }
 }
 
-// Adds two numbers, each behind a blank.
+// Adds two numbers, each after a blank.
 fn add_pair(text: &mut Vec<u8>, m: i64, n: i64) -> Result<(), OutOfMemory>
     ensures added { OnOk result (text.new.items ≡ text.old.items ++ blanked (signed_decimal m ∷ signed_decimal n ∷ [])) }
 {
@@ -75,7 +75,7 @@ fn add_pair(text: &mut Vec<u8>, m: i64, n: i64) -> Result<(), OutOfMemory>
     add_number(text, n)
 }
 
-/// Adds the three numbers of the direction, each behind a blank.
+/// Adds the three numbers of the direction, each after a blank.
 pub(crate) fn add_dir(text: &mut Vec<u8>, d: &Dir) -> Result<(), OutOfMemory>
     ensures added { OnOk result (text.new.items ≡ text.old.items ++ blanked (dir_words d.now)) }
 {
@@ -84,7 +84,7 @@ pub(crate) fn add_dir(text: &mut Vec<u8>, d: &Dir) -> Result<(), OutOfMemory>
     Ok(())
 }
 
-/// Adds the four numbers of the point, each behind a blank.
+/// Adds the four numbers of the point, each after a blank.
 pub(crate) fn add_point(text: &mut Vec<u8>, p: &Point) -> Result<(), OutOfMemory>
     ensures added { OnOk result (text.new.items ≡ text.old.items ++ blanked (point_words p.now)) }
 {
@@ -93,7 +93,7 @@ pub(crate) fn add_point(text: &mut Vec<u8>, p: &Point) -> Result<(), OutOfMemory
     Ok(())
 }
 
-/// Adds the four numbers of the plane, each behind a blank.
+/// Adds the four numbers of the plane, each after a blank.
 pub(crate) fn add_plane(text: &mut Vec<u8>, h: &Plane) -> Result<(), OutOfMemory>
     ensures added { OnOk result (text.new.items ≡ text.old.items ++ blanked (plane_words h.now)) }
 {

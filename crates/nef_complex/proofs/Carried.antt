@@ -1,35 +1,9 @@
 -- Each item lies in a carrier.
-use Rattle.std.proofs.Common.{◌≡◌, ℕ, pos, List, map, sym, ◌∙◌, ⊎_elim, subst}
-use Rattle.nef_space.specs.Signs.{sign}
-use Rattle.nef_space.proofs.Order.{nought-is}
-use Rattle.nef_space.specs.Place.{Place, Form, form_at, normal_of}
-use Rattle.nef_space.specs.Sets.{Set}
-use Rattle.nef_space.specs.Vectors.{dot, IsNormal, SameDirection}
-use Rattle.nef_geo.specs.Shapes.{form_of, place_of}
-use Rattle.nef_geo.specs.declared.plane.Plane.{Plane}
-use Rattle.law_near.proofs.Far.{nought-or}
-use Rattle.law_near.proofs.Near.{step-within, reach_all}
-use Rattle.law_near.specs.Cells.{carriers}
-use Rattle.law_near.proofs.Cells.{keeps-all}
-use Rattle.law_near.proofs.Decisions.{ahead, near-ahead}
+use Rattle.nef_complex.proofs.Prelude.{◌≡◌, ℕ, pos, List, map, sym, ◌∙◌, ⊎_elim, subst, sign, nought-is, nought-or, Place, Form, form_at, normal_of, Set, dot, IsNormal, SameDirection, form_of, place_of, Plane, step-within, reach_all, carriers, keeps-all, ahead, near-ahead, facet-support, by_side, At, Item, item_normal, item_pos, item_mark, item_neg, near-item, item-point, map-at, at-map, get-from_at, Corner as PlainCorner, IsCorner, Shows, near-germ, in-facet, plane-turned, plane-point, plane-slope, Vertex, vertex_of, AreHeld, SameDirection-turned}
 use Rattle.law_near.proofs.Germs.{sample, sample-short}
-use Rattle.law_near.proofs.Supports.{facet-support}
-use Rattle.law_sphere.specs.Least.{by_side}
-use Rattle.law_sphere.specs.Maps.{At, Item, item_normal, item_pos, item_mark, item_neg}
-use Rattle.law_sphere.proofs.Compare.{SameDirection-turned}
-use Rattle.law_sphere.proofs.NearItems.{near-item}
-use Rattle.law_sphere.proofs.Shot.{item-point}
-use Rattle.nef_smap.proofs.Lists.{map-at, at-map}
-use Rattle.nef_smap.proofs.SideLists.{get-from_at}
-use Rattle.law_complex.specs.Complexes.{Vertex as PlainVertex, Edge as PlainEdge, Complex as PlainComplex, Corner as PlainCorner, IsCorner}
-use Rattle.law_complex.specs.Shows.{Shows}
-use Rattle.law_complex.proofs.Cones.{FlatAre, near-germ}
-use Rattle.law_complex.proofs.FacetPoints.{in-facet}
+use Rattle.law_complex.specs.Complexes.{Vertex as PlainVertex, Edge as PlainEdge, Complex as PlainComplex}
+use Rattle.law_complex.proofs.Cones.{FlatAre}
 use Rattle.law_complex.proofs.FacetSides.{flats-one}
-use Rattle.law_complex.proofs.Planes.{plane-turned, plane-point, plane-slope}
-use Rattle.nef_complex.specs.declared.complex.Vertex.{Vertex}
-use Rattle.nef_complex.specs.Complexes.{vertex_of}
-use Rattle.nef_complex.specs.Index.{AreHeld}
 use Rattle.nef_complex.proofs.Reading.{got-at}
 
 -- a carrier that holds the vertex and has the item's normal, where its normal is one in normal form

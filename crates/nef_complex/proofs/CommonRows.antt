@@ -1,17 +1,5 @@
 -- The numbers that stand in two rows, by one way through both.
-use Rattle.std.proofs.Common.{◌≡◌, ℕ, ◌+◌, ◌<◌, ◌≤◌, List, [], ◌∷◌, ◌++◌, length, arith, sym, subst, ⊎_elim}
-use Rattle.std.proofs.lemmas.Bool.{cases_lt}
-use Rattle.nef_space.specs.Lists.{IsAt}
-use Rattle.nef_space.specs.Place.{Place}
-use Rattle.nef_geo.specs.Shapes.{form_of, place_of}
-use Rattle.nef_geo.specs.declared.plane.Plane.{Plane}
-use Rattle.nef_classes.proofs.ClassLists.{less-or-last, is-at_one, is-at_some, is-at_within}
-use Rattle.nef_complex.specs.declared.complex.Edge.{Edge}
-use Rattle.nef_complex.specs.declared.complex.Vertex.{Vertex}
-use Rattle.nef_complex.specs.Common.{DoAllRise, HaveRows, AreCommon, AreCommonRows}
-use Rattle.nef_complex.specs.Index.{AreNumbersWith, AreHolders, AreVertexHolders, AreEdgeHolders, HaveEnds}
-use Rattle.nef_complex.specs.Planes.{HoldsBoth}
-use Rattle.nef_complex.specs.Taken.{HasEntry, DoRise}
+use Rattle.nef_complex.proofs.Prelude.{◌≡◌, ℕ, ◌+◌, ◌<◌, ◌≤◌, List, [], ◌∷◌, ◌++◌, length, arith, sym, subst, ⊎_elim, cases_lt, IsAt, Place, form_of, place_of, Plane, less-or-last, is-at_one, is-at_some, is-at_within, Edge, Vertex, DoAllRise, HaveRows, AreCommon, AreCommonRows, AreNumbersWith, AreHolders, AreVertexHolders, AreEdgeHolders, HaveEnds, HoldsBoth, HasEntry, DoRise}
 use Rattle.nef_complex.proofs.Numbered.{AreThinned, thinned-none, thinned-more, thinned-skip}
 
 -- a number at the same place or later is no less

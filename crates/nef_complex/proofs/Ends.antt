@@ -1,27 +1,6 @@
 -- The ends of an edge, and the planes that hold both.
-use Rattle.std.proofs.Common.{◌≡◌, ℕ, ◌<◌, length, pos, ◌<ℤ◌, arith, ap, ◌∙◌, subst, [], ◌∷◌}
-use Rattle.std.proofs.lemmas.Int.{ints}
-use Rattle.nef_space.proofs.Ring.{at, num, ◌⊖◌, ◌⊗◌}
-use Rattle.nef_space.proofs.Combination.{given, none, follows_times}
-use Rattle.nef_space.specs.Place.{Place, Form, form_at, slope, toward, SamePlace, IsBetween}
-use Rattle.nef_space.specs.Sets.{Set}
-use Rattle.nef_space.specs.Vectors.{IsDirection}
-use Rattle.nef_geo.specs.Shapes.{place_of}
-use Rattle.law_near.proofs.Directions.{direction-left}
-use Rattle.law_near.proofs.Near.{slope-toward}
-use Rattle.law_near.proofs.Edges.{start, start-toward}
-use Rattle.law_sphere.specs.Maps.{At}
-use Rattle.law_sphere.proofs.Lists.{at-one}
-use Rattle.nef_smap.proofs.Lists.{map-at, at-map, at-within}
-use Rattle.law_complex.specs.Complexes.{HasEnds}
+use Rattle.nef_complex.proofs.Prelude.{◌≡◌, ℕ, ◌<◌, length, pos, ◌<ℤ◌, arith, ap, ◌∙◌, subst, [], ◌∷◌, ints, at, num, ◌⊖◌, ◌⊗◌, given, none, follows_times, Place, Form, form_at, slope, toward, SamePlace, IsBetween, Set, IsDirection, place_of, slope-toward, start, start-toward, At, at-one, map-at, at-map, at-within, HasEnds, Shows, IsVertexPoint, IsEdgePoint, Vertex, Edge, Complex, vertex_of, edge_of, complex_of, HoldsBoth, direction-left}
 use Rattle.law_complex.specs.Complexes.{Vertex as PlainVertex, Edge as PlainEdge}
-use Rattle.law_complex.specs.Shows.{Shows}
-use Rattle.law_complex.specs.Skeleton.{IsVertexPoint, IsEdgePoint}
-use Rattle.nef_complex.specs.declared.complex.Vertex.{Vertex}
-use Rattle.nef_complex.specs.declared.complex.Edge.{Edge}
-use Rattle.nef_complex.specs.declared.complex.Complex.{Complex}
-use Rattle.nef_complex.specs.Complexes.{vertex_of, edge_of, complex_of}
-use Rattle.nef_complex.specs.Planes.{HoldsBoth}
 
 -- a plane through a point between two others, which holds the direction from the one to the other, holds both
 pub through-both : (h : Form) (p q : Place) → form_at h (start 1 p q) ≡ pos 0 → slope h (toward p q) ≡ pos 0 → HoldsBoth h p q

@@ -1,20 +1,7 @@
 -- What stands on the skeleton lies in the closed frame.
-use Rattle.std.proofs.Common.{ℕ, ◌*◌, ◌<◌, ◌≤◌, nat_abs, arith, inl, inr, ⊎_elim}
-use Rattle.std.proofs.lemmas.Bool.{cases_lt}
-use Rattle.nef_space.specs.Limits.{half_side}
-use Rattle.nef_space.specs.Local.{FlatDim}
-use Rattle.nef_space.specs.Place.{Place, Form, InClosedFrame}
-use Rattle.nef_space.specs.Sets.{Set}
-use Rattle.law_near.proofs.Alike.{FlatDim-one}
+use Rattle.nef_complex.proofs.Prelude.{ℕ, ◌*◌, ◌<◌, ◌≤◌, nat_abs, arith, inl, inr, ⊎_elim, cases_lt, half_side, FlatDim, Place, Form, InClosedFrame, Set, FlatDim-one, IsSkeletonIn, Shows, IsVertexPoint, IsEdgePoint, meets_vertex, meets_edge, edge-points, dim-same, Complex, complex_of, ShowsSet}
 use Rattle.law_near.proofs.Frames.{flat_dim-outside}
 use Rattle.law_complex.specs.Complexes.{Complex as PlainComplex}
-use Rattle.law_complex.specs.Laws.{IsSkeletonIn}
-use Rattle.law_complex.specs.Shows.{Shows}
-use Rattle.law_complex.specs.Skeleton.{IsVertexPoint, IsEdgePoint, meets_vertex, meets_edge}
-use Rattle.law_complex.proofs.Edges.{edge-points}
-use Rattle.law_complex.proofs.FacetWays.{dim-same}
-use Rattle.nef_complex.specs.declared.complex.Complex.{Complex}
-use Rattle.nef_complex.specs.Complexes.{complex_of, ShowsSet}
 
 -- outside the closed frame all directions are flat
 dim-outside : (s : Set) (y : Place) (n : ℕ) → n < 3 → (InClosedFrame y → ⊥) → FlatDim s y n → ⊥

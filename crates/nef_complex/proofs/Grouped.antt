@@ -1,18 +1,5 @@
 -- Sorting and grouping keep all numbers: each carrier stands in a group of a cluster, and the spans of both hold the vertices on it.
-use Rattle.std.proofs.Common.{ℕ, zero, suc, ◌+◌, ◌<◌, ◌⊎◌, inl, inr, ⊎_elim, List, [], ◌∷◌, ◌++◌, length, arith, sym, subst}
-use Rattle.std.specs.List.Sorted.{IsPermutation}
-use Rattle.std.proofs.lemmas.List.Sorted.{Contains-permutation, IsPermutation-sym}
-use Rattle.nef_space.specs.Lists.{IsAt}
-use Rattle.nef_geo.specs.Shapes.{place_of}
-use Rattle.nef_geo.specs.declared.plane.Plane.{Plane}
-use Rattle.nef_classes.proofs.ClassLists.{less-or-last, is-at_one, is-at_some, is-at_within, is-at_get, is-at_is, is-at_left, is-at_last, Either, earlier, last, is-at_either}
-use Rattle.nef_complex.specs.declared.complex.Vertex.{Vertex}
-use Rattle.nef_complex.specs.declared.spans.Span.{Span}
-use Rattle.nef_complex.specs.declared.groups.Cluster.{Cluster}
-use Rattle.nef_complex.specs.declared.groups.Group.{Group}
-use Rattle.nef_complex.specs.Index.{AreSpans, StandsIn, IsInGroup, IsInCluster, AreSpanned, AreClusters}
-use Rattle.nef_complex.specs.Indexing.{AreKeyed, IsWide}
-use Rattle.nef_complex.specs.Spans.{IsNarrower}
+use Rattle.nef_complex.proofs.Prelude.{ℕ, zero, suc, ◌+◌, ◌<◌, ◌⊎◌, inl, inr, ⊎_elim, List, [], ◌∷◌, ◌++◌, length, arith, sym, subst, IsPermutation, Contains-permutation, IsPermutation-sym, IsAt, place_of, Plane, less-or-last, is-at_one, is-at_some, is-at_within, is-at_get, is-at_is, is-at_left, is-at_last, Either, earlier, last, is-at_either, Vertex, Span, Cluster, Group, AreSpans, StandsIn, IsInGroup, IsInCluster, AreSpanned, AreClusters, AreKeyed, IsWide, IsNarrower}
 use Rattle.nef_complex.proofs.Spanning.{span-wider, narrower-still}
 
 -- ---- numbers with keys

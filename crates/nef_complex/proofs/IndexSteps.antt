@@ -1,18 +1,6 @@
 -- Which carriers are planes of items, carrier by carrier.
-use Rattle.std.proofs.Common.{◌≡◌, ◌↔◌, ℕ, ◌+◌, ◌<◌, ◌≤◌, pos, Bool, IsTrue, List, [], ◌∷◌, ◌++◌, length, length-append, true, false, Option, Some, None, is_some, arith, refl, sym, subst, ◌∙◌}
+use Rattle.nef_complex.proofs.Prelude.{◌≡◌, ◌↔◌, ℕ, ◌+◌, ◌<◌, ◌≤◌, pos, Bool, IsTrue, List, [], ◌∷◌, ◌++◌, length, length-append, true, false, Option, Some, None, is_some, arith, refl, sym, subst, ◌∙◌, IsAt, Form, form_at, normal_of, Vector, SameDirection, form_of, place_of, Plane, At, Map, Item, items, item_normal, map_of, is-at_one, is-at_within, Either, earlier, last, is-at_either, Vertex, HasItemIn, LiesOn, AreNumbersWith, AreHeld, HasNormal, SameDirection-turned, SameDirection-trans}
 use Rattle.std.specs.Option.{MatchOption}
-use Rattle.nef_space.specs.Lists.{IsAt}
-use Rattle.nef_space.specs.Place.{Form, form_at, normal_of}
-use Rattle.nef_space.specs.Vectors.{Vector, SameDirection}
-use Rattle.nef_geo.specs.Shapes.{form_of, place_of}
-use Rattle.nef_geo.specs.declared.plane.Plane.{Plane}
-use Rattle.law_sphere.specs.Maps.{At, Map, Item, items, item_normal}
-use Rattle.law_sphere.proofs.Compare.{SameDirection-turned, SameDirection-trans}
-use Rattle.nef_smap.specs.Maps.{map_of}
-use Rattle.nef_classes.proofs.ClassLists.{is-at_one, is-at_within, Either, earlier, last, is-at_either}
-use Rattle.nef_complex.specs.declared.complex.Vertex.{Vertex}
-use Rattle.nef_complex.specs.Index.{HasItemIn, LiesOn, AreNumbersWith, AreHeld}
-use Rattle.nef_complex.specs.Indexing.{HasNormal}
 use Rattle.nef_complex.proofs.SamePlanes.{parallel-equal}
 
 -- ---- items

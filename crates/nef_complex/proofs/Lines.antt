@@ -1,15 +1,5 @@
 -- Points on one line, and where a line crosses a plane.
-use Rattle.std.proofs.Common.{◌≡◌, ℤ, pos, ◌-ℤ◌, ◌*ℤ◌, arith, ⊎_elim, [], ◌∷◌}
-use Rattle.std.proofs.lemmas.Int.{ints}
-use Rattle.nef_space.proofs.Ring.{at, num, ◌⊖◌, ◌⊗◌}
-use Rattle.nef_space.proofs.Combination.{follows_times, given, none}
-use Rattle.nef_space.specs.Place.{Place, Form, slope, normal_of, toward, SamePlace}
-use Rattle.nef_space.specs.Vectors.{Vector, cross, IsZero}
-use Rattle.law_near.proofs.Mixed.{toward-place}
-use Rattle.law_near.proofs.Directions.{zero-decided}
-use Rattle.law_sphere.proofs.KindFlats.{in-span}
-use Rattle.law_complex.proofs.Planes.{plane-way}
-use Rattle.nef_complex.specs.Planes.{HoldsBoth}
+use Rattle.nef_complex.proofs.Prelude.{◌≡◌, ℤ, pos, ◌-ℤ◌, ◌*ℤ◌, arith, ⊎_elim, [], ◌∷◌, ints, at, num, ◌⊖◌, ◌⊗◌, follows_times, given, none, Place, Form, slope, normal_of, toward, SamePlace, Vector, cross, IsZero, toward-place, plane-way, HoldsBoth, zero-decided, in-span}
 
 -- with u and v on the line through p along d, so is the way from u to v
 pub on_line : (p u v : Place) (d : Vector) → IsZero (cross (toward p u) d) → IsZero (cross (toward p v) d) → IsZero (cross (toward u v) d)

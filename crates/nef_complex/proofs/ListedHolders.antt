@@ -1,14 +1,5 @@
 -- The listed carriers that hold two points, one after the other.
-use Rattle.std.proofs.Common.{◌≡◌, ℕ, ◌+◌, ◌<◌, ◌≤◌, List, length, arith, subst, ⊎_elim}
-use Rattle.nef_space.specs.Lists.{IsAt}
-use Rattle.nef_space.specs.Place.{Place}
-use Rattle.nef_geo.specs.Shapes.{form_of}
-use Rattle.nef_geo.specs.declared.plane.Plane.{Plane}
-use Rattle.law_sphere.specs.Maps.{At}
-use Rattle.nef_classes.proofs.ClassLists.{less-or-last, is-at_one, is-at_within}
-use Rattle.nef_smap.proofs.SideLists.{get-from_at}
-use Rattle.nef_complex.specs.Index.{AreWithin, AreHolders}
-use Rattle.nef_complex.specs.Planes.{HoldsBoth}
+use Rattle.nef_complex.proofs.Prelude.{◌≡◌, ℕ, ◌+◌, ◌<◌, ◌≤◌, List, length, arith, subst, ⊎_elim, IsAt, Place, form_of, Plane, At, less-or-last, is-at_one, is-at_within, get-from_at, AreWithin, AreHolders, HoldsBoth}
 
 -- Q of the carriers among the first n of the list
 abbrev pub AllListed : List Plane → List ℕ → ℕ → (Plane → Type 0) → Type 0

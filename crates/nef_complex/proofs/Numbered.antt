@@ -1,9 +1,5 @@
 -- Lists of the numbers that have a property, in increasing order.
-use Rattle.std.proofs.Common.{◌≡◌, ℕ, ◌+◌, ◌<◌, ◌≤◌, List, [], ◌∷◌, ◌++◌, length, length-append, ◌↔◌, arith, refl, sym, ◌∙◌, subst, ⊎_elim}
-use Rattle.std.proofs.lemmas.Bool.{cases_lt}
-use Rattle.nef_space.specs.Lists.{IsAt}
-use Rattle.nef_classes.proofs.ClassLists.{less-or-last, is-at_one, is-at_within, is-at_left, is-at_last, Either, earlier, last, is-at_either}
-use Rattle.nef_complex.specs.Index.{AreNumbersWith}
+use Rattle.nef_complex.proofs.Prelude.{◌≡◌, ℕ, ◌+◌, ◌<◌, ◌≤◌, List, [], ◌∷◌, ◌++◌, length, length-append, ◌↔◌, arith, refl, sym, ◌∙◌, subst, ⊎_elim, cases_lt, IsAt, less-or-last, is-at_one, is-at_within, is-at_left, is-at_last, Either, earlier, last, is-at_either, AreNumbersWith}
 
 -- the number is below n and has P
 abbrev pub Before : (ℕ → Type 0) → ℕ → ℕ → Type 0

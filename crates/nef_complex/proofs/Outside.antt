@@ -1,16 +1,5 @@
 -- Carriers whose span doesn't meet a window: what they hold of the skeleton lies outside the window.
-use Rattle.std.proofs.Common.{◌≡◌, ℕ, pos, List}
-use Rattle.nef_space.specs.Lists.{IsAt}
-use Rattle.nef_space.specs.Place.{Place, form_at, InClosedFrame}
-use Rattle.nef_space.specs.Sets.{Set}
-use Rattle.nef_geo.specs.Shapes.{form_of}
-use Rattle.nef_geo.specs.declared.plane.Plane.{Plane}
-use Rattle.law_complex.specs.Laws.{IsSkeletonIn}
-use Rattle.nef_complex.specs.declared.complex.Complex.{Complex}
-use Rattle.nef_complex.specs.declared.spans.Span.{Span}
-use Rattle.nef_complex.specs.Complexes.{complex_of, ShowsSet, LiesOutside}
-use Rattle.nef_complex.specs.Index.{IsSpanOn, AreSpans, AreSpanned}
-use Rattle.nef_complex.specs.Spans.{IsInSpan}
+use Rattle.nef_complex.proofs.Prelude.{◌≡◌, ℕ, pos, List, IsAt, Place, form_at, InClosedFrame, Set, form_of, Plane, IsSkeletonIn, Complex, Span, complex_of, ShowsSet, LiesOutside, IsSpanOn, AreSpans, AreSpanned, IsInSpan}
 use Rattle.nef_complex.proofs.Framed.{skeleton-framed}
 use Rattle.nef_complex.proofs.Spanned.{spanned}
 

@@ -1,26 +1,9 @@
 -- Runs of parallel planes, and the one of a run that holds a point.
-use Rattle.std.proofs.Common.{◌≡◌, ℕ, zero, suc, ◌+◌, ◌-◌, ◌<◌, ◌≤◌, ℤ, pos, negsuc, ◌+ℤ◌, ◌-ℤ◌, ◌*ℤ◌, ◌<ℤ◌, List, [], ◌∷◌, ◌++◌, length, get_or, take, drop, arith, refl, ap, sym, ◌∙◌, ◌⊎◌, inl, inr, ⊎_elim, subst, Bool, true, false, IsTrue, Option, Some, None, is_some, IfSome, Result, Ok, Err, Ordering, Less, Equal, Greater}
+use Rattle.nef_complex.proofs.Prelude.{◌≡◌, ℕ, zero, suc, ◌+◌, ◌-◌, ◌<◌, ◌≤◌, ℤ, pos, negsuc, ◌+ℤ◌, ◌-ℤ◌, ◌*ℤ◌, ◌<ℤ◌, List, [], ◌∷◌, ◌++◌, length, get_or, take, drop, arith, refl, ap, sym, ◌∙◌, ◌⊎◌, inl, inr, ⊎_elim, subst, Bool, true, false, IsTrue, Option, Some, None, is_some, IfSome, Result, Ok, Err, IsNonDecreasingBy, IsSearchInRange, IsBinarySearchResult, int_cmp, ordering_index, drop_of_length-le, cases_lt, cases_order, ints, drop_more, length-drop, get_or-take, get_or-drop, lt_by, mul_pos, sub_pos, at, ◌⊕◌, ◌⊖◌, ◌⊗◌, not_true, IsAt, IsBelow, Place, Form, form_at, form_numbers, normal_of, Vector, form_of, Plane, sign_number, sign_of, less-or-last, is-at_one, is-at_some, is-at_within, is-at_get, is-at_is, AreInOrder, IsRun, AreRunsTo, AreRuns, GoesOn, IsHolderIn, IsOnlyHolder}
+use Rattle.std.proofs.Common.{Ordering, Less, Equal, Greater}
 use Rattle.std.specs.Bool.{then_some}
-use Rattle.std.specs.List.Sorted.{IsNonDecreasingBy, IsSearchInRange, IsBinarySearchResult}
-use Rattle.std.specs.Ordering.{int_cmp, ordering_index}
 use Rattle.std.specs.Result.{IfOk, is_ok}
-use Rattle.std.proofs.Math.ListN.{drop_of_length-le}
-use Rattle.std.proofs.lemmas.Bool.{cases_lt, cases_order}
-use Rattle.std.proofs.lemmas.Int.{ints}
-use Rattle.std.proofs.lemmas.List.{drop_more, length-take, length-drop, get_or-take, get_or-drop}
-use Rattle.nef_space.proofs.Order.{lt_by, mul_pos, sub_pos}
-use Rattle.nef_space.proofs.Ring.{at, ◌⊕◌, ◌⊖◌, ◌⊗◌}
-use Rattle.nef_arc.proofs.SignNumbers.{not_true}
-use Rattle.nef_space.specs.Lists.{IsAt}
-use Rattle.nef_space.specs.Numbers.{IsBelow}
-use Rattle.nef_space.specs.Place.{Place, Form, form_at, form_numbers, normal_of}
-use Rattle.nef_space.specs.Vectors.{Vector}
-use Rattle.nef_geo.specs.Shapes.{form_of}
-use Rattle.nef_geo.specs.declared.plane.Plane.{Plane}
-use Rattle.nef_geo.specs.Signs.{sign_number, sign_of}
-use Rattle.nef_classes.proofs.ClassLists.{less-or-last, is-at_one, is-at_some, is-at_within, is-at_get, is-at_is}
-use Rattle.nef_complex.specs.Index.{AreInOrder}
-use Rattle.nef_complex.specs.Runs.{IsRun, AreRunsTo, AreRuns, GoesOn, IsHolderIn, IsOnlyHolder}
+use Rattle.std.proofs.lemmas.List.{length-take}
 
 -- ---- the runs, one after the other
 run-one : (hs : List Plane) (k : ℕ) → k < length hs → IsRun hs k (k + 1)

@@ -1,21 +1,6 @@
 -- Where a plane parts two points, it crosses the segment between them.
-use Rattle.std.proofs.Common.{◌≡◌, ℕ, ◌<◌, ℤ, pos, ◌+ℤ◌, ◌-ℤ◌, ◌*ℤ◌, ◌<ℤ◌, arith, ap, sym, ◌∙◌, inl, inr, ⊎_elim, [], ◌∷◌}
-use Rattle.std.proofs.lemmas.Int.{ints}
-use Rattle.nef_space.proofs.Ring.{ring, Poly, at, num, ◌⊕◌, ◌⊖◌, ◌⊗◌}
-use Rattle.nef_space.proofs.Combination.{given, none, follows, follows_times}
-use Rattle.nef_space.proofs.Order.{mul_pos, mul_neg, by_order}
-use Rattle.nef_space.specs.Place.{Place, Form, form_at, slope, toward, IsBetween}
-use Rattle.nef_space.specs.Vectors.{Vector, dot, cross, triple, IsZero, IsDirection}
-use Rattle.nef_geo.specs.Steps.{HasOppositeSigns}
-use Rattle.law_near.specs.Homogeneous.{IsMixed, of_place}
-use Rattle.law_near.proofs.Sums.{form-sum}
-use Rattle.law_near.proofs.Near.{slope-toward}
-use Rattle.law_near.proofs.Between.{mixed-of, between-turned}
-use Rattle.law_near.proofs.Rays.{slope-zero}
-use Rattle.law_near.proofs.FlatDecided.{cross-turned}
-use Rattle.law_sphere.proofs.KindFlats.{in-span}
+use Rattle.nef_complex.proofs.Prelude.{◌≡◌, ℕ, ◌<◌, ℤ, pos, ◌+ℤ◌, ◌-ℤ◌, ◌*ℤ◌, ◌<ℤ◌, arith, ap, sym, ◌∙◌, inl, inr, ⊎_elim, [], ◌∷◌, ints, ring, Poly, at, num, ◌⊕◌, ◌⊖◌, ◌⊗◌, given, none, follows, follows_times, mul_pos, mul_neg, by_order, Place, Form, form_at, slope, toward, IsBetween, Vector, dot, cross, triple, IsZero, IsDirection, HasOppositeSigns, IsMixed, of_place, form-sum, slope-toward, mixed-of, between-turned, slope-zero, HoldsBoth, cross-turned, in-span}
 use Rattle.law_complex.proofs.FacetAngles.{cut-at}
-use Rattle.nef_complex.specs.Planes.{HoldsBoth}
 
 -- ---- signs of products
 times-none : (k c : ℤ) → c ≡ pos 0 → k *ℤ c ≡ pos 0

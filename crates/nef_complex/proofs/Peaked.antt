@@ -1,13 +1,5 @@
 -- Greatest upper ends of edges, in blocks and in tables.
-use Rattle.std.proofs.Common.{◌≡◌, ℕ, ◌+◌, ◌*◌, ◌<◌, ◌≤◌, List, [], ◌∷◌, ◌++◌, length, length-append, arith, ap, sym, ◌∙◌, ◌⊎◌, inl, inr, ⊎_elim, subst}
-use Rattle.std.proofs.lemmas.Bool.{cases_lt}
-use Rattle.nef_space.specs.Lists.{IsAt}
-use Rattle.nef_classes.proofs.ClassLists.{is-at_one, is-at_some, is-at_within, Either, earlier, last, is-at_either}
-use Rattle.nef_geo.specs.declared.plane.Plane.{Plane}
-use Rattle.nef_complex.specs.declared.complex.Edge.{Edge}
-use Rattle.nef_complex.specs.declared.complex.Vertex.{Vertex}
-use Rattle.nef_complex.specs.Index.{AreCarrierEdges, AreWithin}
-use Rattle.nef_complex.specs.Peaks.{block_start, EndBelow, ArePeaks, HavePeaks}
+use Rattle.nef_complex.proofs.Prelude.{◌≡◌, ℕ, ◌+◌, ◌*◌, ◌<◌, ◌≤◌, List, [], ◌∷◌, ◌++◌, length, length-append, arith, ap, sym, ◌∙◌, ◌⊎◌, inl, inr, ⊎_elim, subst, cases_lt, IsAt, is-at_one, is-at_some, is-at_within, Either, earlier, last, is-at_either, Plane, Edge, Vertex, AreCarrierEdges, AreWithin, block_start, EndBelow, ArePeaks, HavePeaks}
 
 module _ (es : List Edge) (ns : List ℕ) where
   pub end-none : (first past n : ℕ) → past ≤ first → EndBelow es ns first past n

@@ -1,21 +1,5 @@
 -- Searching the planes of an index by halving.
-use Rattle.std.proofs.Common.{◌≡◌, ℕ, ◌<◌, ℤ, length, arith, refl, sym, subst, inl, inr, ⊎_elim, List, [], ◌∷◌, get_or}
-use Rattle.std.specs.Ordering.{ordering_index}
-use Rattle.std.specs.List.Sorted.{IsNonDecreasingBy, IsPartitionPoint}
-use Rattle.std.specs.declared.cmp.Ordering.TheVariants.{Less, Equal, Greater}
-use Rattle.std.proofs.lemmas.Bool.{cases_lt}
-use Rattle.std.proofs.lemmas.Cmp.{by_ranked}
-use Rattle.std.proofs.lemmas.Int.{ints}
-use Rattle.std.proofs.lemmas.List.Sorted.{searchable_from_sorted}
-use Rattle.std.proofs.lemmas.Option.{slice_get-get_or, slice_get_within, get_or_from_slice_get}
-use Rattle.nef_space.specs.Lists.{IsAt}
-use Rattle.nef_space.specs.Numbers.{IsBelow}
-use Rattle.nef_space.specs.Place.{form_numbers}
-use Rattle.nef_geo.specs.Shapes.{form_of}
-use Rattle.nef_geo.specs.declared.plane.Plane.{Plane}
-use Rattle.nef_geo.proofs.Orders.{plane_order, plane_total, plane-ordered, IsPlaneBelow}
-use Rattle.nef_smap.proofs.SortedOnce.{sorted-from_order}
-use Rattle.nef_complex.specs.Index.{AreInOrder}
+use Rattle.nef_complex.proofs.Prelude.{◌≡◌, ℕ, ◌<◌, ℤ, length, arith, refl, sym, subst, inl, inr, ⊎_elim, List, [], ◌∷◌, get_or, ordering_index, IsNonDecreasingBy, IsPartitionPoint, Less, Equal, Greater, cases_lt, by_ranked, ints, searchable_from_sorted, slice_get-get_or, slice_get_within, get_or_from_slice_get, IsAt, IsBelow, form_numbers, form_of, Plane, plane_order, plane_total, plane-ordered, IsPlaneBelow, sorted-from_order, AreInOrder}
 
 below-one_way : (xs ys : List ℤ) → IsBelow xs ys → IsBelow ys xs → ⊥
 below-one_way [] ys h k = h

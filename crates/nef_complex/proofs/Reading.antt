@@ -1,10 +1,5 @@
 -- Reading lists. What holds of the first elements, and of the next, holds of all these.
-use Rattle.std.proofs.Common.{◌≡◌, ℕ, zero, suc, ◌<◌, ◌+◌, ◌≤◌, List, [], ◌∷◌, length, get_or, slice_get, Some, None, arith, sym, subst, ⊎_elim}
-use Rattle.std.proofs.Math.Nat.{eq-or-lt_of_le}
-use Rattle.law_sphere.specs.Maps.{At}
-use Rattle.law_sphere.proofs.Lists.{at-one}
-use Rattle.nef_classes.proofs.ClassLists.{is-at_within}
-use Rattle.nef_complex.specs.Index.{StandsIn}
+use Rattle.nef_complex.proofs.Prelude.{◌≡◌, ℕ, zero, suc, ◌<◌, ◌+◌, ◌≤◌, List, [], ◌∷◌, length, get_or, slice_get, Some, None, arith, sym, subst, ⊎_elim, eq-or-lt_of_le, At, at-one, is-at_within, StandsIn}
 
 pub got-at : {X : Type 0} (xs : List X) (k : ℕ) (x : X) → slice_get xs k ≡ Some x → At xs k x
 got-at [] k x e = let f : None ≡ Some x = e in cc

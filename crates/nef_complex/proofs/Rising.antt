@@ -1,17 +1,5 @@
 -- Edges stand in order of their lower ends, so of a row of edges in order those that begin before a vertex come first.
-use Rattle.std.proofs.Common.{◌≡◌, ℕ, ◌<◌, ◌≤◌, ◌+◌, List, arith, ap, ⊎_elim, subst, inl, inr}
-use Rattle.std.proofs.Math.Nat.{eq-or-lt_of_le}
-use Rattle.std.proofs.lemmas.Int.{ints}
-use Rattle.nef_space.specs.Lists.{IsAt}
-use Rattle.nef_space.specs.Sets.{Set}
-use Rattle.nef_classes.proofs.ClassLists.{is-at_one}
-use Rattle.nef_smap.proofs.Lists.{map-at}
-use Rattle.nef_smap.proofs.SideLists.{at-from_get}
-use Rattle.law_complex.specs.Complexes.{IsEdgeBelow}
-use Rattle.law_complex.specs.Shows.{Shows}
-use Rattle.nef_complex.specs.declared.complex.Edge.{Edge}
-use Rattle.nef_complex.specs.declared.complex.Complex.{Complex}
-use Rattle.nef_complex.specs.Complexes.{edge_of, complex_of}
+use Rattle.nef_complex.proofs.Prelude.{◌≡◌, ℕ, ◌<◌, ◌≤◌, ◌+◌, List, arith, ap, ⊎_elim, subst, inl, inr, eq-or-lt_of_le, ints, IsAt, Set, is-at_one, map-at, at-from_get, IsEdgeBelow, Shows, Edge, Complex, edge_of, complex_of}
 
 -- the edges before place n of the row begin before the limit, and those from there on don't
 abbrev pub BeginBefore : List Edge → List ℕ → ℕ → ℕ → Type 0

@@ -1,14 +1,5 @@
 -- Two planes that hold one point and have parallel normals are one.
-use Rattle.std.proofs.Common.{◌≡◌, pos, ◌<ℤ◌, [], ◌∷◌, arith}
-use Rattle.std.proofs.lemmas.Int.{ints}
-use Rattle.nef_space.proofs.Ring.{Poly, at, num, ◌⊕◌, ◌⊖◌, ◌⊗◌}
-use Rattle.nef_space.proofs.Combination.{given, none, follows_times}
-use Rattle.nef_space.specs.Place.{Place, Form, form_at, normal_of}
-use Rattle.nef_space.specs.Vectors.{cross, IsZero}
-use Rattle.nef_geo.specs.Meet.{IsSamePlane}
-use Rattle.nef_geo.specs.Shapes.{form_of}
-use Rattle.nef_geo.specs.declared.plane.Plane.{Plane}
-use Rattle.nef_geo.proofs.Unique.{same_planes_equal}
+use Rattle.nef_complex.proofs.Prelude.{◌≡◌, pos, ◌<ℤ◌, [], ◌∷◌, arith, ints, Poly, at, num, ◌⊕◌, ◌⊖◌, ◌⊗◌, given, none, follows_times, Place, Form, form_at, normal_of, cross, IsZero, IsSamePlane, form_of, Plane, same_planes_equal}
 
 abbrev gp : Poly
 gp = at 0 ⊗ at 8 ⊕ at 1 ⊗ at 9 ⊕ at 2 ⊗ at 10 ⊕ at 3 ⊗ at 11

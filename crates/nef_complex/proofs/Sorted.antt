@@ -1,23 +1,7 @@
 -- Searching sorted vertices.
-use Rattle.std.proofs.Common.{◌≡◌, ℕ, zero, suc, ◌<◌, ◌≤◌, arith, refl, sym, subst, ⊎_elim, List, [], ◌∷◌, length, map, Ok, Err, Result, IfOk, IfErr, HoldsAt}
-use Rattle.std.proofs.lemmas.Bool.{cases_lt}
-use Rattle.std.proofs.lemmas.List.Sorted.{searchable_from_sorted}
-use Rattle.std.proofs.lemmas.Option.{get_or_from_slice_get, slice_get_within}
-use Rattle.std.specs.Ordering.{ordering_index}
-use Rattle.std.specs.List.Sorted.{IsBinarySearchResult, IsNonDecreasingBy, IsSearchInRange}
-use Rattle.std.specs.declared.cmp.Ordering.{Ordering}
-use Rattle.std.specs.declared.cmp.Ordering.TheVariants.{Less, Equal, Greater}
-use Rattle.nef_space.specs.Lists.{IsAt}
-use Rattle.nef_space.specs.Place.{SamePlace, IsPlaceBelow}
-use Rattle.nef_geo.specs.Shapes.{place_of}
-use Rattle.nef_geo.specs.declared.point.Point.{Point}
-use Rattle.law_near.proofs.Rays.{same-place_sym}
-use Rattle.law_near.proofs.PlaceOrder.{place_below-apart}
-use Rattle.law_sphere.specs.Maps.{At}
+use Rattle.nef_complex.proofs.Prelude.{◌≡◌, ℕ, zero, suc, ◌<◌, ◌≤◌, arith, refl, sym, subst, ⊎_elim, List, [], ◌∷◌, length, map, Ok, Err, Result, IfErr, HoldsAt, cases_lt, searchable_from_sorted, get_or_from_slice_get, slice_get_within, ordering_index, IsBinarySearchResult, IsNonDecreasingBy, IsSearchInRange, Ordering, Less, Equal, Greater, IsAt, SamePlace, IsPlaceBelow, place_of, Point, same-place_sym, place_below-apart, At, sorted-from_order, Vertex, vertex_of, AreSorted, AreBelow, AreAbove}
+use Rattle.std.proofs.Common.{IfOk}
 use Rattle.law_complex.specs.Complexes.{Vertex as PlainVertex}
-use Rattle.nef_smap.proofs.SortedOnce.{sorted-from_order}
-use Rattle.nef_complex.specs.declared.complex.Vertex.{Vertex}
-use Rattle.nef_complex.specs.Complexes.{vertex_of, AreSorted, AreBelow, AreAbove}
 use Rattle.nef_complex.proofs.Order.{one-order, place_order, as-ordered, point_order, point-ordered, point_total}
 
 -- how a vertex stands to the point

@@ -1,23 +1,7 @@
 -- What lies within two spans, between two points of a span, and in a plane with a span of its vertices.
-use Rattle.std.proofs.Common.{◌≡◌, ℤ, pos, ◌*ℤ◌, ◌≤ℤ◌, arith, sym, subst, inl, inr}
-use Rattle.std.proofs.lemmas.Int.{ints}
-use Rattle.nef_space.proofs.Order.{cancel_le}
-use Rattle.nef_space.specs.Place.{Place, Form, form_at, SamePlace, IsBetween}
-use Rattle.nef_space.specs.Sets.{Set}
-use Rattle.nef_geo.specs.Shapes.{place_of}
-use Rattle.nef_smap.proofs.Lists.{at-map}
-use Rattle.nef_smap.proofs.SideLists.{get-from_at}
+use Rattle.nef_complex.proofs.Prelude.{◌≡◌, ℤ, pos, ◌*ℤ◌, ◌≤ℤ◌, arith, sym, subst, inl, inr, ints, cancel_le, Place, Form, form_at, SamePlace, IsBetween, Set, place_of, at-map, get-from_at, meets_vertex, meets_edge, IsSkeletonIn, Coordinate, coordinate_of, coordinate_x, coordinate_y, coordinate_z, EachVertexOn, EachPointOn, IsWithin, Complex, Bounds, Span, vertex_of, complex_of, ShowsSet, IsSpanOn, IsInSpan, IsNarrower}
 use Rattle.law_complex.specs.Complexes.{Vertex as PlainVertex}
-use Rattle.law_complex.specs.Skeleton.{meets_vertex, meets_edge}
-use Rattle.law_complex.specs.Laws.{IsSkeletonIn}
-use Rattle.law_complex.specs.Spans.{Coordinate, coordinate_of, coordinate_x, coordinate_y, coordinate_z, EachVertexOn, EachPointOn, IsWithin}
 use Rattle.law_complex.proofs.Spans.{plane-within, within-same, within-between}
-use Rattle.nef_complex.specs.declared.complex.Complex.{Complex}
-use Rattle.nef_complex.specs.declared.spans.Bounds.{Bounds}
-use Rattle.nef_complex.specs.declared.spans.Span.{Span}
-use Rattle.nef_complex.specs.Complexes.{vertex_of, complex_of, ShowsSet}
-use Rattle.nef_complex.specs.Index.{IsSpanOn}
-use Rattle.nef_complex.specs.Spans.{IsInSpan, IsNarrower}
 use Rattle.nef_complex.proofs.Spanning.{weight, span-wider}
 
 -- ---- bounds that hold a coordinate in common

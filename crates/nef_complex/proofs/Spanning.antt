@@ -1,22 +1,5 @@
 -- Whole numbers that bound coordinates.
-use Rattle.std.proofs.Common.{◌≡◌, ℕ, zero, suc, ◌⊎◌, inl, inr, ◌+◌, ◌*◌, ◌/◌, ◌<◌, ◌≤◌, ℤ, pos, negsuc, neg_ℤ, ◌+ℤ◌, ◌*ℤ◌, ◌-ℤ◌, ◌<ℤ◌, ◌≤ℤ◌, nat_abs, List, [], ◌∷◌, ◌++◌, length, length-append, arith, sym, ◌∙◌, subst, ⊎_elim}
-use Rattle.std.proofs.Math.Nat.{div-le_self, div-mul-le_self, lt-div-mul-add}
-use Rattle.std.proofs.lemmas.Int.{ints}
-use Rattle.std.specs.Int.{int_div_euclid}
-use Rattle.nef_space.proofs.Order.{mul_nonneg}
-use Rattle.nef_space.proofs.Ring.{ring, at, num, neg, ◌⊕◌, ◌⊖◌, ◌⊗◌}
-use Rattle.nef_space.specs.Lists.{IsAt}
-use Rattle.nef_space.specs.Place.{Place}
-use Rattle.nef_geo.specs.Shapes.{place_of}
-use Rattle.nef_geo.specs.declared.plane.Plane.{Plane}
-use Rattle.law_complex.specs.Spans.{Coordinate, coordinate_of, coordinate_x, coordinate_y, coordinate_z, IsWithin}
-use Rattle.nef_classes.proofs.ClassLists.{less-or-last, is-at_one, is-at_some, is-at_within, Either, earlier, last, is-at_either}
-use Rattle.nef_complex.specs.declared.complex.Vertex.{Vertex}
-use Rattle.nef_complex.specs.declared.spans.Bounds.{Bounds}
-use Rattle.nef_complex.specs.declared.spans.Span.{Span}
-use Rattle.nef_complex.specs.Index.{AreWithin, AreCarrierVertices, AreSpans}
-use Rattle.nef_complex.specs.Indexing.{AreAlone, AreNarrowerListed}
-use Rattle.nef_complex.specs.Spans.{IsInSpan, AreInSpan, AreNarrower, IsNarrower}
+use Rattle.nef_complex.proofs.Prelude.{◌≡◌, ℕ, zero, suc, ◌⊎◌, inl, inr, ◌+◌, ◌*◌, ◌/◌, ◌<◌, ◌≤◌, ℤ, pos, negsuc, neg_ℤ, ◌+ℤ◌, ◌*ℤ◌, ◌-ℤ◌, ◌<ℤ◌, ◌≤ℤ◌, nat_abs, List, [], ◌∷◌, ◌++◌, length, length-append, arith, sym, ◌∙◌, subst, ⊎_elim, div-le_self, div-mul-le_self, lt-div-mul-add, ints, int_div_euclid, mul_nonneg, ring, at, num, neg, ◌⊕◌, ◌⊖◌, ◌⊗◌, IsAt, Place, place_of, Plane, Coordinate, coordinate_of, coordinate_x, coordinate_y, coordinate_z, IsWithin, less-or-last, is-at_one, is-at_some, is-at_within, Either, earlier, last, is-at_either, Vertex, Bounds, Span, AreWithin, AreCarrierVertices, AreSpans, AreAlone, AreNarrowerListed, IsInSpan, AreInSpan, AreNarrower, IsNarrower}
 
 -- ---- quotients
 -- z/w rounded down, times w, is at most z

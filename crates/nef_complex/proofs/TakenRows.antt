@@ -1,21 +1,7 @@
 -- The row of a vertex that is renumbered.
-use Rattle.std.proofs.Common.{◌≡◌, sym, ℕ, ◌<◌, ◌≤◌, ⊎_elim, List, [], length, get_or, arith, subst}
-use Rattle.std.specs.List.{Contains, dedup}
-use Rattle.std.specs.List.Sorted.{IsSorted, IsPermutation}
-use Rattle.std.specs.Ordering.{nat_cmp}
-use Rattle.std.proofs.Math.Dec.{eqb}
+use Rattle.nef_complex.proofs.Prelude.{◌≡◌, sym, ℕ, ◌<◌, ◌≤◌, ⊎_elim, List, [], length, get_or, arith, subst, Contains, dedup, IsSorted, IsPermutation, nat_cmp, eqb, Contains-permutation, IsPermutation-sym, IsAt, Place, form_of, Plane, is-at_one, is-at_within, is-at_get, is-at_is, AreNumbersWith, AreHolders, IsHolder, AreWithin, HoldsBoth, AreRead, HasEntry, StandsAmong, AreTaken, AreAdded}
 use Rattle.std.proofs.lemmas.List.Kept.{Contains-dedup_nat, Contains-from_dedup, AllPairs-from_increasing}
-use Rattle.std.proofs.lemmas.List.Sorted.{Contains-permutation, IsPermutation-sym}
 use Rattle.std.proofs.lemmas.Map.Keys.{IsStrictlyIncreasing-dedup}
-use Rattle.nef_space.specs.Lists.{IsAt}
-use Rattle.nef_space.specs.Place.{Place}
-use Rattle.nef_geo.specs.Shapes.{form_of}
-use Rattle.nef_geo.specs.declared.plane.Plane.{Plane}
-use Rattle.nef_classes.proofs.ClassLists.{is-at_one, is-at_within, is-at_get, is-at_is}
-use Rattle.nef_complex.specs.Index.{AreNumbersWith, AreHolders, IsHolder, AreWithin}
-use Rattle.nef_complex.specs.Planes.{HoldsBoth}
-use Rattle.nef_complex.specs.Tables.{AreRead}
-use Rattle.nef_complex.specs.Taken.{HasEntry, StandsAmong, AreTaken, AreAdded}
 use Rattle.nef_complex.proofs.Walking.{added-none, read-added, read-rise}
 
 entry-contained : (ns : List ℕ) (k : ℕ) → HasEntry ns k → Contains ns k

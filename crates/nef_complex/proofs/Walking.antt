@@ -1,14 +1,5 @@
 -- The carriers of a complex among others, and the row of a vertex that is renumbered.
-use Rattle.std.proofs.Common.{◌≡◌, ℕ, ◌+◌, ◌<◌, ◌≤◌, ◌⊎◌, inl, inr, ⊎_elim, List, [], ◌∷◌, ◌++◌, length, length-append, arith, refl, sym, subst, ◌∙◌}
-use Rattle.nef_space.specs.Lists.{IsAt}
-use Rattle.nef_space.specs.Numbers.{IsBelow}
-use Rattle.nef_space.specs.Place.{form_numbers}
-use Rattle.nef_geo.specs.Shapes.{form_of}
-use Rattle.nef_geo.specs.declared.plane.Plane.{Plane}
-use Rattle.nef_classes.proofs.ClassLists.{less-or-last, is-at_one, is-at_within, is-at_some, is-at_left, is-at_last, Either, earlier, last, is-at_either}
-use Rattle.nef_complex.specs.Index.{AreInOrder}
-use Rattle.nef_complex.specs.Tables.{AreRead}
-use Rattle.nef_complex.specs.Taken.{HasEntry, DoRise, StandsAmong, AreTaken, AreAdded}
+use Rattle.nef_complex.proofs.Prelude.{◌≡◌, ℕ, ◌+◌, ◌<◌, ◌≤◌, ◌⊎◌, inl, inr, ⊎_elim, List, [], ◌∷◌, ◌++◌, length, length-append, arith, refl, sym, subst, ◌∙◌, IsAt, IsBelow, form_numbers, form_of, Plane, less-or-last, is-at_one, is-at_within, is-at_some, is-at_left, is-at_last, Either, earlier, last, is-at_either, AreInOrder, AreRead, HasEntry, DoRise, StandsAmong, AreTaken, AreAdded}
 
 -- ---- entries
 pub entry-left : (ns : List ℕ) (n k : ℕ) → HasEntry ns k → HasEntry (ns ++ n ∷ []) k

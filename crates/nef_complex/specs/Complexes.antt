@@ -1,16 +1,11 @@
 -- The program's complexes as complexes of any size, and which of them show a set.
-use Rattle.std.specs.Prelude.{◌≡◌, ℕ, ◌<◌, ◌≤◌, pos, List, map}
-use Rattle.nef_space.specs.Lists.{IsAt}
-use Rattle.nef_space.specs.Place.{Place, form_at, InClosedFrame, IsPlaceBelow}
-use Rattle.nef_space.specs.Sets.{Set}
+use Rattle.std.specs.Prelude.{◌≡◌, ◌<◌, ◌≤◌}
+use Rattle.nef_space.specs.Prelude.{ℕ, pos, List, map, IsAt, Place, form_at, InClosedFrame, IsPlaceBelow, Set}
 use Rattle.nef_geo.specs.Shapes.{place_of, form_of}
 use Rattle.nef_geo.specs.declared.plane.Plane.{Plane}
 use Rattle.nef_geo.specs.declared.point.Point.{Point}
 use Rattle.nef_smap.specs.Maps.{map_of, IsLeastMap}
-use Rattle.law_complex.specs.Complexes.{Vertex as PlainVertex, Edge as PlainEdge, Complex as PlainComplex, Corner as PlainCorner, Edges}
-use Rattle.law_complex.specs.Laws.{IsSkeletonIn}
-use Rattle.law_complex.specs.Shows.{Shows}
-use Rattle.law_complex.specs.Skeleton.{PlaneMeet as PlainMeet, meets_vertex, meets_edge}
+use Rattle.law_complex.specs.Prelude.{Vertex as PlainVertex, Edge as PlainEdge, Complex as PlainComplex, Corner as PlainCorner, Edges, IsSkeletonIn, Shows, PlaneMeet as PlainMeet, meets_vertex, meets_edge}
 use Rattle.nef_complex.specs.declared.complex.Vertex.{Vertex}
 use Rattle.nef_complex.specs.declared.complex.Edge.{Edge}
 use Rattle.nef_complex.specs.declared.complex.Complex.{Complex}
@@ -41,18 +36,18 @@ meet_of (AtEdge k) = meets_edge k
 abbrev pub AreSorted : List Vertex → Type 0
 AreSorted vs = (i k : ℕ) (u v : Vertex) → i < k → IsAt vs i u → IsAt vs k v → IsPlaceBelow (place_of u.point) (place_of v.point)
 
--- the complex shows the set, with maps within their limits, and its index is that of its vertices and edges and names the carriers that hold them
+-- the complex shows the set with least maps; its index is the index of its carriers, vertices and edges
 pub record ShowsSet (s : Set) (c : Complex) : Type 0 where
   pub shows : Shows s (complex_of c)
   pub maps : (k : ℕ) (v : Vertex) → IsAt c.vertices k v → IsLeastMap v.map
   pub index : IsIndexOf c.carriers c.vertices c.index
   pub holders : HasHolders c.carriers c.vertices c.edges c.index
 
--- what the carrier with this number holds of the skeleton lies in the closed frame, and not within the window
+-- what the carrier with this number holds of the skeleton lies in the closed frame and outside the window
 abbrev pub LiesOutside : Complex → Span → ℕ → Type 0
 LiesOutside c w k = (h : Plane) → IsAt c.carriers k h → (s : Set) (y : Place) → ShowsSet s c → form_at (form_of h) y ≡ pos 0 → IsSkeletonIn s (complex_of c) (form_of h) y → InClosedFrame y × (IsInSpan w y → ⊥)
 
--- sorted vertices with least maps, which with their edges and these carriers are a complex that shows the set
+-- sorted vertices with least maps, which with their edges and with these carriers are a complex that shows the set
 pub record AreVerticesOf (s : Set) (carriers : List Plane) (vertices : List Vertex) : Type 0 where
   pub sorted : AreSorted vertices
   pub maps : (k : ℕ) (v : Vertex) → IsAt vertices k v → IsLeastMap v.map
@@ -62,6 +57,6 @@ pub record AreVerticesOf (s : Set) (carriers : List Plane) (vertices : List Vert
 abbrev pub AreBelow : List Vertex → ℕ → Point → Type 0
 AreBelow vs k p = (i : ℕ) (v : Vertex) → i < k → IsAt vs i v → IsPlaceBelow (place_of v.point) (place_of p)
 
--- those from number k on are above it
+-- the vertices from number k on are above the point
 abbrev pub AreAbove : List Vertex → ℕ → Point → Type 0
 AreAbove vs k p = (i : ℕ) (v : Vertex) → k ≤ i → IsAt vs i v → IsPlaceBelow (place_of p) (place_of v.point)

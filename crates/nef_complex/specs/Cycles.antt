@@ -1,17 +1,14 @@
--- The next corner of a facet, and its cycles.
-use Rattle.std.specs.Prelude.{◌≡◌, ℕ, pos, List, [], ◌∷◌, ◌⊎◌}
-use Rattle.std.specs.List.{All}
-use Rattle.nef_space.specs.Numbers.{IsBelow}
-use Rattle.nef_space.specs.Vectors.{SameDirection}
-use Rattle.law_sphere.specs.Least.{InOrder}
-use Rattle.law_sphere.specs.Maps.{At, Arc, MapSloop, sloop_item}
+-- The next corner of a facet's corner, and cycles of corners.
+use Rattle.std.specs.Prelude.{◌≡◌, ◌∷◌, ◌⊎◌}
+use Rattle.nef_geo.specs.Prelude.{ℕ, pos, List, [], All, IsBelow, SameDirection}
+use Rattle.law_sphere.specs.Prelude.{InOrder, At, Arc, MapSloop, sloop_item}
 use Rattle.law_complex.specs.Complexes.{Vertex, Edge, Complex, Corner, IsCorner}
 
 -- the edge leads from svertex s of vertex i to svertex t of vertex j
 abbrev pub Leads : Edge → ℕ → ℕ → ℕ → ℕ → Type 0
 Leads e i s j t = ((e.low ≡ i) × (e.low_svertex ≡ s) × (e.high ≡ j) × (e.high_svertex ≡ t)) ⊎ ((e.high ≡ i) × (e.high_svertex ≡ s) × (e.low ≡ j) × (e.low_svertex ≡ t))
 
--- the arc at corner k ends where the edge of the source of the arc at corner j leads
+-- the arc at corner k ends where the edge leads that leaves the source of the arc at corner j; both lie in one plane
 pub record IsNextArc (C : Complex) (j k : Corner) : Type 0 where
   pub here : Vertex
   pub there : Vertex
@@ -37,17 +34,17 @@ NextCorner C j k = IsNextArc C j k ⊎ IsNextSloop C j k
 abbrev pub IsCornerBelow : Corner → Corner → Type 0
 IsCornerBelow j k = IsBelow (pos j.vertex ∷ pos j.item ∷ []) (pos k.vertex ∷ pos k.item ∷ [])
 
--- from j the steps go over the corners of the list and then to z
+-- from corner j steps to the next corner lead over the corners of the list and then to z
 abbrev pub StepsTo : Complex → Corner → List Corner → Corner → Type 0
 StepsTo C j [] z = NextCorner C j z
 StepsTo C j (k ∷ ks) z = NextCorner C j k × StepsTo C k ks z
 
--- the steps from the first corner lead over the others back to it, and it is the least
+-- the list isn't empty, steps lead from its first corner over the others back to the first, and the first is the least
 abbrev pub IsCycle : Complex → List Corner → Type 0
 IsCycle C [] = ⊥
 IsCycle C (j ∷ ks) = StepsTo C j ks j × All (IsCornerBelow j) ks
 
--- the order by first corners
+-- the order of cycles by their first corners
 abbrev pub IsCycleBelow : List Corner → List Corner → Type 0
 IsCycleBelow x y = (j : Corner) × (k : Corner) × At x 0 j × At y 0 k × IsCornerBelow j k
 

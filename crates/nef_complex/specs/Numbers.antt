@@ -1,16 +1,10 @@
 -- The numbers of facets and of volumes, and the parts of a complex.
-use Rattle.std.specs.Prelude.{◌≡◌, ℕ, ◌<◌, pos, List, [], ◌∷◌, length, ◌↔◌, map}
+use Rattle.std.specs.Prelude.{◌≡◌, ◌<◌, ◌∷◌, ◌↔◌}
+use Rattle.nef_geo.specs.Prelude.{ℕ, pos, List, [], length, map, IsBelow, form_at, normal_of, SameDirection, Label, form_of}
 use Rattle.nef_space.specs.Lists.{IsAt, NumbersClasses, IsInTable}
-use Rattle.nef_space.specs.Numbers.{IsBelow}
-use Rattle.nef_space.specs.Place.{form_at, normal_of}
-use Rattle.nef_space.specs.Vectors.{SameDirection}
-use Rattle.nef_space.specs.declared.label.Label.{Label}
 use Rattle.nef_space.specs.declared.label.Label.TheVariants.{Out}
-use Rattle.nef_geo.specs.Shapes.{form_of}
-use Rattle.law_sphere.specs.Maps.{At, Item, items, item_normal, item_mark, pos_item, neg_item}
-use Rattle.nef_smap.specs.Sides.{sides_of}
-use Rattle.law_complex.specs.Complexes.{Vertex, Complex, Corner, IsCorner}
-use Rattle.law_complex.specs.Rays.{VertexSide, HasSideLabel}
+use Rattle.nef_smap.specs.Prelude.{At, Item, items, item_normal, item_mark, pos_item, neg_item, sides_of}
+use Rattle.law_complex.specs.Prelude.{Vertex, Complex, Corner, IsCorner, VertexSide, HasSideLabel}
 use Rattle.nef_complex.specs.Complexes.{corner_of}
 use Rattle.law_links.specs.Links.{FacetLink, VolumeLink}
 use Rattle.nef_complex.specs.Cycles.{IsCornerBelow, Cycles}
@@ -22,7 +16,7 @@ use Rattle.nef_complex.specs.declared.parts.Parts.{Parts}
 use Rattle.nef_complex.specs.declared.parts.Shell.{Shell}
 use Rattle.nef_complex.specs.declared.parts.Side.{Side}
 
--- the table has a row for each vertex, and in it a number for each of its things, of which there are count v
+-- the table has a row for each vertex v, with count v numbers
 pub record HasRows (C : Complex) (count : Vertex → ℕ) (rows : List (List ℕ)) : Type 0 where
   pub as_many : length rows ≡ length C.vertices
   pub row : (i : ℕ) (v : Vertex) (ns : List ℕ) → At C.vertices i v → IsAt rows i ns → length ns ≡ count v
@@ -33,24 +27,24 @@ count_items v = length (items v.map)
 abbrev pub count_sides : Vertex → ℕ
 count_sides v = length (sides_of v.map)
 
--- the item at the corner has this number in the table
+-- in the table the item at the corner has this number
 abbrev pub IsFacetOf : List (List ℕ) → Corner → ℕ → Type 0
 IsFacetOf rows k n = IsInTable rows k.vertex k.item n
 
--- the side has this number in the table
+-- in the table the side has this number
 abbrev pub IsVolumeOf : Complex → List (List ℕ) → VertexSide → ℕ → Type 0
 IsVolumeOf C rows x n = (j : ℕ) × IsSideNumber C x j × IsInTable rows x.vertex j n
 
--- the order by vertices, and by the numbers of sides
+-- the order of sides by their vertices and then by their numbers
 abbrev pub IsSideBelow : Complex → VertexSide → VertexSide → Type 0
 IsSideBelow C x y = (i : ℕ) × (j : ℕ) × IsSideNumber C x i × IsSideNumber C y j × IsBelow (pos x.vertex ∷ pos i ∷ []) (pos y.vertex ∷ pos j ∷ [])
 
--- the facet numbers of all items
+-- the facet numbers of all items, by first appearance
 pub record FacetNumbers (C : Complex) (rows : List (List ℕ)) : Type 0 where
   pub shape : HasRows C count_items rows
   pub numbered : NumbersClasses (FacetLink C) IsCornerBelow 0 (IsFacetOf rows)
 
--- the volume numbers of all sides: 0 is the outside
+-- the volume numbers of all sides, by first appearance; the outside of the frame has 0
 pub record VolumeNumbers (C : Complex) (rows : List (List ℕ)) : Type 0 where
   pub shape : HasRows C count_sides rows
   pub numbered : NumbersClasses (VolumeLink C) (IsSideBelow C) 1 (IsVolumeOf C rows)
@@ -62,7 +56,7 @@ pos_of k = record { vertex = k.vertex; side = pos_item k.item }
 abbrev pub neg_of : Corner → VertexSide
 neg_of k = record { vertex = k.vertex; side = neg_item k.item }
 
--- the facet has what the corner has
+-- the facet has the plane, the mark and the volumes on both sides that the corner has
 pub record IsFacetAt (C : Complex) (p : Parts) (f : Facet) (k : Corner) (v : Vertex) (x : Item) : Type 0 where
   pub through : form_at (form_of f.plane) v.point ≡ pos 0
   pub normal : SameDirection (normal_of (form_of f.plane)) (item_normal x)
@@ -70,7 +64,7 @@ pub record IsFacetAt (C : Complex) (p : Parts) (f : Facet) (k : Corner) (v : Ver
   pub pos : IsVolumeOf C p.volume_of (pos_of k) f.pos
   pub neg : IsVolumeOf C p.volume_of (neg_of k) f.neg
 
--- the corners of the cycles
+-- the corners of each cycle
 abbrev pub cycle_corners : List Cycle → List (List Corner)
 cycle_corners xs = map (λ (x : Cycle). map corner_of x.corners) xs
 
@@ -84,11 +78,11 @@ pub record IsVolume (C : Complex) (p : Parts) (n : ℕ) (l : Label) : Type 0 whe
   pub some : (x : VertexSide) × IsVolumeOf C p.volume_of x n
   pub labels : (x : VertexSide) (m : Label) → IsVolumeOf C p.volume_of x n → HasSideLabel C x m → l ≡ m
 
--- the sides of the shells
+-- the sides of each shell
 abbrev pub shell_sides : List Shell → List (List Side)
 shell_sides hs = map (λ (h : Shell). h.sides) hs
 
--- the facets and volumes of the complex, with their numbers and shells
+-- the facets and volumes of the complex, with the numbers of all items and sides, and with the shells of each volume
 pub record IsParts (C : Complex) (p : Parts) : Type 0 where
   pub facet_numbers : FacetNumbers C p.facet_of
   pub volume_numbers : VolumeNumbers C p.volume_of

@@ -1,12 +1,9 @@
 -- The numbers of sides.
-use Rattle.std.specs.Prelude.{ℕ}
+use Rattle.nef_smap.specs.Prelude.{ℕ, At, IsSide}
 use Rattle.nef_space.specs.declared.label.Label.{Label}
-use Rattle.law_sphere.specs.Maps.{At}
-use Rattle.nef_smap.specs.Sides.{IsSide}
-use Rattle.law_complex.specs.Complexes.{Vertex, Complex}
-use Rattle.law_complex.specs.Rays.{VertexSide}
+use Rattle.law_complex.specs.Prelude.{Vertex, Complex, VertexSide}
 
--- side number j of vertex i
+-- side x of a vertex has the number j among the vertex's sides
 pub record IsSideNumber (C : Complex) (x : VertexSide) (j : ℕ) : Type 0 where
   pub vertex : Vertex
   pub is_vertex : At C.vertices x.vertex vertex

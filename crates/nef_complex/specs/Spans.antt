@@ -1,38 +1,35 @@
--- Whole numbers that bound the coordinates of points.
-use Rattle.std.specs.Prelude.{ℕ, ◌<◌, ◌≤◌, ◌≤ℤ◌, nat_abs, List}
-use Rattle.nef_space.specs.Limits.{point_limit}
-use Rattle.nef_space.specs.Lists.{IsAt}
-use Rattle.nef_space.specs.Place.{Place}
-use Rattle.nef_geo.specs.Shapes.{place_of}
+-- Spans: boxes with whole numbers as bounds.
+use Rattle.std.specs.Prelude.{◌<◌, ◌≤◌, ◌≤ℤ◌}
+use Rattle.nef_geo.specs.Prelude.{ℕ, nat_abs, List, point_limit, IsAt, Place, place_of}
 use Rattle.law_complex.specs.Spans.{coordinate_x, coordinate_y, coordinate_z, IsWithin}
 use Rattle.nef_complex.specs.declared.complex.Vertex.{Vertex}
 use Rattle.nef_complex.specs.declared.spans.Bounds.{Bounds}
 use Rattle.nef_complex.specs.declared.spans.Span.{Span}
 
--- the coordinates of the point lie within the bounds
+-- the coordinates of the point lie within the span's bounds
 abbrev pub IsInSpan : Span → Place → Type 0
 IsInSpan s p = IsWithin coordinate_x s.x.low s.x.high p × IsWithin coordinate_y s.y.low s.y.high p × IsWithin coordinate_z s.z.low s.z.high p
 
--- the points of the vertices with the first n of these numbers lie in the span
+-- the vertices with the first n of these numbers lie in the span
 abbrev pub AreInSpan : List Vertex → List ℕ → ℕ → Span → Type 0
 AreInSpan vs ns n s = (i k : ℕ) (v : Vertex) → i < n → IsAt ns i k → IsAt vs k v → IsInSpan s (place_of v.point)
 
--- what is within the first bounds is within the second
+-- what lies within the bounds a lies within the bounds b
 abbrev pub AreNarrower : Bounds → Bounds → Type 0
 AreNarrower a b = (b.low ≤ℤ a.low) × (a.high ≤ℤ b.high)
 
--- and the same of spans
+-- what lies within the span s lies within the span t
 abbrev pub IsNarrower : Span → Span → Type 0
 IsNarrower s t = AreNarrower s.x t.x × AreNarrower s.y t.y × AreNarrower s.z t.z
 
--- the bounds are at most as large as a point's coordinates
+-- the bounds are at most as large in size as a point's numbers
 abbrev pub AreSmall : Bounds → Type 0
 AreSmall b = (nat_abs b.low ≤ point_limit) × (nat_abs b.high ≤ point_limit)
 
--- some number may lie within both
+-- the two bounds have a number in common
 abbrev pub HaveCommon : Bounds → Bounds → Type 0
 HaveCommon a b = (a.low ≤ℤ b.high) × (b.low ≤ℤ a.high)
 
--- so it is for each coordinate
+-- the bounds of the two spans have a number in common in each coordinate
 abbrev pub DoOverlap : Span → Span → Type 0
 DoOverlap s t = HaveCommon s.x t.x × HaveCommon s.y t.y × HaveCommon s.z t.z

@@ -29,7 +29,7 @@ use Rattle.nef_complex.specs.Numbers.{IsParts}
 abbrev pub Word : Type 0
 Word = List ℕ
 
--- words parted by one blank, and LF
+-- a line: the words with one blank between them, and a line feed
 abbrev pub line : List Word → List ℕ
 line ws = join_with_byte 32 ws ++ 10 ∷ []
 
@@ -38,7 +38,7 @@ label_word In = codes "i"
 label_word Not = codes "n"
 label_word Out = codes "o"
 
--- a label that isn't given is a dash
+-- the word of a label, or a dash without a label
 abbrev pub option_word : Option Label → Word
 option_word l = option_map_or label_word l (codes "-")
 
@@ -69,7 +69,7 @@ sloop_line l = line (codes "l" ∷ [] ++ dir_words l.normal ++ label_word l.mark
 abbrev pub vertex_line : Vertex → List ℕ
 vertex_line v = line (codes "v" ∷ [] ++ point_words v.point ++ label_word v.map.mark ∷ option_word v.map.ground ∷ [])
 
--- the vertex with its svertices, its arcs and its sloop
+-- the lines of a vertex, its svertices, its arcs and its sloop
 abbrev pub vertex_text : Vertex → List ℕ
 vertex_text v = vertex_line v ++ flat_map svertex_line v.map.svertices ++ flat_map arc_line v.map.arcs ++ flat_map sloop_line (option_to_list v.map.sloop)
 
@@ -91,7 +91,7 @@ facet_text f = facet_line f ++ flat_map cycle_line f.cycles
 abbrev pub volume_line : Label → List ℕ
 volume_line l = line (codes "w" ∷ label_word l ∷ [])
 
--- the numbers of the sfaces of a vertex's sides
+-- the line of the sface numbers of a vertex's sides
 abbrev pub sface_line : List ℕ → List ℕ
 sface_line ns = line (codes "g" ∷ [] ++ numbers ns)
 
@@ -101,14 +101,14 @@ side_words s = numbers (s.vertex ∷ s.side ∷ [])
 abbrev pub shell_line : Shell → List ℕ
 shell_line h = line (codes "h" ∷ [] ++ flat_map side_words h.sides)
 
--- a vertex with the numbers of its sfaces, and a volume with its shells
+-- the lines of a vertex with its sface numbers; the lines of a volume with its shells
 abbrev pub faced_text : Vertex × List ℕ → List ℕ
 faced_text x = vertex_text x.0 ++ sface_line x.1
 
 abbrev pub shelled_text : Label × List Shell → List ℕ
 shelled_text x = volume_line x.0 ++ flat_map shell_line x.1
 
--- each element with its row; where there is none, with an empty one
+-- each element with its row, or with an empty row where there is none
 abbrev pub with_rows : {X Y : Type 0} → List X → List (List Y) → List (X × List Y)
 with_rows [] rows = []
 with_rows (x ∷ xs) [] = (x, []) ∷ with_rows xs []
@@ -140,6 +140,6 @@ text version c p = first_line version c p ++ vertices_text version c p ++ flat_m
 abbrev pub Text : TextVersion → Complex → List ℕ → Type 0
 Text version c bytes = (p : Parts) × IsParts (complex_of c) p × (bytes ≡ text version c p)
 
--- the bytes spell the complex, but for its carriers: it has the vertices of the text, and their edges
+-- the bytes are the text of a complex with these vertices and their edges, up to carriers
 abbrev pub Spells : TextVersion → List ℕ → Complex → Type 0
 Spells version bytes c = Edges (map vertex_of c.vertices) (map edge_of c.edges) × Text version c bytes

@@ -1,16 +1,8 @@
-//! What a complex is made of, its vertices by their points, and its index: what each carrier holds, and the carriers that
-//! hold a vertex or an edge.
+//! The parts of a complex, the lookup of vertices by their points, and the index: what each carrier holds, and which
+//! carriers hold a vertex or an edge.
 
 ghost use Rattle.std.specs.Prelude.{◌<◌};
-ghost use Rattle.nef_geo.specs.Prelude.{ℕ, IsNone, IfSome, IfOk, IfErr, length, place_of, form_of, IsAt, Set};
-ghost use Rattle.nef_geo.specs.declared.plane.Plane.{Plane};
-ghost use Rattle.law_complex.specs.Skeleton.{IsVertexPoint};
-ghost use Rattle.nef_complex.specs.Complexes.{complex_of, AreSorted, AreBelow, AreAbove, ShowsSet};
-ghost use Rattle.nef_complex.specs.declared.complex.Edge.{Edge as EdgeValue};
-ghost use Rattle.nef_complex.specs.declared.complex.Vertex.{Vertex as VertexValue};
-ghost use Rattle.nef_complex.specs.Index.{HasItemIn, LiesOn, EdgeLiesIn, AreNumbersWith, AreHolders, AreHoldersAlong, AreSpans, AreClusters};
-ghost use Rattle.nef_complex.specs.Indexing.{AreAlone};
-ghost use Rattle.nef_complex.specs.Peaks.{ArePeaks};
+ghost use Rattle.nef_complex.specs.Prelude.{ℕ, IsNone, IfSome, IfOk, IfErr, length, place_of, form_of, IsAt, Set, Plane, IsVertexPoint, complex_of, AreSorted, AreBelow, AreAbove, ShowsSet, Edge as EdgeValue, Vertex as VertexValue, HasItemIn, LiesOn, EdgeLiesIn, AreNumbersWith, AreHolders, AreHoldersAlong, AreSpans, AreClusters, AreAlone, ArePeaks};
 
 use crate::groups::Cluster;
 use crate::spans::Span;
@@ -19,15 +11,15 @@ use nef_geo::{Label, List, Plane, Point, lex_cmp};
 use nef_smap::SphereMap;
 
 /// A vertex: a point where no direction is flat, with the least map of the set there.
-#[derive(Debug, Drop)]
+#[derive(Drop)]
 pub struct Vertex {
     pub point: Point,
     pub map: SphereMap,
 }
 
 /// An edge joins a svertex of a vertex with the svertex of the opposite direction of the next vertex on the ray along
-/// it. Numbers count from 0; `low` is less than `high`. The mark is that of both svertices.
-#[derive(Debug, Clone, Copy, PartialEq, Eq)]
+/// that svertex. `low` is less than `high`; the edge's mark is that of both svertices.
+#[derive(Clone, Copy, PartialEq, Eq)]
 pub struct Edge {
     pub low: usize,
     pub low_svertex: usize,
@@ -36,12 +28,11 @@ pub struct Edge {
     pub mark: Label,
 }
 
-/// A complex. The carriers are the planes of the halves that the set was made of and the six planes of the frame, in
-/// order of their four numbers, once each; they depend on how the set was made. Vertices stand in increasing order of
-/// their points, edges in increasing order of their lower vertex and its svertex. The index is to be that of these
-/// vertices and edges: the type doesn't keep that, `Complex::of` makes it so, and whoever reads the index asks for a
-/// complex that shows a set, which has the right one.
-#[derive(Debug, Drop)]
+/// A complex. Its carriers are the planes of the halves that the set was made of and the six planes of the frame, in
+/// order of their four numbers, once each. Vertices stand in increasing order of their points, edges in increasing
+/// order of their lower vertex and its svertex. The type doesn't say that the index is that of these vertices and
+/// edges: `Complex::of` makes that index, and calls that read the index ask for a complex that shows a set.
+#[derive(Drop)]
 pub struct Complex {
     pub carriers: List<Plane>,
     pub vertices: List<Vertex>,
@@ -50,21 +41,20 @@ pub struct Complex {
 }
 
 /// An item of a vertex: the number of an arc, or the number of arcs for the sloop.
-#[derive(Debug, Clone, Copy, PartialEq, Eq)]
+#[derive(Clone, Copy)]
 pub struct Corner {
     pub vertex: usize,
     pub item: usize,
 }
 
-/// What a ray within a plane meets: the vertex or the edge with this number.
-#[derive(Debug, Clone, Copy, PartialEq, Eq)]
+/// What a ray within a plane first meets: a vertex or an edge, by its number.
+#[derive(Clone, Copy)]
 pub enum PlaneMeet {
     AtVertex(usize),
     AtEdge(usize),
 }
 
-/// The number of the vertex at `p`, by halving. Where `p` is no vertex, `Err` says how many vertices come before it; all
-/// others come after it.
+/// The number of the vertex at `p`, by halving, or `Err` with how many vertices come before `p`; all others come after.
 pub fn find_vertex(c: &Complex, p: &Point) -> Result<usize, usize>
     requires sorted { AreSorted c.now.vertices }
     ensures found { IfOk result (λ k. IsVertexPoint (complex_of c.now) k (place_of p.now)) }
@@ -76,7 +66,7 @@ pub fn find_vertex(c: &Complex, p: &Point) -> Result<usize, usize>
         .binary_search_by(|v| lex_cmp(&v.point, p))
 }
 
-/// The number of the vertex at `p`. `None` comes exactly where `p` is no vertex.
+/// The number of the vertex at `p`, or `None` exactly where no vertex stands there.
 pub fn vertex_at(c: &Complex, p: &Point) -> Option<usize>
     requires sorted { AreSorted c.now.vertices }
     ensures found { IfSome result (λ k. IsVertexPoint (complex_of c.now) k (place_of p.now)) }
@@ -88,12 +78,11 @@ pub fn vertex_at(c: &Complex, p: &Point) -> Option<usize>
     }
 }
 
-/// For each carrier whether some vertex has an item in it, as the plane of each item is a carrier; the numbers of the
-/// vertices on it and those of the edges that lie in it, in increasing order; and a span of these vertices. For each vertex
-/// the numbers of the carriers that hold it and the span of its point, and for each edge the numbers of the carriers that
-/// hold both of its ends, in increasing order. Besides, the carriers in clusters of groups of such as lie close to one
-/// another. The long ones of the rows of edges in a carrier have peaks.
-#[derive(Debug, Drop)]
+/// The index of a complex. For each carrier: whether the carrier is the plane of an item of some vertex; the numbers of
+/// the vertices on the carrier and of the edges in the carrier; a span of these vertices. For each vertex: the numbers
+/// of its carriers, and its span. For each edge: the numbers of the carriers that hold both ends. All rows of numbers
+/// increase. Clusters of groups hold carriers that lie close to one another; long rows of edges have peaks.
+#[derive(Drop)]
 pub struct PlaneIndex {
     pub has_item: List<bool>,
     pub at_vertex: Table,
@@ -106,16 +95,16 @@ pub struct PlaneIndex {
     pub peaks: Table,
 }
 
-/// The numbers of the edges that lie in a plane, and of the vertices on it, in increasing order; and the peaks of the edges.
-#[derive(Debug, Clone, Copy)]
+/// The numbers of the edges in a plane and of the vertices on it, in increasing order, and the peaks of the edges.
+#[derive(Clone, Copy)]
 pub struct PlaneItems<'a> {
     pub edges: &'a [usize],
     pub vertices: &'a [usize],
     pub peaks: &'a [usize],
 }
 
-/// The edges and vertices of the plane, which is looked up among the carriers by halving. `None` comes exactly where no
-/// vertex has an item in the plane.
+/// The edges and vertices of the plane, which is looked up among the carriers by halving. `None` comes exactly where
+/// the plane is that of no vertex's item.
 pub fn plane_items<'a>(c: &'a Complex, h: &Plane) -> Option<PlaneItems<'a>>
     requires shows { (s : Set) × ShowsSet s c.now }
     ensures item { IfSome result (λ r. HasItemIn c.now.vertices (form_of h.now)) }
@@ -154,7 +143,7 @@ pub fn edge_holders(c: &Complex, number: usize) -> &[usize]
     c.index.at_edge.row(number)
 }
 
-/// The edges that lie in the carrier with this number, and the vertices on it.
+/// The edges that lie in the carrier with this number, and the vertices on the carrier.
 pub fn carrier_items<'a>(c: &'a Complex, number: usize) -> PlaneItems<'a>
     requires shows { (s : Set) × ShowsSet s c.now }
     requires within { number < length c.now.carriers }
@@ -185,8 +174,8 @@ pub fn carrier_spans(c: &Complex) -> &[Span]
     c.index.spans.as_slice()
 }
 
-/// The carriers in groups, and these in clusters; each group and each cluster has a span of the vertices on its carriers.
-/// Each carrier stands in some group of some cluster.
+/// The carriers in groups, and the groups in clusters, with spans of the vertices on their carriers. Each carrier
+/// stands in some group of some cluster.
 pub(crate) fn carrier_clusters(c: &Complex) -> &[Cluster]
     requires shows { (s : Set) × ShowsSet s c.now }
     ensures clusters { AreClusters c.now.carriers c.now.vertices result.now }

@@ -1,37 +1,33 @@
-//! Carriers in groups of such as lie close to one another, and these groups in clusters.
+//! Groups of carriers that lie close to one another, and clusters of groups.
 
 ghost use Rattle.std.specs.Prelude.{◌<◌};
-ghost use Rattle.nef_geo.specs.Prelude.{ℕ, length, IfOk, IsAt};
-ghost use Rattle.nef_complex.specs.declared.groups.Cluster.{Cluster as ClusterValue};
-ghost use Rattle.nef_complex.specs.declared.groups.Group.{Group as GroupValue};
-ghost use Rattle.nef_complex.specs.Index.{StandsIn, IsInGroup, IsInCluster};
-ghost use Rattle.nef_complex.specs.Indexing.{AreKeyed, IsWide};
+ghost use Rattle.nef_complex.specs.Prelude.{ℕ, length, IfOk, IsAt, Cluster as ClusterValue, Group as GroupValue, StandsIn, IsInGroup, IsInCluster, AreKeyed, IsWide};
 
 use crate::OutOfMemory;
 use crate::spans::{Bounds, Span};
 use nef_geo::{HALF_SIDE, List};
 use std::alloc::Global;
 
-/// Some carriers, by their numbers, with a span of all vertices on them.
-#[derive(Debug, Drop)]
+/// Carriers by their numbers, with a span of all vertices on them.
+#[derive(Drop)]
 pub struct Group {
     pub span: Span,
     pub carriers: List<usize>,
 }
 
-/// Some groups, with a span of all vertices on their carriers.
-#[derive(Debug, Drop)]
+/// Groups of carriers, with a span of all vertices on the carriers.
+#[derive(Drop)]
 pub struct Cluster {
     pub span: Span,
     pub groups: List<Group>,
 }
 
-// So many carriers make a group, and so many a cluster; the last one may have fewer.
+// How many carriers a group and a cluster have, but for the last ones.
 const MOST_IN_GROUP: usize = 8;
 
 const MOST_IN_CLUSTER: usize = 8 * MOST_IN_GROUP;
 
-// The low 16 bits of the number, with a bit left free above each of them.
+// The low 16 bits of the number, with a zero bit above each bit.
 fn spread(number: u32) -> u32 {
     let bytes = (number & 0xFFFF | (number & 0xFFFF) << 8) & 0x00FF_00FF;
     let nibbles = (bytes | bytes << 4) & 0x0F0F_0F0F;
@@ -39,20 +35,19 @@ fn spread(number: u32) -> u32 {
     (pairs | pairs << 1) & 0x5555_5555
 }
 
-// Twice the middle of the bounds, counted from the frame's low side. What lies beyond the frame counts as its side.
+// Twice the middle of the bounds, counted from the frame's low side. Bounds beyond the frame count as the frame's side.
 fn middle(bounds: &Bounds) -> u32 {
     let low = bounds.low.clamp(-HALF_SIDE, HALF_SIDE);
     let high = bounds.high.clamp(-HALF_SIDE, HALF_SIDE);
     (low + high + 2 * HALF_SIDE) as u32
 }
 
-// Spans with keys close to one another mostly lie close to one another as seen along x: the bits of the middles in y and
-// z take turns.
+// The bits of the span's middles in y and z in turns: spans with close keys mostly lie close together, seen along x.
 fn place_key(span: &Span) -> u32 {
     spread(middle(&span.y)) << 1 | spread(middle(&span.z))
 }
 
-// The numbers of the spans with their keys, by these.
+// Each span's key and number, in the order of the keys.
 fn in_order(alloc: Global, spans: &[Span]) -> Result<Vec<(u32, usize)>, OutOfMemory>
     ensures keyed { IfOk result (λ v. AreKeyed (length spans.now) v.items) }
 {
@@ -64,7 +59,7 @@ fn in_order(alloc: Global, spans: &[Span]) -> Result<Vec<(u32, usize)>, OutOfMem
     Ok(keyed)
 }
 
-// The group of the spans with these numbers.
+// The group of the carriers with these numbers, whose spans are given.
 fn group_of(alloc: Global, spans: &[Span], keyed: &[(u32, usize)]) -> Result<Group, OutOfMemory>
     requires within { (i : ℕ) (e : ℕ × ℕ) → IsAt keyed.now i e → e.1 < length spans.now }
     ensures wide { IfOk result (λ g. IsWide spans.now (IsInGroup g) g.span) }
@@ -80,7 +75,7 @@ fn group_of(alloc: Global, spans: &[Span], keyed: &[(u32, usize)]) -> Result<Gro
     Ok(Group { span, carriers })
 }
 
-// The cluster of the spans with these numbers.
+// The cluster of the carriers with these numbers, whose spans are given.
 fn cluster_of(alloc: Global, spans: &[Span], keyed: &[(u32, usize)]) -> Result<Cluster, OutOfMemory>
     requires within { (i : ℕ) (e : ℕ × ℕ) → IsAt keyed.now i e → e.1 < length spans.now }
     ensures wide { IfOk result (λ q. IsWide spans.now (IsInCluster q) q.span) }
@@ -97,7 +92,7 @@ fn cluster_of(alloc: Global, spans: &[Span], keyed: &[(u32, usize)]) -> Result<C
     Ok(Cluster { span, groups })
 }
 
-/// The carriers with these spans in clusters of groups. Each carrier stands in some group of some cluster.
+/// The clusters of all carriers, whose spans are given. Each carrier stands in some group of some cluster.
 pub(crate) fn clusters_of(alloc: Global, spans: &[Span]) -> Result<List<Cluster>, OutOfMemory>
     ensures wide { IfOk result (λ v. (i : ℕ) (q : ClusterValue) → IsAt v i q → IsWide spans.now (IsInCluster q) q.span) }
     ensures groups { IfOk result (λ v. (i j : ℕ) (q : ClusterValue) (g : GroupValue) → IsAt v i q → IsAt q.groups j g → IsWide spans.now (IsInGroup g) g.span) }

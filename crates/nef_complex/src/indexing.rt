@@ -1,24 +1,19 @@
-//! Complexes put together from carriers, vertices and edges.
+//! A complex put together from carriers, vertices and edges.
 
 ghost use Rattle.std.specs.Prelude.{◌≡◌, ◌↔◌, ◌<◌};
-ghost use Rattle.nef_geo.specs.Prelude.{List as Sequence, length, IsTrue, IfOk, ℕ, OnOk, form_of, place_of, IsAt, Place};
-ghost use Rattle.nef_complex.specs.declared.complex.Edge.{Edge};
-ghost use Rattle.nef_complex.specs.Index.{HasItemIn, LiesOn, AreNumbersWith, AreItemFlags, IsIndexOf, HasHolders, AreHeld, AreInOrder, HaveEnds, AreVertexHolders, AreCarrierVertices, AreCarrierEdges, AreWithin, AreHolders, AreEdgeHolders};
-ghost use Rattle.nef_complex.specs.Indexing.{AreRowsOfOnce};
-ghost use Rattle.nef_complex.specs.Taken.{DoRise};
-ghost use Rattle.nef_complex.specs.Common.{DoAllRise, HaveRows, HasAdded, AreCommon, AreCommonRows};
+ghost use Rattle.nef_complex.specs.Prelude.{List as Sequence, length, IsTrue, IfOk, ℕ, OnOk, form_of, place_of, IsAt, Place, Edge, HasItemIn, LiesOn, AreNumbersWith, AreItemFlags, IsIndexOf, HasHolders, AreHeld, AreInOrder, HaveEnds, AreVertexHolders, AreCarrierVertices, AreCarrierEdges, AreSpans, AreClusters, AreRowsOfOnce, HasNumber, AreAlone, HavePeaks, DoRise, DoAllRise, HaveRows, HasAdded, AreCommon, AreCommonRows};
 
 use crate::OutOfMemory;
 use crate::complex::{Complex, Edge, PlaneIndex, Vertex};
-use crate::groups::clusters_of;
+use crate::groups::{Cluster, clusters_of};
 use crate::peaks::peaks_of;
 use crate::sorted_carriers::{SortedCarriers, holds};
-use crate::spans::{spans_of, vertex_spans};
+use crate::spans::{Span, spans_of, vertex_spans};
 use crate::table::Table;
 use nef_geo::{List, Plane, Point, plane_normal};
 use std::alloc::Global;
 
-// Adds the numbers that stand in both rows at the end of the list, by one way through both rows.
+// Adds the numbers that stand in both rows at the end of the list, in one pass through both rows.
 fn add_common(
     first: &[usize],
     second: &[usize],
@@ -46,10 +41,10 @@ fn add_common(
     Ok(())
 }
 
-// Few vertices lie on more carriers.
+// Few vertices lie on more than three carriers.
 pub(crate) const CARRIERS_AT_VERTEX: usize = 3;
 
-// Few edges lie on more carriers.
+// Few edges lie in more than two carriers.
 const CARRIERS_AT_EDGE: usize = 2;
 
 /// For each vertex the numbers of the carriers that hold it. `OutOfMemory` says that memory was wanted and not found.
@@ -69,7 +64,7 @@ pub fn vertex_rows(
     Ok(rows)
 }
 
-// For each edge the numbers of the carriers that hold both of its ends: those that stand in the rows of both.
+// For each edge the numbers of the carriers that hold both ends: the common numbers of both vertices' rows.
 fn edge_rows(alloc: Global, edges: &[Edge], at_vertex: &Table) -> Result<Table, OutOfMemory>
     requires rise { DoAllRise at_vertex.now }
     requires ends { HaveRows at_vertex.now edges.now }
@@ -89,7 +84,7 @@ fn edge_rows(alloc: Global, edges: &[Edge], at_vertex: &Table) -> Result<Table, 
     Ok(Table::of(numbers, ends))
 }
 
-// Whether a vertex on the plane, whose numbers are given, has an item in it.
+// Whether some vertex on the plane has an item in the plane. The numbers of the vertices on the plane are given.
 fn has_item(h: &Plane, vertices: &[Vertex], on: &[usize]) -> bool
     requires on { AreNumbersWith (LiesOn vertices.now (form_of h.now)) on.now }
     ensures item { IsTrue result ↔ HasItemIn vertices.now (form_of h.now) }
@@ -103,7 +98,7 @@ fn has_item(h: &Plane, vertices: &[Vertex], on: &[usize]) -> bool
     false
 }
 
-// For each carrier whether some vertex has an item in it. The vertices on each are given.
+// For each carrier whether some vertex has an item in the carrier. The vertices on each carrier are given.
 fn item_flags(
     alloc: Global,
     carriers: &[Plane],
@@ -120,10 +115,85 @@ fn item_flags(
     Ok(flags)
 }
 
+// For each carrier the numbers of the edges that lie in it, and the peaks of these rows. The numbers of the carriers that hold
+// each edge are given.
+fn edges_in_carriers(
+    alloc: Global,
+    count: usize,
+    edges: &[Edge],
+    at_edge: &Table,
+) -> Result<(Table, Table), OutOfMemory>
+    requires as_many { length at_edge.now ≡ length edges.now }
+    requires once { AreRowsOfOnce count at_edge.now }
+    ensures as_many { IfOk result (λ t. length t.0 ≡ count) }
+    ensures transposed { IfOk result (λ t. (k : ℕ) (row : Sequence ℕ) → IsAt t.0 k row → AreNumbersWith (HasNumber at_edge.now k) row) }
+    ensures peaks { IfOk result (λ t. HavePeaks edges.now t.0 t.1) }
+{
+    let in_carrier = at_edge.transposed(alloc, count)?;
+    let peaks = peaks_of(alloc, edges, &in_carrier)?;
+    Ok((in_carrier, peaks))
+}
+
+// What an index says of the carriers by the vertices on them: whether some of these has an item in the carrier, the span of each
+// vertex and that of each carrier, and the carriers in clusters.
+fn flags_and_spans(
+    alloc: Global,
+    carriers: &[Plane],
+    vertices: &[Vertex],
+    on_carrier: &Table,
+) -> Result<(List<bool>, List<Span>, List<Span>, List<Cluster>), OutOfMemory>
+    requires on { AreCarrierVertices carriers.now vertices.now on_carrier.now }
+    ensures flags { IfOk result (λ t. AreItemFlags carriers.now vertices.now t.0) }
+    ensures points { IfOk result (λ t. AreAlone vertices.now t.1) }
+    ensures spans { IfOk result (λ t. AreSpans carriers.now vertices.now t.2) }
+    ensures clusters { IfOk result (λ t. AreClusters carriers.now vertices.now t.3) }
+{
+    let has_item = item_flags(alloc, carriers, vertices, on_carrier)?;
+    let points = List::from_vec(vertex_spans(alloc, vertices)?);
+    let spans = spans_of(alloc, points.as_slice(), on_carrier)?;
+    let clusters = clusters_of(alloc, spans.as_slice())?;
+    Ok((has_item, points, spans, clusters))
+}
+
+// The index of the carriers, vertices and edges.
+fn index_of(
+    alloc: Global,
+    carriers: &[Plane],
+    vertices: &[Vertex],
+    edges: &[Edge],
+    at_vertex: Table,
+) -> Result<PlaneIndex, OutOfMemory>
+    requires rows { AreVertexHolders carriers.now vertices.now at_vertex }
+    requires ends { HaveEnds vertices.now edges.now }
+    ensures flags { IfOk result (λ x. AreItemFlags carriers.now vertices.now x.has_item) }
+    ensures holders { IfOk result (HasHolders carriers.now vertices.now edges.now) }
+{
+    let at_edge = edge_rows(alloc, edges, &at_vertex)?;
+    let on_carrier = at_vertex.transposed(alloc, carriers.len())?;
+    let (in_carrier, peaks) = edges_in_carriers(alloc, carriers.len(), edges, &at_edge)?;
+    let (has_item, points, spans, clusters) = flags_and_spans(
+        alloc,
+        carriers,
+        vertices,
+        &on_carrier,
+    )?;
+    Ok(PlaneIndex {
+        has_item,
+        at_vertex,
+        at_edge,
+        on_carrier,
+        in_carrier,
+        points,
+        spans,
+        clusters,
+        peaks,
+    })
+}
+
 impl Complex {
-    /// The complex with these carriers, vertices and edges, and with the index of its carriers and of those that hold each
-    /// vertex and edge; those that hold each vertex are given. The carriers stand in order, and some of them holds
-    /// each item. `OutOfMemory` says that memory was wanted and not found.
+    /// The complex with these carriers, vertices and edges, and with its index. The carriers that hold each vertex are
+    /// given. Carriers stand in order, and some carrier holds each item. `OutOfMemory` says that memory was wanted and
+    /// not found.
     pub fn of(
         alloc: Global,
         carriers: List<Plane>,
@@ -139,25 +209,13 @@ impl Complex {
         ensures index { IfOk result (λ c. IsIndexOf c.carriers c.vertices c.index) }
         ensures holders { IfOk result (λ c. HasHolders c.carriers c.vertices c.edges c.index) }
     {
-        let at_edge = edge_rows(alloc, edges.as_slice(), &at_vertex)?;
-        let on_carrier = at_vertex.transposed(alloc, carriers.len())?;
-        let in_carrier = at_edge.transposed(alloc, carriers.len())?;
-        let points = List::from_vec(vertex_spans(alloc, vertices.as_slice())?);
-        let spans = spans_of(alloc, points.as_slice(), &on_carrier)?;
-        let peaks = peaks_of(alloc, edges.as_slice(), &in_carrier)?;
-        let has_item = item_flags(alloc, carriers.as_slice(), vertices.as_slice(), &on_carrier)?;
-        let clusters = clusters_of(alloc, spans.as_slice())?;
-        let index = PlaneIndex {
-            has_item,
+        let index = index_of(
+            alloc,
+            carriers.as_slice(),
+            vertices.as_slice(),
+            edges.as_slice(),
             at_vertex,
-            at_edge,
-            on_carrier,
-            in_carrier,
-            points,
-            spans,
-            clusters,
-            peaks,
-        };
+        )?;
         Ok(Complex {
             carriers,
             vertices,

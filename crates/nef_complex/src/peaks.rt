@@ -1,29 +1,24 @@
-//! Rows of edges, by the numbers of the vertices at their ends. The edges of a row stand in order of their lower ends, but their
-//! upper ends stand in no order: peaks tell of many edges at once that all of them end before a vertex.
+//! Rows of edges in order of their lower ends, by numbers of vertices. Upper ends stand in no order: peaks tell of many
+//! edges at once that all of them end before a vertex.
 //!
-//! Peaks are a binary indexed tree of greatest upper ends. Source: Fenwick, "A New Data Structure for Cumulative Frequency
-//! Tables", Software: Practice and Experience 24, 1994.
+//! Peaks are a binary indexed tree of greatest upper ends. Source: Fenwick, "A New Data Structure for Cumulative
+//! Frequency Tables", Software: Practice and Experience 24, 1994.
 
 ghost use Rattle.std.specs.Prelude.{◌≡◌, ◌<◌, ◌≤◌, ◌+◌, ◌*◌, ◌⊎◌};
-ghost use Rattle.nef_geo.specs.Prelude.{ℕ, [], length, IfSome, IfOk, OnOk, List as Sequence, IsAt, Set};
-ghost use Rattle.nef_space.specs.Place.{Form};
-ghost use Rattle.nef_complex.specs.declared.complex.Edge.{Edge as EdgeValue};
-ghost use Rattle.nef_complex.specs.Complexes.{ShowsSet};
-ghost use Rattle.nef_complex.specs.Index.{AreWithin, AreNumbersWith, EdgeLiesIn};
-ghost use Rattle.nef_complex.specs.Peaks.{block_start, EndBelow, ArePeaks, HavePeaks};
+ghost use Rattle.nef_complex.specs.Prelude.{ℕ, [], length, IfSome, IfOk, OnOk, List as Sequence, IsAt, Set, Form, Edge as EdgeValue, ShowsSet, AreWithin, AreNumbersWith, EdgeLiesIn, block_start, EndBelow, ArePeaks, HavePeaks};
 
 use crate::OutOfMemory;
 use crate::complex::{Complex, Edge, PlaneItems};
 use crate::table::Table;
 use std::alloc::Global;
 
-// So many edges are a block.
+// How many edges are a block.
 const BLOCK: usize = 8;
 
-// Rows of fewer edges have no peaks.
+// The least length of a row of edges with peaks.
 const LEAST_WITH_PEAKS: usize = 32;
 
-// Where the last of the first `count` blocks begin that one peak tells of.
+// Where the blocks begin that the last of `count` peaks tells of.
 fn start_of_last(count: usize) -> usize
     requires some { 0 < count }
     ensures start { result ≡ block_start count }
@@ -32,7 +27,7 @@ fn start_of_last(count: usize) -> usize
     count & (count - 1)
 }
 
-// A number that no upper end of the edges at these places of the row exceeds.
+// The greatest upper end of the edges from place `first` to before place `past` of the row.
 fn greatest_end(edges: &[Edge], numbers: &[usize], first: usize, past: usize) -> usize
     requires within { AreWithin edges.now numbers.now }
     requires past { past ≤ length numbers.now }
@@ -45,7 +40,7 @@ fn greatest_end(edges: &[Edge], numbers: &[usize], first: usize, past: usize) ->
     greatest
 }
 
-// The peak after these, where `own` is the greatest upper end of the next block alone.
+// The peak that follows `peaks`, where `own` is the greatest upper end of the next block alone.
 fn next_peak(peaks: &[usize], own: usize) -> usize
     ensures peak { (es : Sequence EdgeValue) (ns : Sequence ℕ) → ArePeaks es ns peaks.now → EndBelow es ns (8 * length peaks.now) (8 * (length peaks.now + 1)) (own + 1) → EndBelow es ns (8 * block_start (length peaks.now + 1)) (8 * (length peaks.now + 1)) (result + 1) }
 {
@@ -59,7 +54,7 @@ fn next_peak(peaks: &[usize], own: usize) -> usize
     peak
 }
 
-// Puts the peaks of the row into the list, in place of what it had.
+// Replaces the list by the peaks of the row.
 fn put_peaks(edges: &[Edge], numbers: &[usize], peaks: &mut Vec<usize>) -> Result<(), OutOfMemory>
     requires within { AreWithin edges.now numbers.now }
     ensures peaks { OnOk result (ArePeaks edges.now numbers.now peaks.new.items) }
@@ -75,7 +70,7 @@ fn put_peaks(edges: &[Edge], numbers: &[usize], peaks: &mut Vec<usize>) -> Resul
     Ok(())
 }
 
-/// For each row of edges its peaks; the last rows, where they have no peaks, are left out. `OutOfMemory` says that memory was
+/// For each row of edges its peaks; rows without peaks are left out at the end. `OutOfMemory` says that memory was
 /// wanted and not found.
 pub(crate) fn peaks_of(alloc: Global, edges: &[Edge], rows: &Table) -> Result<Table, OutOfMemory>
     requires within { (i : ℕ) (ns : Sequence ℕ) → IsAt rows.now i ns → AreWithin edges.now ns }
@@ -90,7 +85,7 @@ pub(crate) fn peaks_of(alloc: Global, edges: &[Edge], rows: &Table) -> Result<Ta
     Ok(table)
 }
 
-// Where the edges before this place of the row begin that one peak tells of, if it tells that all of them end before `least`.
+// The place where the edges of the peak before `place` begin, if by the peak all these edges end before `least`.
 fn passed_from(peaks: &[usize], place: usize, least: usize) -> Option<usize>
     ensures before { IfSome result (λ first. first < place) }
     ensures passed { IfSome result (λ first. (es : Sequence EdgeValue) (ns : Sequence ℕ) → ArePeaks es ns peaks.now → EndBelow es ns first place least) }
@@ -107,8 +102,7 @@ fn passed_from(peaks: &[usize], place: usize, least: usize) -> Option<usize>
 }
 
 impl PlaneItems<'_> {
-    /// How many of the edges begin before the vertex with number `limit`: those with a lower end of a smaller number, which
-    /// come first in the row.
+    /// How many of the edges have a lower end with a number below `limit`. These edges come first in the row.
     pub fn edges_before(&self, c: &Complex, limit: usize) -> usize
         requires shows { (s : Set) × ShowsSet s c.now }
         requires edges { (h : Form) × AreNumbersWith (EdgeLiesIn c.now.vertices c.now.edges h) self.now.edges.now }
@@ -129,8 +123,8 @@ impl PlaneItems<'_> {
         high
     }
 
-    /// Of the first `count` edges the last that doesn't end before the vertex with number `least`, by its place in the row,
-    /// counted from 1. 0 says that all of them do.
+    /// The last of the first `count` edges whose upper end isn't below `least`, by its place in the row, counted from
+    /// 1; 0 where each upper end is below.
     pub fn last_reaching(&self, c: &Complex, count: usize, least: usize) -> usize
         requires within { AreWithin c.now.edges self.now.edges.now }
         requires peaks { ArePeaks c.now.edges self.now.edges.now self.now.peaks.now }

@@ -1,5 +1,4 @@
-//! Carriers in order, with the runs of parallel ones: those with one normal stand side by side, so that of each run at most
-//! one holds a point.
+//! Carriers in order, with the runs of parallel carriers, which stand side by side: at most one of a run holds a point.
 
 ghost use Rattle.std.specs.Prelude.{◌≡◌, ◌<◌, ◌↔◌};
 ghost use Rattle.nef_geo.specs.Prelude.{IfOk, OnOk, ℕ, pos, length, IsTrue, IsNone, IfSome, place_of, form_of, form_at, normal_of};
@@ -18,14 +17,13 @@ pub fn holds(h: &Plane, point: &Point) -> bool
     side(h, point) == Sign::Zero
 }
 
-// Whether the forms of the planes have one normal.
 fn same_normal(g: &Plane, h: &Plane) -> bool
     ensures same { IsTrue result → normal_of (form_of g.now) ≡ normal_of (form_of h.now) }
 {
     g.a() == h.a() && g.b() == h.b() && g.c() == h.c()
 }
 
-// Whether the run of this carrier goes on after it.
+// Whether the carrier after this one belongs to the same run.
 fn goes_on(carriers: &[Plane], number: usize) -> bool
     requires within { number < length carriers.now }
     ensures on { IsTrue result → GoesOn carriers.now number }
@@ -36,7 +34,7 @@ fn goes_on(carriers: &[Plane], number: usize) -> bool
     }
 }
 
-// For each run of carriers the number at which it ends, which is the first of the next run.
+// For each run of carriers the number at which the run ends, which is that of the next run's first carrier.
 fn run_ends(alloc: Global, carriers: &[Plane]) -> Result<Vec<usize>, OutOfMemory>
     ensures runs { IfOk result (λ v. AreRuns carriers.now v.items) }
 {
@@ -49,8 +47,8 @@ fn run_ends(alloc: Global, carriers: &[Plane]) -> Result<Vec<usize>, OutOfMemory
     Ok(ends)
 }
 
-// The number of the carrier that holds the point, of the run from number `first` to before number `past`, by a binary
-// search: at the point the forms of parallel carriers rise with their last numbers. Most runs have one carrier alone.
+// The carrier of the run from `first` to before `past` that holds the point, by halving: at the point the forms of
+// parallel carriers rise with their last numbers. Most runs have one carrier.
 fn holder_in(carriers: &[Plane], first: usize, past: usize, point: &Point) -> Option<usize>
     requires ordered { AreInOrder carriers.now }
     requires run { IsRun carriers.now first past }
@@ -66,9 +64,9 @@ fn holder_in(carriers: &[Plane], first: usize, past: usize, point: &Point) -> Op
         .map(|number| first + number)
 }
 
-/// Planes in order of their four numbers, once each, which contracts see as the list of the planes. Where each run of
-/// parallel ones ends is found once, so that each run is asked by halving for the plane that holds a point.
-#[derive(Debug, Drop)]
+/// Planes in order of their four numbers, once each; contracts see the list of the planes. The ends of the runs of
+/// parallel planes are found once, so that each run is searched by halving for the plane that holds a point.
+#[derive(Drop)]
 pub struct SortedCarriers {
     planes: List<Plane>,
     ends: Vec<usize>,
@@ -88,7 +86,7 @@ impl Model for SortedCarriers {
 }
 
 impl SortedCarriers {
-    /// The carriers with the runs of parallel ones. `OutOfMemory` says that memory was wanted and not found.
+    /// The carriers with the ends of their runs. `OutOfMemory` says that memory was wanted and not found.
     pub fn of(alloc: Global, planes: List<Plane>) -> Result<SortedCarriers, OutOfMemory>
         requires ordered { AreInOrder planes }
         ensures kept { IfOk result (λ c. c ≡ planes) }
@@ -97,8 +95,8 @@ impl SortedCarriers {
         Ok(SortedCarriers { planes, ends })
     }
 
-    /// Puts the numbers of the carriers that hold the point into the list, in place of what it had, in increasing order.
-    /// `OutOfMemory` says that memory was wanted and not found.
+    /// Replaces the list by the numbers of the carriers that hold the point, in increasing order. `OutOfMemory` says
+    /// that memory was wanted and not found.
     pub fn holders(&self, point: &Point, numbers: &mut Vec<usize>) -> Result<(), OutOfMemory>
         ensures holders { OnOk result (AreHolders self.now (place_of point.now) (place_of point.now) numbers.new.items) }
     {
@@ -121,7 +119,7 @@ impl SortedCarriers {
         self.planes.as_slice()
     }
 
-    /// The carriers alone.
+    /// The carriers without the ends of their runs.
     pub fn into_planes(self) -> List<Plane>
         ensures planes { result ≡ self }
     {

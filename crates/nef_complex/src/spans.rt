@@ -1,11 +1,7 @@
-//! Whole numbers that bound the coordinates of points.
+//! Spans: boxes with whole numbers as bounds.
 
 ghost use Rattle.std.specs.Prelude.{◌≡◌, ◌*ℤ◌, ◌<ℤ◌, ◌≤ℤ◌, ◌≤◌, ◌↔◌};
-ghost use Rattle.nef_geo.specs.Prelude.{ℕ, pos, nat_abs, List as Sequence, length, IsTrue, IfOk, point_limit, IsAt, Place, place_of};
-ghost use Rattle.nef_complex.specs.declared.complex.Vertex.{Vertex};
-ghost use Rattle.nef_complex.specs.Index.{AreWithin};
-ghost use Rattle.nef_complex.specs.Spans.{IsInSpan, AreNarrower, IsNarrower, AreSmall, HaveCommon, DoOverlap};
-ghost use Rattle.nef_complex.specs.Indexing.{AreAlone, AreNarrowerListed};
+ghost use Rattle.nef_complex.specs.Prelude.{ℕ, pos, nat_abs, List as Sequence, length, IsTrue, IfOk, point_limit, IsAt, Place, place_of, Vertex, AreWithin, IsInSpan, AreNarrower, IsNarrower, AreSmall, HaveCommon, DoOverlap, AreAlone, AreNarrowerListed};
 
 use crate::OutOfMemory;
 use crate::complex::Vertex;
@@ -13,15 +9,15 @@ use crate::table::Table;
 use nef_geo::{List, Point};
 use std::alloc::Global;
 
-/// Two whole numbers; a coordinate lies within them that is at least the one and at most the other.
-#[derive(Debug, Clone, Copy, PartialEq, Eq)]
+/// The bounds of a coordinate: numbers from `low` to `high`, both included.
+#[derive(Clone, Copy)]
 pub struct Bounds {
     pub low: i64,
     pub high: i64,
 }
 
 /// Bounds of the three coordinates of points.
-#[derive(Debug, Clone, Copy, PartialEq, Eq)]
+#[derive(Clone, Copy)]
 pub struct Span {
     pub x: Bounds,
     pub y: Bounds,
@@ -29,7 +25,7 @@ pub struct Span {
 }
 
 impl Bounds {
-    // Those of x/w alone, the whole numbers next to it.
+    // The whole numbers next to x/w, below and above.
     fn of(x: i64, w: i64) -> Bounds
         requires small { nat_abs x ≤ point_limit }
         requires positive { pos 0 <ℤ w }
@@ -45,7 +41,7 @@ impl Bounds {
         Bounds { low, high }
     }
 
-    // As wide as needed for what is within the others too.
+    // The least bounds that have all numbers within both bounds.
     fn with(&self, other: &Bounds) -> Bounds
         ensures wider { AreNarrower self.now result }
         ensures other { AreNarrower other.now result }
@@ -73,7 +69,7 @@ impl Span {
         }
     }
 
-    /// The span of the point alone: the whole numbers next to its coordinates.
+    /// The least span of the point: the whole numbers next to its coordinates.
     pub fn of(point: &Point) -> Span
         ensures point { IsInSpan result (place_of point.now) }
         ensures small { AreSmall result.x × AreSmall result.y × AreSmall result.z }
@@ -85,7 +81,7 @@ impl Span {
         }
     }
 
-    /// As wide as needed for what is within the other too.
+    /// The least span that has all points of both spans.
     pub fn with_span(&self, other: &Span) -> Span
         ensures wider { IsNarrower self.now result }
         ensures other { IsNarrower other.now result }
@@ -98,14 +94,14 @@ impl Span {
     }
 }
 
-// Whether some number may lie within both.
+// Whether the bounds have a number in common.
 fn overlap(bounds: &Bounds, others: &Bounds) -> bool
     ensures overlap { IsTrue result ↔ HaveCommon bounds.now others.now }
 {
     bounds.low <= others.high && others.low <= bounds.high
 }
 
-/// Whether the spans may have a point in common: they overlap in each coordinate.
+/// Whether the spans may have a point in common: their bounds overlap in each coordinate.
 pub fn may_meet(span: &Span, other: &Span) -> bool
     ensures overlap { IsTrue result ↔ DoOverlap span.now other.now }
     ensures meets { (y : Place) → IsInSpan span.now y → IsInSpan other.now y → IsTrue result }
@@ -130,7 +126,7 @@ pub(crate) fn vertex_spans(alloc: Global, vertices: &[Vertex]) -> Result<Vec<Spa
     Ok(spans)
 }
 
-// A span as wide as those with these numbers.
+// The least span that has the points of all listed spans.
 fn span_of(alone: &[Span], listed: &[usize]) -> Span
     requires within { AreWithin alone.now listed.now }
     ensures wide { AreNarrowerListed alone.now listed.now (length listed.now) result }
@@ -142,7 +138,7 @@ fn span_of(alone: &[Span], listed: &[usize]) -> Span
     span
 }
 
-/// For each row of numbers the span of the vertices with these numbers. The spans of the vertices alone are given.
+/// For each row of vertices' numbers a span of these vertices. The span of each vertex alone is given.
 pub(crate) fn spans_of(
     alloc: Global,
     alone: &[Span],

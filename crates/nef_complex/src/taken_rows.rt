@@ -1,12 +1,8 @@
-//! The carriers that hold each vertex of a set that is made of others, by what is known of these: where the carriers of these
-//! stand among its own, and which of its own aren't theirs.
+//! The carriers that hold each vertex of a result, taken over from its two operands: where each operand's carriers
+//! stand among the result's carriers, and which carriers of the result aren't the operand's.
 
-ghost use Rattle.std.specs.Prelude.{◌≡◌, ◌<◌, false};
-ghost use Rattle.nef_geo.specs.Prelude.{length, IsTrue, IfSome, IfOk, OnOk, IsAt, Set, place_of};
-ghost use Rattle.nef_complex.specs.declared.complex.Vertex.{Vertex as VertexValue};
-ghost use Rattle.nef_complex.specs.Complexes.{ShowsSet};
-ghost use Rattle.nef_complex.specs.Index.{AreWithin, AreVertexHolders, AreInOrder};
-ghost use Rattle.nef_complex.specs.Taken.{AreAdded, IsSourceAmong, IsRowAdded};
+ghost use Rattle.nef_complex.specs.Prelude.{false, length, IsTrue, IfSome, IfOk, OnOk, IsAt, Set, place_of, Vertex as VertexValue, ShowsSet, AreWithin, AreVertexHolders, AreInOrder, AreAdded, IsSourceAmong, IsRowAdded};
+ghost use Rattle.std.specs.Prelude.{◌≡◌, ◌<◌};
 
 use crate::OutOfMemory;
 use crate::complex::{Complex, Vertex, vertex_holders};
@@ -17,7 +13,7 @@ use nef_geo::{List, Plane, Point, lex_cmp};
 use std::alloc::Global;
 use std::cmp::Ordering;
 
-// A complex, and for each of its carriers its number among all carriers; and the other ones of these, with their numbers.
+// An operand, with the numbers of its carriers among all carriers; and the other carriers, with their numbers.
 #[derive(Drop)]
 struct Source<'a> {
     complex: &'a Complex,
@@ -36,8 +32,8 @@ fn stands_at(planes: &[Plane], place: usize, h: &Plane) -> bool
     }
 }
 
-// Where the carriers of the complex stand among all, and which of all are others. Both lists stand in order, so that one way
-// through them is enough. `None` comes where one of the carriers was missed, as where it isn't among all.
+// The complex as a source, by one pass through its carriers and all carriers, which both stand in order. `None` comes
+// where the pass misses a carrier of the complex, as a carrier that isn't among all carriers.
 fn source_of<'a>(
     alloc: Global,
     complex: &'a Complex,
@@ -73,7 +69,7 @@ fn source_of<'a>(
     }))
 }
 
-// Adds the numbers that stand at the listed places of the table.
+// Adds the numbers of the table at the listed places.
 fn add_numbers(table: &[usize], listed: &[usize], row: &mut Vec<usize>) -> Result<(), OutOfMemory>
     requires within { AreWithin table.now listed.now }
     ensures added { OnOk result (AreAdded table.now listed.now (length listed.now) row.old.items row.new.items) }
@@ -84,8 +80,8 @@ fn add_numbers(table: &[usize], listed: &[usize], row: &mut Vec<usize>) -> Resul
     Ok(())
 }
 
-// The number of the vertex that stands at the point, of those from number `next` on, of which those up to the point are passed.
-// Equal points are the same four numbers, which is soon seen; the order wants products.
+// The number of the vertex at the point, from number `next` on, which then passes the vertices up to the point. Equal
+// points are the same four numbers, so equality is seen sooner than order, which wants products.
 fn number_at(vertices: &[Vertex], next: &mut usize, point: &Point) -> Option<usize>
     ensures at { IfSome result (λ k. (v : VertexValue) × IsAt vertices.now k v × (v.point ≡ point.now)) }
 {
@@ -104,8 +100,8 @@ fn number_at(vertices: &[Vertex], next: &mut usize, point: &Point) -> Option<usi
     None
 }
 
-// A way through the vertices of a source, if there is one: those before number `next` are passed. With room for what is found
-// on it, which is of no use before or after.
+// A way through the vertices of a source, if there is one: the vertices before number `next` are passed. `found` and
+// `row` are room for the search, without meaning between two searches.
 #[derive(Drop)]
 struct Way<'a> {
     source: Option<Source<'a>>,
@@ -129,8 +125,8 @@ fn way_of<'a>(alloc: Global, complex: &'a Complex, all: &[Plane]) -> Result<Way<
     })
 }
 
-// Adds the numbers of all carriers that hold the vertex of the source with this number as a row: those of the source are
-// listed, in increasing order, and the others are asked.
+// Adds the row of a vertex of the source: the numbers of the source's carriers that hold the vertex, which are known,
+// and of the other carriers that hold the vertex, which are asked.
 fn push_vertex_row(
     carriers: &SortedCarriers,
     source: &Source,
@@ -161,7 +157,7 @@ fn push_vertex_row(
 }
 
 impl<'a> Way<'a> {
-    // Adds the row of the point where a vertex of the source stands there, and says whether it did.
+    // Adds the row of the point where a vertex of the source stands at the point, and says whether one does.
     fn push_row(
         &mut self,
         carriers: &SortedCarriers,
@@ -196,8 +192,7 @@ impl<'a> Way<'a> {
     }
 }
 
-// Adds the numbers of all carriers that hold the point as a row: by a vertex of one of the sources that stands there, or
-// else by asking all.
+// Adds the numbers of all carriers that hold the point as a row, by a source with a vertex there, or by asking all.
 fn push_row_at(
     carriers: &SortedCarriers,
     first: &mut Way,
@@ -222,9 +217,29 @@ fn push_row_at(
     rows.push(row.as_slice())
 }
 
-/// As `vertex_rows`, for a set that is made of those of two complexes: most of its vertices are vertices of these, and most
-/// of its carriers are carriers of theirs. The row of such a vertex is the row that it had, renumbered, with those of the other
-/// carriers that hold it. `OutOfMemory` says that memory was wanted and not found.
+// The rows of the vertices, by ways through two complexes.
+fn rows_by(
+    alloc: Global,
+    carriers: &SortedCarriers,
+    vertices: &[Vertex],
+    first: &mut Way,
+    second: &mut Way,
+) -> Result<Table, OutOfMemory>
+    requires first { IfSome first.old.source (IsSourceAmong carriers.now) }
+    requires second { IfSome second.old.source (IsSourceAmong carriers.now) }
+    ensures rows { IfOk result (λ rows. AreVertexHolders carriers.now vertices.now rows) }
+{
+    let mut rows = Table::with_rows(alloc, vertices.len(), CARRIERS_AT_VERTEX)?;
+    let mut row = Vec::new(alloc);
+    for vertex in vertices {
+        push_row_at(carriers, first, second, &vertex.point, &mut row, &mut rows)?;
+    }
+    Ok(rows)
+}
+
+/// As `vertex_rows`, for the result of an operation on two complexes, which has most of its vertices and carriers from
+/// the operands. The row of a vertex that is taken over is its old row, renumbered, with the other carriers that hold
+/// the vertex. `OutOfMemory` says that memory was wanted and not found.
 pub fn vertex_rows_from(
     alloc: Global,
     carriers: &SortedCarriers,
@@ -238,17 +253,5 @@ pub fn vertex_rows_from(
 {
     let mut one = way_of(alloc, first, carriers.planes())?;
     let mut other = way_of(alloc, second, carriers.planes())?;
-    let mut rows = Table::with_rows(alloc, vertices.len(), CARRIERS_AT_VERTEX)?;
-    let mut row = Vec::new(alloc);
-    for vertex in vertices {
-        push_row_at(
-            carriers,
-            &mut one,
-            &mut other,
-            &vertex.point,
-            &mut row,
-            &mut rows,
-        )?;
-    }
-    Ok(rows)
+    rows_by(alloc, carriers, vertices, &mut one, &mut other)
 }

@@ -1,4 +1,4 @@
-//! A walk over the carriers that come near a window.
+//! A walk over the carriers that come near a window, which is a span.
 
 ghost use Rattle.std.specs.Prelude.{◌≡◌, ◌<◌};
 ghost use Rattle.nef_geo.specs.Prelude.{ℕ, length, Option, None, IsTrue, IsAt, Set};
@@ -12,7 +12,7 @@ use crate::complex::{Complex, carrier_clusters, carrier_spans};
 use crate::groups::{Cluster, Group};
 use crate::spans::{Span, may_meet};
 
-/// What is looked for on one carrier after the other. All of it lies within a window.
+/// A search for something on one carrier after the other, within a window.
 pub trait Search {
     type Found;
 
@@ -46,8 +46,7 @@ pub trait Search {
     ghost apart: { (x : Self) (c : ComplexValue) (f : Option Self.Found) (k : ℕ) → LiesOutside c (within x) k → passed x c f k };
 }
 
-// Asks the carriers of the group, but those whose span, within which all lies that they hold of the skeleton, holds nothing of
-// the window.
+// Asks the carriers of the group whose spans, which hold all that a carrier has of the skeleton, meet the window.
 fn ask_group<S: Search>(search: &S, c: &Complex, group: &Group, found: &mut Option<S::Found>)
     requires shows { (s : Set) × ShowsSet s c.now }
     requires within { AreWithin c.now.carriers group.now.carriers }
@@ -67,7 +66,7 @@ fn ask_group<S: Search>(search: &S, c: &Complex, group: &Group, found: &mut Opti
     }
 }
 
-// Asks the carriers of the cluster's groups so.
+// Asks the carriers of the cluster's groups whose spans meet the window.
 fn ask_cluster<S: Search>(search: &S, c: &Complex, cluster: &Cluster, found: &mut Option<S::Found>)
     requires shows { (s : Set) × ShowsSet s c.now }
     requires groups { (i : ℕ) (g : GroupValue) → IsAt cluster.now.groups i g → AreSpanned c.now.carriers c.now.vertices (IsInGroup g) g.span }
@@ -86,8 +85,7 @@ fn ask_cluster<S: Search>(search: &S, c: &Complex, cluster: &Cluster, found: &mu
     }
 }
 
-/// What is found on the carriers. Those are passed over whose spans, or those of their group or cluster, tell that they hold
-/// nothing within the window.
+/// What is found on the carriers. A carrier is passed over whose span, group's or cluster's span misses the window.
 pub fn search_carriers<S: Search>(search: &S, c: &Complex) -> Option<S::Found>
     requires shows { (s : Set) × ShowsSet s c.now }
     requires right { S.right search.now c.now None }

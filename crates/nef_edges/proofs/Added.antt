@@ -1,20 +1,6 @@
 -- The edges from the svertices that lead on, collected svertex by svertex.
-use Rattle.std.proofs.Common.{◌≡◌, ℕ, ◌+◌, ◌≤◌, pos, List, [], ◌∷◌, ◌++◌, length, map, arith, refl, sym, ap, subst, ◌∙◌, inl, inr, ◌⊎◌, ⊎_elim}
-use Rattle.std.proofs.lemmas.Int.{ints}
-use Rattle.nef_space.specs.Vectors.{IsNormal}
-use Rattle.nef_geo.specs.Shapes.{vector_of}
-use Rattle.law_sphere.specs.Maps.{At, MapVertex}
-use Rattle.law_sphere.specs.Least.{InOrder}
-use Rattle.law_sphere.proofs.Lists.{at-one}
-use Rattle.law_complex.specs.Complexes.{Vertex as PlainVertex, Edge as PlainEdge, IsEdge, IsEdgeBelow, Edges}
-use Rattle.nef_smap.specs.declared.map.SVertex.{SVertex}
-use Rattle.nef_smap.specs.Maps.{svertex_of}
-use Rattle.nef_complex.specs.declared.complex.Vertex.{Vertex}
-use Rattle.nef_complex.specs.declared.complex.Edge.{Edge}
-use Rattle.nef_complex.specs.Complexes.{vertex_of, edge_of}
-use Rattle.nef_edges.specs.declared.edge_end.EdgeEnd.{EdgeEnd}
-use Rattle.nef_edges.specs.EdgeEnds.{IsBefore}
-use Rattle.nef_edges.specs.Pairs.{AreJoined, AreEdges}
+use Rattle.nef_edges.proofs.Prelude.{◌≡◌, ℕ, ◌+◌, ◌≤◌, pos, List, [], ◌∷◌, ◌++◌, length, map, arith, refl, sym, ap, subst, ◌∙◌, inl, inr, ◌⊎◌, ⊎_elim, ints, IsNormal, vector_of, At, MapVertex, InOrder, at-one, IsEdge, IsEdgeBelow, Edges, SVertex, svertex_of, Vertex, Edge, vertex_of, edge_of, EdgeEnd, IsBefore, AreJoined, AreEdges}
+use Rattle.law_complex.specs.Complexes.{Vertex as PlainVertex, Edge as PlainEdge}
 use Rattle.nef_edges.proofs.Arrivals.{before-more, before-row}
 use Rattle.nef_edges.proofs.Existing.{edge-same, one-edge}
 use Rattle.nef_edges.proofs.Partners.{IsPair}

@@ -1,15 +1,5 @@
 -- EdgeEnds that arrive, collected svertex by svertex.
-use Rattle.std.proofs.Common.{◌≡◌, ℕ, zero, suc, ◌+◌, ◌<◌, ◌≤◌, List, [], ◌∷◌, ◌++◌, length, Bool, false, arith, refl, sym, ap, subst, ◌∙◌, inl, inr, ◌⊎◌, ⊎_elim}
-use Rattle.std.specs.Bool.{IsTrue}
-use Rattle.std.proofs.lemmas.Bool.{false≢true}
-use Rattle.nef_space.specs.Vectors.{opposite, IsNormal}
-use Rattle.nef_geo.specs.Shapes.{vector_of}
-use Rattle.law_sphere.specs.Maps.{At}
-use Rattle.law_sphere.proofs.Lists.{at-one}
-use Rattle.nef_smap.specs.declared.map.SVertex.{SVertex}
-use Rattle.nef_complex.specs.declared.complex.Vertex.{Vertex}
-use Rattle.nef_edges.specs.declared.edge_end.EdgeEnd.{EdgeEnd}
-use Rattle.nef_edges.specs.EdgeEnds.{IsBefore, IsArriving, AreArriving}
+use Rattle.nef_edges.proofs.Prelude.{◌≡◌, ℕ, zero, suc, ◌+◌, ◌<◌, ◌≤◌, List, [], ◌∷◌, ◌++◌, length, Bool, false, arith, refl, sym, ap, subst, ◌∙◌, inl, inr, ◌⊎◌, ⊎_elim, IsTrue, false≢true, opposite, IsNormal, vector_of, At, at-one, SVertex, Vertex, EdgeEnd, IsBefore, IsArriving, AreArriving}
 use Rattle.nef_edges.proofs.Places.{at-within, at-before, at-last, at-more}
 
 pub IsTrue-false : (b : Bool) → IsTrue b → b ≡ false → ⊥

@@ -1,17 +1,5 @@
 -- An edge whose ends are checked alone is matched.
-use Rattle.std.proofs.Common.{◌≡◌, ◌<◌, List, map, ap, subst, ◌∙◌}
-use Rattle.nef_space.specs.Place.{toward}
-use Rattle.nef_space.specs.Vectors.{cross, opposite, IsZero, IsNormal, SameDirection}
-use Rattle.nef_geo.specs.Shapes.{place_of, vector_of}
-use Rattle.nef_geo.specs.declared.dir.Dir.{Dir}
-use Rattle.law_sphere.specs.Maps.{At}
-use Rattle.law_sphere.proofs.Compare.{dir-self}
-use Rattle.nef_smap.specs.declared.map.SVertex.{SVertex}
-use Rattle.nef_smap.specs.Maps.{svertex_of}
-use Rattle.nef_complex.specs.declared.complex.Vertex.{Vertex}
-use Rattle.nef_complex.specs.declared.complex.Edge.{Edge}
-use Rattle.nef_complex.specs.Complexes.{vertex_of, edge_of}
-use Rattle.nef_edges.specs.Matched.{IsMatched, AreMatchedEnds}
+use Rattle.nef_edges.proofs.Prelude.{◌≡◌, ◌<◌, List, map, ap, subst, ◌∙◌, toward, cross, opposite, IsZero, IsNormal, SameDirection, place_of, vector_of, Dir, At, SVertex, svertex_of, Vertex, Edge, vertex_of, edge_of, IsMatched, AreMatchedEnds, dir-self}
 use Rattle.nef_edges.proofs.Places.{at-map}
 use Rattle.nef_edges.proofs.Rays.{from_opposite}
 

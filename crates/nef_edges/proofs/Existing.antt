@@ -1,20 +1,8 @@
 -- Vertices in order, each with at most one svertex in every direction, have a list of all their edges.
-use Rattle.std.proofs.Common.{◌≡◌, ℕ, zero, suc, ◌<◌, pos, arith, refl, ap, sym, ◌∙◌, ◌⊎◌, inl, inr, ⊎_elim, List, [], ◌∷◌, ◌++◌, subst}
-use Rattle.std.proofs.lemmas.Bool.{cases_order}
-use Rattle.std.proofs.lemmas.Int.{ints}
-use Rattle.nef_space.specs.Signs.{Lies}
-use Rattle.nef_space.proofs.Lists.{each, lies-each, lies-left, lies-right}
-use Rattle.nef_space.specs.Place.{toward, IsAhead, IsBetween, IsPlaceBelow}
-use Rattle.nef_space.specs.Vectors.{SameDirection, IsOpposite}
-use Rattle.nef_space.specs.declared.label.Label.{Label}
-use Rattle.law_near.proofs.Decided.{Decided, decided-lt}
-use Rattle.law_sphere.specs.Maps.{At, MapVertex, Shaped}
-use Rattle.law_sphere.specs.Least.{InOrder}
-use Rattle.law_sphere.proofs.Lists.{Found, search_list, at-one}
-use Rattle.law_sphere.proofs.Places.{SameDirection-decided, IsOpposite-decided}
-use Rattle.law_cones.proofs.Listing.{numbers, at-number, at-or, at-lies, lies-at, Collected, Sorted, collect, sort, chain-order}
-use Rattle.law_complex.specs.Complexes.{Vertex, Edge, IsEdge, IsEdgeBelow, Edges}
-use Rattle.nef_edges.specs.Pairs.{IsFrom}
+use Rattle.nef_edges.proofs.Prelude.{◌≡◌, ℕ, zero, suc, ◌<◌, pos, arith, refl, ap, sym, ◌∙◌, ◌⊎◌, inl, inr, ⊎_elim, List, [], ◌∷◌, ◌++◌, subst, cases_order, ints, Lies, each, lies-each, lies-left, lies-right, toward, IsAhead, IsBetween, IsPlaceBelow, SameDirection, IsOpposite, Label, Decided, At, MapVertex, Shaped, InOrder, Found, search_list, at-one, lies-at, at-lies, SameDirection-decided, IsOpposite-decided, IsEdge, IsEdgeBelow, Edges, IsFrom}
+use Rattle.law_near.proofs.Decided.{decided-lt}
+use Rattle.law_cones.proofs.Listing.{numbers, at-number, at-or, Collected, Sorted, collect, sort, chain-order}
+use Rattle.law_complex.specs.Complexes.{Vertex, Edge}
 use Rattle.nef_edges.proofs.Rays.{ahead-normal, middle-between, opposites-same}
 
 -- ---- one edge from each svertex

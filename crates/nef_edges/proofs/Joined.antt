@@ -1,21 +1,8 @@
 -- The vertices of a set are joined: their svertices are ends of edges.
-use Rattle.std.proofs.Common.{◌≡◌, ℕ, ◌<◌, List, map, length, sym, subst}
-use Rattle.nef_space.specs.Lists.{IsAt}
-use Rattle.nef_space.specs.Place.{IsPlaceBelow}
-use Rattle.nef_space.specs.Sets.{Set}
-use Rattle.nef_geo.specs.Shapes.{form_of}
-use Rattle.nef_geo.specs.declared.plane.Plane.{Plane}
-use Rattle.law_sphere.specs.Maps.{At, Shaped}
-use Rattle.law_sphere.specs.Least.{InOrder}
-use Rattle.law_complex.specs.Complexes.{Vertex as PlainVertex, Complex as PlainComplex, Edges}
-use Rattle.law_complex.specs.Shows.{Shows}
+use Rattle.nef_edges.proofs.Prelude.{◌≡◌, ℕ, ◌<◌, List, map, length, sym, subst, IsAt, IsPlaceBelow, Set, form_of, Plane, At, Shaped, InOrder, Complex as PlainComplex, Edges, Shows, Vertex, Edge, vertex_of, edge_of, AreVerticesOf, ShowsSet, IsIndexOf, HasHolders, AreHeld, AreInOrder, HaveEnds, AreJoined}
+use Rattle.law_complex.specs.Complexes.{Vertex as PlainVertex}
 use Rattle.nef_complex.specs.declared.complex.Complex.{Complex}
-use Rattle.nef_complex.specs.declared.complex.Vertex.{Vertex}
-use Rattle.nef_complex.specs.declared.complex.Edge.{Edge}
-use Rattle.nef_complex.specs.Complexes.{vertex_of, edge_of, AreVerticesOf, ShowsSet}
-use Rattle.nef_complex.specs.Index.{IsIndexOf, HasHolders, AreHeld, AreInOrder, HaveEnds}
 use Rattle.nef_complex.proofs.Carried.{items-held}
-use Rattle.nef_edges.specs.Pairs.{AreJoined}
 use Rattle.nef_edges.proofs.Existing.{edges-exist}
 use Rattle.nef_edges.proofs.Partners.{partner, partner-back}
 use Rattle.nef_edges.proofs.Places.{at-some, some-at, at-map, map-at, at-within}

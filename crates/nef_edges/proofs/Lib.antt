@@ -1,3 +1,4 @@
+pub mod Prelude
 pub mod Rays
 pub mod Existing
 pub mod Products

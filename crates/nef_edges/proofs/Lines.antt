@@ -1,26 +1,6 @@
 -- The order of ends is total, and ends tie by their lines where they lie on one line.
-use Rattle.std.proofs.Common.{◌≡◌, ℕ, ◌<◌, ◌≤◌, ℤ, pos, ◌+ℤ◌, ◌-ℤ◌, ◌*ℤ◌, ◌<ℤ◌, nat_abs, [], ◌∷◌, false, Ordering, Less, Equal, Greater, arith, refl, ap, sym, subst, ◌∙◌}
-use Rattle.std.specs.Cmp.{IsTotalOrder, int_ranks}
-use Rattle.std.specs.Ordering.{MatchOrdering, int_cmp, nat_cmp, ordering_then, ordering_reverse, is_lt}
-use Rattle.std.proofs.lemmas.Bool.{false≢true}
-use Rattle.std.proofs.lemmas.Cmp.{int_cmp_total, nat_cmp_total, on_total, then_total, ranked, tied_itself}
-use Rattle.std.proofs.lemmas.Int.{ints}
-use Rattle.nef_space.proofs.Combination.{follows, given, none}
+use Rattle.nef_edges.proofs.Prelude.{◌≡◌, ℕ, ◌<◌, ◌≤◌, ℤ, pos, ◌+ℤ◌, ◌-ℤ◌, ◌*ℤ◌, ◌<ℤ◌, nat_abs, [], ◌∷◌, false, Ordering, Less, Equal, Greater, arith, refl, ap, sym, subst, ◌∙◌, IsTotalOrder, int_ranks, MatchOrdering, int_cmp, nat_cmp, ordering_then, ordering_reverse, is_lt, false≢true, int_cmp_total, nat_cmp_total, on_total, then_total, ranked, tied_itself, ints, follows, given, none, by_order, sign-plus, sign-minus, plus-is, minus-is, nought-is, pos-abs, at, num, ◌⊕◌, ◌⊖◌, ◌⊗◌, sign, toward, Vector, cross, IsZero, triple_of, IsBelow, place_of, vector_of, Dir, Point, dir_total, dir-ordered, EdgeEnd, sum_of, clamped, moment_of, ratio_order, moment_order, dir_order, line_order, end_order}
 use Rattle.nef_space.proofs.Fractions.{fraction-trans, fraction-alike}
-use Rattle.nef_space.proofs.Order.{by_order, sign-plus, sign-minus, plus-is, minus-is, nought-is}
-use Rattle.nef_space.proofs.Ring.{at, num, ◌⊕◌, ◌⊖◌, ◌⊗◌}
-use Rattle.nef_space.specs.Signs.{sign}
-use Rattle.nef_space.specs.Place.{toward}
-use Rattle.nef_space.specs.Vectors.{Vector, cross, IsZero, triple_of}
-use Rattle.nef_space.specs.Numbers.{IsBelow}
-use Rattle.nef_geo.specs.Shapes.{place_of, vector_of}
-use Rattle.nef_geo.specs.declared.dir.Dir.{Dir}
-use Rattle.nef_geo.specs.declared.point.Point.{Point}
-use Rattle.nef_geo.proofs.Orders.{dir_total, dir-ordered}
-use Rattle.nef_geo.proofs.Places.{pos_size}
-use Rattle.nef_edges.specs.declared.edge_end.EdgeEnd.{EdgeEnd}
-use Rattle.nef_edges.specs.Moments.{sum_of, clamped}
-use Rattle.nef_edges.specs.Order.{moment_of, ratio_order, moment_order, dir_order, line_order, end_order}
 use Rattle.nef_edges.proofs.Wholes.{wholes-alike}
 
 -- ---- answers of comparisons
@@ -98,10 +78,10 @@ module _ (p q : Point) (d : Vector) where
       × ((q.x *ℤ w -ℤ p.x *ℤ v) *ℤ d.y -ℤ (q.y *ℤ w -ℤ p.y *ℤ v) *ℤ d.x ≡ pos 0)
 
   pub to-level : Level p.w q.w → IsZero (cross (toward (place_of p) (place_of q)) d)
-  to-level z = subst (λ w. Level w (pos (nat_abs q.w))) (sym (pos_size p.w p.proper)) (subst (λ v. Level p.w v) (sym (pos_size q.w q.proper)) z)
+  to-level z = subst (λ w. Level w (pos (nat_abs q.w))) (sym (pos-abs p.w p.proper)) (subst (λ v. Level p.w v) (sym (pos-abs q.w q.proper)) z)
 
   from-level : IsZero (cross (toward (place_of p) (place_of q)) d) → Level p.w q.w
-  from-level z = subst (λ v. Level p.w v) (pos_size q.w q.proper) (subst (λ w. Level w (pos (nat_abs q.w))) (pos_size p.w p.proper) z)
+  from-level z = subst (λ v. Level p.w v) (pos-abs q.w q.proper) (subst (λ w. Level w (pos (nat_abs q.w))) (pos-abs p.w p.proper) z)
 
 -- two ends on one line
 pub record OnOneLine (a b : EdgeEnd) : Type 0 where

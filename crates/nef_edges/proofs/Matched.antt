@@ -1,17 +1,6 @@
 -- Edges that are matched end by end are the edges of the vertices.
-use Rattle.std.proofs.Common.{◌≡◌, ℕ, zero, suc, ◌+◌, ◌<◌, ◌≤◌, pos, ℤ, ◌-ℤ◌, ◌*ℤ◌, neg_ℤ, List, [], ◌∷◌, length, arith, sym, ap, subst, ◌∙◌, inl, inr, ⊎_elim}
-use Rattle.std.proofs.lemmas.Bool.{cases_order, cases_lt}
-use Rattle.std.proofs.lemmas.Int.{ints}
-use Rattle.nef_space.proofs.Ring.{ring, at, neg, ◌⊖◌, ◌⊗◌}
-use Rattle.nef_space.specs.Place.{Place, toward, IsAhead, IsBetween, IsPlaceBelow}
-use Rattle.nef_space.specs.Vectors.{Vector, cross, opposite, IsZero, IsNormal, SameDirection, IsOpposite}
-use Rattle.law_sphere.specs.Maps.{At, MapVertex}
-use Rattle.law_sphere.proofs.Compare.{SameDirection-turned, SameDirection-trans}
-use Rattle.law_sphere.proofs.Lists.{at-one}
-use Rattle.law_complex.specs.Complexes.{Vertex, Edge, IsEdge, IsEdgeBelow, Edges}
-use Rattle.nef_complex.proofs.Lines.{on_line}
-use Rattle.nef_edges.specs.Pairs.{AreJoined}
-use Rattle.nef_edges.specs.Matched.{IsMatched, AreMatched}
+use Rattle.nef_edges.proofs.Prelude.{◌≡◌, ℕ, zero, suc, ◌+◌, ◌<◌, ◌≤◌, pos, ℤ, ◌-ℤ◌, ◌*ℤ◌, neg_ℤ, List, [], ◌∷◌, length, arith, sym, ap, subst, ◌∙◌, inl, inr, ⊎_elim, cases_order, cases_lt, ints, ring, at, neg, ◌⊖◌, ◌⊗◌, Place, toward, IsAhead, IsBetween, IsPlaceBelow, Vector, cross, opposite, IsZero, IsNormal, SameDirection, IsOpposite, At, MapVertex, at-one, IsEdge, IsEdgeBelow, Edges, on_line, AreJoined, IsMatched, AreMatched, SameDirection-turned, SameDirection-trans}
+use Rattle.law_complex.specs.Complexes.{Vertex, Edge}
 use Rattle.nef_edges.proofs.Existing.{edge-same, one-edge}
 use Rattle.nef_edges.proofs.Places.{at-within}
 use Rattle.nef_edges.proofs.Rays.{normal-kept, ahead-normal, middle-between, to_opposite, opposites-same}

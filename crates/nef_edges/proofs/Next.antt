@@ -1,15 +1,6 @@
 -- The place where the sorted ends of edges pass one.
-use Rattle.std.proofs.Common.{◌≡◌, ℕ, ◌+◌, ◌<◌, ◌≤◌, List, length, get_or, true, false, Ordering, Less, Equal, Greater, arith, refl, sym, ap, ◌∙◌, ⊎_elim}
-use Rattle.std.specs.Cmp.{IsStrictWeakOrder, upto}
-use Rattle.std.specs.List.Sorted.{IsSortedBy, IsPermutation, IsPartitionedBy, IsPartitionPoint}
-use Rattle.std.specs.Ordering.{ordering_reverse, is_lt, is_le, is_gt}
-use Rattle.std.proofs.lemmas.Bool.{false≢true, cases_lt}
-use Rattle.std.proofs.lemmas.List.Sorted.{ranks_by, sorted_far, Contains-permutation, IsPermutation-sym}
-use Rattle.law_sphere.specs.Maps.{At}
-use Rattle.nef_complex.specs.declared.complex.Vertex.{Vertex}
-use Rattle.nef_edges.specs.declared.edge_end.EdgeEnd.{EdgeEnd}
-use Rattle.nef_edges.specs.Order.{end_order, end_lt}
-use Rattle.nef_edges.specs.EdgeEnds.{AreArriving, IsAfter, NoneAfter, IsNext}
+use Rattle.nef_edges.proofs.Prelude.{◌≡◌, ℕ, ◌+◌, ◌<◌, ◌≤◌, List, length, get_or, true, false, Ordering, Less, Equal, Greater, arith, refl, sym, ap, ◌∙◌, ⊎_elim, IsStrictWeakOrder, upto, IsPermutation, IsPartitionPoint, ordering_reverse, is_lt, is_le, is_gt, false≢true, cases_lt, ranks_by, sorted_far, Contains-permutation, IsPermutation-sym, At, Vertex, EdgeEnd, end_order, end_lt, AreArriving, IsAfter, NoneAfter, IsNext}
+use Rattle.std.specs.List.Sorted.{IsSortedBy, IsPartitionedBy}
 use Rattle.nef_edges.proofs.Lines.{end_total}
 use Rattle.nef_edges.proofs.Places.{at-within, at-read, read-at}
 

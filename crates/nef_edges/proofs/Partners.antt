@@ -1,30 +1,7 @@
 -- The next end that arrives is the partner of one that leads on.
-use Rattle.std.proofs.Common.{◌≡◌, ℕ, ◌<◌, pos, neg_ℤ, List, length, map, arith, refl, sym, ap, subst, ◌∙◌, inl, inr, ◌⊎◌, ⊎_elim, Ordering, Less, Equal, Greater}
-use Rattle.std.proofs.lemmas.Bool.{cases_lt}
-use Rattle.std.proofs.lemmas.Int.{ints}
-use Rattle.std.specs.Ordering.{MatchOrdering, nat_cmp, ordering_then}
-use Rattle.std.specs.Cmp.{tied_back}
-use Rattle.std.proofs.lemmas.Cmp.{ranked}
-use Rattle.nef_space.specs.Place.{toward}
-use Rattle.nef_space.specs.Sets.{Set}
-use Rattle.nef_space.specs.Vectors.{Vector, opposite, IsNormal, IsZero, cross, SameDirection, IsOpposite}
-use Rattle.nef_geo.specs.Shapes.{place_of, vector_of}
-use Rattle.nef_geo.specs.declared.dir.Dir.{Dir}
-use Rattle.nef_geo.proofs.Unique.{same_directions_equal}
-use Rattle.law_sphere.specs.Maps.{At, MapVertex}
-use Rattle.law_sphere.proofs.Lists.{at-one}
-use Rattle.law_sphere.proofs.Compare.{normals-not_opposite, dir-self}
-use Rattle.law_complex.specs.Complexes.{Vertex as PlainVertex, Edge as PlainEdge, Complex as PlainComplex, IsEdge}
-use Rattle.law_complex.specs.Shows.{Shows}
+use Rattle.nef_edges.proofs.Prelude.{◌≡◌, ℕ, ◌<◌, pos, neg_ℤ, List, length, map, arith, refl, sym, ap, subst, ◌∙◌, inl, inr, ◌⊎◌, ⊎_elim, Ordering, Less, Equal, Greater, cases_lt, ints, MatchOrdering, nat_cmp, ordering_then, tied_back, ranked, toward, Set, Vector, opposite, IsNormal, IsZero, cross, SameDirection, IsOpposite, place_of, vector_of, Dir, same_directions_equal, At, MapVertex, at-one, normals-not_opposite, Complex as PlainComplex, IsEdge, Shows, SVertex, svertex_of, Vertex, vertex_of, EdgeEnd, line_order, IsBefore, IsArriving, AreArriving, IsAfter, IsNext, IsFrom, IsTo, AreJoined, dir-self}
+use Rattle.law_complex.specs.Complexes.{Vertex as PlainVertex, Edge as PlainEdge}
 use Rattle.law_complex.proofs.Joining.{svertex-edge}
-use Rattle.nef_smap.specs.declared.map.SVertex.{SVertex}
-use Rattle.nef_smap.specs.Maps.{svertex_of}
-use Rattle.nef_complex.specs.declared.complex.Vertex.{Vertex}
-use Rattle.nef_complex.specs.Complexes.{vertex_of}
-use Rattle.nef_edges.specs.declared.edge_end.EdgeEnd.{EdgeEnd}
-use Rattle.nef_edges.specs.Order.{line_order}
-use Rattle.nef_edges.specs.EdgeEnds.{IsBefore, IsArriving, AreArriving, IsAfter, IsNext}
-use Rattle.nef_edges.specs.Pairs.{IsFrom, IsTo, AreJoined}
 use Rattle.nef_edges.proofs.Lines.{OnOneLine, tied-line, line-tied, StandsBetween, stands-between, line_total}
 use Rattle.nef_edges.proofs.Places.{at-within, at-map, map-at}
 use Rattle.nef_edges.proofs.Rays.{normal-kept, ahead-normal, middle-between, to_opposite, from_opposite, opposites-same}

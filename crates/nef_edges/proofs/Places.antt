@@ -1,6 +1,5 @@
 -- Elements of lists by their places.
-use Rattle.std.proofs.Common.{◌≡◌, ℕ, zero, suc, ◌<◌, List, [], ◌∷◌, ◌++◌, length, map, get_or, slice_get, Some, None, arith, refl, sym, ap, inl, inr, ◌⊎◌}
-use Rattle.law_sphere.specs.Maps.{At}
+use Rattle.nef_edges.proofs.Prelude.{◌≡◌, ℕ, zero, suc, ◌<◌, List, [], ◌∷◌, ◌++◌, length, map, get_or, slice_get, Some, None, arith, refl, sym, ap, inl, inr, ◌⊎◌, At}
 
 module _ {A : Type 0} where
   pub at-within : (xs : List A) (k : ℕ) (x : A) → At xs k x → k < length xs

@@ -1,13 +1,6 @@
 -- The machine's products are the exact ones.
-use Rattle.std.proofs.Common.{◌≡◌, ℕ, ◌≤◌, ℤ, pos, ◌+ℤ◌, ◌-ℤ◌, ◌*ℤ◌, nat_abs, List, [], ◌∷◌, w64, to_z, of_z, FitsSigned, ap, ◌∙◌, Ordering}
+use Rattle.nef_edges.proofs.Prelude.{◌≡◌, ℕ, ◌≤◌, ℤ, pos, ◌+ℤ◌, ◌-ℤ◌, ◌*ℤ◌, nat_abs, List, [], ◌∷◌, w64, to_z, of_z, FitsSigned, ap, ◌∙◌, Ordering, int_cmp, direction_limit, point_limit, weight_limit, Code, load, const, wrap, run, ◌⊞◌, ◌⊟◌, ◌⊠◌, Limited, fits_of, exact_of, size_of, Point, EdgeEnd, moment_limit, ratio_order}
 use mir.Syntax.{w128}
-use Rattle.std.specs.Ordering.{int_cmp}
-use Rattle.nef_space.specs.Limits.{direction_limit, point_limit, weight_limit}
-use Rattle.nef_space.proofs.Machine.{Code, load, const, wrap, run, ◌⊞◌, ◌⊟◌, ◌⊠◌, Limited, fits_of, exact_of, size_of}
-use Rattle.nef_geo.specs.declared.point.Point.{Point}
-use Rattle.nef_edges.specs.declared.edge_end.EdgeEnd.{EdgeEnd}
-use Rattle.nef_edges.specs.Widths.{moment_limit}
-use Rattle.nef_edges.specs.Order.{ratio_order}
 
 -- ---- `a as i128 * f as i128 - b as i128 * e as i128`
 abbrev wide : ℕ → Code

@@ -1,15 +1,7 @@
 -- Points on one line: those that come later in the order of points lie ahead.
-use Rattle.std.proofs.Common.{◌≡◌, ℕ, ◌<◌, ℤ, pos, ◌-ℤ◌, ◌*ℤ◌, neg_ℤ, ◌≤ℤ◌, ◌<ℤ◌, arith, ap, ◌∙◌, inl, inr, [], ◌∷◌}
-use Rattle.std.proofs.lemmas.Int.{ints}
-use Rattle.nef_space.proofs.Ring.{ring, at, num, neg, ◌⊕◌, ◌⊖◌, ◌⊗◌}
-use Rattle.nef_space.proofs.Order.{by_order, mul_pos, mul_neg, mul_nonneg, cancel_eq}
+use Rattle.nef_edges.proofs.Prelude.{◌≡◌, ℕ, ◌<◌, ℤ, pos, ◌-ℤ◌, ◌*ℤ◌, neg_ℤ, ◌≤ℤ◌, ◌<ℤ◌, arith, ap, ◌∙◌, inl, inr, [], ◌∷◌, ints, ring, at, num, neg, ◌⊕◌, ◌⊖◌, ◌⊗◌, by_order, mul_pos, mul_neg, mul_nonneg, cancel_eq, Place, toward, IsAhead, IsBetween, IsPlaceBelow, Vector, dot, cross, opposite, IsZero, IsNormal, SameDirection, IsOpposite, normals-not_opposite, normal-direction, on_line, nought-if, SameDirection-turned, SameDirection-trans}
 use Rattle.law_near.proofs.Directions.{same-factor}
 use Rattle.law_near.proofs.Sums.{some-pos}
-use Rattle.nef_space.specs.Place.{Place, toward, IsAhead, IsBetween, IsPlaceBelow}
-use Rattle.nef_space.specs.Vectors.{Vector, dot, cross, opposite, IsZero, IsNormal, SameDirection, IsOpposite}
-use Rattle.law_sphere.proofs.Compare.{SameDirection-turned, SameDirection-trans, normals-not_opposite}
-use Rattle.law_sphere.proofs.Vectors.{normal-direction, nought-if}
-use Rattle.nef_complex.proofs.Lines.{on_line}
 
 -- q - p for a later point q begins with a positive number
 pub toward-normal : (p q : Place) → IsPlaceBelow p q → IsNormal (toward p q)

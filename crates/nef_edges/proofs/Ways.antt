@@ -1,17 +1,6 @@
 -- The way from one point to another, times both denominators, as the machine works it; and whether it goes along a direction.
-use Rattle.std.proofs.Common.{◌≡◌, ℕ, ◌≤◌, ℤ, pos, ◌-ℤ◌, ◌*ℤ◌, nat_abs, List, [], ◌∷◌, w64, to_z, of_z, FitsSigned, arith, sym, ap, subst, ◌∙◌}
-use Rattle.std.proofs.lemmas.Int.{ints}
+use Rattle.nef_edges.proofs.Prelude.{◌≡◌, ℕ, ◌≤◌, ℤ, pos, ◌-ℤ◌, ◌*ℤ◌, nat_abs, List, [], ◌∷◌, w64, to_z, of_z, FitsSigned, arith, sym, ap, subst, ◌∙◌, ints, direction_limit, point_limit, weight_limit, toward, cross, IsZero, follows, given, none, Code, load, wrap, run, ◌⊟◌, ◌⊠◌, Limited, fits_of, exact_of, size_of, at, num, ◌⊖◌, ◌⊗◌, place_of, vector_of, Dir, Point, step_limit, way_limit}
 use mir.Syntax.{w128}
-use Rattle.nef_space.specs.Limits.{direction_limit, point_limit, weight_limit}
-use Rattle.nef_space.specs.Place.{toward}
-use Rattle.nef_space.specs.Vectors.{cross, IsZero}
-use Rattle.nef_space.proofs.Combination.{follows, given, none}
-use Rattle.nef_space.proofs.Machine.{Code, load, wrap, run, ◌⊟◌, ◌⊠◌, Limited, fits_of, exact_of, size_of}
-use Rattle.nef_space.proofs.Ring.{at, num, ◌⊖◌, ◌⊗◌}
-use Rattle.nef_geo.specs.Shapes.{place_of, vector_of}
-use Rattle.nef_geo.specs.declared.dir.Dir.{Dir}
-use Rattle.nef_geo.specs.declared.point.Point.{Point}
-use Rattle.nef_edges.specs.Widths.{step_limit, way_limit}
 use Rattle.nef_edges.proofs.Lines.{to-level}
 
 abbrev wide : ℕ → Code

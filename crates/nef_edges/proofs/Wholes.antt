@@ -1,9 +1,5 @@
 -- Equal fractions have equal whole parts.
-use Rattle.std.proofs.Common.{◌≡◌, ℤ, pos, ◌+ℤ◌, ◌*ℤ◌, ◌<ℤ◌, [], ◌∷◌, arith, sym}
-use Rattle.std.proofs.lemmas.Int.{ints}
-use Rattle.std.specs.Int.{int_div_euclid}
-use Rattle.nef_space.proofs.Order.{mul_pos, mul_le_right, mul_lt_right, cancel_lt}
-use Rattle.nef_space.proofs.Ring.{ring, at, num, ◌⊕◌, ◌⊗◌}
+use Rattle.nef_edges.proofs.Prelude.{◌≡◌, ℤ, pos, ◌+ℤ◌, ◌*ℤ◌, ◌<ℤ◌, [], ◌∷◌, arith, sym, ints, int_div_euclid, mul_pos, mul_le_right, mul_lt_right, cancel_lt, ring, at, num, ◌⊕◌, ◌⊗◌}
 use Rattle.nef_complex.proofs.Spanning.{euclid-below, euclid-above}
 
 -- of n/w = m/v the whole part on the left isn't above the one on the right

@@ -1,16 +1,14 @@
--- Ends of edges that arrive at vertices and lead on from them, and the next one in order.
-use Rattle.std.specs.Prelude.{◌≡◌, ℕ, ◌<◌, List, false, ◌⊎◌}
+-- Ends of edges: the ends at which edges arrive, their order, and the next end in this order.
+use Rattle.std.specs.Prelude.{◌≡◌, ◌<◌, ◌⊎◌}
+use Rattle.nef_complex.specs.Prelude.{ℕ, List, false, opposite, IsNormal, vector_of, At}
 use Rattle.std.specs.declared.cmp.Ordering.TheVariants.{Greater}
 use Rattle.std.specs.Ordering.{is_lt}
-use Rattle.nef_space.specs.Vectors.{opposite, IsNormal}
-use Rattle.nef_geo.specs.Shapes.{vector_of}
-use Rattle.law_sphere.specs.Maps.{At}
 use Rattle.nef_smap.specs.declared.map.SVertex.{SVertex}
 use Rattle.nef_complex.specs.declared.complex.Vertex.{Vertex}
 use Rattle.nef_edges.specs.declared.edge_end.EdgeEnd.{EdgeEnd}
 use Rattle.nef_edges.specs.Order.{end_order}
 
--- the svertices of the vertices before number i, and the first n of vertex i
+-- svertex m of vertex j is one of a vertex before number i, or one of the first n of vertex i
 abbrev pub IsBefore : ℕ → ℕ → ℕ → ℕ → Type 0
 IsBefore i n j m = (j < i) ⊎ ((j ≡ i) × (m < n))
 
@@ -23,7 +21,7 @@ pub record IsArriving (vs : List Vertex) (h : EdgeEnd) : Type 0 where
   pub point : h.point ≡ vertex.point
   pub back : vector_of h.dir ≡ opposite (vector_of svertex.dir)
 
--- the ends that arrive, of the svertices that count
+-- hs has exactly the ends at which edges arrive, among the svertices that count
 pub record AreArriving (vs : List Vertex) (Counts : ℕ → ℕ → Type 0) (hs : List EdgeEnd) : Type 0 where
   pub each : (k : ℕ) (h : EdgeEnd) → At hs k h → IsArriving vs h
   pub all : (j m : ℕ) (v : Vertex) (s : SVertex) → At vs j v → At v.map.svertices m s → IsNormal (opposite (vector_of s.dir)) → Counts j m → (k : ℕ) × (h : EdgeEnd) × At hs k h × (h.vertex ≡ j) × (h.svertex ≡ m)
@@ -32,11 +30,11 @@ pub record AreArriving (vs : List Vertex) (Counts : ℕ → ℕ → Type 0) (hs 
 abbrev pub IsAfter : EdgeEnd → EdgeEnd → Type 0
 IsAfter f h = end_order h f ≡ Greater
 
--- none of the ends before number p stands after f
+-- no end of hs before number p stands after f
 abbrev pub NoneAfter : List EdgeEnd → EdgeEnd → ℕ → Type 0
 NoneAfter hs f p = (k : ℕ) (h : EdgeEnd) → At hs k h → k < p → IsAfter f h → ⊥
 
--- h is the first of the ends after f: none of these is less
+-- h is the first of the ends of hs after f: no end after f is less than h
 pub record IsNext (hs : List EdgeEnd) (f h : EdgeEnd) : Type 0 where
   pub listed : (k : ℕ) × At hs k h
   pub after : IsAfter f h

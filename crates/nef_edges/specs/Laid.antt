@@ -1,42 +1,39 @@
--- Edges that are laid out from all svertices that lead on, of which some are loose.
-use Rattle.std.specs.Prelude.{◌≡◌, ℕ, ◌≤◌, ◌⊎◌, List, map, set}
-use Rattle.nef_space.specs.Vectors.{IsNormal}
-use Rattle.law_sphere.specs.Maps.{At}
+-- Edges laid out from all svertices that lead on, some of which are loose.
+use Rattle.std.specs.Prelude.{◌≡◌, ◌≤◌, ◌⊎◌, ℕ, List, map, set}
+use Rattle.nef_complex.specs.Prelude.{IsNormal, At, vector_of, vertex_of, edge_of}
 use Rattle.law_sphere.specs.Least.{InOrder}
 use Rattle.law_complex.specs.Complexes.{IsEdgeBelow}
-use Rattle.nef_geo.specs.Shapes.{vector_of}
 use Rattle.nef_smap.specs.declared.map.SVertex.{SVertex}
 use Rattle.nef_complex.specs.declared.complex.Vertex.{Vertex}
 use Rattle.nef_complex.specs.declared.complex.Edge.{Edge}
-use Rattle.nef_complex.specs.Complexes.{vertex_of, edge_of}
 use Rattle.nef_edges.specs.declared.ends.End.{End}
 use Rattle.nef_edges.specs.Matched.{IsMatched}
 
--- the end is a svertex of one of the vertices, with their numbers
+-- the end is a svertex of one of the vertices, with the numbers of both
 pub record IsEnd (vs : List Vertex) (x : End) : Type 0 where
   pub vertex : At vs x.vertex_number x.vertex.now
   pub svertex : At x.vertex.now.map.svertices x.svertex_number x.svertex.now
 
--- the edge from the end to svertex b of vertex j
+-- the edge from the end x to svertex b of vertex j
 abbrev pub edge_between : End → ℕ → ℕ → Edge
 edge_between x j b = record { low = x.vertex_number; low_svertex = x.svertex_number; high = j; high_svertex = b; mark = x.svertex.now.mark }
 
--- it is matched, where the first is an end
+-- if x is an end, the edge from x to svertex b of vertex j is matched
 abbrev pub LeadsTo : List Vertex → End → ℕ → ℕ → Type 0
 LeadsTo vs x j b = IsEnd vs x → IsMatched (map vertex_of vs) (edge_of (edge_between x j b))
 
--- one edge from each of the svertices that count and lead to later points, in order; each is matched, or its number is listed as loose, at the given place or behind it
+-- es has an edge from each svertex that counts and leads to later points, in order: matched, or loose from `from` on
 pub record AreLaid (vs : List Vertex) (Counts : ℕ → ℕ → Type 0) (es : List Edge) (loose : List ℕ) (from : ℕ) : Type 0 where
   pub each : (k : ℕ) (e : Edge) → At es k e → Counts e.low e.low_svertex
   pub matched : (k : ℕ) (e : Edge) → At es k e → IsMatched (map vertex_of vs) (edge_of e) ⊎ ((j : ℕ) × (from ≤ j) × At loose j k)
   pub all : (i a : ℕ) (v : Vertex) (s : SVertex) → At vs i v → At v.map.svertices a s → IsNormal (vector_of s.dir) → Counts i a → (k : ℕ) × (e : Edge) × At es k e × (e.low ≡ i) × (e.low_svertex ≡ a)
   pub ordered : InOrder (λ e f. IsEdgeBelow (edge_of e) (edge_of f)) es
 
--- all of the first numbers are among the second
+-- all numbers of ns are among ms
 abbrev pub IsPart : List ℕ → List ℕ → Type 0
 IsPart ns ms = (j k : ℕ) → At ns j k → (l : ℕ) × At ms l k
 
--- in the place of the edge with this number stands a matched one from the same svertex
+-- the edge with this number is replaced by a matched edge from the same svertex
 pub record IsJoinedAt (vs : List Vertex) (n : ℕ) (es fs : List Edge) : Type 0 where
   pub old : Edge
   pub new : Edge

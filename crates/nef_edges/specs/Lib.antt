@@ -1,3 +1,4 @@
+pub mod Prelude
 pub mod Widths
 pub mod Moments
 pub mod Order

@@ -1,9 +1,7 @@
--- Edges that are told by guesses, each of which is checked alone.
-use Rattle.std.specs.Prelude.{◌≡◌, ℕ, ◌<◌, ◌+◌, ◌-◌, ◌^◌, min, List, get_or, Bool, true}
-use Rattle.nef_space.specs.Place.{toward}
-use Rattle.nef_space.specs.Vectors.{cross, IsZero, IsNormal, IsOpposite}
-use Rattle.law_sphere.specs.Maps.{At, MapVertex}
-use Rattle.law_sphere.specs.Least.{InOrder}
+-- Matched edges: guesses of edges, each of which is checked alone.
+use Rattle.std.specs.Prelude.{◌≡◌, ◌<◌, ◌+◌, ◌-◌, ◌^◌, ℕ, min, List, get_or, Bool, true}
+use Rattle.nef_space.specs.Prelude.{toward, cross, IsZero, IsNormal, IsOpposite}
+use Rattle.law_sphere.specs.Prelude.{At, MapVertex, InOrder}
 use Rattle.law_complex.specs.Complexes.{Vertex, Edge, IsEdgeBelow, Edges}
 use Rattle.nef_geo.specs.Shapes.{place_of, vector_of}
 use Rattle.nef_smap.specs.declared.map.SVertex.{SVertex}
@@ -11,7 +9,7 @@ use Rattle.nef_complex.specs.declared.complex.Vertex.{Vertex as ProgramVertex}
 use Rattle.nef_complex.specs.declared.complex.Edge.{Edge as ProgramEdge}
 use Rattle.nef_edges.specs.Pairs.{AreJoined}
 
--- the edge joins a svertex that leads to later points with one of a later vertex that leads back along the same line: other vertices may lie between
+-- the edge joins a svertex that leads to later points with one of a later vertex that leads back along the same line
 pub record IsMatched (vs : List Vertex) (e : Edge) : Type 0 where
   pub low_vertex : Vertex
   pub high_vertex : Vertex
@@ -27,36 +25,36 @@ pub record IsMatched (vs : List Vertex) (e : Edge) : Type 0 where
   pub back : IsOpposite low_end.dir high_end.dir
   pub mark : e.mark ≡ low_end.mark
 
--- the ends of such an edge as the program has them
+-- svertex s of vertex v and svertex t of vertex w lead to each other along one line, s to later points
 pub record AreMatchedEnds (v : ProgramVertex) (s : SVertex) (w : ProgramVertex) (t : SVertex) : Type 0 where
   pub leading : IsNormal (vector_of s.dir)
   pub on_line : IsZero (cross (toward (place_of v.point) (place_of w.point)) (vector_of s.dir))
   pub back : IsOpposite (vector_of s.dir) (vector_of t.dir)
 
--- one matched edge from each svertex that leads to later points, in order, and no two to one svertex
+-- es has one matched edge from each svertex that leads to later points, in order, and no two edges to one svertex
 pub record AreMatched (vs : List Vertex) (es : List Edge) : Type 0 where
   pub each : (k : ℕ) (e : Edge) → At es k e → IsMatched vs e
   pub all : (i a : ℕ) (v : Vertex) (u : MapVertex) → At vs i v → At v.map.svertices a u → IsNormal u.dir → (k : ℕ) × (e : Edge) × At es k e × (e.low ≡ i) × (e.low_svertex ≡ a)
   pub once : (k l : ℕ) (e f : Edge) → At es k e → At es l f → e.high ≡ f.high → e.high_svertex ≡ f.high_svertex → k ≡ l
   pub ordered : InOrder IsEdgeBelow es
 
--- then nothing lies between their ends: these are the edges
+-- matched edges are the edges of the vertices: nothing lies between their ends
 abbrev pub MatchedAreEdges : Type 0
 MatchedAreEdges = (vs : List Vertex) (es : List Edge) → AreJoined vs → AreMatched vs es → Edges vs es
 
--- and the edges are matched, so that the right guesses pass
+-- the edges of the vertices are matched, so right guesses pass
 abbrev pub EdgesAreMatched : Type 0
 EdgesAreMatched = (vs : List Vertex) (es : List Edge) → AreJoined vs → Edges vs es → AreMatched vs es
 
 -- ---- edges that are checked one by one
--- of the first n edges no two arrive at one svertex
+-- no two of the first n edges arrive at one svertex
 abbrev pub AreApart : List ProgramEdge → ℕ → Type 0
 AreApart es n = (k l : ℕ) (e f : ProgramEdge) → At es k e → At es l f → k < n → l < n → e.high ≡ f.high → e.high_svertex ≡ f.high_svertex → k ≡ l
 
--- the mark at which svertex t of vertex j is told as taken, where the marks of a vertex begin at a number
+-- the number of the mark of svertex t of vertex j, where `starts` has the number of each vertex's first mark
 abbrev pub slot_of : List ℕ → ℕ → ℕ → ℕ
 slot_of starts j t = min (get_or starts j 0 + t) (2 ^ 64 - 1)
 
--- the marks at the higher ends of the first n edges are set
+-- the marks of the svertices at which the first n edges arrive are set
 abbrev pub AreTaken : List ℕ → List Bool → List ProgramEdge → ℕ → Type 0
 AreTaken starts marks es n = (k : ℕ) (e : ProgramEdge) → At es k e → k < n → At marks (slot_of starts e.high e.high_svertex) true

@@ -1,13 +1,10 @@
--- Vertices whose svertices are ends of edges, and the edges from some of them.
-use Rattle.std.specs.Prelude.{◌≡◌, ℕ, List, map}
-use Rattle.nef_space.specs.Place.{IsPlaceBelow}
-use Rattle.nef_space.specs.Vectors.{opposite, IsNormal}
-use Rattle.law_sphere.specs.Maps.{At, MapVertex, Shaped}
+-- Vertices whose svertices are ends of edges, and the edges from some of the svertices.
+use Rattle.std.specs.Prelude.{◌≡◌}
+use Rattle.nef_complex.specs.Prelude.{ℕ, List, map, IsPlaceBelow, opposite, IsNormal, At, MapVertex, Shaped, vertex_of, edge_of}
 use Rattle.law_sphere.specs.Least.{InOrder}
 use Rattle.law_complex.specs.Complexes.{Vertex as PlainVertex, Edge as PlainEdge, IsEdge, IsEdgeBelow}
 use Rattle.nef_complex.specs.declared.complex.Vertex.{Vertex}
 use Rattle.nef_complex.specs.declared.complex.Edge.{Edge}
-use Rattle.nef_complex.specs.Complexes.{vertex_of, edge_of}
 
 -- the edge leaves svertex a of vertex i
 abbrev pub IsFrom : List PlainVertex → ℕ → ℕ → PlainEdge → Type 0
@@ -17,14 +14,14 @@ IsFrom vs i a e = IsEdge vs e × (e.low ≡ i) × (e.low_svertex ≡ a)
 abbrev pub IsTo : List PlainVertex → ℕ → ℕ → PlainEdge → Type 0
 IsTo vs j b e = IsEdge vs e × (e.high ≡ j) × (e.high_svertex ≡ b)
 
--- sorted vertices, each svertex of which that leads to later points is the lower end of an edge, and each other one the higher end
+-- sorted vertices whose svertices that lead to later points are lower ends of edges, and whose others are upper ends
 pub record AreJoined (vs : List PlainVertex) : Type 0 where
   pub ordered : InOrder (λ u v. IsPlaceBelow u.point v.point) vs
   pub shaped : (k : ℕ) (v : PlainVertex) → At vs k v → Shaped v.map
   pub joined : (i a : ℕ) (v : PlainVertex) (u : MapVertex) → At vs i v → At v.map.svertices a u → IsNormal u.dir → (e : PlainEdge) × IsFrom vs i a e
   pub arrived : (j b : ℕ) (w : PlainVertex) (t : MapVertex) → At vs j w → At w.map.svertices b t → IsNormal (opposite t.dir) → (e : PlainEdge) × IsTo vs j b e
 
--- the edges from the svertices that count, in order
+-- es has the edges from the svertices that count, in order
 pub record AreEdges (vs : List Vertex) (Counts : ℕ → ℕ → Type 0) (es : List Edge) : Type 0 where
   pub edges : (k : ℕ) (e : Edge) → At es k e → IsEdge (map vertex_of vs) (edge_of e) × Counts e.low e.low_svertex
   pub complete : (e : PlainEdge) → IsEdge (map vertex_of vs) e → Counts e.low e.low_svertex → (k : ℕ) × (f : Edge) × At es k f × (edge_of f ≡ e)

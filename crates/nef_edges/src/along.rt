@@ -1,16 +1,11 @@
 //! Whether one point lies along a direction from another.
 
 ghost use Rattle.std.specs.Prelude.{◌≡◌, ◌≤◌, ◌-ℤ◌, ◌*ℤ◌};
-ghost use Rattle.nef_complex.specs.Prelude.{nat_abs, direction_limit, point_limit, IsTrue, place_of};
-ghost use Rattle.nef_space.specs.Limits.{weight_limit};
-ghost use Rattle.nef_space.specs.Place.{toward};
-ghost use Rattle.nef_space.specs.Vectors.{cross, IsZero};
-ghost use Rattle.nef_geo.specs.Shapes.{vector_of};
-ghost use Rattle.nef_edges.specs.Widths.{step_limit, way_limit};
+ghost use Rattle.nef_edges.specs.Prelude.{nat_abs, direction_limit, point_limit, IsTrue, place_of, weight_limit, toward, cross, IsZero, vector_of, step_limit, way_limit};
 
 use nef_geo::{Dir, Point};
 
-// The difference of b/v and a/w, times both denominators.
+// b/v - a/w, times both weights.
 fn difference(a: i64, w: i64, b: i64, v: i64) -> i128
     requires a_small { nat_abs a ≤ point_limit }
     requires w_small { nat_abs w ≤ weight_limit }
@@ -22,7 +17,7 @@ fn difference(a: i64, w: i64, b: i64, v: i64) -> i128
     b as i128 * w as i128 - a as i128 * v as i128
 }
 
-// The numbers of q - p, times both denominators.
+// The coordinates of q - p, times the weights of both points.
 fn way(p: &Point, q: &Point) -> (i128, i128, i128)
     ensures x { result.0 ≡ q.now.x *ℤ p.now.w -ℤ p.now.x *ℤ q.now.w }
     ensures y { result.1 ≡ q.now.y *ℤ p.now.w -ℤ p.now.y *ℤ q.now.w }
@@ -81,7 +76,7 @@ fn step(a: i64, b: i64) -> i64
     b - a
 }
 
-// The numbers of q - p, times the denominator of both.
+// The coordinates of q - p, times the weight, where both points have one weight.
 fn steps(p: &Point, q: &Point) -> (i64, i64, i64)
     ensures x { result.0 ≡ q.now.x -ℤ p.now.x }
     ensures y { result.1 ≡ q.now.y -ℤ p.now.y }
@@ -101,7 +96,7 @@ fn spread(n: i64, m: i64) -> i128
     n as i128 * m as i128
 }
 
-// Whether a : b = e : f, for numbers of a step.
+// Whether a : b = e : f, where a and b are numbers of a step between points with one weight.
 fn is_level(a: i64, b: i64, e: i64, f: i64) -> bool
     requires a_small { nat_abs a ≤ step_limit }
     requires b_small { nat_abs b ≤ step_limit }
@@ -112,7 +107,7 @@ fn is_level(a: i64, b: i64, e: i64, f: i64) -> bool
     spread(a, f) == spread(b, e)
 }
 
-// As `is_along`, for points with one denominator: the numbers of q - p, times that, have 64 bits.
+// As `is_along`, for points with one weight: q - p times the weight has numbers of 64 bits.
 fn is_along_step(p: &Point, dir: &Dir, q: &Point) -> bool
     requires same { p.now.w ≡ q.now.w }
     ensures along { IsTrue result → IsZero (cross (toward (place_of p.now) (place_of q.now)) (vector_of dir.now)) }
@@ -127,8 +122,7 @@ fn is_along_step(p: &Point, dir: &Dir, q: &Point) -> bool
     is_level(u.2, u.0, dir.z(), dir.x())
 }
 
-/// Whether q lies on the line through p along the direction: the product of q - p and the direction is zero. Most points have
-/// one denominator.
+/// Whether q lies on the line through p along the direction: the cross product of q - p and the direction is zero.
 pub(crate) fn is_along(p: &Point, dir: &Dir, q: &Point) -> bool
     ensures along { IsTrue result → IsZero (cross (toward (place_of p.now) (place_of q.now)) (vector_of dir.now)) }
 {

@@ -1,12 +1,7 @@
-//! The ends that arrive at vertices, in order: by their lines, and on one line by their vertices.
+//! The ends at which edges arrive, sorted by their lines, and on one line by their vertices.
 
 ghost use Rattle.std.specs.Prelude.{◌<◌, ◌≤◌, ◌+◌, ◌≡◌, ◌*ℤ◌};
-ghost use Rattle.nef_complex.specs.Prelude.{ℕ, length, IsTrue, IfOk, OnOk, nat_abs, IsSortedBy, At, int_cmp, nat_cmp, ordering_then};
-ghost use Rattle.std.specs.declared.cmp.Ordering.TheVariants.{Equal};
-ghost use Rattle.nef_edges.specs.declared.edge_end.EdgeEnd.{EdgeEnd};
-ghost use Rattle.nef_edges.specs.Order.{end_lt, moment_order, dir_order, line_order, end_order};
-ghost use Rattle.nef_edges.specs.EdgeEnds.{IsBefore, AreArriving, IsAfter, NoneAfter, IsNext};
-ghost use Rattle.nef_edges.specs.Widths.{moment_limit};
+ghost use Rattle.nef_edges.specs.Prelude.{ℕ, length, IsTrue, IfOk, OnOk, nat_abs, IsSortedBy, At, int_cmp, nat_cmp, ordering_then, Equal, EdgeEnd, end_lt, moment_order, dir_order, line_order, end_order, IsBefore, AreArriving, IsAfter, NoneAfter, IsNext, moment_limit};
 
 use crate::OutOfMemory;
 use crate::along::is_along;
@@ -15,7 +10,7 @@ use nef_complex::Vertex;
 use std::alloc::Global;
 use std::cmp::Ordering;
 
-// Adds the ends that arrive at vertex number i.
+// Adds the ends at which edges arrive at vertex number i.
 fn add_arriving(ends: &mut Vec<EdgeEnd>, vertices: &[Vertex], i: usize) -> Result<(), OutOfMemory>
     requires within { i < length vertices.now }
     requires before { AreArriving vertices.now (IsBefore i 0) ends.old.items }
@@ -34,7 +29,7 @@ fn add_arriving(ends: &mut Vec<EdgeEnd>, vertices: &[Vertex], i: usize) -> Resul
 // Most vertices have three or four edges, of which about one in two arrives.
 const ENDS_AT_VERTEX: usize = 2;
 
-/// The ends that arrive at any vertex, by their lines and vertices.
+/// The ends at which edges arrive at the vertices, sorted by their lines and vertices.
 pub(crate) fn sorted_arriving(
     alloc: Global,
     vertices: &[Vertex],
@@ -50,7 +45,7 @@ pub(crate) fn sorted_arriving(
     Ok(ends)
 }
 
-// Whether the end with this number stands after `from`.
+// Whether the end with this number stands after `from` in the order of ends.
 fn is_after(ends: &[EdgeEnd], number: usize, from: &EdgeEnd) -> bool
     ensures after { IsTrue result → (h : EdgeEnd) × At ends.now number h × IsAfter from.now h }
 {
@@ -60,8 +55,8 @@ fn is_after(ends: &[EdgeEnd], number: usize, from: &EdgeEnd) -> bool
     }
 }
 
-// How many of the sorted ends don't stand after `from`, where all ends with its key lie on its line: most keys are those of
-// one line. Where several lines have the key this may be any number.
+// A guess of how many of the sorted ends don't stand after `from`. The guess is right where all ends with the key of
+// `from` lie on one line, as for most keys.
 fn guess_up_to(ends: &[EdgeEnd], from: &EdgeEnd) -> usize
     ensures within { result ≤ length ends.now }
 {
@@ -70,7 +65,7 @@ fn guess_up_to(ends: &[EdgeEnd], from: &EdgeEnd) -> usize
     })
 }
 
-// Whether none of the sorted ends before this number stands after `from`: the last of them doesn't.
+// Whether no end before this number stands after `from`: the ends are sorted, so the last end before the number tells.
 fn is_up_to(ends: &[EdgeEnd], number: usize, from: &EdgeEnd) -> bool
     requires sorted { IsSortedBy end_lt ends.now }
     requires within { number ≤ length ends.now }
@@ -79,8 +74,8 @@ fn is_up_to(ends: &[EdgeEnd], number: usize, from: &EdgeEnd) -> bool
     number == 0 || end_cmp(&ends[number - 1], from).is_le()
 }
 
-/// The first of the sorted ends that stands after `from`. A guess is tried first, since two comparisons of lines tell whether it
-/// is right, and halving takes one for each step among the ends on one line.
+/// The first of the sorted ends after `from`. A guess is tried first: two comparisons of lines check it, while halving
+/// takes one comparison of lines for each step among the ends with one key.
 pub(crate) fn next_after(ends: &[EdgeEnd], from: &EdgeEnd) -> EdgeEnd
     requires sorted { IsSortedBy end_lt ends.now }
     requires some { (k : ℕ) × (h : EdgeEnd) × At ends.now k h × IsAfter from.now h }
@@ -94,7 +89,7 @@ pub(crate) fn next_after(ends: &[EdgeEnd], from: &EdgeEnd) -> EdgeEnd
     ends[count]
 }
 
-// Compares n over the w of the one end's point with m over that of the other's.
+// Compares n/w and m/v, where w and v are the weights of the points of a and b.
 fn ratio_cmp(n: i128, a: &EdgeEnd, m: i128, b: &EdgeEnd) -> Ordering
     requires n_small { nat_abs n ≤ moment_limit }
     requires m_small { nat_abs m ≤ moment_limit }
@@ -104,7 +99,6 @@ fn ratio_cmp(n: i128, a: &EdgeEnd, m: i128, b: &EdgeEnd) -> Ordering
     (n * v as i128).cmp(&(m * w as i128))
 }
 
-// Compares the moments of two lines.
 fn moment_cmp(a: &EdgeEnd, b: &EdgeEnd) -> Ordering
     ensures order { result ≡ moment_order a.now b.now }
 {
@@ -115,7 +109,6 @@ fn moment_cmp(a: &EdgeEnd, b: &EdgeEnd) -> Ordering
         .then(ratio_cmp(n.2, a, m.2, b))
 }
 
-// Whether the two ends lie on one line.
 fn is_one_line(a: &EdgeEnd, b: &EdgeEnd) -> bool
     ensures tied { IsTrue result → line_order a.now b.now ≡ Equal }
 {
@@ -125,7 +118,7 @@ fn is_one_line(a: &EdgeEnd, b: &EdgeEnd) -> bool
     is_along(&a.point, &a.dir, &b.point)
 }
 
-// Compares two lines with one key. Mostly both are one.
+// Compares the lines of two ends with one key. Mostly both ends lie on one line.
 fn line_cmp(a: &EdgeEnd, b: &EdgeEnd) -> Ordering
     ensures order { result ≡ ordering_then (dir_order a.now.dir b.now.dir) (moment_order a.now b.now) }
 {
@@ -135,7 +128,7 @@ fn line_cmp(a: &EdgeEnd, b: &EdgeEnd) -> Ordering
     a.dir.cmp(&b.dir).then_with(|| moment_cmp(a, b))
 }
 
-// Compares two ends whose lines have one key. Most lines have different ones, so this isn't made part of `end_cmp`.
+// Compares two ends with one key. Most keys differ, so this call isn't inlined into `end_cmp`.
 #[inline(never)]
 fn tied_cmp(a: &EdgeEnd, b: &EdgeEnd) -> Ordering
     ensures order { result ≡ ordering_then (ordering_then (dir_order a.now.dir b.now.dir) (moment_order a.now b.now)) (nat_cmp a.now.vertex b.now.vertex) }
@@ -143,7 +136,6 @@ fn tied_cmp(a: &EdgeEnd, b: &EdgeEnd) -> Ordering
     line_cmp(a, b).then(a.vertex.cmp(&b.vertex))
 }
 
-// Compares the keys of two ends' lines.
 fn key_cmp(a: &EdgeEnd, b: &EdgeEnd) -> Ordering
     ensures order { result ≡ int_cmp a.now.key b.now.key }
 {

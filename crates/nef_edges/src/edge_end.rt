@@ -1,7 +1,5 @@
-//! The ends of edges, and the moments of their lines.
-//!
-//! The line through p along d is told by d and by its moment, p x d divided by p's w: both are the same for all points of
-//! the line.
+//! The ends of edges, and the moments of their lines. The line through p along d has the moment p x d, divided by p's
+//! weight: the direction and the moment are the same for all points of the line, and determine the line.
 
 ghost use Rattle.std.specs.Prelude.{◌≡◌, ◌≤◌, ◌-ℤ◌, ◌*ℤ◌, ◌<ℤ◌};
 ghost use Rattle.nef_complex.specs.Prelude.{pos, nat_abs, direction_limit, point_limit};
@@ -10,10 +8,10 @@ ghost use Rattle.nef_edges.specs.Widths.{moment_limit};
 
 use nef_geo::{Dir, Point};
 
-/// An end of an edge: a svertex of a vertex. The direction leads along the edge toward the later of its ends, so it is
-/// that of the svertex where the edge leads on from the vertex, and the opposite one where it arrives there. The key of
-/// the line is kept because each end is compared many times.
-#[derive(Debug, Clone, Copy, PartialEq, Eq)]
+/// An end of an edge: a svertex of a vertex. `dir` leads along the edge toward the later vertex: the svertex's
+/// direction where the edge leads on from this vertex, and the opposite direction where the edge arrives here. `key` is
+/// the line's key, kept since each end is compared many times.
+#[derive(Clone, Copy)]
 pub(crate) struct EdgeEnd {
     pub(crate) point: Point,
     pub(crate) dir: Dir,
@@ -24,7 +22,7 @@ pub(crate) struct EdgeEnd {
 }
 
 impl EdgeEnd {
-    /// The end of these, with the key of its line.
+    /// The end at this point with this direction, and with the key of its line.
     pub(crate) fn of(point: Point, dir: Dir, vertex: usize, svertex: usize) -> EdgeEnd
         ensures point { result.point ≡ point }
         ensures dir { result.dir ≡ dir }
@@ -52,7 +50,7 @@ fn minor(a: i64, b: i64, e: i64, f: i64) -> i128
     a as i128 * f as i128 - b as i128 * e as i128
 }
 
-/// The numbers of p x d.
+/// The numbers of p x d, where p is the point and d the direction.
 pub(crate) fn product(point: &Point, dir: &Dir) -> (i128, i128, i128)
     ensures x { result.0 ≡ (product_of point.now dir.now).x }
     ensures y { result.1 ≡ (product_of point.now dir.now).y }
@@ -68,7 +66,7 @@ pub(crate) fn product(point: &Point, dir: &Dir) -> (i128, i128, i128)
     )
 }
 
-// n/w rounded down, or the nearest number of 64 bits. Most numbers have 64 bits, and are divided sooner.
+// n/w rounded down, and clamped to 64 bits. Most n have 64 bits, and are divided sooner.
 fn whole(n: i128, w: i64) -> i64
     requires positive { pos 0 <ℤ w }
     ensures whole { result ≡ whole_of n w }
@@ -80,8 +78,8 @@ fn whole(n: i128, w: i64) -> i64
     floor.clamp(i64::MIN as i128, i64::MAX as i128) as i64
 }
 
-// A sum of the numbers of p x d that few triples of numbers have in common. The numbers of moments of lines through the frame
-// are at most 2^49 in size, so their sums fit 64 bits.
+// A sum of multiples of the numbers of p x d that few lines share. Moments of lines through the frame have numbers of
+// at most 2^49 in size, so their sums fit 64 bits.
 fn product_sum(point: &Point, dir: &Dir) -> i128
     ensures sum { result ≡ sum_of point.now dir.now }
 {
@@ -89,8 +87,8 @@ fn product_sum(point: &Point, dir: &Dir) -> i128
     x + 61 * y + 3721 * z
 }
 
-/// The key of the line through the point along the direction: a whole number that is the same for all points of the line, and
-/// that few others have. It is a sum of the numbers of the moment, rounded down.
+/// The key of the line through the point along the direction: a sum of multiples of the moment's numbers, rounded down.
+/// All points of a line give one key, and few lines share it.
 pub(crate) fn line_key(point: &Point, dir: &Dir) -> i64
     ensures key { result ≡ key_of point.now dir.now }
 {

@@ -1,17 +1,14 @@
-//! Svertices of vertices, with their numbers, and whether an edge joins two of them.
+//! Ends of edges, by the numbers of vertex and svertex, and whether two ends match.
 
-ghost use Rattle.std.specs.Prelude.{◌≡◌, List};
-ghost use Rattle.nef_complex.specs.Prelude.{IsTrue, IfSome};
-ghost use Rattle.nef_complex.specs.declared.complex.Vertex.{Vertex as VertexValue};
-ghost use Rattle.nef_edges.specs.Matched.{AreMatchedEnds};
-ghost use Rattle.nef_edges.specs.Laid.{IsEnd, LeadsTo};
+ghost use Rattle.nef_edges.specs.Prelude.{List, IsTrue, IfSome, Vertex as VertexValue, AreMatchedEnds, IsEnd, LeadsTo};
+ghost use Rattle.std.specs.Prelude.{◌≡◌};
 
 use crate::along::is_along;
 use nef_complex::Vertex;
 use nef_smap::SVertex;
 
 /// A svertex of a vertex, with the numbers of both.
-#[derive(Debug, Clone, Copy)]
+#[derive(Clone, Copy)]
 pub(crate) struct End<'a> {
     pub(crate) vertex: &'a Vertex,
     pub(crate) svertex: &'a SVertex,
@@ -39,7 +36,7 @@ pub(crate) fn end_at(
     })
 }
 
-// Whether the svertex of the first point leads to later points, and the one of the second back along the same line.
+// Whether `from` leads from `low` to later points, and `to` leads from `high` back along the same line.
 fn is_matched(low: &Vertex, from: &SVertex, high: &Vertex, to: &SVertex) -> bool
     ensures matched { IsTrue result → AreMatchedEnds low.now from.now high.now to.now }
 {
@@ -52,7 +49,7 @@ fn is_matched(low: &Vertex, from: &SVertex, high: &Vertex, to: &SVertex) -> bool
     is_along(&low.point, &from.dir, &high.point)
 }
 
-/// Whether an edge from the first end to the second is matched.
+/// Whether the two ends match: an edge from `low` arrives at `high`, which is an end of a later vertex.
 pub(crate) fn are_matched(low: &End, high: &End) -> bool
     ensures matched { IsTrue result → (vs : List VertexValue) → IsEnd vs high.now → LeadsTo vs low.now high.now.vertex_number high.now.svertex_number }
 {

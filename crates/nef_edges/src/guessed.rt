@@ -1,12 +1,7 @@
-//! Edges by guesses. Those that are edges of other sets are known to be matched, and each other one is checked alone.
+//! Edges by guesses, each of which is checked alone: edges of the operands, and edges between the ends that are left.
 
-ghost use Rattle.std.specs.Prelude.{◌≡◌, [], set, true};
-ghost use Rattle.nef_complex.specs.Prelude.{ℕ, length, map, IsTrue, IfSome, IfOk, At, vertex_of, edge_of, Edges};
-ghost use Rattle.nef_complex.specs.declared.complex.Edge.{Edge as EdgeValue};
-ghost use Rattle.nef_edges.specs.Matched.{IsMatched, AreApart, slot_of};
-ghost use Rattle.nef_edges.specs.Laid.{AreLaid, IsJoinedAt};
-ghost use Rattle.nef_edges.specs.EdgeEnds.{IsBefore};
-ghost use Rattle.nef_edges.specs.Pairs.{AreJoined};
+ghost use Rattle.nef_edges.specs.Prelude.{[], set, true, ℕ, length, map, IsTrue, IfSome, IfOk, At, vertex_of, edge_of, Edges, Edge as EdgeValue, IsMatched, AreApart, slot_of, AreLaid, IsJoinedAt, IsBefore, AreJoined};
+ghost use Rattle.std.specs.Prelude.{◌≡◌};
 
 use crate::OutOfMemory;
 use crate::arriving::end_cmp;
@@ -18,7 +13,7 @@ use crate::loose::{Loose, part_edges};
 use nef_complex::{Complex, Edge, Vertex};
 use std::alloc::Global;
 
-/// Sets a mark. Says whether there is one that wasn't set.
+/// Sets the mark with this number, and says whether there is such a mark that wasn't set before.
 pub(crate) fn take(marks: &mut Vec<bool>, slot: usize) -> bool
     ensures free { IsTrue result → At marks.old.items slot true → ⊥ }
     ensures taken { IsTrue result → At marks.new.items slot true }
@@ -31,7 +26,7 @@ pub(crate) fn take(marks: &mut Vec<bool>, slot: usize) -> bool
     false
 }
 
-/// The number of a svertex among those of all vertices.
+/// The number of a svertex among the svertices of all vertices.
 pub(crate) fn slot(starts: &[usize], vertex: usize, svertex: usize) -> usize
     ensures slot { result ≡ slot_of starts.now vertex svertex }
 {
@@ -42,7 +37,7 @@ pub(crate) fn slot(starts: &[usize], vertex: usize, svertex: usize) -> usize
     start.saturating_add(svertex)
 }
 
-// Where the svertices of each vertex begin in the list of all, and how many there are.
+// For each vertex the number of its first svertex among all svertices, and how many svertices there are.
 fn starts_of(alloc: Global, vertices: &[Vertex]) -> Result<(Vec<usize>, usize), OutOfMemory> {
     let mut starts = Vec::with_capacity(alloc, vertices.len())?;
     let mut count: usize = 0;
@@ -53,7 +48,7 @@ fn starts_of(alloc: Global, vertices: &[Vertex]) -> Result<(Vec<usize>, usize), 
     Ok((starts, count))
 }
 
-// The matched edge to this end from the svertex from which the edge with this number leads on.
+// The edge with this number, led to `end` instead, where its lower end matches `end`.
 fn joined_edge(edges: &[Edge], vertices: &[Vertex], number: usize, end: &EdgeEnd) -> Option<Edge>
     ensures matched { IfSome result (λ f. IsMatched (map vertex_of vertices.now) (edge_of f)) }
     ensures old { IfSome result (λ f. (e : EdgeValue) × At edges.now number e × (f.low ≡ e.low) × (f.low_svertex ≡ e.low_svertex)) }
@@ -73,7 +68,7 @@ fn joined_edge(edges: &[Edge], vertices: &[Vertex], number: usize, end: &EdgeEnd
     })
 }
 
-// Puts an edge into the place of the one with this number. Says whether there is one.
+// Replaces the edge with this number, and says whether there is an edge with this number.
 fn put(edges: &mut Vec<Edge>, number: usize, edge: Edge) -> bool
     ensures put { IsTrue result → edges.new.items ≡ set edges.old.items number edge }
 {
@@ -84,7 +79,7 @@ fn put(edges: &mut Vec<Edge>, number: usize, edge: Edge) -> bool
     false
 }
 
-// Leads the edge with this number to the end. Says whether it is matched there.
+// Leads the edge with this number to `end`, and says whether its lower end matches `end`.
 fn join(edges: &mut Vec<Edge>, vertices: &[Vertex], number: usize, end: &EdgeEnd) -> bool
     ensures joined { IsTrue result → IsJoinedAt vertices.now number edges.old.items edges.new.items }
 {
@@ -94,15 +89,15 @@ fn join(edges: &mut Vec<Edge>, vertices: &[Vertex], number: usize, end: &EdgeEnd
     }
 }
 
-// The first of the sorted ends that stands after the end with this number among those that lead on.
+// The first arriving end after leading end `number` in the order of ends.
 fn first_after(arriving: &[EdgeEnd], leading: &[EdgeEnd], number: usize) -> Option<EdgeEnd> {
     let from = leading.get(number)?;
     let next = arriving.partition_point(|end| end_cmp(end, from).is_le());
     arriving.get(next).copied()
 }
 
-// Leads each of the edges with these numbers, whose lower ends are given, to the first of the sorted ends after its own. Says whether
-// all of them are matched.
+// Leads each of the edges with these numbers, whose lower ends are `leading`, to the first arriving end after its own.
+// Says whether all of these edges match.
 fn join_loose(
     edges: &mut Vec<Edge>,
     vertices: &[Vertex],
@@ -138,8 +133,8 @@ fn are_apart(marks: &mut Vec<bool>, starts: &[usize], edges: &[Edge]) -> bool
     true
 }
 
-/// All edges of the vertices, in order, by guesses: most are edges of the complexes. `None` says that guesses don't pay, since more
-/// than half of the ends have none, or that one is wrong.
+/// All edges between the vertices, in order, by guesses: most are edges of the two complexes. `None` says that a guess
+/// is wrong, or that guesses don't pay, since more than half of the ends have none.
 pub(crate) fn edges_guessed(
     alloc: Global,
     vertices: &[Vertex],

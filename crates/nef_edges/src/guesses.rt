@@ -1,11 +1,7 @@
-//! Edges laid out from all svertices that lead on, by the edges of the sets that a set is made of. Ends for which there is none are
-//! loose.
+//! Guesses of the edges from all svertices that lead on, by the edges of the operands. Ends without a guess are loose.
 
-ghost use Rattle.std.specs.Prelude.{◌≡◌, ◌<◌, ◌+◌, List, Some};
-ghost use Rattle.nef_complex.specs.Prelude.{length, IfSome, IfOk, OnOk};
-ghost use Rattle.nef_complex.specs.declared.complex.Vertex.{Vertex as VertexValue};
-ghost use Rattle.nef_edges.specs.EdgeEnds.{IsBefore};
-ghost use Rattle.nef_edges.specs.Laid.{AreLaid, IsEnd, LeadsTo};
+ghost use Rattle.nef_edges.specs.Prelude.{List, Some, length, IfSome, IfOk, OnOk, Vertex as VertexValue, IsBefore, AreLaid, IsEnd, LeadsTo};
+ghost use Rattle.std.specs.Prelude.{◌≡◌, ◌<◌, ◌+◌};
 
 use crate::OutOfMemory;
 use crate::edge_end::EdgeEnd;
@@ -16,21 +12,21 @@ use crate::loose::Loose;
 use nef_complex::{Edge, Vertex};
 use std::alloc::Global;
 
-/// The edges of the two complexes that a set is made of.
-#[derive(Debug, Drop)]
+/// The edges of the two operands.
+#[derive(Drop)]
 pub(crate) struct Sources<'a> {
     pub(crate) first: Source<'a>,
     pub(crate) second: Source<'a>,
 }
 
-// Marks of the svertices at which an edge arrives. Those of a vertex begin in the list where `starts` tells.
-#[derive(Debug, Drop)]
+// For each svertex a mark: whether an edge arrives there. `starts` has the number of each vertex's first svertex.
+#[derive(Drop)]
 struct Arrived<'a> {
     starts: &'a [usize],
     marks: Vec<bool>,
 }
 
-// The svertex with these numbers, where no edge arrives there yet: now one does.
+// The end with these numbers, if no edge arrives there yet. It is marked as one at which an edge arrives.
 fn free_end(arrived: &mut Arrived, end: Option<(usize, usize)>) -> Option<(usize, usize)>
     ensures same { IfSome result (λ t. end ≡ Some t) }
 {
@@ -41,8 +37,7 @@ fn free_end(arrived: &mut Arrived, end: Option<(usize, usize)>) -> Option<(usize
     None
 }
 
-// The numbers of the vertex and the svertex to which an edge of one of the complexes leads from the end, where none arrives there
-// yet.
+// The end to which an operand's edge leads from `low`, as numbers of vertex and svertex, if no edge arrives there yet.
 fn end_from(
     arrived: &mut Arrived,
     sources: &mut Sources,
@@ -60,7 +55,7 @@ fn end_from(
     free_end(arrived, other)
 }
 
-// Lays out the edge from the end, which leads on: it is loose.
+// Adds the edge from `low` without a guess, and notes the end as loose.
 fn lay_loose(edges: &mut Vec<Edge>, loose: &mut Loose, low: &End) -> Result<(), OutOfMemory>
     ensures added { OnOk result ((vs : List VertexValue) → AreLaid vs (IsBefore low.now.vertex_number low.now.svertex_number) edges.old.items loose.old.numbers.items 0 → AreLaid vs (IsBefore low.now.vertex_number (low.now.svertex_number + 1)) edges.new.items loose.new.numbers.items 0) }
 {
@@ -81,7 +76,7 @@ fn lay_loose(edges: &mut Vec<Edge>, loose: &mut Loose, low: &End) -> Result<(), 
     Ok(())
 }
 
-// Lays out the edge from the end, which leads on.
+// Adds the edge from `low`, by a guess or as loose.
 fn lay_edge(
     edges: &mut Vec<Edge>,
     loose: &mut Loose,
@@ -108,7 +103,7 @@ fn lay_edge(
     Ok(())
 }
 
-// Adds the end, at which an edge arrives.
+// Adds an end at which an edge arrives.
 fn add_end(arriving: &mut Vec<EdgeEnd>, high: &End) -> Result<(), OutOfMemory> {
     arriving.push(EdgeEnd::of(
         high.vertex.point,
@@ -119,7 +114,7 @@ fn add_end(arriving: &mut Vec<EdgeEnd>, high: &End) -> Result<(), OutOfMemory> {
     Ok(())
 }
 
-// Adds the end, at which an edge arrives, where none does yet.
+// Adds an end at which an edge arrives, if no guess leads there.
 fn add_arrival(
     arriving: &mut Vec<EdgeEnd>,
     arrived: &Arrived,
@@ -136,7 +131,7 @@ fn add_arrival(
     Ok(())
 }
 
-// Lays out the edges that lead on from vertex number i. All that arrive there come from earlier vertices.
+// Adds the edges that lead on from vertex number i. Edges that arrive there come from earlier vertices, and are known.
 fn lay_edges_from(
     edges: &mut Vec<Edge>,
     loose: &mut Loose,
@@ -166,7 +161,7 @@ fn lay_edges_from(
     Ok(())
 }
 
-/// Lays out the edges from all svertices that lead on, in order, and notes the ends for which there is none.
+/// The edges from all svertices that lead on, in order. Ends without a guess are noted as loose.
 pub(crate) fn lay_edges(
     alloc: Global,
     vertices: &[Vertex],

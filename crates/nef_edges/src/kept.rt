@@ -1,7 +1,6 @@
-//! Edges of the sets that a set is made of which still join two of its vertices.
+//! Edges of an operand that still join two vertices of the result.
 
-ghost use Rattle.nef_complex.specs.Prelude.{IfSome};
-ghost use Rattle.nef_edges.specs.Laid.{LeadsTo};
+ghost use Rattle.nef_edges.specs.Prelude.{IfSome, LeadsTo};
 
 use crate::OutOfMemory;
 use crate::ends::{End, are_matched, end_at};
@@ -14,7 +13,7 @@ use std::cmp::Ordering;
 // How many vertices are tried one by one before the search halves.
 const NEAR: usize = 8;
 
-// The first of the vertices from number `from` on that isn't below the point, where all before that number are.
+// The number of the first vertex that isn't below the point, where all vertices before number `from` are below.
 fn next_vertex(vertices: &[Vertex], from: usize, point: &Point) -> usize {
     let end = from.saturating_add(NEAR).min(vertices.len());
     for number in from..end {
@@ -36,8 +35,8 @@ fn stands_at(vertices: &[Vertex], number: usize, point: &Point) -> bool {
     }
 }
 
-// The number of the vertex at the point; where there is none, that of the first one above it. All before number `from` are
-// below the point. Mostly the vertex with that number stands there.
+// The number of the vertex at the point, or `Err` with the number of the first vertex above the point. All vertices
+// before number `from` are below the point, and mostly vertex `from` stands there.
 fn find_from(vertices: &[Vertex], from: usize, point: &Point) -> Result<usize, usize> {
     if stands_at(vertices, from, point) {
         return Ok(from);
@@ -49,8 +48,8 @@ fn find_from(vertices: &[Vertex], from: usize, point: &Point) -> Result<usize, u
     Err(number)
 }
 
-// The number of the vertex at the point, or the largest number where none is. All before number `next` are below the point; then
-// that number is the next for a later point.
+// The number of the vertex at the point, or `usize::MAX` where none stands there. All vertices before number `next` are
+// below the point; `next` then serves for a later point.
 fn number_at(vertices: &[Vertex], next: &mut usize, point: &Point) -> usize {
     match find_from(vertices, *next, point) {
         Ok(number) => {
@@ -64,8 +63,8 @@ fn number_at(vertices: &[Vertex], next: &mut usize, point: &Point) -> usize {
     }
 }
 
-// For each of the old vertices the number of the new one at its point, or the largest number where none is. Both stand in order,
-// so one way through them is enough.
+// For each old vertex the number of the new vertex at its point, or `usize::MAX` where none stands there. Both lists
+// are in order, so one pass is enough.
 fn numbers_of(alloc: Global, old: &[Vertex], new: &[Vertex]) -> Result<Vec<usize>, OutOfMemory> {
     let mut numbers = Vec::with_capacity(alloc, old.len())?;
     let mut next: usize = 0;
@@ -83,7 +82,7 @@ fn has_dir(svertices: &[SVertex], number: usize, dir: &Dir) -> bool {
     }
 }
 
-// The number of the svertex with this direction. Mostly it is the given one, as in a map that was taken over.
+// The number of the svertex with this direction: mostly `number`, as in a map that was taken over.
 fn svertex_along(svertices: &[SVertex], number: usize, dir: &Dir) -> Option<usize> {
     if has_dir(svertices, number, dir) {
         return Some(number);
@@ -93,19 +92,19 @@ fn svertex_along(svertices: &[SVertex], number: usize, dir: &Dir) -> Option<usiz
         .ok()
 }
 
-/// The edges of a complex, passed in order on the way along the svertices of a set that is made of it. Maps may have been moved
-/// out of the complex into the vertices of the set.
-#[derive(Debug, Drop)]
+/// The edges of an operand, passed in order together with the svertices of the result. Maps may have been moved out of
+/// the operand into the vertices of the result.
+#[derive(Drop)]
 pub(crate) struct Source<'a> {
     old: &'a [Vertex],
     edges: &'a [Edge],
     numbers: Vec<usize>,
-    // How many edges have been passed, and the number of the vertex that the next one leads on from.
+    // How many edges have been passed, and the number of the new vertex from which the next edge leads on.
     passed: usize,
     low: usize,
 }
 
-// The number of the vertex that is the old one with this number.
+// The number of the new vertex at the point of this old vertex, or `usize::MAX`.
 fn number_of(numbers: &[usize], old: usize) -> usize {
     match numbers.get(old) {
         Some(number) => *number,
@@ -113,7 +112,7 @@ fn number_of(numbers: &[usize], old: usize) -> usize {
     }
 }
 
-// Passes edges, up to the first from number `from` on that leads on from vertex number i or a later one.
+// Passes the edges before the first edge, from number `from` on, that leads on from vertex i or a later one.
 fn pass(source: &mut Source, from: usize, i: usize) {
     let edges = source.edges;
     for number in from..edges.len() {
@@ -129,7 +128,7 @@ fn pass(source: &mut Source, from: usize, i: usize) {
 }
 
 impl<'a> Source<'a> {
-    /// The edges of the complex, for these vertices.
+    /// The edges of the operand, with the numbers of the result's vertices.
     pub(crate) fn of(
         alloc: Global,
         complex: &'a Complex,
@@ -149,8 +148,8 @@ impl<'a> Source<'a> {
     }
 }
 
-// The direction of the edge, which leads on from the vertex. An old vertex whose map was moved has no svertices any more: the
-// new one at its point has them.
+// The direction of the edge, which leads on from the vertex. An old vertex whose map was moved has no svertices any
+// more: the new vertex at its point has them.
 fn dir_of(source: &Source, edge: &Edge, vertex: &Vertex) -> Option<Dir> {
     let old = source.old.get(edge.low)?;
     match old.map.svertices.as_slice().get(edge.low_svertex) {
@@ -159,7 +158,7 @@ fn dir_of(source: &Source, edge: &Edge, vertex: &Vertex) -> Option<Dir> {
     }
 }
 
-// How the direction of the edge, which leads on from the vertex of the end, compares with that of the end.
+// Compares the direction of the edge, which leads on from the vertex of `low`, with the direction of `low`.
 fn dir_order(source: &Source, edge: &Edge, low: &End) -> Ordering {
     match dir_of(source, edge, low.vertex) {
         Some(dir) => dir.cmp(&low.svertex.dir),
@@ -167,7 +166,7 @@ fn dir_order(source: &Source, edge: &Edge, low: &End) -> Ordering {
     }
 }
 
-// The edge that leads on from the end, by its direction, where there is one. Those before it are passed.
+// The edge that leads on from `low` along its direction, where there is one. The edges before this edge are passed.
 fn edge_along(source: &mut Source, low: &End) -> Option<Edge> {
     let edges = source.edges;
     for number in source.passed..edges.len() {
@@ -189,7 +188,7 @@ fn edge_along(source: &mut Source, low: &End) -> Option<Edge> {
     None
 }
 
-// As `kept_end`, where maps differ: the svertices are searched for by their directions.
+// As `kept_end`, where maps differ: svertices are searched by their directions.
 #[inline(never)]
 fn searched_end(source: &mut Source, vertices: &[Vertex], low: &End) -> Option<(usize, usize)>
     ensures leads { IfSome result (λ t. LeadsTo vertices.now low.now t.0 t.1) }
@@ -205,7 +204,7 @@ fn searched_end(source: &mut Source, vertices: &[Vertex], low: &End) -> Option<(
     Some((high.vertex_number, high.svertex_number))
 }
 
-// As `kept_end`, where the next edge leads on from the end and its svertices have their old numbers: then it is passed.
+// As `kept_end`, where the next edge leads on from `low` and its svertices have their old numbers. This edge is passed.
 fn same_end(source: &mut Source, vertices: &[Vertex], low: &End) -> Option<(usize, usize)>
     ensures leads { IfSome result (λ t. LeadsTo vertices.now low.now t.0 t.1) }
 {
@@ -240,8 +239,8 @@ fn near_end(source: &mut Source, vertices: &[Vertex], low: &End) -> Option<(usiz
     searched_end(source, vertices, low)
 }
 
-/// The numbers of the vertex and the svertex to which an edge of the source leads from this end, where it is still matched. Mostly
-/// the maps are those of the source, so that svertices have their old numbers.
+/// The end to which an edge of the operand leads from `low`, as the numbers of vertex and svertex, where the two ends
+/// still match. Mostly both maps were taken over, so that svertices have their old numbers.
 pub(crate) fn kept_end(
     source: &mut Source,
     vertices: &[Vertex],

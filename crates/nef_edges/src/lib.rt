@@ -1,12 +1,12 @@
 //! The edges of a complex, from its vertices.
 //!
-//! Each svertex of each vertex is an end of an edge. The ends that arrive, from earlier vertices, are sorted by their lines
-//! and their vertices, once. The partner of an end that leads on is the first one after it in that order: vertices stand
-//! in the order of their points, and this is the order along every line.
+//! Each svertex of each vertex is an end of an edge. The ends at which edges arrive, from earlier vertices, are sorted
+//! once, by their lines and vertices. The partner of an end that leads on is the first arriving end after it in that
+//! order: vertices stand in the order of their points, which is the order along every line.
 //!
-//! Most edges of a set that is made of others are theirs. Those of them whose ends are svertices of the new vertices are laid out
-//! first. Only ends without such an edge are sorted, with those of edges between them, as of one that was cut, and paired. Each
-//! edge is checked alone: if its ends lead to each other, and no two edges to one end, nothing lies between.
+//! Most edges of a result are edges of its operands: those that still join svertices are laid out first. Only the ends
+//! without such an edge are sorted and paired, with the ends of edges that may be cut between them. Each edge is
+//! checked alone: where its ends lead to each other, and no two edges to one end, nothing lies between.
 #![tactic(auto)]
 
 mod along;

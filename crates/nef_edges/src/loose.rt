@@ -1,7 +1,6 @@
-//! Ends for which there is no guess, and edges that may be cut there.
+//! Ends for which there is no guess, and edges that may be cut between such ends.
 
-ghost use Rattle.nef_complex.specs.Prelude.{OnOk};
-ghost use Rattle.nef_edges.specs.Laid.{IsPart};
+ghost use Rattle.nef_edges.specs.Prelude.{OnOk, IsPart};
 
 use crate::OutOfMemory;
 use crate::arriving::end_cmp;
@@ -9,9 +8,8 @@ use crate::edge_end::{EdgeEnd, line_key};
 use nef_complex::{Edge, Vertex};
 use std::alloc::Global;
 
-/// Ends for which there is no guess: those that edges lead on from, with the numbers of these edges, and those at which they
-/// arrive.
-#[derive(Debug, Drop)]
+/// Ends for which there is no guess: leading ends, with the numbers of the edges from them, and arriving ends.
+#[derive(Drop)]
 pub(crate) struct Loose {
     pub(crate) numbers: Vec<usize>,
     pub(crate) leading: Vec<EdgeEnd>,
@@ -19,7 +17,6 @@ pub(crate) struct Loose {
 }
 
 impl Loose {
-    /// No ends.
     pub(crate) fn none(alloc: Global) -> Loose {
         Loose {
             numbers: Vec::new(alloc),
@@ -28,21 +25,20 @@ impl Loose {
         }
     }
 
-    /// How many ends there are.
     pub(crate) fn len(&self) -> usize {
         self.leading.len().saturating_add(self.arriving.len())
     }
 }
 
-// The lines with one key on which loose ends lie: the first and the last of the vertices of these.
-#[derive(Debug, Clone, Copy)]
+// The lines with one key on which loose ends lie, with the first and the last vertex of these ends.
+#[derive(Clone, Copy)]
 struct LooseLine {
     key: i64,
     first: usize,
     last: usize,
 }
 
-// Adds a loose end to the last line, where that has its key, or as a line of its own.
+// Adds a loose end to the last of the lines, where that line has the end's key, or as a line of its own.
 fn add_to_lines(lines: &mut Vec<LooseLine>, key: i64, vertex: usize) -> Result<(), OutOfMemory> {
     let count = lines.len();
     if count > 0 && lines[count - 1].key == key {
@@ -71,7 +67,7 @@ fn lines_of(alloc: Global, loose: &Loose) -> Result<Vec<LooseLine>, OutOfMemory>
     Ok(lines)
 }
 
-// The vertices of all loose ends: the first of them, and the last.
+// The first and the last of the vertices of all loose ends.
 fn span_of(lines: &[LooseLine]) -> (usize, usize) {
     let mut first = usize::MAX;
     let mut last = 0;
@@ -82,8 +78,7 @@ fn span_of(lines: &[LooseLine]) -> (usize, usize) {
     (first, last)
 }
 
-// Whether an edge from vertex `low` to vertex `high` on a line with the key passes between loose ends: only then may
-// it be cut.
+// Whether an edge from vertex `low` to vertex `high` on a line with the key may be cut: it passes between loose ends.
 fn may_be_cut(lines: &[LooseLine], key: i64, low: usize, high: usize) -> bool {
     match lines.binary_search_by(|line| line.key.cmp(&key)) {
         Ok(number) => match lines.get(number) {
@@ -94,7 +89,7 @@ fn may_be_cut(lines: &[LooseLine], key: i64, low: usize, high: usize) -> bool {
     }
 }
 
-// Adds the ends of edge number k, where it may be cut.
+// Adds the ends of edge number k as loose, where the edge may be cut.
 fn part(
     loose: &mut Loose,
     lines: &[LooseLine],
@@ -127,7 +122,7 @@ fn part(
     Ok(())
 }
 
-// As `part`, where all loose ends lie between the two vertices of `span`: most edges lie before or behind these.
+// As `part`, where `span` holds the first and the last vertex of all loose ends: most edges lie outside this span.
 fn part_within(
     loose: &mut Loose,
     lines: &[LooseLine],
@@ -145,9 +140,9 @@ fn part_within(
     Ok(())
 }
 
-/// Adds the ends of edges that may be cut, since they pass between loose ends of their line. Wrong guesses on a line, as that
-/// of an edge that was cut, leave ends without a guess: along the line the first and the last of these have all wrong ones between
-/// or across them. An edge that ends at vertex 0 is no guess. Then puts the ends at which edges arrive in order.
+/// Adds the ends of edges that may be cut, since they pass between loose ends of their line, and sorts the arriving
+/// ends. Each wrong guess, as for an edge that was cut, leaves loose ends on the edge's line, so that the edge lies
+/// between or across the line's first and last loose end. An edge that ends at vertex 0 is no guess.
 pub(crate) fn part_edges(
     alloc: Global,
     loose: &mut Loose,

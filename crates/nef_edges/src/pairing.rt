@@ -1,10 +1,7 @@
-//! The edges from all svertices that lead on.
+//! Complexes from vertices, with all edges between these.
 
 ghost use Rattle.std.specs.Prelude.{◌≡◌, ◌<◌, ◌+◌};
-ghost use Rattle.nef_complex.specs.Prelude.{length, map, IfOk, OnOk, IsSortedBy, Set, Edges, vertex_of, edge_of, AreVerticesOf, ShowsSet, AreVertexHolders};
-ghost use Rattle.nef_edges.specs.Order.{end_lt};
-ghost use Rattle.nef_edges.specs.EdgeEnds.{IsBefore, AreArriving};
-ghost use Rattle.nef_edges.specs.Pairs.{AreJoined, AreEdges};
+ghost use Rattle.nef_edges.specs.Prelude.{length, map, IfOk, OnOk, IsSortedBy, Set, Edges, vertex_of, edge_of, AreVerticesOf, ShowsSet, AreVertexHolders, end_lt, IsBefore, AreArriving, AreJoined, AreEdges};
 
 use crate::OutOfMemory;
 use crate::arriving::{next_after, sorted_arriving};
@@ -45,7 +42,7 @@ fn add_edges(
     Ok(())
 }
 
-// All edges of the vertices, in order.
+// All edges between the vertices, in order.
 fn edges_of(alloc: Global, vertices: &[Vertex]) -> Result<Vec<Edge>, OutOfMemory>
     requires joined { AreJoined (map vertex_of vertices.now) }
     ensures edges { IfOk result (λ v. Edges (map vertex_of vertices.now) (map edge_of v.items)) }
@@ -58,7 +55,7 @@ fn edges_of(alloc: Global, vertices: &[Vertex]) -> Result<Vec<Edge>, OutOfMemory
     Ok(edges)
 }
 
-// Below so many vertices all ends are sorted sooner than guesses are made and checked.
+// With fewer vertices than this, all ends are sorted sooner than guesses are made and checked.
 const GUESSED_FROM: usize = 64;
 
 // As `edges_of`, for vertices most of whose edges are edges of the two complexes.
@@ -80,7 +77,7 @@ fn edges_from(
     }
 }
 
-// As `pair`, where the edges are given, and for each vertex the numbers of the carriers that hold it.
+// As `pair`, where the edges are given, and for each vertex the numbers of the carriers that hold the vertex.
 fn pair_held(
     alloc: Global,
     carriers: List<Plane>,
@@ -99,8 +96,8 @@ fn pair_held(
 }
 
 /// The complex with these carriers and vertices, and with all edges between the vertices. Some set has exactly these
-/// carriers and exactly these vertices with their least maps, all in order. `OutOfMemory` says that memory was wanted and
-/// not found.
+/// carriers and exactly these vertices with their least maps, all in order. `OutOfMemory` says that memory was wanted
+/// and not found.
 pub fn pair(
     alloc: Global,
     carriers: List<Plane>,
@@ -117,9 +114,8 @@ pub fn pair(
     pair_held(alloc, carriers.into_planes(), vertices, edges, rows)
 }
 
-/// As `pair`, for a set that is made of those of two complexes, where for each vertex the numbers of the carriers that hold it
-/// are given. The edges of the two complexes are tried first. Nothing is asked of these: maps may have been moved out of them
-/// into the vertices.
+/// As `pair`, for a result of two operands, where the numbers of the carriers that hold each vertex are given. The
+/// edges of the operands are tried first. Maps may have been moved out of the operands into the vertices.
 pub fn pair_rows(
     alloc: Global,
     carriers: List<Plane>,

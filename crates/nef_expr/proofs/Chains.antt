@@ -1,15 +1,8 @@
 -- Turned images of turned images: nodes that are added leave them, and the turns compose.
-use Rattle.std.proofs.Common.{◌≡◌, ℕ, zero, suc, ◌<◌, List, ◌++◌, length, get_or, refl, ap, sym, ◌∙◌, subst, arith}
-use Rattle.std.proofs.lemmas.Option.{slice_get_within, slice_get-get_or}
-use Rattle.nef_space.specs.Sets.{Set}
-use Rattle.nef_case.specs.Turns.{IsComposition}
-use Rattle.law_turns.specs.Turned.{turned_set}
-use Rattle.nef_expr.specs.declared.nodes.Node.{Node}
+use Rattle.nef_expr.proofs.Prelude.{◌≡◌, ℕ, zero, suc, ◌<◌, List, ◌++◌, length, get_or, refl, ap, sym, ◌∙◌, subst, arith, slice_get_within, slice_get-get_or, Set, IsComposition, turned_set, Node, Shape, shape_of, UsesBelow, IsOrdered, IsNode, HasShape, TurnOf, of_leaf, of_unary, of_binary}
 use Rattle.nef_expr.specs.declared.nodes.Node.TheVariants as node
-use Rattle.nef_expr.specs.Nodes.{Shape, shape_of, UsesBelow, IsOrdered}
 use Rattle.nef_expr.proofs.Places.{slice_get-left, one-there}
 use Rattle.nef_expr.proofs.Turns.{shape-turnable}
-use Rattle.nef_expr.specs.Turns.{IsNode, HasShape, TurnOf, of_leaf, of_unary, of_binary}
 
 -- ---- more nodes
 module _ (ns ms : List Node) (t : ℕ) where

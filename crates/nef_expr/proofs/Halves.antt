@@ -1,23 +1,10 @@
 -- A turned plane is read as it is given.
-use Rattle.std.proofs.Common.{◌≡◌, ℕ, ◌≤◌, ℤ, pos, ◌-ℤ◌, ◌*ℤ◌, neg_ℤ, nat_abs, Bool, true, false, cond, [], ◌∷◌, arith, ap, sym, ◌∙◌, subst, w64, to_z, of_z}
-use Rattle.std.proofs.lemmas.Int.{ints, unsigned_abs-mul}
+use Rattle.nef_expr.proofs.Prelude.{◌≡◌, ℕ, ◌≤◌, ℤ, pos, ◌-ℤ◌, ◌*ℤ◌, neg_ℤ, nat_abs, Bool, true, false, cond, [], ◌∷◌, arith, ap, sym, ◌∙◌, subst, w64, to_z, of_z, ints, unsigned_abs-mul, ◌∣◌, ring, at, num, ◌⊗◌, normal_limit, offset_limit, point_limit, IsLowest, Form, form, form_numbers, normal_of, Vector, vector, IsDirection, IsAtMost, IsInRange, IsPositiveMultiple, form_of, given_form, turned_form as opposite_form, Oriented, Triple, turned, turned_vector, turned_plane, same-form}
 use Rattle.std.proofs.Math.Nat.{dvd-mul_right}
-use Rattle.std.specs.Int.{◌∣◌}
-use Rattle.nef_space.proofs.Ring.{ring, at, num, ◌⊗◌}
-use Rattle.nef_space.specs.Limits.{normal_limit, offset_limit, point_limit}
-use Rattle.nef_space.specs.Numbers.{IsLowest}
-use Rattle.nef_space.specs.Place.{Form, form, form_numbers, normal_of}
-use Rattle.nef_space.specs.Vectors.{Vector, vector, IsDirection, IsAtMost}
-use Rattle.nef_geo.specs.Reading.{IsInRange, IsPositiveMultiple}
-use Rattle.nef_geo.specs.Shapes.{form_of, given_form, turned_form as opposite_form}
-use Rattle.nef_geo.specs.declared.plane.Oriented.{Oriented}
 use Rattle.nef_geo.specs.declared.plane.Plane.{Plane}
 use Rattle.nef_geo.proofs.Products.{kept}
-use Rattle.nef_case.specs.Turns.{Triple, turned}
 use Rattle.nef_case.proofs.TurnLemmas.{same_triple}
 use Rattle.law_sphere.proofs.Vectors.{normal-direction}
-use Rattle.law_turns.specs.Turned.{turned_vector, turned_plane}
-use Rattle.law_turns.proofs.Carriers.{same-form}
 use Rattle.law_turns.proofs.Numbers.{at_most-turned, lowest_form-turned}
 use Rattle.law_turns.proofs.Vectors.{direction-turned}
 

@@ -1,21 +1,9 @@
 -- Where plain sets hold.
-use Rattle.std.proofs.Common.{◌≡◌, ℕ, zero, suc, ◌<◌, ℤ, pos, negsuc, ◌<ℤ◌, arith, refl, Bool, true, false, ◌&&◌, ◌||◌, not, List, [], ◌∷◌, ◌++◌, length, get_or, Some, inl, inr, length-append}
+use Rattle.nef_expr.proofs.Prelude.{◌≡◌, ℕ, zero, suc, ◌<◌, ℤ, pos, negsuc, ◌<ℤ◌, arith, refl, Bool, true, false, ◌&&◌, ◌||◌, not, List, [], ◌∷◌, ◌++◌, length, get_or, Some, inl, inr, length-append, ◌↔◌, IsTrue, slice_get, ints, false≢true, cases_lt, get_or-append, get_or-append_seam, Place, Form, form_at, Set, InHalf, sign_of, Oriented, given_form, operand, node_set, sets_after, NamesBelow, Node, IsPlain, Tells, TellsEach, TellsNext}
 use mathlib.Core.Bool.{beq}
-use Rattle.std.specs.Prelude.{◌↔◌, IsTrue, slice_get}
-use Rattle.std.proofs.lemmas.Int.{ints}
-use Rattle.std.proofs.lemmas.Bool.{false≢true, cases_lt}
-use Rattle.std.proofs.Math.ListN.{get_or-append}
-use Rattle.std.proofs.Math.Seq.{get_or-append_seam}
-use Rattle.nef_space.specs.Place.{Place, Form, form_at}
-use Rattle.nef_space.specs.Sets.{Set, Holds, InHalf}
-use Rattle.nef_geo.specs.Signs.{sign_of}
+use Rattle.nef_space.specs.Sets.{Holds}
 use Rattle.nef_geo.specs.declared.sign.Sign.TheVariants.{Minus, Zero, Plus}
-use Rattle.nef_geo.specs.declared.plane.Oriented.{Oriented}
-use Rattle.nef_geo.specs.Shapes.{given_form}
 use Rattle.nef_expr.specs.declared.nodes.Node.TheVariants as node
-use Rattle.nef_expr.specs.Nodes.{operand, node_set, sets_after, NamesBelow}
-use Rattle.nef_expr.specs.declared.nodes.Node.{Node}
-use Rattle.nef_expr.specs.Plain.{IsPlain, Tells, TellsEach, TellsNext}
 use Rattle.nef_expr.proofs.Sets.{each-set}
 
 minus-below : (z : ℤ) → Minus ≡ sign_of z → z <ℤ pos 0

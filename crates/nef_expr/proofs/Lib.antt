@@ -1,3 +1,4 @@
+pub mod Prelude
 pub mod Sets
 pub mod Holding
 pub mod Turns

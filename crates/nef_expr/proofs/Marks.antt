@@ -1,11 +1,5 @@
 -- The nodes that a node is made of, marked from the last one on.
-use Rattle.std.proofs.Common.{◌≡◌, ℕ, ◌+◌, ◌-◌, ◌≤◌, Bool, true, false, List, [], ◌∷◌, ◌++◌, length, Some, arith, sym, subst, ◌∙◌, inl, inr, get_or}
-use Rattle.std.specs.Prelude.{slice_get, slice_index_or}
-use Rattle.std.proofs.Math.Seq.{get_or-append_seam}
-use Rattle.std.proofs.lemmas.Bool.{cases_lt, false≢true}
-use Rattle.nef_expr.specs.declared.nodes.Node.{Node}
-use Rattle.nef_expr.specs.Nodes.{IsOrdered, IsOperand}
-use Rattle.nef_expr.specs.Copying.{IsMarked, MarksOperands, AreClosedFrom, AreNeeded}
+use Rattle.nef_expr.proofs.Prelude.{◌≡◌, ℕ, ◌+◌, ◌-◌, ◌≤◌, Bool, true, false, List, [], ◌∷◌, ◌++◌, length, Some, arith, sym, subst, ◌∙◌, inl, inr, get_or, slice_get, slice_index_or, get_or-append_seam, cases_lt, false≢true, Node, IsOrdered, IsOperand, IsMarked, MarksOperands, AreClosedFrom, AreNeeded}
 use Rattle.nef_expr.proofs.Operands.{operand-below}
 use Rattle.nef_expr.proofs.Places.{one-there}
 

@@ -1,7 +1,5 @@
 -- The operands of nodes.
-use Rattle.std.proofs.Common.{ℕ, ◌<◌, ◌≤◌, refl, arith, inl, inr}
-use Rattle.nef_expr.specs.declared.nodes.Node.{Node}
-use Rattle.nef_expr.specs.Nodes.{Shape, shape_of, UsesBelow, Uses, NamesBelow, IsOperand}
+use Rattle.nef_expr.proofs.Prelude.{ℕ, ◌<◌, ◌≤◌, refl, arith, inl, inr, Node, Shape, shape_of, UsesBelow, Uses, NamesBelow, IsOperand}
 
 -- the operands of a node that names nodes below n are below n
 use-below : (n k : ℕ) (s : Shape) → UsesBelow n s → Uses k s → k < n

@@ -1,12 +1,5 @@
 -- The sets of the nodes of a list: a node added later doesn't change them, and each is made by its node of the others.
-use Rattle.std.proofs.Common.{◌≡◌, ℕ, zero, suc, ◌+◌, ◌<◌, arith, refl, ap, sym, ◌∙◌, List, [], ◌∷◌, ◌++◌, length, Some, length-append}
-use Rattle.std.specs.Prelude.{slice_get}
-use Rattle.std.proofs.Math.ListN.{get_or-append}
-use Rattle.std.proofs.Math.Seq.{get_or-append_seam}
-use Rattle.std.proofs.lemmas.Option.{slice_get_within}
-use Rattle.nef_space.specs.Sets.{Set}
-use Rattle.nef_expr.specs.declared.nodes.Node.{Node}
-use Rattle.nef_expr.specs.Nodes.{Shape, shape_of, operand, made_of, set_of, sets_after, UsesBelow, NamesBelow}
+use Rattle.nef_expr.proofs.Prelude.{◌≡◌, ℕ, zero, suc, ◌+◌, ◌<◌, arith, refl, ap, sym, ◌∙◌, List, [], ◌∷◌, ◌++◌, length, Some, length-append, slice_get, get_or-append, get_or-append_seam, slice_get_within, Set, Node, Shape, shape_of, operand, made_of, set_of, sets_after, UsesBelow, NamesBelow}
 use Rattle.nef_expr.specs.Laws.{EarlierSetsStay, NewSetIsOfItsNode, EachSetIsOfItsNode}
 
 pub sets_after-length : (ss : List Set) (ns : List Node) → length (sets_after ss ns) ≡ length ss + length ns

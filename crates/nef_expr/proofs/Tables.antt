@@ -1,25 +1,10 @@
 -- Nodes with their bases and turns: what one node more keeps, and how a copy is made.
-use Rattle.std.proofs.Common.{◌≡◌, ℕ, zero, suc, ◌+◌, ◌*◌, ◌<◌, ◌≤◌, ◌⊎◌, ◌||◌, Bool, true, false, List, [], ◌∷◌, ◌++◌, length, map, get_or, Some, Ordering, Less, Equal, Greater, arith, refl, ap, sym, subst, ◌∙◌, inl, inr, append-nil, append_assoc, length-append}
-use Rattle.std.specs.Prelude.{slice_get, slice_index, nat_eq}
+use Rattle.nef_expr.proofs.Prelude.{◌≡◌, ℕ, zero, suc, ◌+◌, ◌*◌, ◌<◌, ◌≤◌, ◌⊎◌, ◌||◌, Bool, true, false, List, [], ◌∷◌, ◌++◌, length, map, get_or, Some, Ordering, Less, Equal, Greater, arith, refl, ap, sym, subst, ◌∙◌, inl, inr, append-nil, append_assoc, length-append, slice_get, slice_index, nat_eq, nat_cmp, MatchOrdering, is_eq, BTreeMap, get, Updates, get_or-append, get_or-append_seam, cases_eq, ne_eqb, get_or-map, get_or_default, length-map, slice_get_within, slice_get-get_or, get_or_from_slice_get, IsComposition, Node, Origin, Shape, shape_of, UsesBelow, Uses, NamesBelow, IsOrdered, IsNode, TurnOf, most_bases, origin, key_of, HasOrigin, IsOfOrigin, AreOrigins, Table, IsCopyOf, HavePlaces, IsTable, Extends, Stays, turned_shape, IsTurnedNode, OperandsTurned, IsMarked, AreNeeded, AreCopies}
 use Rattle.std.specs.List.{IsDistinct, list_any}
-use Rattle.std.specs.Ordering.{nat_cmp, MatchOrdering, is_eq}
-use Rattle.std.specs.BTreeMap.{BTreeMap, get, Updates}
-use Rattle.std.proofs.Math.ListN.{get_or-append}
-use Rattle.std.proofs.Math.Seq.{get_or-append_seam}
-use Rattle.std.proofs.lemmas.Bool.{cases_eq, ne_eqb}
 use Rattle.std.proofs.lemmas.Bool.Decides.{eqb_tells}
 use Rattle.std.proofs.lemmas.Cmp.{ranked}
-use Rattle.std.proofs.lemmas.List.{get_or-map, get_or_default, length-map}
 use Rattle.std.proofs.lemmas.Map.Keys.{IsDistinct-from_apart}
 use Rattle.std.proofs.lemmas.Map.Steps.{length-le_from_distinct_below}
-use Rattle.std.proofs.lemmas.Option.{slice_get_within, slice_get-get_or, get_or_from_slice_get}
-use Rattle.nef_case.specs.Turns.{IsComposition}
-use Rattle.nef_expr.specs.declared.nodes.Node.{Node}
-use Rattle.nef_expr.specs.declared.table.Origin.{Origin}
-use Rattle.nef_expr.specs.Nodes.{Shape, shape_of, UsesBelow, Uses, NamesBelow, IsOrdered}
-use Rattle.nef_expr.specs.Turns.{IsNode, TurnOf}
-use Rattle.nef_expr.specs.Table.{most_bases, origin, key_of, HasOrigin, IsOfOrigin, AreOrigins, Table, IsCopyOf, HavePlaces, IsTable}
-use Rattle.nef_expr.specs.Copying.{Extends, Stays, turned_shape, IsTurnedNode, OperandsTurned, IsMarked, AreNeeded, AreCopies}
 use Rattle.nef_expr.proofs.Operands.{operand-below}
 use Rattle.nef_expr.proofs.Places.{slice_get-left, slice_get-seam, slice_get-below, place-push}
 use Rattle.nef_expr.proofs.Chains.{turn_of-more, Image, image-turn, turn-within, turn-twice, turn-between, own-image}

@@ -1,15 +1,7 @@
 -- The set of a node's turned image is the turned set.
-use Rattle.std.proofs.Common.{◌≡◌, ℕ, List, [], refl, ap, sym, ◌∙◌, subst}
-use Rattle.nef_space.specs.Place.{Form, form}
-use Rattle.nef_space.specs.Sets.{Set}
-use Rattle.nef_geo.specs.Shapes.{given_form}
-use Rattle.nef_case.specs.Turns.{Triple, IsComposition}
-use Rattle.nef_expr.specs.declared.nodes.Node.{Node}
+use Rattle.nef_expr.proofs.Prelude.{◌≡◌, ℕ, List, [], refl, ap, sym, ◌∙◌, subst, Form, form, Set, given_form, Triple, IsComposition, Node, Shape, shape_of, made_of, sets_after, node_set, IsOrdered, turned_plane, turned_set, HasShape, TurnOf, of_leaf, of_unary, of_binary}
 use Rattle.nef_expr.specs.declared.nodes.Node.TheVariants as node
-use Rattle.nef_expr.specs.Nodes.{Shape, shape_of, made_of, sets_after, node_set, IsOrdered}
 use Rattle.nef_expr.proofs.Sets.{each-set}
-use Rattle.law_turns.specs.Turned.{turned_plane, turned_set}
-use Rattle.nef_expr.specs.Turns.{HasShape, TurnOf, of_leaf, of_unary, of_binary}
 
 -- turns pass through the shape
 abbrev pub IsTurnable : Shape → Type 0

@@ -1,8 +1,7 @@
--- What holds of every list of nodes.
-use Rattle.std.specs.Prelude.{◌≡◌, ℕ, ◌<◌, List, [], ◌∷◌, ◌++◌, ◌↔◌, Some, length, slice_get}
+-- The laws of all lists of nodes.
+use Rattle.std.specs.Prelude.{◌≡◌, ◌<◌, ◌∷◌, ◌++◌, ◌↔◌}
+use Rattle.nef_space.specs.Prelude.{ℕ, List, [], Some, length, slice_get, Place, Holds}
 use Rattle.nef_expr.specs.declared.nodes.Node.{Node}
-use Rattle.nef_space.specs.Place.{Place}
-use Rattle.nef_space.specs.Sets.{Holds}
 use Rattle.nef_expr.specs.Nodes.{node_set, set_of, sets_after, NamesBelow, IsOrdered}
 use Rattle.nef_expr.specs.Turns.{TurnOf}
 use Rattle.law_turns.specs.Turned.{turned_place, turned_set}
@@ -11,11 +10,11 @@ use Rattle.law_turns.specs.Turned.{turned_place, turned_set}
 abbrev pub EarlierSetsStay : Type 0
 EarlierSetsStay = (ns : List Node) (n : Node) (k : ℕ) → k < length ns → node_set (ns ++ n ∷ []) k ≡ node_set ns k
 
--- and its own set is made of theirs
+-- the set of a node that is added is made of the earlier nodes' sets
 abbrev pub NewSetIsOfItsNode : Type 0
 NewSetIsOfItsNode = (ns : List Node) (n : Node) → node_set (ns ++ n ∷ []) (length ns) ≡ set_of (sets_after [] ns) n
 
--- the set of a node that names earlier nodes only is the one that it makes of the list's sets
+-- the set of a node that names earlier nodes is made of the sets of the list
 abbrev pub EachSetIsOfItsNode : Type 0
 EachSetIsOfItsNode = (ns : List Node) (k : ℕ) (n : Node) → slice_get ns k ≡ Some n → NamesBelow k n → node_set ns k ≡ set_of (sets_after [] ns) n
 
@@ -23,6 +22,6 @@ EachSetIsOfItsNode = (ns : List Node) (k : ℕ) (n : Node) → slice_get ns k �
 abbrev pub NodeTurned : Type 0
 NodeTurned = (ns : List Node) (t k l : ℕ) → IsOrdered ns → TurnOf ns t k l → node_set ns l ≡ turned_set t (node_set ns k)
 
--- so it holds at a turned point exactly where the node's set holds at the point
+-- a node's turned image holds at a turned point exactly where the node's set holds at the point
 abbrev pub NodeHoldsTurned : Type 0
 NodeHoldsTurned = (ns : List Node) (t k l : ℕ) (p : Place) → IsOrdered ns → TurnOf ns t k l → Holds (node_set ns l) (turned_place t p) ↔ Holds (node_set ns k) p

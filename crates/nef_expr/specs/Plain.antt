@@ -1,11 +1,10 @@
 -- Sets that use no topology, and what a truth value tells of a set at a point.
-use Rattle.std.specs.Prelude.{ℕ, ◌<◌, ◌↔◌, IsTrue, Bool, false, List, length, slice_index_or}
-use Rattle.nef_space.specs.Place.{Place}
-use Rattle.nef_space.specs.Sets.{Set, Holds}
+use Rattle.std.specs.Prelude.{◌<◌, ◌↔◌, ℕ, IsTrue, Bool, false, List, length, slice_index_or}
+use Rattle.nef_space.specs.Prelude.{Place, Set, Holds}
 use Rattle.nef_expr.specs.Nodes.{operand, set_of}
 use Rattle.nef_expr.specs.declared.nodes.Node.{Node}
 
--- no interior, closure, boundary or regularisation, at any depth
+-- the set uses no interior, closure, boundary or regularisation, at any depth
 abbrev pub IsPlain : Set → Type 0
 IsPlain (Set.half h c) = Unit {0}
 IsPlain Set.empty = Unit {0}
@@ -20,14 +19,14 @@ IsPlain (Set.closed a) = ⊥
 IsPlain (Set.border a) = ⊥
 IsPlain (Set.regular a) = ⊥
 
--- the truth value is true exactly where the set holds
+-- the value is true exactly where the set holds
 abbrev pub Tells : Bool → Set → Place → Type 0
 Tells holds s p = IsTrue holds ↔ Holds s p
 
--- the truth values tell it of the first sets, as far as these are plain
+-- the values tell whether the first sets hold, as far as these sets are plain
 abbrev pub TellsEach : List Bool → List Set → Place → Type 0
 TellsEach holding ss p = (k : ℕ) → k < length holding → IsPlain (operand ss k) → Tells (slice_index_or holding k false) (operand ss k) p
 
--- given the truth values of the earlier sets, this one tells it of the node's set, as far as that is plain
+-- if the values tell whether earlier plain sets hold, this value tells whether the node's set holds, if it is plain
 abbrev pub TellsNext : List Bool → Node → Bool → Place → Type 0
 TellsNext holding n holds p = (ss : List Set) → TellsEach holding ss p → IsPlain (set_of ss n) → Tells holds (set_of ss n) p

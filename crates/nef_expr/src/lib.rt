@@ -1,8 +1,6 @@
-//! Set expressions: the nodes that a script's names stand for, where they hold, and the label of a
-//! point for a node that uses no interior, closure, boundary or regularisation.
-//!
-//! The definitions stand in specs/: `Nodes` says what set a node of a list is, `Plain` which sets
-//! use no topology.
+//! Set expressions: the nodes that a script's names stand for, where their sets hold, and the label of a point for a
+//! node without interior, closure, boundary and regularisation. In specs/ `Nodes` says what set a node of a list is,
+//! and `Plain` which sets use no topology.
 #![tactic(auto)]
 
 mod nodes;

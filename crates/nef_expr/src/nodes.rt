@@ -1,4 +1,4 @@
-//! The nodes of a script: each names earlier nodes by their numbers.
+//! The nodes of a script: each node names earlier nodes by their numbers.
 
 ghost use Rattle.std.specs.Prelude.{◌≡◌, ◌<◌, ◌↔◌, ◌⊎◌, ◌∷◌, ◌++◌};
 ghost use Rattle.nef_geo.specs.Prelude.{ℕ, [], length, slice_get, Some, IfOk, IfSome, OnErr};
@@ -8,11 +8,10 @@ use nef_geo::Oriented;
 use std::alloc::Global;
 use std::marker::Model;
 
-/// How a set is made of others, which are named by the numbers of earlier nodes: a half-space,
-/// nothing, the whole frame, the boolean operations, and complement, interior, closure, boundary
-/// and regularisation (the closure of the interior), as in the CGAL manual, "3D Boolean Operations
-/// on Nef Polyhedra".
-#[derive(Debug, Clone, Copy)]
+/// How a set is made of others, which are named by the numbers of earlier nodes: a half-space, nothing, the whole
+/// frame, the boolean operations, and complement, interior, closure, boundary and regularisation (the closure of the
+/// interior), as in the CGAL manual, "3D Boolean Operations on Nef Polyhedra".
+#[derive(Clone, Copy)]
 pub enum Node {
     /// The side where the given `a x + b y + c z + d` is negative, with its boundary if `closed`.
     Half { oriented: Oriented, closed: bool },
@@ -20,7 +19,7 @@ pub enum Node {
     Full,
     And(usize, usize),
     Or(usize, usize),
-    /// The first without the second.
+    /// The first set without the second.
     Diff(usize, usize),
     Xor(usize, usize),
     Not(usize),
@@ -33,7 +32,7 @@ pub enum Node {
 impl Node {
     ghost use Rattle.nef_expr.specs.Nodes.{IsOperand, NamesBelow};
 
-    /// The numbers of its operands.
+    /// The numbers of the node's operands.
     pub fn operands(&self) -> (Option<usize>, Option<usize>)
         ensures operands { (k : ℕ) → IsOperand k self.now ↔ ((result.0 ≡ Some k) ⊎ (result.1 ≡ Some k)) }
         ensures below { (n : ℕ) → NamesBelow n self.now → IfSome result.0 (λ k. k < n) × IfSome result.1 (λ k. k < n) }
@@ -50,8 +49,8 @@ impl Node {
     }
 }
 
-/// The nodes in order. Contracts see the list of them.
-#[derive(Debug, Drop)]
+/// Nodes in order. Contracts see the list of the nodes.
+#[derive(Drop)]
 pub struct Nodes {
     list: Vec<Node>,
 }
@@ -71,7 +70,7 @@ impl Model for Nodes {
 impl Nodes {
     ghost use Rattle.nef_expr.specs.Nodes.{NamesBelow, IsOrdered};
 
-    /// No nodes. It takes no memory.
+    /// No nodes. No memory is taken.
     pub fn new(alloc: Global) -> Nodes
         ensures empty { result ≡ [] }
     {
@@ -80,7 +79,7 @@ impl Nodes {
         }
     }
 
-    /// The list of nodes, each of which names earlier ones.
+    /// The list of nodes, each of which names earlier nodes.
     pub(crate) fn from_list(list: Vec<Node>) -> Nodes
         requires ordered { IsOrdered list.items }
         ensures nodes { result ≡ list.items }
@@ -88,8 +87,8 @@ impl Nodes {
         Nodes { list }
     }
 
-    /// Adds a node, whose operands are earlier nodes, and gives its number. `OutOfMemory` says that
-    /// memory was wanted and not found; the nodes are then as they were.
+    /// Adds a node, whose operands are earlier nodes, and gives its number. `OutOfMemory` says that memory was wanted
+    /// and not found; the nodes are then as they were.
     pub fn push(&mut self, node: Node) -> Result<usize, OutOfMemory>
         requires operands { NamesBelow (length self.old) node }
         ensures number { IfOk result (λ k. k ≡ length self.old) }
@@ -110,7 +109,7 @@ impl Nodes {
         &self.list[k]
     }
 
-    /// How many nodes there are. Each names earlier nodes only.
+    /// How many nodes there are. Each node names earlier nodes only.
     pub fn len(&self) -> usize
         ensures count { result ≡ length self.now }
         ensures ordered { IsOrdered self.now }

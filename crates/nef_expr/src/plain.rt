@@ -1,4 +1,4 @@
-//! The label of a point for a node without topology, and what holds of every list of nodes.
+//! The label of a point for a node without topology, and the laws of lists of nodes.
 
 ghost use Rattle.std.specs.Prelude.{◌<◌};
 ghost use Rattle.nef_geo.specs.Prelude.{length, IfOk, HasLabel, place_of};
@@ -11,8 +11,8 @@ use crate::nodes::{Node, Nodes};
 use nef_geo::{Label, Point, Sign};
 use std::alloc::Global;
 
-// Whether the node's set holds at the point, where `holding` tells it of the earlier nodes' sets.
-// Of a node with topology it tells nothing.
+// Whether the node's set holds at the point, where `holding` tells this of the earlier nodes' sets. The answer says
+// nothing of a node with topology.
 fn node_holds(node: &Node, holding: &[bool], p: &Point) -> bool
     requires operands { NamesBelow (length holding.now) node.now }
     ensures told { TellsNext holding.now node.now result (place_of p.now) }
@@ -34,10 +34,9 @@ fn node_holds(node: &Node, holding: &[bool], p: &Point) -> bool
     }
 }
 
-/// The label of `p` for the node `k`, which uses no interior, closure, boundary or regularisation
-/// at any depth: `Out` where `p` isn't in the frame, `In` where the set holds there, `Not`
-/// otherwise. The nodes up to `k` are worked once each, from the first on. `OutOfMemory` says that
-/// memory was wanted and not found.
+/// The label of `p` for the node `k`, which uses no interior, closure, boundary or regularisation at any depth: `Out`
+/// where `p` isn't in the frame, `In` where the set holds at `p`, `Not` otherwise. The nodes up to `k` are worked once
+/// each, from the first on. `OutOfMemory` says that memory was wanted and not found.
 pub fn plain_has(alloc: Global, nodes: &Nodes, k: usize, p: &Point) -> Result<Label, OutOfMemory>
     requires existing { k < length nodes.now }
     requires plain { IsPlain (node_set nodes.now k) }
@@ -58,11 +57,10 @@ pub fn plain_has(alloc: Global, nodes: &Nodes, k: usize, p: &Point) -> Result<La
     }
 }
 
-/// A node that is added leaves the sets of the earlier nodes, and its own set is the one that its
-/// node makes of theirs. So the set of each node is the one that it makes of the list's sets.
-///
-/// A node's turned image, a node of its kind with the turned half-space or with turned operands, has the turned set, under
-/// each of the 48 turns: it holds at a turned point exactly where the node's set holds at the point.
+/// A node that is added leaves the sets of the earlier nodes, and its own set is made of their sets as the node says.
+/// So the set of each node is made of the list's sets as the node says. The turned image of a node, a node of the same
+/// kind with the turned half-space or with turned operands, has the turned set, under each of the 48 turns: this holds
+/// at a turned point exactly where the node's set holds at the point.
 pub fn node_laws()
     ensures earlier { EarlierSetsStay }
     ensures new { NewSetIsOfItsNode }

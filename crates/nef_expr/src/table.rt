@@ -1,4 +1,4 @@
-//! Nodes with their bases and turns, and the steps of copying a node: which nodes are needed, and the turned image of
+//! Nodes with their bases and turns, and turned copies of nodes: which nodes a copy needs, and the turned image of
 //! each.
 
 ghost use Rattle.std.specs.Prelude.{◌≡◌, ◌+◌, ◌*◌, ◌<◌, ◌≤◌, ◌∷◌, ◌++◌};
@@ -17,12 +17,10 @@ use std::alloc::Global;
 use std::collections::BTreeMap;
 use std::marker::Model;
 
-// How many turns there are.
 const TURNS: usize = 48;
 
-/// Whose image a node is: of the base with this number, counted from 0, under the turn with this number, which is
-/// below 48.
-#[derive(Debug, Clone, Copy)]
+/// The base and the turn of which a node is the image: the base's number, counted from 0, and the turn's, below 48.
+#[derive(Clone, Copy)]
 pub struct Origin {
     pub base: usize,
     pub turn: usize,
@@ -58,7 +56,7 @@ fn key_of(origin: Origin) -> usize
 }
 
 impl TurnedNodes {
-    /// No nodes. It takes no memory.
+    /// No nodes. No memory is taken.
     pub fn new(alloc: Global) -> TurnedNodes
         ensures nodes { result.nodes ≡ [] }
         ensures origins { result.origins ≡ [] }
@@ -72,7 +70,7 @@ impl TurnedNodes {
         }
     }
 
-    /// The nodes. There are at most 48 for each base.
+    /// The nodes, of which there are at most 48 for each base.
     pub fn into_nodes(self) -> Nodes
         ensures nodes { result ≡ self.nodes }
         ensures few { length result ≤ 48 * self.bases }
@@ -82,8 +80,8 @@ impl TurnedNodes {
         Nodes::from_list(self.nodes)
     }
 
-    /// Adds a node of a line's own, whose operands are earlier nodes, and gives its number. It is the next base, with the
-    /// turn 0. `OutOfMemory` says that memory was wanted and not found; the nodes are then as they were.
+    /// Adds the node of a line, whose operands are earlier nodes, and gives its number. The node is the next base, with
+    /// the turn 0. `OutOfMemory` says that memory was wanted and not found; the nodes are then as they were.
     pub fn push(&mut self, node: Node) -> Result<usize, OutOfMemory>
         requires operands { NamesBelow (length self.old.nodes) node }
         requires room { self.old.bases < most_bases }
@@ -98,9 +96,9 @@ impl TurnedNodes {
         self.add(node, Origin { base, turn: 0 }, base + 1)
     }
 
-    /// The number of the turned copy of node `k` under the turn `t`, which is below 48. It adds one node for each base and
-    /// turn of the copy that no node has yet, operands first. The work grows with `k`. `OutOfMemory` says that memory was
-    /// wanted and not found.
+    /// The number of the turned copy of node `k` under the turn `t`, which is below 48. One node is added for each base
+    /// and turn of the copy that no node has yet, operands first. The work grows with `k`. `OutOfMemory` says that
+    /// memory was wanted and not found.
     pub fn turn(&mut self, alloc: Global, k: usize, t: usize) -> Result<usize, OutOfMemory>
         requires existing { k < length self.old.nodes }
         requires turn { t < 48 }
@@ -155,7 +153,7 @@ impl TurnedNodes {
         self.places.get(&key_of(origin)).copied()
     }
 
-    // Adds a node whose base and turn no node has yet. Its base is an earlier one, or the next.
+    // Adds a node whose base and turn no node has yet. Its base is an earlier base, or the next one.
     fn add(&mut self, node: Node, origin: Origin, bases: usize) -> Result<usize, OutOfMemory>
         requires operands { NamesBelow (length self.old.nodes) node }
         requires new { (n : ℕ) → HasOrigin self.old.origins n origin → ⊥ }
@@ -179,7 +177,7 @@ impl TurnedNodes {
     }
 }
 
-// The numbers of the plane as it was given, up to a positive factor.
+// The four numbers of the plane as it was given, up to a positive factor.
 fn given(oriented: &Oriented) -> (i64, i64, i64, i64)
     ensures given { form result.0 result.1 result.2 result.3 ≡ given_form oriented.now }
 {
@@ -202,8 +200,7 @@ fn turned_half(oriented: &Oriented, t: usize) -> Oriented
     Oriented::of(x, y, z, d)
 }
 
-// The node of the same kind with the turned half-space, or with the copies of its operands, which stand at the places
-// of these.
+// The node of the same kind with the turned half-space, or with the copies of its operands, by each node's copy.
 fn turned_node(node: &Node, t: usize, copies: &[usize]) -> Node
     requires turn { t < 48 }
     requires operands { NamesBelow (length copies.now) node.now }
@@ -228,7 +225,6 @@ fn turned_node(node: &Node, t: usize, copies: &[usize]) -> Node
     }
 }
 
-// Marks the operands of the node.
 fn mark_operands(marks: &mut [bool], node: &Node)
     requires operands { NamesBelow (length marks.old) node.now }
     ensures marked { MarksOperands node.now marks.old marks.new }
@@ -243,8 +239,7 @@ fn mark_operands(marks: &mut [bool], node: &Node)
     }
 }
 
-// Of the first `k + 1` nodes those that the set of node `k` is made of, at any depth: with each node its operands. They
-// are marked from the last one on.
+// Which of the first `k + 1` nodes the set of node `k` is made of, at any depth. Nodes are marked from the last one on.
 fn needed_nodes(alloc: Global, nodes: &[Node], k: usize) -> Result<Vec<bool>, OutOfMemory>
     requires existing { k < length nodes.now }
     requires ordered { IsOrdered nodes.now }

@@ -1,30 +1,7 @@
 -- Links across facets, by what the ray inward in a carrier names.
-use Rattle.std.proofs.Common.{◌≡◌, ℕ, pos, List, [], ◌∷◌, ◌++◌, refl, ap, sym, ◌∙◌, subst}
-use Rattle.nef_space.specs.Place.{Form, form_at, normal_of, toward}
-use Rattle.nef_space.specs.Sets.{Set}
-use Rattle.nef_space.specs.Vectors.{Vector, opposite, SameDirection, plane_dir}
-use Rattle.law_near.proofs.Mixed.{place-toward}
-use Rattle.law_near.proofs.Directions.{dot-zero, direction-left, direction-right}
-use Rattle.law_sphere.specs.Maps.{At, Item, items, item_normal, OnItem}
-use Rattle.law_sphere.proofs.Compare.{SameDirection-turned, SameDirection-trans, dir-self}
-use Rattle.law_sphere.proofs.Forms.{on-direction, on-level}
-use Rattle.law_sphere.proofs.Lists.{at-one}
-use Rattle.law_complex.specs.Complexes.{Vertex, Complex, Corner, IsCorner}
-use Rattle.law_complex.specs.Shows.{Shows}
-use Rattle.law_complex.specs.Skeleton.{item_plane, RayNames}
-use Rattle.law_complex.proofs.FacetAngles.{through-at}
-use Rattle.law_complex.proofs.FacetNames.{through-level}
-use Rattle.law_complex.proofs.Ways.{same-itself, opposite-same}
-use Rattle.nef_complex.specs.declared.complex.Corner.{Corner as ProgramCorner}
-use Rattle.nef_complex.specs.Complexes.{corner_of}
-use Rattle.nef_classes.specs.declared.table.Cell.{Cell}
-use Rattle.nef_classes.specs.declared.table.Tie.{Tie}
-use Rattle.law_links.specs.Links.{LinkAcross}
-use Rattle.nef_conn.proofs.OneNamed.{one-vertex, one-named}
+use Rattle.nef_facets.proofs.Prelude.{◌≡◌, ℕ, pos, List, [], ◌∷◌, ◌++◌, refl, ap, sym, ◌∙◌, subst, Form, form_at, normal_of, toward, Set, Vector, opposite, SameDirection, plane_dir, place-toward, At, Item, items, item_normal, OnItem, on-direction, on-level, at-one, Vertex, Complex, IsCorner, Shows, item_plane, RayNames, through-at, through-level, same-itself, Corner as ProgramCorner, corner_of, Cell, Tie, LinkAcross, one-vertex, one-named, HasNoSvertex, level-back, scaled-same, on-turned, cell_of, corner_at, IsTieAcross, Adds, dot-zero, SameDirection-turned, SameDirection-trans, dir-self, opposite-same, direction-left, direction-right}
+use Rattle.law_complex.specs.Complexes.{Corner}
 use Rattle.nef_conn.proofs.WayInward.{names-same, dir-same}
-use Rattle.nef_plane.specs.Meets.{HasNoSvertex}
-use Rattle.nef_locate.proofs.SamePlanes.{level-back, scaled-same, on-turned}
-use Rattle.nef_facets.specs.Ties.{cell_of, corner_at, IsTieAcross, Adds}
 use Rattle.nef_facets.proofs.Adding.{adds-one}
 use Rattle.nef_facets.proofs.TiedLinks.{tie-same}
 

@@ -1,9 +1,6 @@
 -- Lists to which the elements with some property are added.
-use Rattle.std.proofs.Common.{◌≡◌, ℕ, ◌+◌, ◌<◌, List, [], ◌∷◌, ◌++◌, arith, subst, inl, inr, ◌⊎◌}
-use Rattle.std.specs.List.{Contains}
-use Rattle.std.proofs.Math.Nat.{eq-or-lt_of_le}
+use Rattle.nef_facets.proofs.Prelude.{◌≡◌, ℕ, ◌+◌, ◌<◌, List, [], ◌∷◌, ◌++◌, arith, subst, inl, inr, ◌⊎◌, Contains, eq-or-lt_of_le, Adds, Any}
 use Rattle.std.proofs.lemmas.List.Elements.{Contains-append_left, Contains-push, Contains-push_cases}
-use Rattle.nef_facets.specs.Ties.{Adds, Any}
 
 module _ {X : Type 0} where
   -- nothing has P

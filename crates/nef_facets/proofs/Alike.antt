@@ -1,32 +1,7 @@
 -- Linked items have one normal and one mark, and the vertices lie in one plane of that normal.
-use Rattle.std.proofs.Common.{◌≡◌, ℕ, pos, sym, ◌∙◌, inl, inr, ⊎_elim, [], ◌∷◌, List, subst}
-use Rattle.nef_space.proofs.Ring.{ring, at, num, neg, ◌⊕◌, ◌⊗◌}
-use Rattle.nef_space.specs.Lists.{IsChain, Chained}
-use Rattle.nef_space.specs.Place.{Place, Form, form_at, normal_of, slope, plane_through, SamePlace, toward}
-use Rattle.nef_space.specs.Sets.{Set}
-use Rattle.nef_space.specs.Vectors.{Vector, opposite, dot, SameDirection, plane_dir}
-use Rattle.nef_space.specs.declared.label.Label.{Label}
-use Rattle.law_near.proofs.Decisions.{ahead}
-use Rattle.law_near.proofs.Even.{joined-germs, labels-by_germs}
-use Rattle.law_near.proofs.Germs.{label-one}
-use Rattle.law_near.proofs.Directions.{dot-comm}
-use Rattle.law_sphere.specs.Maps.{At, Item, arc_item, items, item_normal, item_mark}
-use Rattle.law_sphere.proofs.Forms.{on-level}
-use Rattle.law_sphere.proofs.Lists.{at-one}
-use Rattle.law_sphere.proofs.Arcs.{at-arc}
-use Rattle.law_sphere.proofs.Compare.{SameDirection-turned, SameDirection-trans}
-use Rattle.law_complex.specs.Complexes.{Vertex, Edge, Complex, Corner, HasEnds, IsCorner}
-use Rattle.law_complex.specs.Shows.{Shows}
-use Rattle.law_complex.specs.Skeleton.{item_plane, PlaneMeet, meets_vertex, meets_edge, IsFirstInPlane, IsCornerAt}
-use Rattle.law_complex.proofs.FacetSides.{level-way}
-use Rattle.law_complex.proofs.FacetWays.{plane-onward, plane-back, plane-ahead}
-use Rattle.law_complex.proofs.FacetEdges.{ahead-same}
-use Rattle.law_complex.proofs.FacetAngles.{through-at}
-use Rattle.law_complex.proofs.FacetNames.{through-level}
-use Rattle.law_links.specs.Links.{AreAlong, LinkAlong, LinkAcross, FacetLink}
-use Rattle.law_links.proofs.NearVertex.{facet-near}
-use Rattle.law_links.proofs.EdgeEnds.{AreTiedItems, EdgeWays, edge-ways, end-level, corner_of, along-tied}
-use Rattle.law_links.proofs.Across.{across-tied}
+use Rattle.nef_facets.proofs.Prelude.{◌≡◌, ℕ, pos, sym, ◌∙◌, inl, inr, ⊎_elim, [], ◌∷◌, List, subst, ring, at, num, neg, ◌⊕◌, ◌⊗◌, IsChain, Chained, Place, Form, form_at, normal_of, slope, plane_through, SamePlace, toward, Set, Vector, opposite, dot, SameDirection, plane_dir, Label, ahead, joined-germs, labels-by_germs, label-one, At, Item, arc_item, items, item_normal, item_mark, on-level, at-one, at-arc, Vertex, Edge, Complex, HasEnds, IsCorner, Shows, item_plane, PlaneMeet, meets_vertex, meets_edge, IsFirstInPlane, IsCornerAt, plane-onward, plane-back, plane-ahead, ahead-same, through-at, through-level, AreAlong, LinkAlong, LinkAcross, FacetLink, facet-near, AreTiedItems, EdgeWays, edge-ways, end-level, along-tied, across-tied, dot-comm, SameDirection-turned, SameDirection-trans, level-way}
+use Rattle.law_complex.specs.Complexes.{Corner}
+use Rattle.law_links.proofs.EdgeEnds.{corner_of}
 
 -- a corner has one item
 pub corner-one : (C : Complex) (k : Corner) (v w : Vertex) (x y : Item) → IsCorner C k v x → IsCorner C k w y → (P : Vertex → Item → Type 0) → P v x → P w y

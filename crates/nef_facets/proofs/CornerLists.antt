@@ -1,16 +1,6 @@
 -- Lists of corners.
-use Rattle.std.proofs.Common.{◌≡◌, ℕ, zero, suc, ◌+◌, ◌<◌, pos, List, [], ◌∷◌, ◌++◌, length, arith, refl, ap, sym, ◌∙◌, subst, inl, inr, ⊎_elim, ◌⊎◌, append_assoc, length-append}
-use Rattle.std.proofs.lemmas.Int.{ints}
-use Rattle.nef_space.specs.Lists.{IsAt}
-use Rattle.law_sphere.specs.Maps.{At, items}
-use Rattle.law_sphere.proofs.Lists.{at-one}
-use Rattle.nef_classes.proofs.ClassLists.{Either, earlier, last, is-at_either, is-at_last, is-at_left, is-at_within, is-at_some, less-or-last}
-use Rattle.nef_edges.proofs.Places.{some-at, at-within}
-use Rattle.law_complex.specs.Complexes.{Vertex as PlainVertex, Complex as PlainComplex, Corner as PlainCorner}
-use Rattle.nef_complex.specs.declared.complex.Corner.{Corner}
-use Rattle.nef_complex.specs.Complexes.{corner_of}
-use Rattle.nef_complex.specs.Cycles.{IsCornerBelow}
-use Rattle.nef_facets.specs.Corners.{corner_from, corners_at, HasItem, AreCorners, StandFrom}
+use Rattle.nef_facets.proofs.Prelude.{◌≡◌, ℕ, zero, suc, ◌+◌, ◌<◌, pos, List, [], ◌∷◌, ◌++◌, length, arith, refl, ap, sym, ◌∙◌, subst, inl, inr, ⊎_elim, ◌⊎◌, append_assoc, length-append, ints, IsAt, At, items, at-one, Either, earlier, last, is-at_either, is-at_last, is-at_left, is-at_within, is-at_some, less-or-last, some-at, at-within, Vertex as PlainVertex, Complex as PlainComplex, Corner, corner_of, IsCornerBelow, corner_from, corners_at, HasItem, AreCorners, StandFrom}
+use Rattle.law_complex.specs.Complexes.{Corner as PlainCorner}
 use Rattle.nef_facets.proofs.Lists.{is-at_parts, is-at_second}
 
 abbrev pub corner : ℕ → ℕ → Corner

@@ -1,24 +1,6 @@
 -- Orbits of the next corners are cycles, and those of one facet are its cycles.
-use Rattle.std.proofs.Common.{◌≡◌, ℕ, zero, suc, ◌<◌, List, [], ◌∷◌, length, map, arith, refl, ap, sym, subst, Option, Some, Result, Ok, Err}
-use Rattle.std.specs.Prelude.{IfOk}
-use Rattle.std.specs.List.{All}
-use Rattle.nef_space.specs.Lists.{IsAt, Chained}
-use Rattle.nef_space.specs.Sets.{Set}
-use Rattle.law_sphere.specs.Maps.{At}
-use Rattle.nef_classes.proofs.Chains.{chain-here, chain-trans}
-use Rattle.nef_classes.proofs.ClassLists.{is-at_one, is-at_within, is-at_some, is-at_is}
-use Rattle.nef_edges.proofs.Places.{some-at, at-some, at-map, map-at}
-use Rattle.law_complex.specs.Complexes.{Complex as PlainComplex, Corner as PlainCorner}
-use Rattle.law_complex.specs.Shows.{Shows}
-use Rattle.nef_complex.specs.declared.complex.Corner.{Corner}
-use Rattle.nef_complex.specs.Complexes.{corner_of}
-use Rattle.law_links.specs.Links.{FacetLink}
-use Rattle.nef_complex.specs.declared.parts.Cycle.{Cycle}
-use Rattle.nef_complex.specs.Cycles.{NextCorner, IsCornerBelow, StepsTo, IsCycle, IsCycleBelow, Cycles}
-use Rattle.nef_complex.specs.Numbers.{IsFacetOf, FacetNumbers, cycle_corners}
-use Rattle.nef_facets.specs.Corners.{AreInOrder, AreCorners, corner_from}
-use Rattle.nef_facets.specs.Next.{AreNext}
-use Rattle.nef_facets.specs.Orbits.{IsStep, StepsOver, IsOrbit, AreOrbits, AreCornersOf, AreNumbered, IsCycleOf, AreGrouped}
+use Rattle.nef_facets.proofs.Prelude.{◌≡◌, ℕ, zero, suc, ◌<◌, List, [], ◌∷◌, length, map, arith, refl, ap, sym, subst, Option, Some, Result, Ok, Err, IfOk, All, IsAt, Chained, Set, At, chain-here, chain-trans, is-at_one, is-at_within, is-at_some, is-at_is, some-at, at-some, at-map, map-at, Complex as PlainComplex, Shows, Corner, corner_of, FacetLink, Cycle, NextCorner, IsCornerBelow, StepsTo, IsCycle, IsCycleBelow, Cycles, IsFacetOf, FacetNumbers, cycle_corners, AreInOrder, AreCorners, corner_from, AreNext, IsStep, StepsOver, IsOrbit, AreOrbits, AreCornersOf, AreNumbered, IsCycleOf, AreGrouped}
+use Rattle.law_complex.specs.Complexes.{Corner as PlainCorner}
 use Rattle.nef_facets.proofs.FirstCorners.{facet-one, facet-item, item-facet}
 use Rattle.nef_facets.proofs.NextCorners.{next-injective, next-linked}
 use Rattle.nef_facets.proofs.Order.{one-place}

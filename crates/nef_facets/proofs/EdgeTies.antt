@@ -1,18 +1,10 @@
 -- The ties between the arcs of the ends of edges, one after another.
-use Rattle.std.proofs.Common.{◌≡◌, ℕ, ◌<◌, ◌≤◌, List, [], ◌∷◌, ◌++◌, length, map, get_or, slice_get, Some, arith, refl, ap, sym, subst}
+use Rattle.nef_facets.proofs.Prelude.{◌≡◌, ℕ, ◌<◌, ◌≤◌, List, [], ◌∷◌, ◌++◌, length, map, get_or, slice_get, Some, arith, refl, ap, sym, subst, At, Arc, Map, at-one, map_of, get-at, map-from_get, Vertex, Edge, Complex, HasEnds, complex_of, edge_of, vertex_of, Tie, AreArcsAlong, edge_tie, IsTieFromArc, IsTieOfEdge, IsTieAlong, Any, Adds}
 use Rattle.std.proofs.lemmas.List.{length-map}
-use Rattle.law_sphere.specs.Maps.{At, Arc, Map}
-use Rattle.law_sphere.proofs.Lists.{at-one}
-use Rattle.nef_smap.specs.Maps.{map_of}
-use Rattle.nef_smap.proofs.ArcEnds.{at-map}
-use Rattle.nef_smap.proofs.Lists.{at-within, get-at, map-at}
-use Rattle.law_complex.specs.Complexes.{Vertex, Edge, Complex, HasEnds}
+use Rattle.nef_smap.proofs.Lists.{at-within, map-at}
 use Rattle.nef_complex.specs.declared.complex.Complex.{Complex as ProgramComplex}
 use Rattle.nef_complex.specs.declared.complex.Edge.{Edge as ProgramEdge}
 use Rattle.nef_complex.specs.declared.complex.Vertex.{Vertex as ProgramVertex}
-use Rattle.nef_complex.specs.Complexes.{complex_of, edge_of, vertex_of}
-use Rattle.nef_classes.specs.declared.table.Tie.{Tie}
-use Rattle.nef_facets.specs.Ties.{AreArcsAlong, edge_tie, IsTieFromArc, IsTieOfEdge, IsTieAlong, Any, Adds}
 use Rattle.nef_facets.proofs.Adding.{adds-one, adds-none, adds-as}
 
 -- a place in a list whose elements are images of others
@@ -48,4 +40,4 @@ edge-as C n e v w a H xs ys = adds-as (Any (IsTieOfEdge e v.map w.map)) (IsTieAl
 -- the ties of an edge that was read, with its ends
 pub edge-read : (c : ProgramComplex) (n : ℕ) (e : ProgramEdge) → At c.edges n e → (v w : ProgramVertex) → slice_get c.vertices e.low ≡ Some v → slice_get c.vertices e.high ≡ Some w
     → (xs ys : List Tie) → Adds (Any (IsTieOfEdge (edge_of e) (map_of v.map) (map_of w.map))) xs ys → Adds (IsTieAlong (complex_of c) n) xs ys
-edge-read c n e a v w l h = edge-as (complex_of c) n (edge_of e) (vertex_of v) (vertex_of w) (map-at edge_of c.edges n e a) (record { low = at-map vertex_of c.vertices e.low v l; high = at-map vertex_of c.vertices e.high w h })
+edge-read c n e a v w l h = edge-as (complex_of c) n (edge_of e) (vertex_of v) (vertex_of w) (map-at edge_of c.edges n e a) (record { low = map-from_get vertex_of c.vertices e.low v l; high = map-from_get vertex_of c.vertices e.high w h })

@@ -1,25 +1,6 @@
 -- Edges seen from either of their ends.
-use Rattle.std.proofs.Common.{◌≡◌, ℕ, sym, inl, inr, ⊎_elim, subst}
-use Rattle.std.proofs.lemmas.Bool.{cases_order}
-use Rattle.nef_space.specs.Place.{SamePlace, toward, IsBetween}
-use Rattle.nef_space.specs.Sets.{Set}
-use Rattle.nef_space.specs.Vectors.{opposite, SameDirection, IsOpposite}
-use Rattle.law_near.proofs.Decisions.{ahead}
-use Rattle.law_near.proofs.Between.{between-turned}
-use Rattle.law_near.proofs.PlaceOrder.{place_below-apart}
-use Rattle.law_near.proofs.Rays.{same-place_sym}
-use Rattle.law_sphere.specs.Maps.{At, MapVertex}
-use Rattle.law_sphere.proofs.Lists.{at-one}
-use Rattle.law_sphere.proofs.NearItems.{opposite-turned}
-use Rattle.law_sphere.proofs.Compare.{SameDirection-turned, SameDirection-trans}
-use Rattle.law_complex.specs.Complexes.{Vertex, Edge, Complex, HasEnds}
-use Rattle.law_complex.specs.Shows.{Shows}
-use Rattle.law_complex.proofs.FacetEdges.{ahead-back}
-use Rattle.nef_edges.proofs.Rays.{opposites-same}
-use Rattle.law_links.proofs.Ties.{IsTied, tied-turned}
-use Rattle.law_links.proofs.EdgeEnds.{EdgeWays, edge-ways, ends-tied, opposite-way}
+use Rattle.nef_facets.proofs.Prelude.{◌≡◌, ℕ, sym, inl, inr, ⊎_elim, subst, cases_order, SamePlace, toward, IsBetween, Set, opposite, SameDirection, IsOpposite, ahead, between-turned, place_below-apart, same-place_sym, At, MapVertex, at-one, Vertex, Edge, Complex, HasEnds, Shows, ahead-back, opposites-same, IsTied, tied-turned, EdgeWays, edge-ways, ends-tied, Leads, SameDirection-turned, SameDirection-trans, opposite-turned, opposite-way}
 use Rattle.nef_conn.proofs.SameRay.{on-ray}
-use Rattle.nef_complex.specs.Cycles.{Leads}
 
 -- an edge from svertex a of vertex i to svertex b of vertex j
 pub record EdgeFrom (s : Set) (C : Complex) (i a j b : ℕ) : Type 0 where

@@ -1,16 +1,6 @@
 -- The first corners of facets, and the numbers of items.
-use Rattle.std.proofs.Common.{◌≡◌, ◌≢◌, ℕ, ◌<◌, ◌≤◌, ◌+◌, List, [], ◌∷◌, ◌++◌, length, arith, sym, ◌∙◌, ⊎_elim, subst, length-append}
-use Rattle.std.proofs.lemmas.Bool.{cases_order}
-use Rattle.nef_space.specs.Lists.{IsAt}
-use Rattle.law_sphere.specs.Maps.{items}
-use Rattle.nef_classes.proofs.ClassLists.{Either, earlier, last, is-at_either, is-at_one, is-at_within, is-at_some, less-or-last}
-use Rattle.nef_edges.proofs.Places.{some-at, at-within}
-use Rattle.law_complex.specs.Complexes.{Complex, Corner as PlainCorner}
-use Rattle.nef_complex.specs.declared.complex.Corner.{Corner}
-use Rattle.nef_complex.specs.Complexes.{corner_of}
-use Rattle.nef_complex.specs.Numbers.{IsFacetOf, FacetNumbers}
-use Rattle.nef_facets.specs.Corners.{corner_from, HasItem, AreCorners}
-use Rattle.nef_facets.specs.Facets.{AreFirsts}
+use Rattle.nef_facets.proofs.Prelude.{◌≡◌, ◌≢◌, ℕ, ◌<◌, ◌≤◌, ◌+◌, List, [], ◌∷◌, ◌++◌, length, arith, sym, ◌∙◌, ⊎_elim, subst, length-append, cases_order, IsAt, items, Either, earlier, last, is-at_either, is-at_one, is-at_within, is-at_some, less-or-last, some-at, at-within, Complex, Corner, corner_of, IsFacetOf, FacetNumbers, corner_from, HasItem, AreCorners, AreFirsts}
+use Rattle.law_complex.specs.Complexes.{Corner as PlainCorner}
 use Rattle.nef_facets.proofs.Order.{number-below}
 
 -- an item has one number

@@ -1,13 +1,6 @@
 -- The cycles of orbits in rows, one orbit after the other.
-use Rattle.std.proofs.Common.{◌≡◌, ℕ, ◌+◌, ◌<◌, ◌≤◌, List, [], ◌∷◌, ◌++◌, length, arith, sym, ◌⊎◌, inl, inr, ⊎_elim, subst, set}
-use Rattle.std.proofs.lemmas.Bool.{cases_order}
-use Rattle.nef_space.specs.Lists.{IsAt}
-use Rattle.nef_classes.proofs.ClassLists.{Either, earlier, last, is-at_either, is-at_last, is-at_left, is-at_one, is-at_within, less-or-last}
-use Rattle.nef_complex.specs.declared.complex.Corner.{Corner}
-use Rattle.nef_complex.specs.declared.parts.Cycle.{Cycle}
-use Rattle.nef_facets.specs.Orbits.{AreCornersOf, IsCycleOf, AreGrouped}
+use Rattle.nef_facets.proofs.Prelude.{◌≡◌, ℕ, ◌+◌, ◌<◌, ◌≤◌, List, [], ◌∷◌, ◌++◌, length, arith, sym, ◌⊎◌, inl, inr, ⊎_elim, subst, set, cases_order, IsAt, Either, earlier, last, is-at_either, is-at_last, is-at_left, is-at_one, is-at_within, less-or-last, Corner, Cycle, AreCornersOf, IsCycleOf, AreGrouped, set-same, set-other, set-at}
 use Rattle.nef_facets.proofs.Lists.{AreEach}
-use Rattle.nef_classes.proofs.Writes.{set-same, set-other, set-at}
 
 pub corners-of : (ks : List Corner) (is : List ℕ) (n : ℕ) (xs : List Corner) → AreEach (λ (x : Corner) (i : ℕ). IsAt ks i x) n xs is → length is ≤ n → AreCornersOf ks is xs
 corners-of ks is n xs E h = record { as_many = let e = E.as_many in let l = E.within in omega arith; each = λ k i x a b. E.each k x i b a }

@@ -1,25 +1,11 @@
 -- Each item lies in a carrier, and the items of the program's vertices.
-use Rattle.std.proofs.Common.{◌≡◌, ℕ, ◌<◌, pos, List, map, length, ap, sym, ◌∙◌, subst}
-use Rattle.nef_space.specs.Lists.{IsAt}
-use Rattle.nef_space.specs.Place.{Place, Form, form_at, normal_of}
-use Rattle.nef_space.specs.Sets.{Set}
-use Rattle.nef_space.specs.Vectors.{Vector, IsNormal, SameDirection}
-use Rattle.law_sphere.specs.Maps.{At, Item, items, item_normal}
-use Rattle.law_complex.specs.Complexes.{Vertex as PlainVertex, Corner as PlainCorner, IsCorner}
-use Rattle.nef_classes.proofs.ClassLists.{is-at_one}
+use Rattle.nef_facets.proofs.Prelude.{◌≡◌, ℕ, ◌<◌, pos, List, map, length, ap, sym, ◌∙◌, subst, IsAt, Place, Form, form_at, normal_of, Set, Vector, IsNormal, SameDirection, At, Item, items, item_normal, Vertex as PlainVertex, IsCorner, is-at_one, vertex_of, complex_of, AreHolders, at-map, map-at, at-within, some-at, at-some as got-some, form_of, place_of, Plane, map_of, at-one, Shows}
+use Rattle.law_complex.specs.Complexes.{Corner as PlainCorner}
 use Rattle.nef_complex.specs.declared.complex.Vertex.{Vertex}
 use Rattle.nef_complex.specs.declared.complex.Complex.{Complex}
-use Rattle.nef_complex.specs.Complexes.{vertex_of, complex_of}
-use Rattle.nef_complex.specs.Index.{AreHolders}
 use Rattle.nef_complex.proofs.Carried.{carried}
-use Rattle.nef_edges.proofs.Places.{at-map, map-at, at-within, some-at, at-some as got-some}
-use Rattle.nef_geo.specs.Shapes.{form_of, place_of}
-use Rattle.nef_geo.specs.declared.plane.Plane.{Plane}
-use Rattle.nef_smap.specs.Maps.{map_of}
-use Rattle.law_sphere.proofs.Lists.{at-one}
 use Rattle.nef_smap.proofs.SideLists.{at-some}
 use Rattle.nef_facets.specs.Carriers.{HasItem, IsPlaneAt}
-use Rattle.law_complex.specs.Shows.{Shows}
 
 -- the plane holds the point and has the normal
 abbrev pub HoldsWith : Form → Place → Vector → Type 0

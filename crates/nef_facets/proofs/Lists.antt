@@ -1,9 +1,5 @@
 -- Elements of lists by their places.
-use Rattle.std.proofs.Common.{◌≡◌, ℕ, zero, suc, ◌+◌, List, [], ◌∷◌, ◌++◌, length, ◌≤◌, map, arith, refl, sym, ◌∙◌, subst, inl, inr, ◌⊎◌, ⊎_elim, length-append}
-use Rattle.nef_space.specs.Lists.{IsAt}
-use Rattle.nef_classes.proofs.ClassLists.{Either, earlier, last, is-at_either, is-at_one, is-at_within}
-use Rattle.nef_smap.proofs.SideLists.{at-parts}
-use Rattle.nef_edges.proofs.Places.{some-at, at-some, at-map}
+use Rattle.nef_facets.proofs.Prelude.{◌≡◌, ℕ, zero, suc, ◌+◌, List, [], ◌∷◌, ◌++◌, length, ◌≤◌, map, arith, refl, sym, ◌∙◌, subst, inl, inr, ◌⊎◌, ⊎_elim, length-append, IsAt, Either, earlier, last, is-at_either, is-at_one, is-at_within, at-parts, some-at, at-some, at-map}
 
 -- an element of two lists one after the other is one of the first, or of the second
 pub is-at_parts : {X : Type 0} (xs ys : List X) (k : ℕ) (x : X) → IsAt (xs ++ ys) k x → IsAt xs k x ⊎ ((j : ℕ) × (k ≡ length xs + j) × IsAt ys j x)

@@ -1,46 +1,8 @@
 -- Each arc has a next corner, and no two corners have one next corner.
-use Rattle.std.proofs.Common.{◌≡◌, ℕ, ◌+◌, pos, ◌<ℤ◌, ◌+ℤ◌, ◌*ℤ◌, ℤ, neg_ℤ, arith, refl, ap, sym, ◌∙◌, inl, inr, ⊎_elim, [], ◌∷◌, subst}
-use Rattle.std.proofs.lemmas.Int.{ints}
-use Rattle.nef_space.specs.Signs.{sign}
-use Rattle.nef_space.proofs.Ring.{ring, at, num, neg, ◌⊕◌, ◌⊖◌, ◌⊗◌}
-use Rattle.nef_space.specs.Lists.{Chained}
-use Rattle.nef_space.specs.Local.{Germ}
-use Rattle.nef_space.specs.Place.{Place, toward}
-use Rattle.nef_space.specs.Sets.{Set}
-use Rattle.nef_space.specs.Vectors.{Vector, opposite, blend, dot, cross, triple, IsDirection, SameDirection}
-use Rattle.nef_space.specs.declared.label.Label.{Label}
-use Rattle.law_near.specs.Cells.{carriers}
-use Rattle.law_near.specs.Laws.{SameGerms}
-use Rattle.law_near.proofs.Alike.{FlatDim-by_germs}
-use Rattle.law_near.proofs.Decisions.{ahead, near-ahead}
-use Rattle.law_near.proofs.Even.{joined-germs}
-use Rattle.law_near.proofs.FlatDecided.{triple-dot}
-use Rattle.law_near.proofs.NearGerms.{steep}
-use Rattle.law_near.proofs.Supports.{square-cross}
-use Rattle.law_near.proofs.Directions.{self-pos, dot-comm, direction-right}
-use Rattle.law_sphere.specs.Forms.{forms}
-use Rattle.law_sphere.specs.Maps.{At, Arc, MapSloop, Item, arc_item, sloop_item, items, item_normal, Map, OnItem, NearLabel, Valid}
-use Rattle.law_sphere.proofs.Vectors.{normal-is, dot-comb, same-plus, same-minus, nought-if}
-use Rattle.law_sphere.proofs.Generic.{amount, far-keeps}
-use Rattle.law_sphere.proofs.Lists.{at-one}
-use Rattle.law_sphere.proofs.Shot.{arc-at}
-use Rattle.law_sphere.proofs.Around.{direction-around}
-use Rattle.law_sphere.proofs.Compare.{SameDirection-turned, SameDirection-trans, dir-self}
-use Rattle.law_sphere.proofs.Turn.{turn-same}
-use Rattle.law_sphere.proofs.Arcs.{at-arc}
-use Rattle.law_complex.specs.Complexes.{Vertex, Complex, Corner, IsCorner}
-use Rattle.law_complex.specs.Shows.{Shows}
-use Rattle.law_complex.proofs.Cones.{near-label}
-use Rattle.law_complex.proofs.FacetSides.{level-way, flats-carried}
+use Rattle.nef_facets.proofs.Prelude.{◌≡◌, ℕ, ◌+◌, pos, ◌<ℤ◌, ◌+ℤ◌, ◌*ℤ◌, ℤ, neg_ℤ, arith, refl, ap, sym, ◌∙◌, inl, inr, ⊎_elim, [], ◌∷◌, subst, ints, sign, ring, at, num, neg, ◌⊕◌, ◌⊖◌, ◌⊗◌, Chained, Germ, Place, toward, Set, Vector, opposite, blend, dot, cross, triple, IsDirection, SameDirection, Label, carriers, SameGerms, FlatDim-by_germs, ahead, near-ahead, joined-germs, steep, forms, At, Arc, MapSloop, Item, arc_item, sloop_item, items, item_normal, Map, OnItem, NearLabel, Valid, normal-is, dot-comb, same-plus, same-minus, amount, far-keeps, at-one, arc-at, direction-around, turn-same, at-arc, Vertex, Complex, IsCorner, Shows, near-label, flats-carried, IsInFacetOf, target-met, FacetLink, facet-near, IsTied, tied-turned, tied-both, tied-ahead, end-level, close_way, on-close, tied-close_way, tied-turn, chain-link, chain-turned, IsNextArc, NextCorner, dot-comm, self-pos, triple-dot, square-cross, nought-if, SameDirection-turned, SameDirection-trans, dir-self, dot-opposite, level-way, opposite-way, direction-right}
+use Rattle.law_complex.specs.Complexes.{Corner}
 use Rattle.law_complex.proofs.FacetCorners.{ItemAt, item-at}
-use Rattle.law_complex.proofs.FacetPoints.{IsInFacetOf}
-use Rattle.law_complex.proofs.FacetArcs.{target-met}
-use Rattle.law_links.specs.Links.{FacetLink}
-use Rattle.law_links.proofs.NearVertex.{facet-near}
-use Rattle.law_links.proofs.Ties.{IsTied, tied-turned, tied-both, tied-ahead}
-use Rattle.law_links.proofs.EdgeEnds.{end-level, close_way, on-close, tied-close_way, tied-turn, corner_of, opposite-way, dot-opposite}
-use Rattle.nef_classes.proofs.Chains.{chain-link, chain-turned}
-use Rattle.nef_complex.specs.Cycles.{IsNextArc, NextCorner}
+use Rattle.law_links.proofs.EdgeEnds.{corner_of}
 use Rattle.nef_facets.proofs.EdgeViews.{EdgeFrom, edge-from, one-vertex, one-svertex}
 
 pub turned-level : (n m d : Vector) → SameDirection n m → dot n d ≡ pos 0 → dot m d ≡ pos 0

@@ -1,32 +1,11 @@
 -- The next corners of all corners, edge by edge.
-use Rattle.std.proofs.Common.{◌≡◌, ◌≢◌, ℕ, ◌+◌, ◌<◌, ◌≤◌, List, length, arith, refl, ap, sym, ◌∙◌, ◌⊎◌, inl, inr, ⊎_elim, subst, set}
-use Rattle.std.proofs.lemmas.Bool.{cases_order}
-use Rattle.nef_space.specs.Lists.{IsAt}
-use Rattle.nef_space.specs.Sets.{Set}
-use Rattle.nef_geo.specs.Shapes.{vector_of}
-use Rattle.law_sphere.specs.Maps.{At, Arc, Item, arc_item, sloop_item, MapSloop}
-use Rattle.law_sphere.proofs.Lists.{at-one}
-use Rattle.law_sphere.proofs.Shot.{arc-at}
-use Rattle.law_sphere.proofs.Arcs.{at-arc, ends-of}
-use Rattle.nef_smap.specs.declared.map.SArc.{SArc}
-use Rattle.nef_smap.specs.Maps.{map_of, arc_of}
-use Rattle.nef_classes.proofs.ClassLists.{is-at_within, is-at_some, less-or-last}
-use Rattle.nef_edges.proofs.Places.{at-map, map-at, at-within}
-use Rattle.law_complex.specs.Complexes.{Vertex as PlainVertex, Edge as PlainEdge, Complex as PlainComplex, IsCorner}
-use Rattle.law_complex.specs.Shows.{Shows}
-use Rattle.law_complex.proofs.Joining.{svertex-edge}
+use Rattle.nef_facets.proofs.Prelude.{◌≡◌, ◌≢◌, ℕ, ◌+◌, ◌<◌, ◌≤◌, List, length, arith, refl, ap, sym, ◌∙◌, ◌⊎◌, inl, inr, ⊎_elim, subst, set, cases_order, IsAt, Set, vector_of, At, Arc, Item, arc_item, sloop_item, MapSloop, at-one, arc-at, at-arc, ends-of, SArc, map_of, arc_of, is-at_within, is-at_some, less-or-last, at-map, map-at, at-within, Vertex as PlainVertex, Edge as PlainEdge, Complex as PlainComplex, IsCorner, Shows, svertex-edge, Corner, vertex_of, complex_of, corner_of, Leads, NextCorner, AreInOrder, AreCorners, HasItem, IsArcInto, LeavesFrom, HasNext, AreNext, set-same, set-other}
 use Rattle.nef_complex.specs.declared.complex.Vertex.{Vertex}
 use Rattle.nef_complex.specs.declared.complex.Complex.{Complex}
-use Rattle.nef_complex.specs.declared.complex.Corner.{Corner}
-use Rattle.nef_complex.specs.Complexes.{vertex_of, complex_of, corner_of}
-use Rattle.nef_complex.specs.Cycles.{Leads, NextCorner}
-use Rattle.nef_facets.specs.Corners.{AreInOrder, AreCorners, HasItem}
-use Rattle.nef_facets.specs.Next.{IsArcInto, LeavesFrom, HasNext, AreNext}
 use Rattle.nef_facets.proofs.CornerLists.{corner}
 use Rattle.nef_facets.proofs.EdgeViews.{EdgeFrom, edge-from}
 use Rattle.nef_facets.proofs.NextCorners.{next-arc}
 use Rattle.nef_facets.proofs.Order.{one-place}
-use Rattle.nef_classes.proofs.Writes.{set-same, set-other}
 
 -- ---- one next corner noted
 module _ (C : PlainComplex) (ks : List Corner) (old new : List ℕ) (i n : ℕ) (j k : Corner) (a : IsAt ks i j) (b : IsAt ks n k) (e : new ≡ set old i n) (as-many : length old ≡ length ks) (N : NextCorner C (corner_of j) (corner_of k)) where

@@ -1,18 +1,6 @@
 -- Numbers of classes of ties between items are facet numbers.
-use Rattle.std.proofs.Common.{◌≡◌, ℕ, ◌+◌, List, ◌++◌, length, map, sym, ◌∙◌, inl, inr, ⊎_elim, ◌⊎◌, ◌↔◌, subst, Result, Ok, Err}
-use Rattle.std.proofs.Math.ListN.{length-map}
-use Rattle.std.specs.Prelude.{IfOk}
-use Rattle.nef_space.specs.Lists.{IsAt, Chained}
-use Rattle.nef_classes.proofs.Chains.{chain-link, chain-map}
-use Rattle.nef_classes.proofs.ClassLists.{is-at_left}
-use Rattle.nef_edges.proofs.Places.{at-some, at-map}
-use Rattle.law_complex.specs.Complexes.{Complex, Corner}
-use Rattle.law_links.specs.Links.{LinkAlong, LinkAcross, FacetLink}
-use Rattle.nef_complex.specs.Numbers.{count_items, FacetNumbers}
-use Rattle.nef_classes.specs.declared.table.Cell.{Cell}
-use Rattle.nef_classes.specs.declared.table.Tie.{Tie}
-use Rattle.nef_classes.specs.Tables.{AreTiedWithin, AreTied, HasCounts, AreNumbers}
-use Rattle.nef_facets.specs.Ties.{cell_of}
+use Rattle.nef_facets.proofs.Prelude.{◌≡◌, ℕ, ◌+◌, List, ◌++◌, length, map, sym, ◌∙◌, inl, inr, ⊎_elim, ◌⊎◌, ◌↔◌, subst, Result, Ok, Err, length-map, IfOk, IsAt, Chained, chain-link, chain-map, is-at_left, at-some, at-map, Complex, LinkAlong, LinkAcross, FacetLink, count_items, FacetNumbers, Cell, Tie, AreTiedWithin, AreTied, HasCounts, AreNumbers, cell_of}
+use Rattle.law_complex.specs.Complexes.{Corner}
 use Rattle.nef_facets.proofs.Lists.{is-at_parts, is-at_second}
 
 abbrev corner_of_cell : Cell → Corner

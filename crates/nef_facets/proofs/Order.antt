@@ -1,14 +1,6 @@
 -- Listed corners in order.
-use Rattle.std.proofs.Common.{◌≡◌, ℕ, ◌<◌, List, arith, inl, inr, ⊎_elim, subst, sym}
-use Rattle.std.proofs.lemmas.Bool.{cases_order}
-use Rattle.std.proofs.lemmas.Int.{ints}
-use Rattle.nef_space.specs.Lists.{IsAt}
-use Rattle.nef_classes.proofs.ClassLists.{is-at_one}
-use Rattle.nef_complex.specs.declared.complex.Corner.{Corner}
-use Rattle.nef_complex.specs.Complexes.{corner_of}
+use Rattle.nef_facets.proofs.Prelude.{◌≡◌, ℕ, ◌<◌, List, arith, inl, inr, ⊎_elim, subst, sym, cases_order, ints, IsAt, is-at_one, Corner, corner_of, IsCornerBelow, AreInOrder}
 use Rattle.law_complex.specs.Complexes.{Corner as PlainCorner}
-use Rattle.nef_complex.specs.Cycles.{IsCornerBelow}
-use Rattle.nef_facets.specs.Corners.{AreInOrder}
 
 -- of two corners one isn't below the other both ways, and none is below itself
 pub below-once : (x y : PlainCorner) → IsCornerBelow x y → IsCornerBelow y x → ⊥

@@ -1,21 +1,6 @@
 -- The planes and marks of the first corners are those of all corners of a facet.
-use Rattle.std.proofs.Common.{◌≡◌, ℕ, ◌<◌, List, length, arith, refl, sym, ◌∙◌}
-use Rattle.nef_space.specs.Lists.{IsAt}
-use Rattle.nef_space.specs.Sets.{Set}
-use Rattle.nef_space.specs.declared.label.Label.{Label}
-use Rattle.nef_geo.specs.Shapes.{form_of}
-use Rattle.nef_geo.specs.declared.plane.Plane.{Plane}
-use Rattle.nef_classes.proofs.ClassLists.{is-at_within, is-at_some}
-use Rattle.law_complex.specs.Complexes.{Complex}
-use Rattle.law_complex.specs.Shows.{Shows}
-use Rattle.nef_complex.specs.declared.complex.Corner.{Corner}
-use Rattle.nef_complex.specs.Complexes.{corner_of}
-use Rattle.nef_complex.specs.Cycles.{Cycles}
-use Rattle.nef_complex.specs.Numbers.{IsFacetOf, FacetNumbers, cycle_corners}
-use Rattle.nef_complex.specs.declared.parts.Cycle.{Cycle}
+use Rattle.nef_facets.proofs.Prelude.{◌≡◌, ℕ, ◌<◌, List, length, arith, refl, sym, ◌∙◌, IsAt, Set, Label, form_of, Plane, is-at_within, is-at_some, Complex, Shows, Corner, corner_of, Cycles, IsFacetOf, FacetNumbers, cycle_corners, Cycle, AreCorners, corner_from, IsPlaneAt, IsMarkAt, AreFirsts, IsFacetParts}
 use Rattle.nef_facets.specs.declared.parts.FacetParts.{FacetParts}
-use Rattle.nef_facets.specs.Corners.{AreCorners, corner_from}
-use Rattle.nef_facets.specs.Facets.{IsPlaneAt, IsMarkAt, AreFirsts, IsFacetParts}
 use Rattle.nef_facets.proofs.Alike.{form-carried, label-carried}
 use Rattle.nef_facets.proofs.FirstCorners.{facet-item}
 

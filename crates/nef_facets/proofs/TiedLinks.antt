@@ -1,22 +1,7 @@
 -- A list that has exactly the ties of links.
-use Rattle.std.proofs.Common.{◌≡◌, ℕ, List, [], map, refl, ap, sym, ◌∙◌, subst, ◌⊎◌, inl, inr, ◌↔◌, arith}
-use Rattle.std.specs.List.{Contains}
-use Rattle.nef_space.specs.Place.{Form}
-use Rattle.nef_space.specs.Vectors.{Vector, opposite, plane_dir}
-use Rattle.law_sphere.specs.Maps.{At, Item, arc_item, items, item_normal}
-use Rattle.law_sphere.proofs.Arcs.{at-arc}
+use Rattle.nef_facets.proofs.Prelude.{◌≡◌, ℕ, List, [], map, refl, ap, sym, ◌∙◌, subst, ◌⊎◌, inl, inr, ◌↔◌, arith, Contains, Form, Vector, opposite, plane_dir, At, Item, arc_item, items, item_normal, at-arc, get-from_at, Vertex, Complex, IsCorner, item_plane, PlaneMeet, meets_vertex, meets_edge, IsCornerAt, at-contains, contains-at, got-at, Cell, Tie, IsCellIn, AreTied, AreTiedWithin, LinkAlong, LinkAcross, count_items, cell_of, corner_at, edge_tie, IsTieAlong, IsTieAcross, Any, Adds}
 use Rattle.nef_smap.proofs.Lists.{map-at, at-within}
-use Rattle.nef_smap.proofs.SideLists.{get-from_at}
-use Rattle.law_complex.specs.Complexes.{Vertex, Complex, Corner, IsCorner}
-use Rattle.law_complex.specs.Skeleton.{item_plane, PlaneMeet, meets_vertex, meets_edge, IsCornerAt}
-use Rattle.nef_smap.proofs.Lists.{at-contains, contains-at}
-use Rattle.nef_complex.proofs.Reading.{got-at}
-use Rattle.nef_classes.specs.declared.table.Cell.{Cell}
-use Rattle.nef_classes.specs.declared.table.Tie.{Tie}
-use Rattle.nef_classes.specs.Tables.{IsCellIn, AreTied, AreTiedWithin}
-use Rattle.law_links.specs.Links.{LinkAlong, LinkAcross}
-use Rattle.nef_complex.specs.Numbers.{count_items}
-use Rattle.nef_facets.specs.Ties.{cell_of, corner_at, edge_tie, IsTieAlong, IsTieAcross, Any, Adds}
+use Rattle.law_complex.specs.Complexes.{Corner}
 
 pub tie-same : (t u : Tie) → t.first ≡ u.first → t.second ≡ u.second → t ≡ u
 tie-same t u e f = ap (λ x. make x t.second) e ∙ ap (λ x. make u.first x) f

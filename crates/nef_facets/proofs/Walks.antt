@@ -1,14 +1,5 @@
 -- Walks along the steps, and the orbits that they make.
-use Rattle.std.proofs.Common.{◌≡◌, ℕ, zero, suc, ◌+◌, ◌<◌, ◌≤◌, List, [], ◌∷◌, ◌++◌, length, Bool, true, false, arith, refl, ap, sym, ◌∙◌, ◌⊎◌, inl, inr, ⊎_elim, subst, set, get_or, replicate, Option, Some}
-use Rattle.std.proofs.Math.ListN.{length-set}
-use Rattle.std.proofs.lemmas.Bool.{cases_order}
-use Rattle.std.proofs.lemmas.List.{length-replicate, get_or-replicate}
-use Rattle.std.proofs.lemmas.Option.{get_or_from_slice_get}
-use Rattle.std.specs.List.{All}
-use Rattle.nef_space.specs.Lists.{IsAt}
-use Rattle.nef_classes.proofs.ClassLists.{Either, earlier, last, is-at_either, is-at_last, is-at_left, is-at_one, is-at_within, is-at_some, is-at_get, less-or-last}
-use Rattle.nef_classes.proofs.Writes.{set-same, set-other, set-at}
-use Rattle.nef_facets.specs.Orbits.{IsStep, IsClosed, StepsOver, ComesBack, AreMarked, IsOrbit, AreOrbits}
+use Rattle.nef_facets.proofs.Prelude.{◌≡◌, ℕ, zero, suc, ◌+◌, ◌<◌, ◌≤◌, List, [], ◌∷◌, ◌++◌, length, Bool, true, false, arith, refl, ap, sym, ◌∙◌, ◌⊎◌, inl, inr, ⊎_elim, subst, set, get_or, replicate, Option, Some, length-set, cases_order, length-replicate, get_or-replicate, get_or_from_slice_get, All, IsAt, Either, earlier, last, is-at_either, is-at_last, is-at_left, is-at_one, is-at_within, is-at_some, is-at_get, less-or-last, set-same, set-other, set-at, IsStep, IsClosed, StepsOver, ComesBack, AreMarked, IsOrbit, AreOrbits}
 
 -- ---- marks that are left
 abbrev pub unmarked_count : List Bool → ℕ

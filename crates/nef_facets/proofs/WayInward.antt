@@ -1,33 +1,11 @@
 -- The corner that the way inward from an item names.
-use Rattle.std.proofs.Common.{◌≡◌, ℕ, zero, suc, ◌<◌, ◌≤◌, ◌+◌, ◌^◌, ℤ, pos, neg_ℤ, nat_abs, List, [], ◌∷◌, length, map, Option, Some, None, MatchOption, slice_get, arith, refl, sym, subst}
-use Rattle.std.proofs.lemmas.Int.{ints}
-use Rattle.nef_space.specs.Place.{Place, Form, normal_of, slope}
-use Rattle.nef_space.specs.Sets.{Set}
-use Rattle.nef_space.specs.Vectors.{Vector, opposite, IsAtMost, SameDirection, plane_dir}
-use Rattle.nef_geo.specs.Shapes.{form_of}
-use Rattle.nef_geo.specs.Widths.{ray_limit, plane_dir_limit}
-use Rattle.nef_geo.specs.declared.plane.Plane.{Plane}
-use Rattle.law_sphere.specs.Maps.{At, Item, items, item_normal, OnItem}
-use Rattle.law_sphere.proofs.Lists.{at-one}
-use Rattle.nef_smap.proofs.ArcEnds.{at-map}
-use Rattle.nef_smap.specs.Maps.{map_of}
-use Rattle.nef_smap.proofs.MapLists.{at-within}
-use Rattle.law_complex.specs.Complexes.{Vertex, Complex, Corner, IsCorner}
-use Rattle.law_complex.specs.Shows.{Shows}
-use Rattle.law_complex.specs.Skeleton.{PlaneMeet, IsFirstInPlane, IsCornerAt}
+use Rattle.nef_facets.proofs.Prelude.{◌≡◌, ℕ, zero, suc, ◌<◌, ◌≤◌, ◌+◌, ◌^◌, ℤ, pos, neg_ℤ, nat_abs, List, [], ◌∷◌, length, map, Option, Some, None, MatchOption, slice_get, arith, refl, sym, subst, ints, Place, Form, normal_of, slope, Set, Vector, opposite, IsAtMost, SameDirection, plane_dir, form_of, ray_limit, plane_dir_limit, Plane, At, Item, items, item_normal, OnItem, at-one, map-from_get, map_of, Vertex, Complex, IsCorner, Shows, PlaneMeet, IsFirstInPlane, IsCornerAt, Corner as ProgramCorner, complex_of, corner_of, vertex_of, ShowsSet, Cell, Tie, LinkAcross, HasNoSvertex, FromVertex, level-back, IsNamedFrom, IsLinkedFrom, corner_at, IsTieAcross, Any, one-met}
+use Rattle.nef_smap.proofs.Lists.{at-within}
+use Rattle.law_complex.specs.Complexes.{Corner}
 use Rattle.nef_complex.specs.declared.complex.Complex.{Complex as ProgramComplex}
-use Rattle.nef_complex.specs.declared.complex.Corner.{Corner as ProgramCorner}
 use Rattle.nef_complex.specs.declared.complex.Vertex.{Vertex as ProgramVertex}
-use Rattle.nef_complex.specs.Complexes.{complex_of, corner_of, vertex_of, ShowsSet}
-use Rattle.nef_classes.specs.declared.table.Cell.{Cell}
-use Rattle.nef_classes.specs.declared.table.Tie.{Tie}
-use Rattle.law_links.specs.Links.{LinkAcross}
-use Rattle.nef_plane.specs.Meets.{HasNoSvertex, FromVertex}
 use Rattle.nef_locate.proofs.Marks.{image-within}
-use Rattle.nef_locate.proofs.SamePlanes.{level-back}
 use Rattle.nef_facets.specs.Carriers.{IsPlaneAt, IsPlaneThrough}
-use Rattle.nef_facets.specs.Ties.{IsNamedFrom, IsLinkedFrom, corner_at, IsTieAcross, Any}
-use Rattle.nef_conn.proofs.OneNamed.{one-met}
 use Rattle.nef_facets.proofs.AcrossLinks.{linked, unlinked, no-svertex}
 
 -- ---- the corner at what is first met
@@ -80,7 +58,7 @@ small-back f d e a = subst (IsAtMost ray_limit) (sym e) (record { of_x = less f.
 pub item-below : (c : ProgramComplex) (i : ℕ) (v : ProgramVertex) → slice_get c.vertices i ≡ Some v → (j : ℕ) (t : Tie) → IsTieAcross (complex_of c) i j t → j < length (items (map_of v.map))
 item-below c i v e j t (f, L) =
     let M = subst (λ (x : Cell). LinkAcross (complex_of c) (corner_at x) (corner_at t.second)) f L in
-    let listed = at-map vertex_of c.vertices i v e in
+    let listed = map-from_get vertex_of c.vertices i v e in
     at-within (items (map_of v.map)) j M.item (subst (λ (u : Vertex). At (items u.map) j M.item) (at-one (complex_of c).vertices i M.vertex (vertex_of v) M.corner.vertex listed) M.corner.item)
 
 pub vertex-below : (c : ProgramComplex) (i : ℕ) (t : Tie) → Any (IsTieAcross (complex_of c) i) t → i < length c.vertices

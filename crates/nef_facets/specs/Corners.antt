@@ -1,25 +1,24 @@
 -- Lists of corners.
-use Rattle.std.specs.Prelude.{◌≡◌, ℕ, zero, suc, ◌+◌, ◌<◌, List, [], ◌∷◌, ◌++◌}
-use Rattle.nef_space.specs.Lists.{IsAt}
+use Rattle.std.specs.Prelude.{◌≡◌, ◌+◌, ◌<◌, ◌∷◌, ◌++◌, ℕ, zero, suc, List, []}
+use Rattle.nef_complex.specs.Prelude.{IsAt, corner_of}
 use Rattle.law_complex.specs.Complexes.{Complex, Corner as PlainCorner}
 use Rattle.nef_complex.specs.declared.complex.Corner.{Corner}
-use Rattle.nef_complex.specs.Complexes.{corner_of}
 use Rattle.nef_complex.specs.Cycles.{IsCornerBelow}
 pub use Rattle.nef_facets.specs.Carriers.{HasItem}
 
 abbrev pub corner_from : PlainCorner → Corner
 corner_from k = record { vertex = k.vertex; item = k.item }
 
--- the corners of a vertex with so many items
+-- the corners of vertex i with n items
 abbrev pub corners_at : ℕ → ℕ → List Corner
 corners_at i zero = []
 corners_at i (suc n) = corners_at i n ++ record { vertex = i; item = n } ∷ []
 
--- there is an item at each corner of the list
+-- the complex has an item at each corner of the list
 abbrev pub AreListed : Complex → List Corner → Type 0
 AreListed C ks = (i : ℕ) (k : Corner) → IsAt ks i k → HasItem C (corner_of k)
 
--- the corners stand in order
+-- the list is in order of the corners
 abbrev pub AreInOrder : List Corner → Type 0
 AreInOrder ks = (i j : ℕ) (x y : Corner) → i < j → IsAt ks i x → IsAt ks j y → IsCornerBelow (corner_of x) (corner_of y)
 
@@ -29,6 +28,6 @@ pub record AreCorners (C : Complex) (ks : List Corner) : Type 0 where
   pub all : (k : PlainCorner) → HasItem C k → (i : ℕ) × IsAt ks i (corner_from k)
   pub ordered : AreInOrder ks
 
--- the starts are the numbers of the vertices' first corners, from which those of the other corners follow
+-- `starts` has for each vertex the number of its first corner, from which the other corners' numbers follow
 abbrev pub StandFrom : List Corner → List ℕ → Type 0
 StandFrom ks starts = (i : ℕ) (k : Corner) → IsAt ks i k → (f : ℕ) × IsAt starts k.vertex f × (f + k.item ≡ i)

@@ -1,3 +1,4 @@
+pub mod Prelude
 pub mod Carriers
 pub mod Ties
 pub mod Corners

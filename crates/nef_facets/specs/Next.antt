@@ -1,30 +1,28 @@
 -- The next corner of each corner, by numbers.
-use Rattle.std.specs.Prelude.{◌≡◌, ℕ, ◌<◌, List, length}
-use Rattle.nef_space.specs.Lists.{IsAt}
-use Rattle.nef_space.specs.Vectors.{Vector, SameDirection}
+use Rattle.std.specs.Prelude.{◌≡◌, ◌<◌}
+use Rattle.nef_complex.specs.Prelude.{ℕ, List, length, IsAt, Vector, SameDirection, corner_of}
 use Rattle.law_sphere.specs.Maps.{At, Arc, Map}
 use Rattle.law_complex.specs.Complexes.{Vertex, Complex, Corner as PlainCorner}
 use Rattle.nef_complex.specs.declared.complex.Corner.{Corner}
-use Rattle.nef_complex.specs.Complexes.{corner_of}
 use Rattle.nef_complex.specs.Cycles.{NextCorner}
 
--- arc k has the normal and ends at svertex b
+-- arc k of the map has the normal n and ends at svertex b
 abbrev pub IsArcInto : Map → ℕ → Vector → ℕ → Type 0
 IsArcInto M b n k = (a : Arc) × At M.arcs k a × (a.target ≡ b) × SameDirection n a.normal
 
--- the corner is that of an arc that begins at svertex a of vertex i
+-- the corner is an arc that begins at svertex a of vertex i
 abbrev pub LeavesFrom : Complex → PlainCorner → ℕ → ℕ → Type 0
 LeavesFrom C k i a = (v : Vertex) × (r : Arc) × At C.vertices k.vertex v × At v.map.arcs k.item r × (k.vertex ≡ i) × (r.source ≡ a)
 
--- the number at place i is that of the next corner of corner i
+-- ns has for corner i the number of its next corner
 abbrev pub HasNext : Complex → List Corner → List ℕ → ℕ → Type 0
 HasNext C ks ns i = (j : ℕ) × (x : Corner) × (y : Corner) × IsAt ks i x × IsAt ns i j × IsAt ks j y × NextCorner C (corner_of x) (corner_of y)
 
--- the corners of arcs that begin there have their next corners
+-- ns has the next corners of the arcs that begin at svertex a of vertex i
 abbrev pub HaveNextFrom : Complex → List Corner → ℕ → ℕ → List ℕ → Type 0
 HaveNextFrom C ks i a ns = (m : ℕ) (k : Corner) → IsAt ks m k → LeavesFrom C (corner_of k) i a → HasNext C ks ns m
 
--- what has its next corner keeps it
+-- each corner that has its next corner in the old list has its next corner in the new list
 abbrev pub KeepsNext : Complex → List Corner → List ℕ → List ℕ → Type 0
 KeepsNext C ks old new = (m : ℕ) → HasNext C ks old m → HasNext C ks new m
 

@@ -1,13 +1,7 @@
 //! The next corner of each corner, and the cycles of each facet.
 
 ghost use Rattle.std.specs.Prelude.{◌≡◌, ◌<◌};
-ghost use Rattle.nef_complex.specs.Prelude.{ℕ, length, IfOk, false, IsAt, Set, vector_of, At, complex_of, corner_of, ShowsSet, IsFacetOf, FacetNumbers, Leads};
-ghost use Rattle.law_complex.specs.Complexes.{Edge as PlainEdge};
-ghost use Rattle.nef_smap.specs.Maps.{map_of};
-ghost use Rattle.nef_facets.specs.Corners.{AreCorners, StandFrom};
-ghost use Rattle.nef_facets.specs.Facets.{AreCyclesOf};
-ghost use Rattle.nef_facets.specs.Orbits.{AreCornersOf, AreNumbered, AreGrouped, IsStep, IsClosed, ComesBack, AreMarked, AreOrbits};
-ghost use Rattle.nef_facets.specs.Next.{IsArcInto, HaveNextFrom, KeepsNext, AreNext};
+ghost use Rattle.nef_facets.specs.Prelude.{ℕ, length, IfOk, false, IsAt, Set, vector_of, At, complex_of, corner_of, ShowsSet, IsFacetOf, FacetNumbers, Leads, Edge as PlainEdge, map_of, AreCorners, StandFrom, AreCyclesOf, AreCornersOf, AreNumbered, AreGrouped, IsStep, IsClosed, ComesBack, AreMarked, AreOrbits, IsArcInto, HaveNextFrom, KeepsNext, AreNext};
 
 use crate::OutOfMemory;
 use nef_classes::{empty_rows, number_at, own_numbers};
@@ -36,7 +30,7 @@ fn arc_into(map: &SphereMap, svertex: usize, normal: &Dir) -> usize
     unreachable!()
 }
 
-// The number of a listed corner: that of its vertex's first corner and that of its item.
+// The number of a listed corner: the number of its vertex's first corner plus the number of its item.
 fn position(corners: &[Corner], starts: &[usize], k: &Corner) -> usize
     requires starts { StandFrom corners.now starts.now }
     requires listed { (i : ℕ) × IsAt corners.now i k.now }
@@ -45,7 +39,7 @@ fn position(corners: &[Corner], starts: &[usize], k: &Corner) -> usize
     starts[k.vertex] + k.item
 }
 
-// Notes the next corners of the arcs that begin where an edge leaves, which leads to the other end.
+// Writes the next corner of each arc that begins at svertex `from`: this corner lies at `to`, the edge's other end.
 fn add_next(
     next: &mut Vec<usize>,
     c: &Complex,
@@ -82,7 +76,7 @@ fn add_next(
     }
 }
 
-/// For each corner the number of the next one.
+/// For each corner the number of the next corner of its cycle.
 pub(crate) fn next_corners(
     alloc: Global,
     c: &Complex,
@@ -110,7 +104,7 @@ pub(crate) fn next_corners(
     Ok(next)
 }
 
-// The orbit from an unmarked number on. Its numbers get marked.
+// The orbit from an unmarked number on. The numbers of the orbit get marked.
 fn walk(
     alloc: Global,
     next: &[usize],
@@ -136,7 +130,7 @@ fn walk(
     Ok(orbit)
 }
 
-// All orbits, each from its least number on, in the order of these.
+// All orbits of the numbers, each from its least number on, in the order of their least numbers.
 fn orbits(alloc: Global, next: &[usize]) -> Result<List<List<usize>>, OutOfMemory>
     requires step { IsStep next.now }
     ensures orbits { IfOk result (λ xs. AreOrbits next.now xs) }
@@ -151,7 +145,7 @@ fn orbits(alloc: Global, next: &[usize]) -> Result<List<List<usize>>, OutOfMemor
     Ok(orbits)
 }
 
-// The corners with these numbers.
+// The cycle of the corners with these numbers.
 fn cycle_of(alloc: Global, corners: &[Corner], orbit: &[usize]) -> Result<Cycle, OutOfMemory>
     requires within { (k i : ℕ) → IsAt orbit.now k i → i < length corners.now }
     ensures corners { IfOk result (λ y. AreCornersOf corners.now orbit.now y.corners) }
@@ -163,7 +157,7 @@ fn cycle_of(alloc: Global, corners: &[Corner], orbit: &[usize]) -> Result<Cycle,
     Ok(Cycle { corners: cycle })
 }
 
-// The cycles of the orbits, each in the row of its first corner's number.
+// For each facet its cycles. An orbit belongs to the facet of its first corner.
 fn grouped(
     alloc: Global,
     rows: &List<List<usize>>,
@@ -185,7 +179,7 @@ fn grouped(
     Ok(List::from_vec(cycles))
 }
 
-/// For each of so many facets its cycles.
+/// For each of `count` facets its cycles.
 pub(crate) fn facet_cycles(
     alloc: Global,
     c: &Complex,

@@ -1,5 +1,5 @@
-//! The facets of a complex: the links of its items as ties between corners, along edges and across facets, chains of which
-//! join the corners of a facet; the numbers of its items; and the plane, the mark and the cycles of each facet.
+//! The facets of a complex: the plane, the mark and the cycles of each, and the facet of each item. Links of items are
+//! ties between corners, along edges and across facets; chains of ties join the corners of a facet.
 //!
 //! Source: Granados et al., "Boolean Operations on 3D Selective Nef Complexes", ESA 2003.
 #![tactic(auto)]

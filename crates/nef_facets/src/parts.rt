@@ -1,13 +1,5 @@
-//! All facets of a complex.
-
 ghost use Rattle.std.specs.Prelude.{◌↔◌, ◌≡◌, ◌++◌};
-ghost use Rattle.nef_complex.specs.Prelude.{map, IfOk, OnOk, length, Set, Corner as PlainCorner, complex_of, ShowsSet, count_items, FacetNumbers};
-ghost use Rattle.law_complex.specs.Complexes.{Complex as PlainComplex};
-ghost use Rattle.law_links.specs.Links.{FacetLink};
-ghost use Rattle.nef_classes.specs.Tables.{AreTied, AreTiedWithin};
-ghost use Rattle.nef_facets.specs.Ties.{cell_of};
-ghost use Rattle.nef_facets.specs.Facets.{IsFacetParts, AreFirsts, ArePlanesAt, AreMarksAt};
-ghost use Rattle.nef_facets.specs.Corners.{corners_at, AreCorners, AreListed, StandFrom};
+ghost use Rattle.nef_facets.specs.Prelude.{map, IfOk, OnOk, length, Set, Corner as PlainCorner, complex_of, ShowsSet, count_items, FacetNumbers, Complex as PlainComplex, FacetLink, AreTied, AreTiedWithin, cell_of, IsFacetParts, AreFirsts, ArePlanesAt, AreMarksAt, corners_at, AreCorners, AreListed, StandFrom};
 
 use crate::OutOfMemory;
 use crate::cycles::facet_cycles;
@@ -17,9 +9,9 @@ use nef_complex::{Complex, Corner, Cycle};
 use nef_geo::{Label, List, Plane};
 use std::alloc::Global;
 
-/// The facets in the order of their numbers: of each the plane, the mark and the cycles. For each vertex the numbers of
-/// the facets of its items, the arcs and then the sloop. Numbers count from 0.
-#[derive(Debug, Drop)]
+/// The facets in the order of their numbers, each with its plane, its mark and its cycles; and for each vertex the
+/// numbers of the facets of its items, the arcs and then the sloop. Numbers count from 0.
+#[derive(Drop)]
 pub struct FacetParts {
     pub planes: List<Plane>,
     pub marks: List<Label>,
@@ -27,8 +19,8 @@ pub struct FacetParts {
     pub facet_of: List<List<usize>>,
 }
 
-/// The ties between corners that are linked along an edge or across a facet. A corner is an element of the table that has a
-/// row for each vertex and an element for each of its items. `OutOfMemory` says that memory was wanted and not found.
+/// The ties between corners that are linked along an edge or across a facet. Corners are the elements of a table with a
+/// row for each vertex and an element for each item. `OutOfMemory` says that memory was wanted and not found.
 pub fn facet_ties(alloc: Global, c: &Complex) -> Result<Vec<Tie>, OutOfMemory>
     requires shows { (s : Set) × ShowsSet s c.now }
     ensures within { IfOk result (λ v. AreTiedWithin (map count_items (complex_of c.now).vertices) v.items) }
@@ -40,14 +32,13 @@ pub fn facet_ties(alloc: Global, c: &Complex) -> Result<Vec<Tie>, OutOfMemory>
     Ok(ties)
 }
 
-// For each vertex the numbers of the facets of its items, of which these are the ties. Facets are numbered from 0 by first
-// appearance.
+// For each vertex the numbers of the facets of its items, by the ties between corners, by first appearance from 0.
 fn facet_numbers(alloc: Global, c: &Complex, ties: &[Tie]) -> Result<List<List<usize>>, OutOfMemory>
     requires within { AreTiedWithin (map count_items (complex_of c.now).vertices) ties.now }
     requires links { (j k : PlainCorner) → AreTied ties.now (cell_of j) (cell_of k) ↔ FacetLink (complex_of c.now) j k }
     ensures numbers { IfOk result (λ rows. FacetNumbers (complex_of c.now) rows) }
 {
-    // How many items each vertex has.
+    // how many items each vertex has
     let mut counts = Vec::new(alloc);
     for vertex in c.vertices.as_slice() {
         counts.push(vertex.map.item_count())?;
@@ -55,7 +46,7 @@ fn facet_numbers(alloc: Global, c: &Complex, ties: &[Tie]) -> Result<List<List<u
     number_rows(alloc, &counts, ties)
 }
 
-// Adds the corners of a vertex with so many items.
+// Adds the corners of a vertex with `count` items.
 fn add_corners(corners: &mut Vec<Corner>, vertex: usize, count: usize) -> Result<(), OutOfMemory>
     ensures added { OnOk result (corners.new.items ≡ corners.old.items ++ corners_at vertex count) }
 {
@@ -65,14 +56,13 @@ fn add_corners(corners: &mut Vec<Corner>, vertex: usize, count: usize) -> Result
     Ok(())
 }
 
-// The corners of the vertices in order, and of each the items in order; and for each vertex the number of its first corner.
+// The corners of all vertices, by vertices and then by items, and for each vertex the number of its first corner.
 #[derive(Drop)]
 struct CornerList {
     all: Vec<Corner>,
     starts: Vec<usize>,
 }
 
-// The corners of all vertices.
 fn corners(alloc: Global, c: &Complex) -> Result<CornerList, OutOfMemory>
     ensures all { IfOk result (λ l. AreCorners (complex_of c.now) l.all.items) }
     ensures starts { IfOk result (λ l. StandFrom l.all.items l.starts.items) }
@@ -105,7 +95,7 @@ fn first_corners(
     Ok(firsts)
 }
 
-// The planes of the corners' items.
+// The plane of each corner's item.
 fn planes(alloc: Global, c: &Complex, corners: &[Corner]) -> Result<List<Plane>, OutOfMemory>
     requires shows { (s : Set) × ShowsSet s c.now }
     requires corners { AreListed (complex_of c.now) corners.now }
@@ -119,7 +109,7 @@ fn planes(alloc: Global, c: &Complex, corners: &[Corner]) -> Result<List<Plane>,
     Ok(planes)
 }
 
-// The marks of the corners' items.
+// The mark of each corner's item.
 fn marks(alloc: Global, c: &Complex, corners: &[Corner]) -> Result<List<Label>, OutOfMemory>
     requires corners { AreListed (complex_of c.now) corners.now }
     ensures as_many { IfOk result (λ ls. length ls ≡ length corners.now) }
@@ -134,8 +124,8 @@ fn marks(alloc: Global, c: &Complex, corners: &[Corner]) -> Result<List<Label>, 
 }
 
 /// The facets of a complex, numbered by first appearance over the vertices in order and the items of each in order. The
-/// cycles of a facet come in the order of their first corners, each from its least corner on, with the facet on the left
-/// seen from the side to which the normal points. `OutOfMemory` says that memory was wanted and not found.
+/// cycles of a facet come in the order of their first corners, each from its least corner on, with the facet on the
+/// left seen from the side to which the normal points. `OutOfMemory` says that memory was wanted and not found.
 pub fn facets(alloc: Global, c: &Complex) -> Result<FacetParts, OutOfMemory>
     requires shows { (s : Set) × ShowsSet s c.now }
     ensures parts { IfOk result (λ p. IsFacetParts (complex_of c.now) p) }
@@ -144,7 +134,7 @@ pub fn facets(alloc: Global, c: &Complex) -> Result<FacetParts, OutOfMemory>
     facets_of_ties(alloc, c, ties.as_slice())
 }
 
-/// As `facets`, where the ties between linked corners are at hand.
+/// As `facets`, where the ties between linked corners are given.
 pub fn facets_of_ties(alloc: Global, c: &Complex, ties: &[Tie]) -> Result<FacetParts, OutOfMemory>
     requires shows { (s : Set) × ShowsSet s c.now }
     requires within { AreTiedWithin (map count_items (complex_of c.now).vertices) ties.now }

@@ -1,12 +1,7 @@
 //! The ties of corners along edges and across facets.
 
 ghost use Rattle.std.specs.Prelude.{◌↔◌, ◌<◌};
-ghost use Rattle.nef_complex.specs.Prelude.{map, IsTrue, IfOk, OnOk, length, IsAt, Set, Plane, Corner as PlainCorner, complex_of, corner_of, ShowsSet, edge_of, count_items};
-ghost use Rattle.law_links.specs.Links.{LinkAlong, LinkAcross};
-ghost use Rattle.nef_classes.specs.Tables.{AreTiedWithin, AreTied};
-ghost use Rattle.nef_smap.specs.Maps.{map_of, arc_of};
-ghost use Rattle.nef_facets.specs.Carriers.{HasItem, IsPlaneAt};
-ghost use Rattle.nef_facets.specs.Ties.{cell_of, BeginAndEnd, IsTieFromArc, IsTieOfEdge, Any, Adds, IsLinkedFrom, IsTieAcross};
+ghost use Rattle.nef_facets.specs.Prelude.{map, IsTrue, IfOk, OnOk, length, IsAt, Set, Plane, Corner as PlainCorner, complex_of, corner_of, ShowsSet, edge_of, count_items, LinkAlong, LinkAcross, AreTiedWithin, AreTied, map_of, arc_of, HasItem, IsPlaneAt, cell_of, BeginAndEnd, IsTieFromArc, IsTieOfEdge, Any, Adds, IsLinkedFrom, IsTieAcross};
 
 use crate::OutOfMemory;
 use nef_classes::{Cell, Tie};
@@ -17,7 +12,7 @@ use nef_plane::first_along_dir;
 use nef_smap::{SArc, SphereMap};
 use std::alloc::Global;
 
-/// The number of the carrier in which the corner's item lies: one of those that hold the vertex holds each of its items.
+/// The number of the carrier in which the corner's item lies: one of the carriers that hold the vertex.
 pub(crate) fn carrier_of(c: &Complex, k: &Corner) -> usize
     requires shows { (s : Set) × ShowsSet s c.now }
     requires corner { HasItem (complex_of c.now) (corner_of k.now) }
@@ -36,7 +31,7 @@ pub(crate) fn carrier_of(c: &Complex, k: &Corner) -> usize
     unreachable!()
 }
 
-// Whether one of the arcs begins at its end of the edge, and the other ends at its.
+// Whether one of the arcs begins and the other ends at the edge, each at its end of the edge.
 fn begin_and_end(edge: &Edge, low: &SArc, high: &SArc) -> bool
     ensures ends { IsTrue result ↔ BeginAndEnd (edge_of edge.now) (arc_of low.now) (arc_of high.now) }
 {
@@ -44,8 +39,8 @@ fn begin_and_end(edge: &Edge, low: &SArc, high: &SArc) -> bool
         || (low.target == edge.low_svertex && high.source == edge.high_svertex)
 }
 
-// Adds the ties of an arc of the edge's lower end, which has this number, with the arcs of its higher end that lie in one
-// plane with it, where one begins at the edge and the other ends there.
+// Adds the ties of arc `item` at the edge's lower end with arcs in the same plane at the edge's higher end, where one
+// arc begins at the edge and the other ends there.
 fn add_arc_ties(
     ties: &mut Vec<Tie>,
     edge: &Edge,
@@ -72,7 +67,7 @@ fn add_arc_ties(
     Ok(())
 }
 
-// Adds the ties between the arcs of the edge's two ends.
+// Adds the ties between the arcs at both ends of the edge.
 fn add_edge_ties(
     ties: &mut Vec<Tie>,
     edge: &Edge,
@@ -87,9 +82,9 @@ fn add_edge_ties(
     Ok(())
 }
 
-/// For each edge the ties between an arc of its lower end and an arc of its higher end that lie in one plane, where one
-/// begins at the edge and the other ends there. A corner is an element of the table that has a row for each vertex and
-/// an element for each of its items. `OutOfMemory` says that memory was wanted and not found.
+/// For each edge the ties between an arc at its lower end and an arc at its higher end in one plane, where one begins
+/// at the edge and the other ends there. Corners are the elements of a table with a row for each vertex and an element
+/// for each item. `OutOfMemory` says that memory was wanted and not found.
 pub fn along_ties(alloc: Global, c: &Complex) -> Result<Vec<Tie>, OutOfMemory>
     requires shows { (s : Set) × ShowsSet s c.now }
     ensures within { IfOk result (λ v. AreTiedWithin (map count_items (complex_of c.now).vertices) v.items) }
@@ -104,8 +99,8 @@ pub fn along_ties(alloc: Global, c: &Complex) -> Result<Vec<Tie>, OutOfMemory>
     Ok(ties)
 }
 
-// The corner with which the corner is linked across its facet: that at which the ray inward from its vertex leaves the facet.
-// There is none where its item doesn't hold the way inward.
+// The corner linked with this corner across its facet: where the ray inward from its vertex leaves the facet. `None`
+// comes where the corner's item doesn't hold the way inward.
 fn across(c: &Complex, k: &Corner) -> Option<Corner>
     requires shows { (s : Set) × ShowsSet s c.now }
     requires corner { HasItem (complex_of c.now) (corner_of k.now) }
@@ -122,7 +117,7 @@ fn across(c: &Complex, k: &Corner) -> Option<Corner>
     corner_toward(c, h, &inward.back(), met)
 }
 
-// Adds the ties across facets of the vertex's items.
+// Adds the ties across facets from the items of the vertex.
 fn add_vertex_ties(ties: &mut Vec<Tie>, c: &Complex, vertex: usize) -> Result<(), OutOfMemory>
     requires shows { (s : Set) × ShowsSet s c.now }
     requires within { vertex < length c.now.vertices }
@@ -146,8 +141,8 @@ fn add_vertex_ties(ties: &mut Vec<Tie>, c: &Complex, vertex: usize) -> Result<()
 }
 
 /// The ties across facets: for each item of a vertex that holds the way inward in its plane, the tie with the item at
-/// which the ray that way from the vertex leaves the facet. A corner is an element of the table that has a row for each
-/// vertex and an element for each of its items. `OutOfMemory` says that memory was wanted and not found.
+/// which the ray inward from the vertex leaves the facet. Corners are the elements of a table with a row for each
+/// vertex and an element for each item. `OutOfMemory` says that memory was wanted and not found.
 pub fn across_ties(alloc: Global, c: &Complex) -> Result<Vec<Tie>, OutOfMemory>
     requires shows { (s : Set) × ShowsSet s c.now }
     ensures within { IfOk result (λ v. AreTiedWithin (map count_items (complex_of c.now).vertices) v.items) }

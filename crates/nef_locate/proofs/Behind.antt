@@ -1,33 +1,8 @@
 -- The corner of a facet point: what it first meets has an item behind, and such an item is its corner.
-use Rattle.std.proofs.Common.{◌≡◌, ℕ, pos, refl, sym, ◌∙◌, ⊎_elim, subst}
-use Rattle.nef_space.specs.Local.{Flat, FlatDim}
-use Rattle.nef_space.specs.Place.{Place, Form, form_at, normal_of, slope, toward, IsBetween}
-use Rattle.nef_space.specs.Sets.{Set}
-use Rattle.nef_space.specs.Vectors.{Vector, opposite, dot, IsDirection, IsNormal, SameDirection, plane_axis}
-use Rattle.law_near.specs.Laws.{Drop}
-use Rattle.law_near.proofs.Between.{between-turned, between-inner}
-use Rattle.law_near.proofs.Edges.{even-until}
-use Rattle.law_near.proofs.Even.{even-germs}
-use Rattle.law_near.proofs.Directions.{direction-left}
-use Rattle.law_sphere.specs.Maps.{At, arc_item, Item, item_normal, dir_of}
-use Rattle.law_sphere.proofs.Arcs.{at-arc}
-use Rattle.law_sphere.proofs.Compare.{SameDirection-turned, SameDirection-trans, dir-self}
-use Rattle.law_sphere.proofs.Forms.{on-level}
-use Rattle.law_sphere.proofs.Vectors.{normal-direction}
-use Rattle.law_complex.specs.Complexes.{Vertex, Complex, Corner, IsCorner}
-use Rattle.law_complex.specs.Laws.{IsFlatIn}
-use Rattle.law_complex.specs.Shows.{Shows}
-use Rattle.law_complex.specs.Skeleton.{IsEdgePoint, PlaneMeet, meets_vertex, meets_edge, Meets, IsFirstInPlane, IsCornerAt, HasCorner, item_plane}
-use Rattle.law_complex.proofs.Cones.{FlatAre}
-use Rattle.law_complex.proofs.Edges.{edge-points, near_point, near-between}
-use Rattle.law_complex.proofs.FacetAngles.{through-at}
-use Rattle.law_complex.proofs.FacetEdges.{ahead-back, low-end, way-is, arc-beside}
-use Rattle.law_complex.proofs.FacetEnds.{item-seen, corner-one}
-use Rattle.law_complex.proofs.FacetNames.{facets-complete}
+use Rattle.nef_locate.proofs.Prelude.{◌≡◌, ℕ, pos, refl, sym, ◌∙◌, ⊎_elim, subst, Flat, FlatDim, Place, Form, form_at, normal_of, slope, toward, IsBetween, Set, Vector, opposite, dot, IsDirection, IsNormal, SameDirection, plane_axis, Drop, between-turned, between-inner, even-until, even-germs, At, arc_item, Item, item_normal, dir_of, at-arc, on-level, normal-direction, Vertex, Corner, IsCorner, IsFlatIn, Shows, IsEdgePoint, PlaneMeet, meets_vertex, meets_edge, Meets, IsFirstInPlane, IsCornerAt, HasCorner, item_plane, FlatAre, edge-points, near_point, near-between, corner-one, through-at, ahead-back, low-end, way-is, arc-beside, item-seen, facets-complete, plane-ahead, end-meets, flat-onto, even-by, between-way, between-start, SameDirection-turned, SameDirection-trans, dir-self, opposite-same, level-way, direction-left}
+use Rattle.law_complex.specs.Complexes.{Complex}
 use Rattle.law_complex.proofs.FacetPoints.{facet-point}
-use Rattle.law_complex.proofs.FacetSides.{level-way, flats-one, flats-carried}
-use Rattle.law_complex.proofs.FacetWays.{plane-ahead, end-meets, flat-onto, even-by}
-use Rattle.law_complex.proofs.Ways.{between-way, between-start, opposite-same}
+use Rattle.law_complex.proofs.FacetSides.{flats-one, flats-carried}
 use Rattle.nef_locate.proofs.SamePlanes.{level-back, scaled-same, axis-same, first-same, corner-same}
 
 module _ (s : Set) (C : Complex) (S : Shows s C) (h : Form) (y : Place) (normal : IsNormal (normal_of h)) (on : form_at h y ≡ pos 0) (d : Vector) (some : IsDirection d) (level : slope h d ≡ pos 0)

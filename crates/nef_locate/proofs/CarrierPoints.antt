@@ -1,37 +1,6 @@
 -- Skeleton points lie on carriers, which no upright direction lies in; points of the closed frame where all directions are flat lie in the frame.
-use Rattle.std.proofs.Common.{◌≡◌, ℕ, ◌+◌, ◌*◌, ◌<◌, ◌≤◌, ℤ, pos, neg_ℤ, ◌+ℤ◌, ◌*ℤ◌, ◌-ℤ◌, ◌<ℤ◌, nat_abs, arith, sym, inl, inr, ⊎_elim, [], ◌∷◌, subst}
-use Rattle.std.proofs.lemmas.Int.{ints}
-use Rattle.nef_space.specs.Signs.{nought, Lies}
-use Rattle.nef_space.proofs.Order.{nought-is, mul_pos, mul_nonneg}
-use Rattle.nef_space.proofs.Ring.{ring, at, num, neg, ◌⊕◌, ◌⊖◌, ◌⊗◌}
-use Rattle.nef_space.specs.Limits.{half_side}
-use Rattle.nef_space.specs.Local.{FlatDim}
-use Rattle.nef_space.specs.declared.label.Label.TheVariants.{Out}
-use Rattle.nef_space.specs.Place.{Place as PlainPlace, Form, form_at, InFrame, InClosedFrame, step, IsAhead}
-use Rattle.nef_space.specs.Sets.{Set}
-use Rattle.nef_space.specs.Vectors.{Vector, vector}
-use Rattle.nef_geo.specs.Hits.{IsUpright, IsCrossing}
-use Rattle.nef_geo.specs.Shapes.{form_of}
-use Rattle.nef_geo.specs.declared.plane.Plane.{Plane}
-use Rattle.law_near.specs.Cells.{carriers, sign_at}
-use Rattle.law_near.proofs.Alike.{flat-germ}
-use Rattle.law_near.proofs.Decided.{InFrame-decided}
-use Rattle.law_near.proofs.Even.{span-3}
+use Rattle.nef_locate.proofs.Prelude.{◌≡◌, ℕ, ◌+◌, ◌*◌, ◌<◌, ◌≤◌, ℤ, pos, neg_ℤ, ◌+ℤ◌, ◌*ℤ◌, ◌-ℤ◌, ◌<ℤ◌, nat_abs, arith, sym, inl, inr, ⊎_elim, [], ◌∷◌, subst, ints, nought, Lies, nought-is, mul_pos, mul_nonneg, ring, at, num, neg, ◌⊕◌, ◌⊖◌, ◌⊗◌, half_side, FlatDim, Out, Place as PlainPlace, Form, form_at, InFrame, InClosedFrame, step, IsAhead, Set, Vector, vector, IsUpright, IsCrossing, form_of, Plane, carriers, sign_at, flat-germ, InFrame-decided, span-3, facet-support, At, at-map, SamePlane, IsSkeletonIn, at_vertex, on_edge, in_facet, IsSkeletonPoint, meets_vertex, meets_edge, plane-turned, plane-point, plane-slope, dim-same, between-ends, Complex, complex_of, ShowsSet, held-between, edge-carried, facet-at}
 use Rattle.law_near.proofs.Meets.{vertex-meets}
-use Rattle.law_near.proofs.Supports.{facet-support}
-use Rattle.law_sphere.specs.Maps.{At}
-use Rattle.nef_smap.proofs.Lists.{at-map}
-use Rattle.law_complex.specs.Shows.{SamePlane}
-use Rattle.law_complex.specs.Laws.{IsSkeletonIn}
-use Rattle.law_complex.specs.Skeleton.{at_vertex, on_edge, in_facet, IsSkeletonPoint, meets_vertex, meets_edge}
-use Rattle.law_complex.proofs.Planes.{plane-turned, plane-point, plane-slope}
-use Rattle.law_complex.proofs.FacetWays.{dim-same}
-use Rattle.law_complex.proofs.Ways.{between-ends}
-use Rattle.nef_complex.specs.declared.complex.Complex.{Complex}
-use Rattle.nef_complex.specs.Complexes.{complex_of, ShowsSet}
-use Rattle.nef_complex.proofs.Parted.{held-between}
-use Rattle.nef_plane.proofs.Crossed.{edge-carried}
-use Rattle.law_complex.proofs.FacetNames.{facet-at}
 use Rattle.nef_locate.proofs.Upward.{plane-upright}
 
 -- ---- the frame

@@ -1,28 +1,6 @@
 -- The labels and the germs of a point by its place.
-use Rattle.std.proofs.Common.{◌≡◌, pos, ap, sym, subst, ◌∙◌}
-use Rattle.nef_space.specs.Signs.{sign}
-use Rattle.nef_space.specs.Local.{HasLabel, Germ, FlatDim}
-use Rattle.nef_space.specs.Place.{Place, SamePlace, toward}
-use Rattle.nef_space.specs.Sets.{Set}
-use Rattle.nef_space.specs.Vectors.{Vector, IsDirection, dot, plane_axis}
-use Rattle.nef_space.specs.declared.label.Label.{Label}
-use Rattle.law_near.specs.Cells.{carriers}
-use Rattle.law_near.proofs.Germs.{Label-cells}
-use Rattle.law_near.proofs.Rays.{signs-same}
-use Rattle.law_near.proofs.Alike.{germs-by_cell, flat-germ}
-use Rattle.law_near.proofs.Even.{span-3}
-use Rattle.nef_locate.specs.Places.{IsPlaneOf}
-use Rattle.law_sphere.specs.Maps.{MapSloop, Item, item_normal, item_pos, item_mark, item_neg, Map, MapLabel, Valid}
-use Rattle.law_sphere.specs.Least.{by_side, Cone}
-use Rattle.law_sphere.proofs.Vectors.{normal-direction}
-use Rattle.law_sphere.proofs.Forms.{on-level}
-use Rattle.law_complex.specs.Complexes.{Vertex, Complex, Corner, IsCorner}
-use Rattle.law_complex.specs.Shows.{Shows}
-use Rattle.law_complex.specs.Skeleton.{item_plane, HasCorner}
-use Rattle.law_complex.proofs.FacetWays.{meets-on}
-use Rattle.law_complex.proofs.FacetAngles.{through-at}
-use Rattle.law_complex.proofs.FacetEnds.{facet-from_behind}
-use Rattle.law_complex.proofs.FacetNames.{weight, normal-scaled, through-level, axis-in}
+use Rattle.nef_locate.proofs.Prelude.{◌≡◌, pos, ap, sym, subst, ◌∙◌, sign, HasLabel, Germ, FlatDim, Place, SamePlace, toward, Set, Vector, IsDirection, dot, plane_axis, Label, carriers, Label-cells, signs-same, germs-by_cell, flat-germ, span-3, IsPlaneOf, MapSloop, Item, item_normal, item_pos, item_mark, item_neg, Map, MapLabel, Valid, by_side, Cone, normal-direction, on-level, Vertex, Corner, IsCorner, Shows, item_plane, HasCorner, meets-on, through-at, facet-from_behind, weight, normal-scaled, through-level, axis-in}
+use Rattle.law_complex.specs.Complexes.{Complex}
 
 -- a point that is the same has the same cone
 pub cone-same : (M : Map) (s : Set) (p q : Place) → SamePlace p q → Cone M s p → Cone M s q

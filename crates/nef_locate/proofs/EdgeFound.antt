@@ -1,38 +1,9 @@
 -- What is found at the points of an edge.
-use Rattle.std.proofs.Common.{◌≡◌, ℕ, zero, suc, ◌<◌, ◌*◌, List, map, length, arith, sym, ap, subst, ◌∙◌, slice_get, Some, None}
-use Rattle.std.proofs.lemmas.Int.{ints}
-use Rattle.std.specs.List.Sorted.{IsPermutation}
-use Rattle.nef_space.specs.Limits.{svertex_limit, normal_limit}
-use Rattle.nef_space.specs.Local.{HasLabel}
-use Rattle.nef_space.specs.Place.{Place as PlainPlace, toward, IsAhead, IsBetween}
-use Rattle.nef_space.specs.Sets.{Set}
-use Rattle.nef_space.specs.Vectors.{Vector, IsNormal, IsAtMost, opposite}
-use Rattle.law_near.proofs.Directions.{direction-left}
-use Rattle.law_near.proofs.Alike.{flat-germ}
+use Rattle.nef_locate.proofs.Prelude.{◌≡◌, ℕ, zero, suc, ◌<◌, ◌*◌, List, map, length, arith, sym, ap, subst, ◌∙◌, slice_get, Some, None, ints, IsPermutation, svertex_limit, normal_limit, HasLabel, Place as PlainPlace, toward, IsAhead, IsBetween, Set, Vector, IsNormal, IsAtMost, opposite, flat-germ, At, MapVertex as PlainSvertex, Map, MapLabel, Item, items, item_normal, arc_item, sloop_item, Valid, Cone, Least, Ordered, InOrder, at-arc, sloop-at, at-one, arc-at, SVertex, SArc, SphereMap, svertex_of, arc_of, map_of, IsSmall, IsLeastMap, Vertex as PlainVertex, IsEdge, Shows, IsEdgePoint, label-germ, germ-label, IsAlongSvertex, along-svertex, near_point, near-between, ahead-normal, Edge, Complex, vertex_of, edge_of, complex_of, ShowsSet, IsArcBelow, two_ends, AreHalves, dir-self, direction-left}
 use Rattle.law_cones.proofs.Cones.{point-map}
-use Rattle.law_sphere.specs.Maps.{At, MapVertex as PlainSvertex, Map, MapLabel, Item, items, item_normal, arc_item, sloop_item, Valid}
-use Rattle.law_sphere.specs.Least.{Cone, Least, Ordered, InOrder}
-use Rattle.law_sphere.proofs.Arcs.{at-arc, sloop-at}
-use Rattle.law_sphere.proofs.Compare.{dir-self}
 use Rattle.law_sphere.proofs.Dimensions.{map-flat}
-use Rattle.law_sphere.proofs.Lists.{at-one}
-use Rattle.law_sphere.proofs.Shot.{arc-at}
-use Rattle.nef_smap.specs.declared.map.SVertex.{SVertex}
-use Rattle.nef_smap.specs.declared.map.SArc.{SArc}
-use Rattle.nef_smap.specs.declared.map.SphereMap.{SphereMap}
-use Rattle.nef_smap.specs.Maps.{svertex_of, arc_of, map_of, IsSmall, IsLeastMap}
-use Rattle.law_complex.specs.Complexes.{Vertex as PlainVertex, Edge as PlainEdge, Complex as PlainComplex, IsEdge}
-use Rattle.law_complex.specs.Shows.{Shows}
-use Rattle.law_complex.specs.Skeleton.{IsEdgePoint}
-use Rattle.law_complex.proofs.Cones.{label-germ, germ-label}
-use Rattle.law_complex.proofs.Edges.{IsAlongSvertex, along-svertex, near_point, near-between}
-use Rattle.nef_edges.proofs.Rays.{ahead-normal}
+use Rattle.law_complex.specs.Complexes.{Edge as PlainEdge, Complex as PlainComplex}
 use Rattle.nef_complex.specs.declared.complex.Vertex.{Vertex}
-use Rattle.nef_complex.specs.declared.complex.Edge.{Edge}
-use Rattle.nef_complex.specs.declared.complex.Complex.{Complex}
-use Rattle.nef_complex.specs.Complexes.{vertex_of, edge_of, complex_of, ShowsSet}
-use Rattle.nef_spair.specs.Arcs.{IsArcBelow}
-use Rattle.nef_locate.specs.Halves.{two_ends, AreHalves}
 use Rattle.nef_locate.proofs.Marks.{image-read, image-within}
 use Rattle.nef_locate.proofs.FlatLabels.{label-is}
 use Rattle.nef_locate.proofs.EdgeLabels.{IsAlong, L}

@@ -1,22 +1,6 @@
 -- The half circles that are collected arc by arc, and what is left of them when they are sorted.
-use Rattle.std.proofs.Common.{◌≡◌, ℕ, zero, suc, ◌+◌, ◌*◌, ◌<◌, List, [], ◌∷◌, ◌++◌, length, map, arith, refl, ap, sym, ◌∙◌, ◌⊎◌, inl, inr, ⊎_elim, subst}
-use Rattle.std.proofs.Math.Nat.{eq-or-lt_of_le}
-use Rattle.std.specs.List.Sorted.{IsPermutation}
-use Rattle.nef_space.specs.Vectors.{Vector, opposite}
-use Rattle.nef_geo.specs.Shapes.{vector_of}
-use Rattle.nef_geo.specs.declared.dir.Dir.{Dir}
-use Rattle.law_sphere.specs.Maps.{At, MapVertex, Arc, Valid}
-use Rattle.law_sphere.specs.Least.{InOrder, ArcBelow}
-use Rattle.law_sphere.specs.Sectors.{ArcRay, ray_left}
-use Rattle.law_sphere.proofs.Lists.{at-one}
-use Rattle.nef_smap.specs.declared.map.SArc.{SArc}
-use Rattle.nef_smap.specs.declared.map.SphereMap.{SphereMap}
-use Rattle.nef_smap.specs.Maps.{arc_of, map_of}
-use Rattle.nef_smap.proofs.Lists.{map-at, at-map, at-within}
-use Rattle.nef_spair.specs.Arcs.{IsTwin, AreApart, IsArcBelow}
+use Rattle.nef_locate.proofs.Prelude.{◌≡◌, ℕ, zero, suc, ◌+◌, ◌*◌, ◌<◌, List, [], ◌∷◌, ◌++◌, length, map, arith, refl, ap, sym, ◌∙◌, ◌⊎◌, inl, inr, ⊎_elim, subst, eq-or-lt_of_le, IsPermutation, Vector, opposite, vector_of, Dir, At, MapVertex, Arc, Valid, InOrder, ArcBelow, ArcRay, ray_left, at-one, SArc, SphereMap, arc_of, map_of, map-at, at-map, at-within, IsTwin, AreApart, IsArcBelow, at-before, at-last, at-more, IsHalf, IsEndAt, IsBefore, AreHalves}
 use Rattle.nef_spair.proofs.Apart.{was-listed, still-listed}
-use Rattle.nef_spair.proofs.Places.{at-before, at-last, at-more}
-use Rattle.nef_locate.specs.Halves.{IsHalf, IsEndAt, IsBefore, AreHalves}
 use Rattle.nef_locate.proofs.EdgeLabels.{one-arc}
 use Rattle.nef_locate.proofs.EdgeMaps.{HalfEnds, IsHalfOf, AreHalfArcs}
 

@@ -1,37 +1,8 @@
 -- The labels at the points of an edge, by the arcs at its lower end.
-use Rattle.std.proofs.Common.{◌≡◌, ℕ, ◌+◌, ◌≤◌, pos, ◌*ℤ◌, ◌+ℤ◌, ◌<ℤ◌, arith, refl, ap, sym, ◌∙◌, ◌⊎◌, inl, inr, ⊎_elim, ◌↔◌, List, subst}
-use Rattle.std.proofs.lemmas.Int.{ints}
-use Rattle.nef_space.specs.Signs.{sign}
-use Rattle.nef_space.proofs.Order.{sign-plus, sign-minus}
-use Rattle.nef_space.specs.Vectors.{Vector, IsDirection, IsNormal, SameDirection, cross, dot, opposite, blend}
-use Rattle.nef_space.specs.declared.label.Label.{Label}
-use Rattle.law_cyclic.proofs.Directions.{dot-opposite, direction-opposite, level-opposite, level-opposite-back, level_cross_first}
-use Rattle.law_near.proofs.Directions.{dot-comm, self-pos}
-use Rattle.law_near.proofs.Far.{nought-or, same-nought, same-off}
-use Rattle.law_near.proofs.Meets.{cross-none}
-use Rattle.law_near.proofs.FlatDecided.{cross-turned}
-use Rattle.law_sphere.specs.Forms.{SameSigns, forms}
-use Rattle.law_sphere.specs.Maps.{At, MapVertex, Arc, Map, MapLabel, on_item, arc_item, OnItem, NearLabel, IsFree, Valid}
-use Rattle.law_sphere.specs.Kinds.{FlatMap}
-use Rattle.law_sphere.specs.Least.{by_side, Least, Ordered}
-use Rattle.law_sphere.specs.Labelling.{Near, StraightAt}
-use Rattle.law_sphere.specs.Builds.{Proper}
-use Rattle.law_sphere.specs.Sectors.{ArcRay, ray_left, end_left, Unrayed}
-use Rattle.law_sphere.proofs.Arcs.{at-arc}
-use Rattle.law_sphere.proofs.Direct.{cross-between}
-use Rattle.law_sphere.proofs.Generic.{amount, far-keeps, far-level}
-use Rattle.law_sphere.proofs.Labels.{label-unique, label-by_signs, near-from_far, far-from_near, near-direction, near-unique}
-use Rattle.law_sphere.proofs.Lists.{search_list}
-use Rattle.law_sphere.proofs.NearItems.{near-item, free-plain}
+use Rattle.nef_locate.proofs.Prelude.{◌≡◌, ℕ, ◌+◌, ◌≤◌, pos, ◌*ℤ◌, ◌+ℤ◌, ◌<ℤ◌, arith, refl, ap, sym, ◌∙◌, ◌⊎◌, inl, inr, ⊎_elim, ◌↔◌, List, subst, ints, sign, sign-plus, sign-minus, nought-or, Vector, IsDirection, IsNormal, SameDirection, cross, dot, opposite, blend, Label, same-nought, same-off, SameSigns, forms, At, MapVertex, Arc, Map, MapLabel, on_item, arc_item, OnItem, NearLabel, IsFree, Valid, FlatMap, by_side, Least, Ordered, Near, StraightAt, Proper, ArcRay, ray_left, end_left, Unrayed, at-arc, cross-between, amount, far-keeps, far-level, label-unique, label-by_signs, near-from_far, far-from_near, near-direction, near-unique, search_list, near-item, SameDirection-decided, left-on, on-end, dot-comb, decided-both, Of, dot-comm, self-pos, cross-turned, cross-none, opposite-dot, direction-opposite, level-opposite, level-opposite-back, square-cross, nought-if, SameDirection-trans, blend-turned}
+use Rattle.law_sphere.proofs.NearItems.{free-plain}
 use Rattle.law_sphere.proofs.NearSvertex.{same-cross, near-clear}
-use Rattle.law_sphere.proofs.Places.{SameDirection-decided}
-use Rattle.law_sphere.proofs.SectorSees.{left-on, on-end}
-use Rattle.law_sphere.proofs.StepOff.{blend-turned}
-use Rattle.law_sphere.proofs.Compare.{SameDirection-trans}
 use Rattle.law_sphere.proofs.Unique.{eq-decided}
-use Rattle.law_sphere.proofs.Vectors.{dot-comb, nought-if}
-use Rattle.law_near.proofs.Decided.{decided-both}
-use Rattle.law_sphere.specs.Raw.{Of}
 use Rattle.nef_locate.proofs.FlatLabels.{labels_of, label-is, is-label}
 
 -- where K, k, j and J are large, J w + (k f + e) has the signs of j (K w + f) + e: those of w, of f where these are nought, and then those of e
@@ -141,7 +112,7 @@ module _ (V : Map) (k : ℕ) (u : MapVertex) (N : Map) (A : IsAlong V k u N) whe
       let x = arc_item q.arc in
       let i = at-arc V.arcs V.sloop q.number q.arc q.listed in
       record {
-        level = level-by q q.end f (level_cross_first (ray_left q) w);
+        level = level-by q q.end f (square-cross (ray_left q) w);
         at_d = from-near f q.arc.mark (way-direction q) (o.0, λ n h. on_item q.number x i (o.1 n h) refl);
         near = λ e. from-aside f (way-direction q) K (omega arith) e _ (near-item V A.valid (blend K w 1 f) q.number x i (o.1 K (omega arith)) e);
       }
@@ -198,7 +169,7 @@ module _ (V : Map) (k : ℕ) (u : MapVertex) (N : Map) (A : IsAlong V k u N) whe
         proper (high ∙ sym mid) (low ∙ sym mid)
       where
         behind : dot n (opposite n) <ℤ pos 0
-        behind = let e = dot-comm n (opposite n) in let g = dot-opposite n n in let p = self-pos n hn in omega (arith, ints)
+        behind = let e = dot-comm n (opposite n) in let g = opposite-dot n n in let p = self-pos n hn in omega (arith, ints)
 
     pub arc-there : HasRay f
     arc-there = ⊎_elim (λ r. r) (λ none. absurd (none-free (free-there none))) (ray-decided f)

@@ -1,39 +1,7 @@
 -- The map of the half great circles at the lower end of an edge is the least map with the labels along the edge.
-use Rattle.std.proofs.Common.{◌≡◌, ℕ, zero, suc, ◌<◌, ℤ, pos, negsuc, neg_ℤ, ◌*ℤ◌, ◌+ℤ◌, ◌-ℤ◌, arith, refl, ap, sym, ◌∙◌, ◌⊎◌, inl, inr, ⊎_elim, List, [], ◌∷◌, Some, None, subst}
-use Rattle.std.proofs.lemmas.Int.{ints}
-use Rattle.nef_space.proofs.Ring.{ring, at, num, neg, ◌⊕◌, ◌⊖◌, ◌⊗◌}
-use Rattle.nef_space.proofs.Combination.{follows, given, none}
-use Rattle.nef_space.proofs.Order.{sign, by_order, mul_pos}
-use Rattle.nef_space.specs.Vectors.{Vector, IsDirection, IsZero, IsNormal, IsOpposite, SameDirection, cross, dot, opposite, blend}
-use Rattle.nef_space.specs.declared.label.Label.{Label}
-use Rattle.law_cyclic.specs.Arcs.{IsStrictlyOn}
-use Rattle.law_cyclic.proofs.Directions.{direction-opposite, level-of_opposite, same-opposites}
-use Rattle.law_near.proofs.Directions.{self-pos, zero-decided}
-use Rattle.law_near.proofs.Flats.{vector-same}
-use Rattle.law_near.proofs.FlatDecided.{cross-turned}
-use Rattle.law_sphere.specs.Forms.{forms}
-use Rattle.law_sphere.specs.Vectors.{comb, IsPrimitive, VectorBelow}
-use Rattle.law_sphere.specs.Maps.{At, MapVertex, Arc, Item, arc_item, sloop_item, Map, items, item_normal, dir_of, OnItem, ArcBetween, HasArc, MapLabel, at_svertex, NearLabel, Valid}
-use Rattle.law_sphere.specs.Least.{by_side, InOrder, ArcBelow, Least, Ordered}
-use Rattle.law_sphere.specs.Labelling.{Near, StraightAt, IsSmooth, plain, straight}
-use Rattle.law_sphere.specs.Builds.{IsBuilt, Kept, Proper, StraightAfter}
-use Rattle.law_sphere.specs.Sectors.{ArcRay, ray_left, end_left}
-use Rattle.law_sphere.proofs.Around.{opposites}
-use Rattle.law_sphere.proofs.Arcs.{at-arc, sloop-at}
-use Rattle.law_sphere.proofs.Compare.{SameDirection-turned, SameDirection-trans, dir-self, normals-not_opposite}
-use Rattle.law_sphere.proofs.Direct.{cross-between}
-use Rattle.law_sphere.proofs.Equal.{lowest-same}
-use Rattle.law_sphere.proofs.Labels.{dir-direction}
-use Rattle.law_sphere.proofs.Lone.{near-lone}
-use Rattle.law_sphere.proofs.Shot.{arc-at}
-use Rattle.law_sphere.proofs.Vectors.{normal-direction, direction-by, dot-comb, nought-if}
-use Rattle.law_sphere.proofs.Walk.{cross-direction_right}
-use Rattle.law_sphere.specs.Raw.{Of}
-use Rattle.law_build.proofs.BuiltAxes.{vector-below_not, number-order}
-use Rattle.law_build.proofs.BuiltLabels.{labels-build}
-use Rattle.nef_geo.proofs.Products.{cross-opposite, opposite-twice}
-use Rattle.nef_edges.proofs.Rays.{to_opposite, from_opposite, normal-kept}
-use Rattle.nef_locate.specs.Halves.{two_ends}
+use Rattle.nef_locate.proofs.Prelude.{◌≡◌, ℕ, zero, suc, ◌<◌, ℤ, pos, negsuc, neg_ℤ, ◌*ℤ◌, ◌+ℤ◌, ◌-ℤ◌, arith, refl, ap, sym, ◌∙◌, ◌⊎◌, inl, inr, ⊎_elim, List, [], ◌∷◌, Some, None, subst, ints, ring, at, num, neg, ◌⊕◌, ◌⊖◌, ◌⊗◌, follows, given, none, by_order, mul_pos, Vector, IsDirection, IsZero, IsNormal, IsOpposite, SameDirection, cross, dot, opposite, blend, Label, IsStrictlyOn, forms, comb, IsPrimitive, VectorBelow, At, MapVertex, Arc, Item, arc_item, sloop_item, Map, items, item_normal, dir_of, OnItem, ArcBetween, HasArc, MapLabel, at_svertex, NearLabel, Valid, by_side, InOrder, ArcBelow, Least, Ordered, Near, StraightAt, IsSmooth, plain, straight, IsBuilt, Kept, Proper, StraightAfter, ArcRay, ray_left, end_left, at-arc, sloop-at, normals-not_opposite, cross-between, lowest-same, near-lone, arc-at, normal-direction, direction-by, dot-comb, below-itself, cross-direction_right, Of, labels-build, to_opposite, from_opposite, normal-kept, two_ends, zero-decided, self-pos, vector-same, cross-turned, opposite-same, direction-opposite, level-of_opposite, opposite-twice, cross-opposite, nought-if, opposites, SameDirection-turned, SameDirection-trans, dir-self, direction-right}
+use Rattle.nef_space.proofs.Order.{sign}
+use Rattle.law_build.proofs.BuiltAxes.{number-order}
 use Rattle.nef_locate.proofs.FlatLabels.{are-labelling, is-label, off-smooth, off-plane, off-axis, self-opposite, flat-opposite, label-moved, straight-moved}
 use Rattle.nef_locate.proofs.EdgeLabels.{IsAlong, axis, L, to-near, from-near, way-direction, arc-level, ray-straight, arc-there}
 
@@ -128,7 +96,7 @@ pub record AreHalfArcs (V : Map) (k : ℕ) (hs : List Arc) : Type 0 where
   pub ordered : InOrder ArcBelow hs
 
 arc-below_not : (a b : Arc) → a.normal ≡ b.normal → a.source ≡ b.source → ArcBelow a b → ⊥
-arc-below_not a b e f (inl l) = vector-below_not b.normal (subst (λ (v : Vector). VectorBelow v b.normal) e l)
+arc-below_not a b e f (inl l) = below-itself b.normal (subst (λ (v : Vector). VectorBelow v b.normal) e l)
 arc-below_not a b e f (inr l) = let p = l.1 in omega arith
 
 -- ---- along w
@@ -326,7 +294,7 @@ module _ (V : Map) (k : ℕ) (u : MapVertex) (N : Map) (A : IsAlong V k u N) (ow
     found-low q (inl e) s ends = absurd (not-back q.arc.normal n (ray-normal q) normal s)
     found-low q (inr e) s ends =
         let r = H.all q in
-        let t : SameDirection q.arc.normal n = subst (λ (d : Vector). SameDirection d n) (opposite-twice q.arc.normal) (subst (SameDirection (opposite (opposite q.arc.normal))) (opposite-twice n) (same-opposites (opposite q.arc.normal) (opposite n) s)) in
+        let t : SameDirection q.arc.normal n = subst (λ (d : Vector). SameDirection d n) (opposite-twice q.arc.normal) (subst (SameDirection (opposite (opposite q.arc.normal))) (opposite-twice n) (opposite-same (opposite q.arc.normal) (opposite n) s)) in
         (r.0, r.1, r.2, (ends r.1 r.3).0, let I = r.3 in subst (SameDirection n) (sym I.normal) (SameDirection-turned q.arc.normal n t))
 
     arc-high : StraightAfter F n a m b w → Found 1
@@ -337,7 +305,7 @@ module _ (V : Map) (k : ℕ) (u : MapVertex) (N : Map) (A : IsAlong V k u N) (ow
         let st = subst (StraightAt F n a m b) e (straight-moved N A.along_valid w A.flat n (blend i w 1 f) a m b (neg_ℤ (pos i)) level
         (subst IsDirection (onward f w i) (along-off f w (pos i) hf (way-level n w))) (subst IsDirection (sym e) hf) (after i (omega arith))) in
         let t = turned-twice w n hw hn level in
-        let r = arc-there V k u N A n f a m b hn level (dir-direction n (cross w f) (SameDirection-turned (cross w f) n t)) proper st in
+        let r = arc-there V k u N A n f a m b hn level (direction-right n (cross w f) (SameDirection-turned (cross w f) n t)) proper st in
         found-high r.0 r.0.end (SameDirection-trans (ray_left r.0) (cross w f) n r.1 t) (λ h I. I.ends)
 
     arc-low : StraightAfter F n a m b (opposite w) → Found 0
@@ -350,8 +318,8 @@ module _ (V : Map) (k : ℕ) (u : MapVertex) (N : Map) (A : IsAlong V k u N) (ow
         let st = subst (StraightAt F n a m b) e (straight-moved N A.along_valid w A.flat n (blend i (opposite w) 1 f) a m b (pos i) level
         (subst IsDirection (backward f w i) (along-off f w (neg_ℤ (pos i)) hf lf)) (subst IsDirection (sym e) hf) (after i (omega arith))) in
         -- w x f is the opposite of n
-        let t = subst (λ (d : Vector). SameDirection d (opposite n)) (ap opposite (cross-opposite w f) ∙ opposite-twice (cross w f)) (same-opposites (cross (opposite w) f) n (turned-twice (opposite w) n back hn lb)) in
-        let r = arc-there V k u N A n f a m b hn level (dir-direction (opposite n) (cross w f) (SameDirection-turned (cross w f) (opposite n) t)) proper st in
+        let t = subst (λ (d : Vector). SameDirection d (opposite n)) (ap opposite (cross-opposite w f) ∙ opposite-twice (cross w f)) (opposite-same (cross (opposite w) f) n (turned-twice (opposite w) n back hn lb)) in
+        let r = arc-there V k u N A n f a m b hn level (direction-right (opposite n) (cross w f) (SameDirection-turned (cross w f) (opposite n) t)) proper st in
         found-low r.0 r.0.end (SameDirection-trans (ray_left r.0) (cross w f) (opposite n) r.1 t) (λ h I. I.ends)
 
   arcs-all : (j : ℕ) (v : MapVertex) (n : Vector) (a m b : Label) → IsHighEnd u j v ⊎ IsLowEnd u j v → IsNormal n → dot n v.dir ≡ pos 0 → Proper a m b → StraightAfter F n a m b v.dir

@@ -1,47 +1,7 @@
 -- A point of an edge comes between the edge's ends in the order of vertices, and what comes between on its line lies on it.
-use Rattle.std.proofs.Common.{◌≡◌, ℕ, ◌+◌, ◌<◌, ◌≤◌, sym, pos, Bool, IsTrue, ◌↔◌, List, arith, inl, inr, ⊎_elim, subst}
-use Rattle.std.proofs.Math.Nat.{eq-or-lt_of_le}
-use Rattle.std.proofs.lemmas.Bool.{cases_lt}
-use Rattle.std.proofs.lemmas.Int.{ints}
-use Rattle.nef_space.proofs.Order.{by_order}
-use Rattle.nef_space.specs.Lists.{IsAt}
-use Rattle.nef_space.specs.Place.{Place as PlainPlace, Form, form_at, toward, SamePlace, IsBetween, IsPlaceBelow}
-use Rattle.nef_space.specs.Sets.{Set}
-use Rattle.nef_space.specs.Vectors.{IsNormal, IsZero, cross}
-use Rattle.nef_geo.specs.Shapes.{form_of, place_of}
-use Rattle.nef_geo.specs.declared.point.Point.{Point}
-use Rattle.law_near.proofs.FlatDecided.{cross-turned}
-use Rattle.law_near.proofs.PlaceOrder.{place_below-same, same-place_below, place_below-trans, place_below-apart}
-use Rattle.law_near.proofs.Rays.{same-place_sym}
-use Rattle.law_sphere.specs.Maps.{At}
-use Rattle.law_sphere.proofs.Compare.{SameDirection-turned}
-use Rattle.nef_smap.proofs.Lists.{map-at, at-map}
-use Rattle.nef_smap.proofs.SideLists.{get-from_at, at-from_get}
-use Rattle.nef_classes.proofs.ClassLists.{is-at_one}
-use Rattle.law_complex.specs.Shows.{Shows}
-use Rattle.law_complex.specs.Skeleton.{IsVertexPoint, IsEdgePoint}
-use Rattle.law_complex.proofs.FacetAngles.{aligned, cross-back}
-use Rattle.law_complex.proofs.Planes.{plane-way}
-use Rattle.law_complex.proofs.Ways.{between-way, same-itself}
+use Rattle.nef_locate.proofs.Prelude.{◌≡◌, ℕ, ◌+◌, ◌<◌, ◌≤◌, sym, pos, Bool, IsTrue, ◌↔◌, List, arith, inl, inr, ⊎_elim, subst, eq-or-lt_of_le, cases_lt, ints, by_order, IsAt, Place as PlainPlace, Form, form_at, toward, SamePlace, IsBetween, IsPlaceBelow, Set, IsNormal, IsZero, cross, form_of, place_of, Point, place_below-same, same-place_below, place_below-trans, place_below-apart, same-place_sym, At, map-at, at-map, get-from_at, at-from_get, is-at_one, Shows, IsVertexPoint, IsEdgePoint, aligned, cross-back, plane-way, between-way, same-itself, Edge, Complex, edge_of, vertex_of, complex_of, AreBelow, AreAbove, EdgeLiesIn, AreNumbersWith, EndBelow, apart, edge-inside, ends, listed_edge, vertex-same, held-between, toward-normal, normal-kept, normals-same, AllThrough, edge-along, lies, lying-ends, level-same, Span, AreAlone, IsInSpan, IsNarrower, span-between, PartsOn, AreThroughEnds, cross-turned, SameDirection-turned}
 use Rattle.nef_complex.specs.declared.complex.Vertex.{Vertex}
-use Rattle.nef_complex.specs.declared.complex.Edge.{Edge}
-use Rattle.nef_complex.specs.declared.complex.Complex.{Complex}
-use Rattle.nef_complex.specs.Complexes.{edge_of, vertex_of, complex_of, AreBelow, AreAbove}
-use Rattle.nef_complex.specs.Index.{EdgeLiesIn, AreNumbersWith}
-use Rattle.nef_complex.specs.Peaks.{EndBelow}
-use Rattle.nef_complex.proofs.Ends.{apart, edge-inside, ends, listed_edge, vertex-same}
-use Rattle.nef_complex.proofs.Parted.{held-between}
-use Rattle.nef_edges.proofs.Rays.{toward-normal, normal-kept, normals-same}
-use Rattle.nef_plane.specs.Amid.{AllThrough}
-use Rattle.nef_plane.proofs.Crossed.{edge-along}
-use Rattle.nef_plane.proofs.Listed.{lies, lying-ends}
-use Rattle.nef_plane.proofs.Meeting.{level-same}
 use Rattle.nef_complex.proofs.Rising.{BeginFrom}
-use Rattle.nef_complex.specs.declared.spans.Span.{Span}
-use Rattle.nef_complex.specs.Indexing.{AreAlone}
-use Rattle.nef_complex.specs.Spans.{IsInSpan, IsNarrower}
-use Rattle.nef_complex.proofs.Spanned.{span-between}
-use Rattle.nef_locate.specs.Orders.{PartsOn, AreThroughEnds}
 
 -- where q - p begins with a positive number, q is a later point
 normal-below : (p q : PlainPlace) → IsNormal (toward p q) → IsPlaceBelow p q

@@ -1,17 +1,6 @@
 -- What a first meet and the corner toward the point say of the point.
-use Rattle.std.proofs.Common.{◌≡◌, pos, Option, Some, None, MatchOption, IfSome, subst, sym}
+use Rattle.nef_locate.proofs.Prelude.{◌≡◌, pos, Option, Some, None, MatchOption, IfSome, subst, sym, Place, form_at, normal_of, slope, IsAhead, Set, Vector, opposite, IsDirection, SameDirection, plane_axis, form_of, Plane, Corner, IsFlatIn, PlaneMeet, Meets, IsFirstInPlane, IsCornerAt, HasCorner, facet-behind, facet-from_behind, Complex, complex_of, ShowsSet}
 use Rattle.std.specs.Option.{IsNone}
-use Rattle.nef_space.specs.Place.{Place, form_at, normal_of, slope, IsAhead}
-use Rattle.nef_space.specs.Sets.{Set}
-use Rattle.nef_space.specs.Vectors.{Vector, opposite, IsDirection, SameDirection, plane_axis}
-use Rattle.nef_geo.specs.Shapes.{form_of}
-use Rattle.nef_geo.specs.declared.plane.Plane.{Plane}
-use Rattle.law_complex.specs.Complexes.{Corner}
-use Rattle.law_complex.specs.Laws.{IsFlatIn}
-use Rattle.law_complex.specs.Skeleton.{PlaneMeet, Meets, IsFirstInPlane, IsCornerAt, HasCorner}
-use Rattle.law_complex.proofs.FacetEnds.{facet-behind, facet-from_behind}
-use Rattle.nef_complex.specs.declared.complex.Complex.{Complex}
-use Rattle.nef_complex.specs.Complexes.{complex_of, ShowsSet}
 use Rattle.nef_locate.proofs.Behind.{corner-behind, corner-has}
 
 -- ---- options

@@ -1,29 +1,8 @@
 -- The labels of a map that don't change along a direction.
-use Rattle.std.proofs.Common.{◌≡◌, ℕ, zero, suc, ℤ, pos, negsuc, ◌+◌, ◌≤◌, ◌+ℤ◌, ◌*ℤ◌, neg_ℤ, arith, refl, ap, sym, ◌∙◌, [], ◌∷◌, subst}
-use Rattle.nef_space.specs.Signs.{minus, nought, plus, sign}
-use Rattle.nef_space.proofs.Ring.{ring, at, num, neg, ◌⊕◌, ◌⊗◌}
-use Rattle.nef_space.specs.Vectors.{Vector, IsDirection, IsOpposite, SameDirection, cross, dot, opposite, blend}
-use Rattle.nef_space.specs.declared.label.Label.{Label}
-use Rattle.law_near.proofs.Flats.{vector-same}
-use Rattle.law_sphere.specs.Vectors.{comb}
-use Rattle.law_sphere.specs.Maps.{Map, MapLabel, NearLabel, Valid}
-use Rattle.law_sphere.specs.Forms.{forms}
-use Rattle.law_sphere.specs.Kinds.{FlatMap}
-use Rattle.law_sphere.specs.Least.{by_side}
-use Rattle.law_sphere.specs.Labelling.{Near, StraightAt, IsSmooth, straight}
-use Rattle.law_cyclic.proofs.Directions.{direction-opposite}
-use Rattle.law_sphere.proofs.Compare.{dir-self}
-use Rattle.law_sphere.proofs.Generic.{amount}
+use Rattle.nef_locate.proofs.Prelude.{◌≡◌, ℕ, zero, suc, ℤ, pos, negsuc, ◌+◌, ◌≤◌, ◌+ℤ◌, ◌*ℤ◌, neg_ℤ, arith, refl, ap, sym, ◌∙◌, [], ◌∷◌, subst, minus, nought, plus, sign, ring, at, num, neg, ◌⊕◌, ◌⊗◌, Vector, IsDirection, IsOpposite, SameDirection, cross, dot, opposite, blend, Label, comb, Map, MapLabel, NearLabel, Valid, forms, FlatMap, by_side, Near, StraightAt, IsSmooth, straight, amount, label-direction, label-unique, near-direction, dot-comb, direction-by, cross-direction_left, Of, IsLabelling, straight-from, from_opposite, vector-same, direction-opposite, opposite-twice, cross-opposite, dir-self}
 use Rattle.law_sphere.proofs.Kind.{flat-parallel}
 use Rattle.law_sphere.proofs.FlatMaps.{flat-onward, flat-straight}
-use Rattle.law_sphere.proofs.Labels.{label-direction, label-unique, near-direction}
-use Rattle.law_sphere.proofs.Vectors.{dot-comb, direction-by}
-use Rattle.law_sphere.proofs.Walk.{cross-direction_left}
-use Rattle.law_sphere.specs.Raw.{Of, IsLabelling}
-use Rattle.law_build.proofs.BuiltLabels.{straight-from}
 use Rattle.law_build.proofs.Chosen.{chosen, chosen-is, chosen-labelling, map-labels}
-use Rattle.nef_geo.proofs.Products.{cross-opposite, opposite-twice}
-use Rattle.nef_edges.proofs.Rays.{from_opposite}
 
 -- opposite directions lie on opposite sides, so both sides have the label
 both-sides : (a m b : Label) (x y : ℤ) → sign x ≡ sign (neg_ℤ y) → (x ≡ pos 0 → ⊥) → by_side a m b (sign x) ≡ m → by_side a m b (sign y) ≡ m → (a ≡ m) × (b ≡ m)

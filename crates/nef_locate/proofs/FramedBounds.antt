@@ -1,11 +1,7 @@
 -- Fractions of the frame within bounds that are cut off next to the frame's sides.
-use Rattle.std.proofs.Common.{◌≡◌, ◌*◌, ◌+◌, ◌≤◌, ℤ, pos, neg_ℤ, ◌+ℤ◌, ◌-ℤ◌, ◌*ℤ◌, ◌<ℤ◌, ◌≤ℤ◌, nat_abs, ◌⊎◌, inl, inr, ◌↔◌, FitsSigned, arith, ap, ◌∙◌, subst}
-use Rattle.std.proofs.lemmas.Int.{ints, to_z-of_z}
+use Rattle.nef_locate.proofs.Prelude.{◌≡◌, ◌*◌, ◌+◌, ◌≤◌, ℤ, pos, neg_ℤ, ◌+ℤ◌, ◌-ℤ◌, ◌*ℤ◌, ◌<ℤ◌, ◌≤ℤ◌, nat_abs, ◌⊎◌, inl, inr, ◌↔◌, FitsSigned, arith, ap, ◌∙◌, subst, ints, to_z-of_z, half_side, mul_le_right, IsFramedLow, IsFramedHigh}
 use mir.Syntax.{w128}
 use mir.Val.{to_z, of_z}
-use Rattle.nef_space.specs.Limits.{half_side}
-use Rattle.nef_space.proofs.Order.{mul_le_right}
-use Rattle.nef_locate.specs.Frames.{IsFramedLow, IsFramedHigh}
 
 pub low-small : (l m : ℤ) → IsFramedLow l m → nat_abs m ≤ half_side + 1
 low-small l m (inl (o, e)) = omega (arith, ints)

@@ -1,32 +1,9 @@
 -- The vertices of a plane stand in the order of points, so a hit that is none of them parts their numbers.
-use Rattle.std.proofs.Common.{◌≡◌, ℕ, ◌+◌, ◌≤◌, ◌<◌, ℤ, pos, ◌*ℤ◌, ◌<ℤ◌, nat_abs, length, List, [], ◌∷◌, arith, sym, ◌∙◌, subst, ⊎_elim, w64, Ordering, inl, inr}
-use Rattle.std.proofs.Common.{Less, Equal, Greater}
-use Rattle.std.proofs.Math.Nat.{eq-or-lt_of_le}
-use Rattle.std.proofs.lemmas.Bool.{cases_lt}
-use Rattle.std.specs.Ordering.{MatchOrdering}
+use Rattle.nef_locate.proofs.Prelude.{◌≡◌, ℕ, ◌+◌, ◌≤◌, ◌<◌, ℤ, pos, ◌*ℤ◌, ◌<ℤ◌, nat_abs, length, List, [], ◌∷◌, arith, sym, ◌∙◌, subst, ⊎_elim, w64, Ordering, inl, inr, Less, Equal, Greater, eq-or-lt_of_le, cases_lt, MatchOrdering, load, wrap, exact_of, IsAt, Place, Form, SamePlace, IsPlaceBelow, Set, place_of, hit_limit, hit_weight_limit, Hit, Point, place_below-trans, is-at_one, is-at_within, map-at, at-from_get, Shows, IsVertexPoint, Complex, vertex_of, complex_of, LiesOn, AreNumbersWith, PartsOn, pos-abs}
 use mir.Syntax.{w128}
 use mir.Val.{to_z, of_z}
-use Rattle.nef_space.proofs.Machine.{load, wrap, exact_of}
-use Rattle.nef_space.specs.Lists.{IsAt}
-use Rattle.nef_space.specs.Place.{Place, Form, SamePlace, IsPlaceBelow}
-use Rattle.nef_space.specs.Sets.{Set}
-use Rattle.nef_geo.specs.Shapes.{place_of}
-use Rattle.nef_geo.specs.Widths.{hit_limit, hit_weight_limit}
-use Rattle.nef_geo.specs.declared.hit.Hit.{Hit}
-use Rattle.nef_geo.specs.declared.point.Point.{Point}
-use Rattle.nef_geo.proofs.Places.{pos_size}
-use Rattle.law_near.proofs.PlaceOrder.{place_below-trans}
-use Rattle.nef_classes.proofs.ClassLists.{is-at_one, is-at_within}
-use Rattle.nef_smap.proofs.Lists.{map-at}
-use Rattle.nef_smap.proofs.SideLists.{at-from_get}
-use Rattle.law_complex.specs.Shows.{Shows}
-use Rattle.law_complex.specs.Skeleton.{IsVertexPoint}
 use Rattle.nef_complex.specs.declared.complex.Vertex.{Vertex}
-use Rattle.nef_complex.specs.declared.complex.Complex.{Complex}
-use Rattle.nef_complex.specs.Complexes.{vertex_of, complex_of}
-use Rattle.nef_complex.specs.Index.{LiesOn, AreNumbersWith}
 use Rattle.nef_plane.proofs.Sweep.{exact-of, exact-weight}
-use Rattle.nef_locate.specs.Orders.{PartsOn}
 
 -- ---- one coordinate of a point and of a hit, by the products of numbers that are read
 exact-hit : (x y : ℤ) → x ≡ y → nat_abs y ≤ hit_limit → to_z w128 (of_z w128 x) ≡ y
@@ -44,7 +21,7 @@ ranks-same o x w y v x' w' y' v' a b d e r =
 
 module _ (p : Point) (q : Hit) (o : Ordering) (x w y v : ℤ) (weight_is : w ≡ p.w) (hit_weight_is : v ≡ q.w) (r : Ranks o (to_z w64 (of_z w64 x)) (to_z w64 (of_z w64 w)) (to_z w128 (of_z w128 y)) (to_z w128 (of_z w128 v))) where
   ranks : (a b : ℤ) → to_z w64 (of_z w64 x) ≡ a → to_z w128 (of_z w128 y) ≡ b → Ranks o a (pos (nat_abs p.w)) b (pos (nat_abs q.w))
-  ranks a b e f = ranks-same o _ _ _ _ a (pos (nat_abs p.w)) b (pos (nat_abs q.w)) e (exact-weight w p.w weight_is p.w_small ∙ sym (pos_size p.w p.proper)) f (exact-hit_weight v q.w hit_weight_is q.w_small ∙ sym (pos_size q.w q.proper)) r
+  ranks a b e f = ranks-same o _ _ _ _ a (pos (nat_abs p.w)) b (pos (nat_abs q.w)) e (exact-weight w p.w weight_is p.w_small ∙ sym (pos-abs p.w p.proper)) f (exact-hit_weight v q.w hit_weight_is q.w_small ∙ sym (pos-abs q.w q.proper)) r
 
   pub ranks-x : x ≡ p.x → y ≡ q.x → Ranks o p.x (pos (nat_abs p.w)) q.x (pos (nat_abs q.w))
   ranks-x e f = ranks p.x q.x (exact-of x p.x e p.x_small) (exact-hit y q.x f q.x_small)

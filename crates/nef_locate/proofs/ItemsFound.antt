@@ -1,29 +1,9 @@
 -- Corners by the items and arcs that were found.
-use Rattle.std.proofs.Common.{◌≡◌, ℕ, Some, slice_get, refl, sym, ap, ◌∙◌, ◌⊎◌, inl, inr, ⊎_elim, subst}
-use Rattle.nef_space.specs.Place.{Place, Form, normal_of}
-use Rattle.nef_space.specs.Vectors.{Vector, IsDirection, SameDirection, triple}
-use Rattle.nef_geo.specs.Shapes.{vector_of}
-use Rattle.nef_geo.specs.Signs.{sign_of}
-use Rattle.nef_geo.specs.declared.sign.Sign.{Sign}
-use Rattle.nef_geo.specs.declared.sign.Sign.TheVariants.{Minus, Plus}
-use Rattle.nef_geo.proofs.Signs.{sign_of-positive, sign_of-negative}
-use Rattle.law_sphere.specs.Maps.{At, item_normal, dir_of}
-use Rattle.law_sphere.proofs.Compare.{SameDirection-turned, SameDirection-trans, dir-self}
-use Rattle.law_sphere.proofs.Lists.{at-one}
-use Rattle.nef_smap.specs.declared.map.SArc.{SArc}
-use Rattle.nef_smap.specs.declared.map.SVertex.{SVertex}
-use Rattle.nef_smap.specs.Items.{IsItemThrough}
-use Rattle.nef_smap.specs.Maps.{arc_of, map_of}
-use Rattle.nef_smap.proofs.ArcEnds.{at-map}
+use Rattle.nef_locate.proofs.Prelude.{◌≡◌, ℕ, Some, slice_get, refl, sym, ap, ◌∙◌, ◌⊎◌, inl, inr, ⊎_elim, subst, Place, Form, normal_of, Vector, IsDirection, SameDirection, triple, vector_of, sign_of, Sign, Minus, Plus, sign_of-positive, sign_of-negative, At, item_normal, dir_of, at-one, SArc, SVertex, IsItemThrough, arc_of, map_of, map-from_get, Vertex as PlainVertex, Corner, PlaneMeet, meets_vertex, meets_edge, Meets, IsArcOnSide, IsCornerAt, Edge, Complex, vertex_of, edge_of, complex_of, IsArcBeside, HasMet, SameDirection-turned, SameDirection-trans, dir-self}
 use Rattle.nef_smap.proofs.Axes.{plus-of, minus-of}
 use Rattle.nef_smap.proofs.CloseSigns.{dir-from_get}
-use Rattle.law_complex.specs.Complexes.{Vertex as PlainVertex, Edge as PlainEdge, Complex as PlainComplex, Corner}
-use Rattle.law_complex.specs.Skeleton.{PlaneMeet, meets_vertex, meets_edge, Meets, IsArcOnSide, IsCornerAt}
+use Rattle.law_complex.specs.Complexes.{Edge as PlainEdge, Complex as PlainComplex}
 use Rattle.nef_complex.specs.declared.complex.Vertex.{Vertex}
-use Rattle.nef_complex.specs.declared.complex.Edge.{Edge}
-use Rattle.nef_complex.specs.declared.complex.Complex.{Complex}
-use Rattle.nef_complex.specs.Complexes.{vertex_of, edge_of, complex_of}
-use Rattle.nef_locate.specs.Facets.{IsArcBeside, HasMet}
 use Rattle.nef_locate.proofs.SamePlanes.{side-turned}
 
 -- the side of an arc by the turn from its svertex to a direction
@@ -44,7 +24,7 @@ module _ (c : Complex) (h : Form) (n d : Vector) (w : SameDirection (normal_of h
   -- ---- at a vertex
   module _ (i : ℕ) (u : Vertex) (e : slice_get c.vertices i ≡ Some u) where
     listed : At (complex_of c).vertices i (vertex_of u)
-    listed = at-map vertex_of c.vertices i u e
+    listed = map-from_get vertex_of c.vertices i u e
 
     pub vertex-some : (k : ℕ) → IsItemThrough (map_of u.map) n d k → IsCornerAt (complex_of c) h d (meets_vertex i) (record { vertex = i; item = k })
     vertex-some k (x, a, s, o) = (vertex_of u, x, refl, record { vertex = listed; item = a }, SameDirection-trans (item_normal x) n (normal_of h) s (SameDirection-turned (normal_of h) n w), o)
@@ -57,10 +37,10 @@ module _ (c : Complex) (h : Form) (n d : Vector) (w : SameDirection (normal_of h
   -- ---- beside an edge
   module _ (j : ℕ) (g : Edge) (b : slice_get c.edges j ≡ Some g) (u : Vertex) (e : slice_get c.vertices g.low ≡ Some u) (some : IsDirection d) where
     listed_edge : At (complex_of c).edges j (edge_of g)
-    listed_edge = at-map edge_of c.edges j g b
+    listed_edge = map-from_get edge_of c.edges j g b
 
     listed_low : At (complex_of c).vertices g.low (vertex_of u)
-    listed_low = at-map vertex_of c.vertices g.low u e
+    listed_low = map-from_get vertex_of c.vertices g.low u e
 
     pub edge-some : (k : ℕ) → IsArcBeside (vertex_of u) g.low_svertex n d k → IsCornerAt (complex_of c) h d (meets_edge j) (record { vertex = g.low; item = k })
     edge-some k (a, l, s, o) =

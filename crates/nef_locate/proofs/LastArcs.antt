@@ -1,19 +1,5 @@
 -- Arcs at a svertex, all of which have a positive product with one vector: the last counterclockwise of them.
-use Rattle.std.proofs.Common.{◌≡◌, ℕ, ◌+◌, ◌<◌, pos, ◌+ℤ◌, ◌*ℤ◌, ◌<ℤ◌, arith, sym, ◌∙◌, ◌⊎◌, inl, inr, ⊎_elim, [], ◌∷◌, Bool, true, false, subst, Option, Some, None}
-use Rattle.std.proofs.lemmas.Int.{ints}
-use Rattle.std.proofs.Math.Nat.{eq-or-lt_of_le}
-use Rattle.nef_space.proofs.Ring.{ring, at, num, ◌⊕◌, ◌⊖◌, ◌⊗◌}
-use Rattle.nef_space.proofs.Combination.{follows, given, none}
-use Rattle.nef_space.proofs.Order.{mul_pos, sign-scaled}
-use Rattle.nef_space.specs.Vectors.{Vector, IsDirection, dot, triple}
-use Rattle.law_near.proofs.FlatDecided.{triple-in_plane}
-use Rattle.law_near.proofs.Directions.{dot-comm}
-use Rattle.law_sphere.specs.Maps.{At, MapVertex, Arc, Map, dir_of, Shaped}
-use Rattle.law_sphere.proofs.Arcs.{ends-of}
-use Rattle.law_sphere.proofs.Lists.{at-one}
-use Rattle.law_sphere.proofs.Shot.{dir-at}
-use Rattle.law_sphere.proofs.Vectors.{same-plus}
-use Rattle.nef_locate.specs.Ends.{end_of, IsLastArc, IsNoArc, IsLast}
+use Rattle.nef_locate.proofs.Prelude.{◌≡◌, ℕ, ◌+◌, ◌<◌, pos, ◌+ℤ◌, ◌*ℤ◌, ◌<ℤ◌, arith, sym, ◌∙◌, ◌⊎◌, inl, inr, ⊎_elim, [], ◌∷◌, Bool, true, false, subst, Option, Some, None, ints, eq-or-lt_of_le, ring, at, num, ◌⊕◌, ◌⊖◌, ◌⊗◌, follows, given, none, mul_pos, sign-scaled, Vector, IsDirection, dot, triple, At, MapVertex, Arc, Map, dir_of, Shaped, ends-of, at-one, dir-at, same-plus, end_of, IsLastArc, IsNoArc, IsLast, dot-comm, triple-in_plane}
 
 -- of three vectors in the plane of w, by their products with a vector u
 turn-through : (w a b c u : Vector) → triple a b c ≡ pos 0 → dot u b *ℤ triple w a c ≡ dot u a *ℤ triple w b c +ℤ dot u c *ℤ triple w a b

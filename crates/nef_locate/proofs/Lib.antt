@@ -1,3 +1,4 @@
+pub mod Prelude
 pub mod Upward
 pub mod Cones
 pub mod VolumeLabels

@@ -1,29 +1,6 @@
 -- The plane of a facet point is that of an item, and the vertices and edges of a plane on which a point lies are listed.
-use Rattle.std.proofs.Common.{◌≡◌, ℕ, List, pos, sym, subst}
-use Rattle.nef_space.specs.Lists.{IsAt}
-use Rattle.nef_space.specs.Place.{Place, Form, form_at, normal_of}
-use Rattle.nef_space.specs.Sets.{Set}
-use Rattle.nef_space.specs.Vectors.{Vector, dot, opposite, IsDirection, SameDirection, plane_axis}
-use Rattle.nef_geo.specs.Shapes.{form_of}
-use Rattle.nef_geo.specs.declared.plane.Plane.{Plane}
-use Rattle.law_near.proofs.Rays.{same-place_sym}
-use Rattle.law_sphere.specs.Maps.{At, Item, arc_item, items, item_normal}
-use Rattle.law_sphere.proofs.Arcs.{at-arc}
-use Rattle.law_sphere.proofs.Lists.{at-one}
-use Rattle.law_sphere.proofs.Vectors.{normal-direction}
-use Rattle.nef_smap.proofs.Lists.{at-map}
-use Rattle.nef_smap.proofs.SideLists.{get-from_at}
-use Rattle.law_complex.specs.Complexes.{Vertex as PlainVertex, Edge as PlainEdge, Complex as PlainComplex, Corner}
-use Rattle.law_complex.specs.Laws.{IsFlatIn}
-use Rattle.law_complex.specs.Skeleton.{PlaneMeet, meets_vertex, meets_edge, Meets, IsVertexPoint, IsEdgePoint, IsCornerAt}
-use Rattle.law_complex.proofs.FacetEnds.{facet-behind}
-use Rattle.law_complex.proofs.FacetNames.{axis-in}
-use Rattle.law_complex.proofs.FacetWays.{plane-ahead}
-use Rattle.nef_complex.specs.declared.complex.Complex.{Complex}
-use Rattle.nef_complex.specs.Complexes.{vertex_of, complex_of, ShowsSet}
-use Rattle.nef_complex.specs.Index.{HasItemIn, LiesOn, EdgeLiesIn, AreNumbersWith}
-use Rattle.nef_plane.proofs.Listed.{lies, edge-lies}
-use Rattle.nef_plane.proofs.Meeting.{level-same}
+use Rattle.nef_locate.proofs.Prelude.{◌≡◌, ℕ, List, pos, sym, subst, IsAt, Place, Form, form_at, normal_of, Set, Vector, dot, opposite, IsDirection, SameDirection, plane_axis, form_of, Plane, same-place_sym, At, Item, arc_item, items, item_normal, at-arc, at-one, normal-direction, at-map, get-from_at, Vertex as PlainVertex, Corner, IsFlatIn, PlaneMeet, meets_vertex, meets_edge, Meets, IsVertexPoint, IsEdgePoint, IsCornerAt, facet-behind, axis-in, plane-ahead, Complex, vertex_of, complex_of, ShowsSet, HasItemIn, LiesOn, EdgeLiesIn, AreNumbersWith, lies, edge-lies, level-same}
+use Rattle.law_complex.specs.Complexes.{Edge as PlainEdge, Complex as PlainComplex}
 
 module _ (s : Set) (c : Complex) (S : ShowsSet s c) (h : Plane) (y : Place) (on : form_at (form_of h) y ≡ pos 0) (F : IsFlatIn s (form_of h) y) where
   abbrev C : PlainComplex

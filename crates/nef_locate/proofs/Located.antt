@@ -1,37 +1,11 @@
 -- The side above what the ray down first meets is that of the point; each place has its number of flat directions.
-use Rattle.std.proofs.Common.{◌≡◌, ℕ, pos, arith, refl, sym, inl, inr, Option, Some, None, IfSome, subst, slice_get}
-use Rattle.std.proofs.lemmas.Int.{ints}
-use Rattle.nef_space.specs.Local.{FlatDim}
-use Rattle.nef_space.specs.Place.{Place as PlainPlace, Form, SamePlace, InClosedFrame, IsAhead}
-use Rattle.nef_space.specs.Sets.{Set}
-use Rattle.nef_space.specs.Vectors.{up, opposite, plane_axis}
-use Rattle.nef_space.specs.declared.label.Label.{Label}
-use Rattle.law_sphere.specs.Maps.{At, Item, arc_item, items, item_normal, item_pos, Side, pos_item}
-use Rattle.law_sphere.specs.Sectors.{BoundsSector}
-use Rattle.law_sphere.proofs.Arcs.{at-arc}
-use Rattle.nef_smap.specs.Maps.{map_of}
-use Rattle.nef_smap.specs.SideNumbers.{number_of}
-use Rattle.nef_smap.specs.Sides.{IsSide, SideSees}
-use Rattle.nef_smap.proofs.SideLists.{side-has}
-use Rattle.nef_smap.proofs.SideNumbers.{side-number}
+use Rattle.nef_locate.proofs.Prelude.{◌≡◌, ℕ, pos, arith, refl, sym, inl, inr, Option, Some, None, IfSome, subst, slice_get, ints, FlatDim, Place as PlainPlace, Form, SamePlace, InClosedFrame, IsAhead, Set, up, opposite, plane_axis, Label, At, Item, arc_item, items, item_normal, item_pos, Side, pos_item, BoundsSector, at-arc, map_of, number_of, IsSide, SideSees, side-has, side-number, IsSkeletonIn, at_vertex, on_edge, in_facet, IsVertexPoint, IsEdgePoint, IsSkeletonPoint, PlaneMeet, meets_vertex, meets_edge, IsCornerAt, HasCorner, item_plane, RayDown, edge-points, edge-same, corner-same, flat-same, facet-at, facet-of, dim-same, way-ends, Complex, Edge, vertex_of, edge_of, complex_of, corner_of, AreSorted, ShowsSet, IsPlaceIn, IsPlaceAt, IsFirstHit, place_dimension, IsSkeletonAt, IsSideAbove}
 use Rattle.law_complex.specs.Complexes.{Complex as PlainComplex}
-use Rattle.law_complex.specs.Laws.{IsSkeletonIn}
-use Rattle.law_complex.specs.Skeleton.{at_vertex, on_edge, in_facet, IsVertexPoint, IsEdgePoint, IsSkeletonPoint, PlaneMeet, meets_vertex, meets_edge, IsCornerAt, HasCorner, item_plane}
-use Rattle.law_complex.specs.Rays.{RayDown}
-use Rattle.law_complex.proofs.Edges.{edge-points}
-use Rattle.law_complex.proofs.EqualPoints.{vertex-same, edge-same, corner-same, flat-same}
-use Rattle.law_complex.proofs.FacetNames.{facet-at, facet-of}
-use Rattle.law_complex.proofs.FacetWays.{dim-same}
-use Rattle.law_complex.proofs.Skeletons.{way-ends}
-use Rattle.nef_complex.specs.declared.complex.Complex.{Complex}
+use Rattle.law_complex.proofs.EqualPoints.{vertex-same}
 use Rattle.nef_complex.specs.declared.complex.Corner.{Corner}
-use Rattle.nef_complex.specs.declared.complex.Edge.{Edge}
 use Rattle.nef_complex.specs.declared.complex.Vertex.{Vertex}
-use Rattle.nef_complex.specs.Complexes.{vertex_of, edge_of, complex_of, corner_of, AreSorted, ShowsSet}
 use Rattle.nef_locate.specs.declared.point.Place.{Place}
 use Rattle.nef_locate.specs.declared.point.Place.TheVariants as place
-use Rattle.nef_locate.specs.Places.{IsPlaceIn, IsPlaceAt, IsFirstHit, place_dimension}
-use Rattle.nef_locate.specs.Rays.{IsSkeletonAt, IsSideAbove}
 use Rattle.nef_locate.proofs.CarrierPoints.{closed-inside}
 use Rattle.nef_locate.proofs.Marks.{image-read}
 use Rattle.nef_locate.proofs.VolumeLabels.{volume-flat}

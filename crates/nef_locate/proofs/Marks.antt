@@ -1,27 +1,11 @@
 -- The vertices, edges and items that a place names, and that their labels are those of its points.
-use Rattle.std.proofs.Common.{◌≡◌, ℕ, ◌<◌, List, map, length, Some, slice_get, sym, ap, subst, ◌∙◌}
-use Rattle.nef_space.specs.Local.{HasLabel}
-use Rattle.nef_space.specs.Place.{Place as PlainPlace}
-use Rattle.nef_space.specs.Sets.{Set}
-use Rattle.nef_space.specs.declared.label.Label.{Label}
-use Rattle.law_sphere.specs.Maps.{At, Item, Side}
-use Rattle.law_sphere.proofs.Lists.{at-one}
-use Rattle.nef_smap.proofs.Lists.{map-at, at-map, at-within}
-use Rattle.nef_smap.proofs.SideLists.{at-from_get, side-has}
-use Rattle.nef_smap.specs.Sides.{LabelledSide, IsSide, sides_of}
-use Rattle.law_complex.specs.Complexes.{Vertex as PlainVertex, Complex as PlainComplex, Corner as PlainCorner, IsCorner}
-use Rattle.law_complex.specs.Skeleton.{at_vertex, on_edge}
-use Rattle.law_complex.proofs.FacetNames.{facet-at, facet-of}
-use Rattle.law_complex.proofs.Skeletons.{spot-mark}
+use Rattle.nef_locate.proofs.Prelude.{◌≡◌, ℕ, ◌<◌, List, map, length, Some, slice_get, sym, ap, subst, ◌∙◌, HasLabel, Place as PlainPlace, Set, Label, At, Item, Side, at-one, map-at, at-map, at-within, at-from_get, side-has, LabelledSide, IsSide, sides_of, Vertex as PlainVertex, Corner as PlainCorner, IsCorner, at_vertex, on_edge, facet-at, facet-of, spot-mark, Complex, vertex_of, complex_of, corner_of, ShowsSet, IsPlaceAt, IsPlaceLabel, HasVolumeSide}
+use Rattle.law_complex.specs.Complexes.{Complex as PlainComplex}
 use Rattle.nef_complex.specs.declared.complex.Vertex.{Vertex}
-use Rattle.nef_complex.specs.declared.complex.Complex.{Complex}
-use Rattle.nef_complex.specs.Complexes.{vertex_of, complex_of, corner_of, ShowsSet}
 use Rattle.nef_locate.specs.declared.point.Place.{Place}
 use Rattle.nef_locate.specs.declared.point.Place.TheVariants as place
-use Rattle.nef_locate.specs.Places.{IsPlaceAt, IsPlaceLabel}
 use Rattle.nef_locate.proofs.Cones.{corner-labels}
 use Rattle.nef_locate.proofs.VolumeLabels.{side-label}
-use Rattle.law_complex.specs.Rays.{HasVolumeSide}
 
 -- ---- lists
 pub image-within : {A B : Type 0} (f : A → B) (xs : List A) (k : ℕ) (y : B) → At (map f xs) k y → k < length xs

@@ -1,17 +1,5 @@
 -- The side that bounds the sector of a svertex in which a direction above all planes lies: that of the last arc before it.
-use Rattle.std.proofs.Common.{◌≡◌, ℕ, ◌<◌, pos, ◌<ℤ◌, arith, refl, ◌∙◌, ◌⊎◌, inl, inr, ⊎_elim, [], ◌∷◌, true, false}
-use Rattle.std.proofs.lemmas.Int.{ints}
-use Rattle.nef_space.proofs.Ring.{ring, at, neg, ◌⊕◌, ◌⊖◌, ◌⊗◌}
-use Rattle.nef_space.proofs.Order.{mul_pos, mul_neg}
-use Rattle.nef_space.specs.Vectors.{Vector, IsDirection, dot, cross, triple, opposite}
-use Rattle.law_cyclic.specs.Arcs.{IsStrictlyOn}
-use Rattle.law_cyclic.proofs.Directions.{dot-opposite}
-use Rattle.law_near.proofs.Directions.{dot-comm, self-pos}
-use Rattle.law_sphere.specs.Maps.{At, MapVertex, Arc, Map, Side, around_svertex, pos_item, neg_item, HasArc, Shaped}
-use Rattle.law_sphere.specs.Sectors.{end_left, IsLastSide, BoundsSector}
-use Rattle.law_sphere.proofs.SectorSees.{left-on, turn-from_left}
-use Rattle.law_sphere.proofs.Sectors.{unrayed-ahead}
-use Rattle.nef_locate.specs.Ends.{IsLastArc, IsNoArc}
+use Rattle.nef_locate.proofs.Prelude.{◌≡◌, ℕ, ◌<◌, pos, ◌<ℤ◌, arith, refl, ◌∙◌, ◌⊎◌, inl, inr, ⊎_elim, [], ◌∷◌, true, false, ints, ring, at, neg, ◌⊕◌, ◌⊖◌, ◌⊗◌, mul_pos, mul_neg, Vector, IsDirection, dot, cross, triple, opposite, IsStrictlyOn, At, MapVertex, Arc, Map, Side, around_svertex, pos_item, neg_item, HasArc, Shaped, end_left, IsLastSide, BoundsSector, left-on, turn-from_left, unrayed-ahead, IsLastArc, IsNoArc, dot-comm, self-pos, opposite-dot}
 
 module _ (M : Map) (V : Shaped M) (k : ℕ) (v : MapVertex) (a : At M.svertices k v) (e : Vector) (off : IsDirection (cross v.dir e)) where
   abbrev p : Vector
@@ -33,7 +21,7 @@ module _ (M : Map) (V : Shaped M) (k : ℕ) (v : MapVertex) (a : At M.svertices 
 
     turn-end : (b : Arc) (j : ℕ) → At M.arcs j b → b.target ≡ k → triple p (opposite b.normal) (cross p e) <ℤ pos 0
     turn-end b j l x =
-        let h = ahead j b l in let r = dot-opposite b.normal e in
+        let h = ahead j b l in let r = opposite-dot b.normal e in
         let t = turn-from_left p (opposite b.normal) e (level b j l (inr x)) in
         let m = mul_neg (dot p p) (dot (opposite b.normal) e) square (omega (arith, ints)) in
         omega (arith, ints)

@@ -1,42 +1,10 @@
 -- What a ray along an upright direction meets in one plane, and what it meets first.
-use Rattle.std.proofs.Common.{◌≡◌, ℕ, ◌<◌, length, neg_ℤ, arith, Option, Some, None, IfSome, List, [], ◌∷◌, ◌⊎◌, inl, inr, slice_get, sym, subst}
-use Rattle.std.proofs.lemmas.Int.{ints}
-use Rattle.nef_space.proofs.Ring.{ring, at, neg, ◌⊕◌, ◌⊗◌}
-use Rattle.nef_space.specs.Lists.{IsAt}
-use Rattle.nef_space.specs.Place.{Place as PlainPlace, InClosedFrame, SamePlace, toward, IsAhead, IsBetween}
-use Rattle.nef_space.specs.Sets.{Set}
-use Rattle.nef_space.specs.Vectors.{Vector, dot, opposite}
-use Rattle.nef_geo.specs.Hits.{IsUpright, IsCrossing}
-use Rattle.nef_geo.specs.Shapes.{form_of, hit_place}
-use Rattle.nef_geo.specs.declared.hit.Hit.{Hit}
-use Rattle.nef_geo.specs.declared.plane.Plane.{Plane}
-use Rattle.law_near.proofs.Mixed.{place-toward}
-use Rattle.law_near.proofs.Directions.{direction-left, direction-right, self-pos}
-use Rattle.law_near.proofs.Between.{between-inner}
-use Rattle.law_sphere.proofs.Compare.{SameDirection-turned, SameDirection-trans}
+use Rattle.nef_locate.proofs.Prelude.{◌≡◌, ℕ, ◌<◌, length, neg_ℤ, arith, Option, Some, None, IfSome, List, [], ◌∷◌, ◌⊎◌, inl, inr, slice_get, sym, subst, ints, ring, at, neg, ◌⊕◌, ◌⊗◌, IsAt, Place as PlainPlace, InClosedFrame, SamePlace, toward, IsAhead, IsBetween, Set, Vector, dot, opposite, IsUpright, IsCrossing, form_of, hit_place, Hit, Plane, place-toward, between-inner, IsSkeletonPoint, ahead-back, one-crossing, Complex, Span, complex_of, ShowsSet, AreSpans, IsInSpan, skeleton-framed, spanned, is-at_one, at-within, get-from_at, IsSkeletonIn, Met, IsFirstHit, IsMet, IsReachedMet, IsSooner, IsNotBefore, HasNoneOn, HasNoneOnCarrier, HasNotAt, HasNotAtCarrier, ahead-from, self-pos, SameDirection-turned, SameDirection-trans, direction-left, direction-right}
 use Rattle.law_complex.specs.Complexes.{Complex as PlainComplex}
-use Rattle.law_complex.specs.Skeleton.{IsSkeletonPoint}
-use Rattle.law_complex.proofs.FacetEdges.{ahead-back}
-use Rattle.nef_complex.proofs.Lines.{one-crossing}
 use Rattle.nef_plane.proofs.Found.{not-end}
 use Rattle.nef_plane.proofs.Nearest.{between-ahead}
-use Rattle.nef_complex.specs.declared.complex.Complex.{Complex}
-use Rattle.nef_complex.specs.declared.spans.Span.{Span}
-use Rattle.nef_complex.specs.Complexes.{complex_of, ShowsSet}
-use Rattle.nef_complex.specs.Index.{AreSpans}
-use Rattle.nef_complex.specs.Spans.{IsInSpan}
-use Rattle.nef_complex.proofs.Framed.{skeleton-framed}
-use Rattle.nef_complex.proofs.Spanned.{spanned}
-use Rattle.nef_classes.proofs.ClassLists.{is-at_one}
-use Rattle.nef_smap.proofs.Lists.{at-within}
-use Rattle.nef_smap.proofs.SideLists.{get-from_at}
-use Rattle.law_complex.specs.Laws.{IsSkeletonIn}
-use Rattle.nef_locate.specs.declared.beam.Met.{Met}
-use Rattle.nef_locate.specs.Places.{IsFirstHit}
-use Rattle.nef_locate.specs.Rays.{IsMet, IsReachedMet, IsSooner, IsNotBefore, HasNoneOn, HasNoneOnCarrier, HasNotAt, HasNotAtCarrier}
 use Rattle.nef_locate.proofs.CarrierPoints.{skeleton-carrier, crossed}
 use Rattle.nef_locate.proofs.Located.{held-same}
-use Rattle.law_complex.proofs.EqualPoints.{ahead-from}
 
 -- ---- the order along a ray
 pub never-same : (y z : PlainPlace) (d : Vector) → IsAhead y d z → SamePlace y z → ⊥

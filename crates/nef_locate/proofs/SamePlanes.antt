@@ -1,30 +1,9 @@
 -- Two forms of one plane through a point: the same points, the same first meets along the axis, the same corners there.
-use Rattle.std.proofs.Common.{◌≡◌, ℕ, ℤ, pos, ◌*ℤ◌, Bool, true, false, cond, ◌&&◌, ◌<◌, arith, ap, sym, ◌∙◌, inl, inr, ⊎_elim, [], ◌∷◌, subst}
+use Rattle.nef_locate.proofs.Prelude.{◌≡◌, ℕ, ℤ, pos, ◌*ℤ◌, Bool, true, false, cond, ◌&&◌, ◌<◌, arith, ap, sym, ◌∙◌, inl, inr, ⊎_elim, [], ◌∷◌, subst, int_eq, Decides-int_eq, sign, ring, at, num, neg, ◌⊕◌, ◌⊗◌, given, none, follows, cancel_eq, Place, Form, form_at, normal_of, plane_through, toward, Vector, opposite, dot, cross, triple, IsDirection, SameDirection, plane_axis, beside_x, beside_y, SameUpToFactor, of_direction, factor-same, Map, Item, item_normal, OnItem, Arc, dir_of, OnItem-by_signs, turn-last, same-plus, same-minus, Vertex, Corner, PlaneMeet, meets_vertex, meets_edge, LiesIn, Meets, IsFirstInPlane, IsArcOnSide, IsCornerAt, axis-in, plane-onward, plane-way, opposed, dot-comm, SameDirection-turned, SameDirection-trans, dir-signs, level-way, direction-left}
 use Rattle.std.specs.Bool.{one_answer}
-use Rattle.std.specs.Ordering.{int_eq}
-use Rattle.std.proofs.lemmas.Bool.Decides.{Decides-int_eq}
-use Rattle.nef_space.specs.Signs.{sign}
-use Rattle.nef_space.proofs.Ring.{ring, at, num, neg, ◌⊕◌, ◌⊗◌}
-use Rattle.nef_space.proofs.Combination.{given, none, follows}
-use Rattle.nef_space.proofs.Order.{cancel_eq}
-use Rattle.nef_space.specs.Place.{Place, Form, form_at, normal_of, plane_through, toward}
-use Rattle.nef_space.specs.Vectors.{Vector, opposite, dot, cross, triple, IsDirection, SameDirection, plane_axis, beside_x, beside_y}
-use Rattle.law_near.specs.Homogeneous.{SameUpToFactor, of_direction}
-use Rattle.law_near.proofs.Directions.{dot-comm, direction-left, same-factor, factor-same}
+use Rattle.law_near.proofs.Directions.{same-factor}
 use Rattle.law_near.proofs.Sums.{some-pos}
-use Rattle.law_sphere.specs.Maps.{Map, Item, item_normal, OnItem, Arc, dir_of}
-use Rattle.law_sphere.proofs.Compare.{SameDirection-turned, SameDirection-trans}
-use Rattle.law_sphere.proofs.Forms.{OnItem-by_signs}
-use Rattle.law_sphere.proofs.Labels.{dir-signs}
-use Rattle.law_sphere.proofs.Turn.{turn-last}
-use Rattle.law_sphere.proofs.Vectors.{same-plus, same-minus}
-use Rattle.law_complex.specs.Complexes.{Vertex, Complex, Corner}
-use Rattle.law_complex.specs.Skeleton.{PlaneMeet, meets_vertex, meets_edge, LiesIn, Meets, IsFirstInPlane, IsArcOnSide, IsCornerAt}
-use Rattle.law_complex.proofs.FacetNames.{axis-in}
-use Rattle.law_complex.proofs.FacetSides.{level-way}
-use Rattle.law_complex.proofs.FacetWays.{plane-onward}
-use Rattle.law_complex.proofs.Planes.{plane-way}
-use Rattle.law_complex.proofs.Ways.{opposed}
+use Rattle.law_complex.specs.Complexes.{Complex}
 
 -- ---- planes
 -- what lies in a plane lies in each plane with the same normal

@@ -1,13 +1,5 @@
 -- The upward direction lies above every plane within the limit, so no plane is along an upright one.
-use Rattle.std.proofs.Common.{◌≡◌, zero, suc, ◌≤◌, ℤ, pos, negsuc, neg_ℤ, ◌<ℤ◌, ◌≤ℤ◌, nat_abs, [], ◌∷◌, inl, inr, arith, refl, subst}
-use Rattle.std.proofs.lemmas.Int.{ints}
-use Rattle.nef_space.proofs.Ring.{ring, at, neg, ◌⊕◌, ◌⊗◌}
-use Rattle.nef_space.specs.Limits.{normal_limit}
-use Rattle.nef_space.specs.Place.{slope, normal_of}
-use Rattle.nef_space.specs.Vectors.{Vector, vector, dot, IsAtMost, IsNormal, IsDirection, up, opposite}
-use Rattle.nef_geo.specs.Hits.{IsUpright}
-use Rattle.nef_geo.specs.Shapes.{form_of}
-use Rattle.nef_geo.specs.declared.plane.Plane.{Plane}
+use Rattle.nef_locate.proofs.Prelude.{◌≡◌, zero, suc, ◌≤◌, ℤ, pos, negsuc, neg_ℤ, ◌<ℤ◌, ◌≤ℤ◌, nat_abs, [], ◌∷◌, inl, inr, arith, refl, subst, ints, ring, at, neg, ◌⊕◌, ◌⊗◌, normal_limit, slope, normal_of, Vector, vector, dot, IsAtMost, IsNormal, IsDirection, up, opposite, IsUpright, form_of, Plane}
 
 pub up-above : (n : Vector) → IsNormal n → IsAtMost normal_limit n → pos 0 <ℤ dot n up
 up-above n h k = leads n.x n.y n.z h k.of_y k.of_z

@@ -1,33 +1,7 @@
 -- The numbers of the sides that see the upward direction, or bound the sector of a svertex in which it lies.
-use Rattle.std.proofs.Common.{◌≡◌, ℕ, zero, suc, ◌<◌, ℤ, pos, negsuc, ◌<ℤ◌, arith, refl, ap, sym, ◌∙◌, length, Bool, true, false, Some, slice_get, subst}
-use Rattle.std.proofs.lemmas.Int.{ints}
-use Rattle.std.proofs.lemmas.List.{length-map}
-use Rattle.nef_space.specs.Vectors.{Vector, IsDirection, SameDirection, dot, cross, triple, up}
-use Rattle.nef_geo.specs.Shapes.{vector_of}
-use Rattle.nef_geo.specs.Signs.{sign_of}
+use Rattle.nef_locate.proofs.Prelude.{◌≡◌, ℕ, zero, suc, ◌<◌, ℤ, pos, negsuc, ◌<ℤ◌, arith, refl, ap, sym, ◌∙◌, length, Bool, true, false, Some, slice_get, subst, ints, length-map, Vector, IsDirection, SameDirection, dot, cross, triple, up, vector_of, sign_of, Sign, Plus, Label, At, MapVertex, Arc, Map, Item, arc_item, items, OnItem, IsFree, item_pos, item_neg, Side, around_svertex, pos_item, neg_item, HasSide, dir_of, BoundsSector, at-arc, on-level, at-one, dir-at, SArc, SVertex, SphereMap, map_of, svertex_of, arc_of, IsSphereMap, IsSide, number_of, arounds_before, at-within, at-some, side-number, IsLastArc, IsNoArc, dot-comm, cross-turned}
 use Rattle.nef_geo.proofs.InPlane.{up-direction}
-use Rattle.nef_geo.specs.declared.sign.Sign.{Sign}
-use Rattle.nef_geo.specs.declared.sign.Sign.TheVariants.{Plus}
-use Rattle.nef_space.specs.declared.label.Label.{Label}
-use Rattle.law_near.proofs.FlatDecided.{cross-turned}
-use Rattle.law_near.proofs.Directions.{dot-comm}
-use Rattle.law_sphere.specs.Maps.{At, MapVertex, Arc, Map, Item, arc_item, items, OnItem, IsFree, item_pos, item_neg, Side, around_svertex, pos_item, neg_item, HasSide, dir_of}
-use Rattle.law_sphere.specs.Sectors.{BoundsSector}
-use Rattle.law_sphere.proofs.Arcs.{at-arc}
-use Rattle.law_sphere.proofs.Forms.{on-level}
-use Rattle.law_sphere.proofs.Lists.{at-one}
-use Rattle.law_sphere.proofs.Shot.{dir-at}
-use Rattle.nef_smap.specs.declared.map.SArc.{SArc}
-use Rattle.nef_smap.specs.declared.map.SVertex.{SVertex}
-use Rattle.nef_smap.specs.declared.map.SphereMap.{SphereMap}
-use Rattle.nef_smap.specs.Maps.{map_of, svertex_of, arc_of, IsSphereMap}
-use Rattle.nef_smap.specs.Sides.{IsSide}
-use Rattle.nef_smap.specs.SideNumbers.{number_of, arounds_before}
-use Rattle.nef_smap.proofs.Lists.{at-within}
-use Rattle.nef_smap.proofs.SideLists.{at-some}
-use Rattle.nef_smap.proofs.SideNumbers.{side-number}
 use Rattle.nef_smap.proofs.Upward.{map-ahead, map-across}
-use Rattle.nef_locate.specs.Ends.{IsLastArc, IsNoArc}
 use Rattle.nef_locate.proofs.Marks.{image-read}
 use Rattle.nef_locate.proofs.NearSides.{begin-bounds, end-bounds, lone-bounds, no-arc}
 

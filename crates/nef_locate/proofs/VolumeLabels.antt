@@ -1,35 +1,5 @@
 -- A point that has a side has the side's label.
-use Rattle.std.proofs.Common.{◌≡◌, ℕ, arith, ap, sym, ◌∙◌, subst}
-use Rattle.std.proofs.lemmas.Int.{ints}
-use Rattle.nef_space.proofs.Order.{sign-plus}
-use Rattle.nef_space.specs.Local.{HasLabel, Germ, FlatDim}
-use Rattle.nef_space.specs.Place.{Place, SamePlace, toward}
-use Rattle.nef_space.specs.Sets.{Set}
-use Rattle.nef_space.specs.Vectors.{SameDirection, dot, opposite, up}
-use Rattle.nef_space.specs.declared.label.Label.{Label}
-use Rattle.law_near.proofs.Mixed.{place-toward}
-use Rattle.law_near.proofs.Directions.{direction-left}
-use Rattle.law_near.proofs.Decided.{label_of}
-use Rattle.law_near.proofs.Flats.{vector-same}
-use Rattle.law_near.proofs.Germs.{Germ-unique}
-use Rattle.law_near.proofs.Rays.{Germ-same}
-use Rattle.law_sphere.specs.Maps.{At, item_normal, item_pos, item_mark, item_neg, seen, Side, HasSide}
-use Rattle.law_sphere.specs.Least.{by_side}
-use Rattle.law_sphere.proofs.Compare.{dir-self}
-use Rattle.law_sphere.proofs.Lists.{at-one}
-use Rattle.law_sphere.proofs.Sectors.{bounds-sees}
-use Rattle.nef_smap.proofs.Lists.{at-map}
-use Rattle.nef_smap.proofs.SideLists.{get-from_at}
-use Rattle.nef_smap.specs.Maps.{IsSmall}
-use Rattle.law_complex.specs.Complexes.{Vertex as PlainVertex}
-use Rattle.law_complex.specs.Skeleton.{Spot, at_vertex, on_edge, in_facet, IsSpot, IsSkeletonPoint}
-use Rattle.law_complex.specs.Rays.{IsAbove, HasVolumeSide}
-use Rattle.law_complex.proofs.Ways.{same-itself}
-use Rattle.nef_edges.proofs.Rays.{from_opposite, opposites-same}
-use Rattle.law_complex.proofs.FacetNames.{facet-at, facet-of}
-use Rattle.law_complex.proofs.Skeletons.{spot-toward, free-way, free-flat}
-use Rattle.nef_complex.specs.declared.complex.Complex.{Complex}
-use Rattle.nef_complex.specs.Complexes.{vertex_of, complex_of, ShowsSet}
+use Rattle.nef_locate.proofs.Prelude.{◌≡◌, ℕ, arith, ap, sym, ◌∙◌, subst, ints, sign-plus, HasLabel, Germ, FlatDim, Place, SamePlace, toward, Set, SameDirection, dot, opposite, up, Label, place-toward, label_of, Germ-unique, Germ-same, At, item_normal, item_pos, item_mark, item_neg, seen, Side, HasSide, by_side, at-one, bounds-sees, at-map, get-from_at, IsSmall, Vertex as PlainVertex, Spot, at_vertex, on_edge, in_facet, IsSpot, IsSkeletonPoint, IsAbove, HasVolumeSide, same-itself, from_opposite, opposites-same, facet-at, facet-of, spot-toward, free-way, free-flat, Complex, vertex_of, complex_of, ShowsSet, vector-same, dir-self, direction-left}
 use Rattle.nef_locate.proofs.Cones.{corner-labels}
 use Rattle.nef_locate.proofs.Upward.{up-above}
 

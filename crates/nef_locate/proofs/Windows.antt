@@ -1,19 +1,8 @@
 -- Points of the frame ahead of a point lie within its window.
-use Rattle.std.proofs.Common.{◌≡◌, ℕ, ◌+◌, ◌*◌, ◌≤◌, ℤ, pos, neg_ℤ, ◌+ℤ◌, ◌-ℤ◌, ◌*ℤ◌, ◌<ℤ◌, ◌≤ℤ◌, nat_abs, [], ◌∷◌, arith, ap, sym, inl, inr, subst}
-use Rattle.std.proofs.lemmas.Int.{ints}
-use Rattle.nef_space.proofs.Order.{mul_nonneg, mul_le_right, cancel_le, cancel_lt}
-use Rattle.nef_space.proofs.Ring.{ring, at, num, ◌⊕◌, ◌⊖◌, ◌⊗◌}
-use Rattle.nef_space.specs.Limits.{half_side}
-use Rattle.nef_space.specs.Place.{Place, InClosedFrame, IsAhead}
-use Rattle.nef_space.specs.Vectors.{Vector, opposite, up}
-use Rattle.nef_geo.specs.Hits.{IsUpright}
-use Rattle.law_complex.specs.Spans.{Coordinate, coordinate_of, coordinate_x, coordinate_y, coordinate_z, IsWithin, IsJustAbove, IsCloseAbove}
-use Rattle.law_complex.proofs.FacetEdges.{ahead-back}
+use Rattle.nef_locate.proofs.Prelude.{◌≡◌, ℕ, ◌+◌, ◌*◌, ◌≤◌, ℤ, pos, neg_ℤ, ◌+ℤ◌, ◌-ℤ◌, ◌*ℤ◌, ◌<ℤ◌, ◌≤ℤ◌, nat_abs, [], ◌∷◌, arith, ap, sym, inl, inr, subst, ints, mul_nonneg, mul_le_right, cancel_le, cancel_lt, ring, at, num, ◌⊕◌, ◌⊖◌, ◌⊗◌, half_side, Place, InClosedFrame, IsAhead, Vector, opposite, up, IsUpright, Coordinate, coordinate_of, coordinate_x, coordinate_y, coordinate_z, IsWithin, ahead-back, Span, IsInSpan, IsInside, IsAmid}
+use Rattle.law_complex.specs.Spans.{IsJustAbove, IsCloseAbove}
 use Rattle.law_complex.proofs.Spans.{stays-close}
 use Rattle.nef_complex.specs.declared.spans.Bounds.{Bounds}
-use Rattle.nef_complex.specs.declared.spans.Span.{Span}
-use Rattle.nef_complex.specs.Spans.{IsInSpan}
-use Rattle.nef_locate.specs.Frames.{IsInside, IsAmid}
 
 weight : (p : Place) → pos 0 <ℤ pos p.w
 weight p = let m = p.proper in omega (arith, ints)

@@ -1,20 +1,20 @@
--- The arcs at a svertex, and which of them is the last before the upward direction.
+-- The arcs at a svertex, and the last one before the upward direction.
 use Rattle.std.specs.Prelude.{◌≡◌, ℕ, ◌<◌, pos, ◌<ℤ◌, Bool, cond, Option, Some, None}
 use Rattle.nef_space.specs.Vectors.{Vector, triple}
 use Rattle.law_sphere.specs.Maps.{At, Arc, Map}
 
--- the svertex where the arc begins, or where it ends
+-- the svertex where the arc begins, or else ends
 abbrev pub end_of : Arc → Bool → ℕ
 end_of a begins = cond begins a.source a.target
 
--- of the first n arcs that begin at svertex s, or end there, none lies counterclockwise of arc k, seen along w
+-- arc k begins (or ends) at svertex s, and none of the first n such arcs lies counterclockwise of it, seen along w
 pub record IsLastArc (M : Map) (w : Vector) (s : ℕ) (begins : Bool) (n k : ℕ) : Type 0 where
   pub arc : Arc
   pub listed : At M.arcs k arc
   pub end : end_of arc begins ≡ s
   pub last : (j : ℕ) (b : Arc) → j < n → At M.arcs j b → end_of b begins ≡ s → pos 0 <ℤ triple w arc.normal b.normal → ⊥
 
--- there is none such arc
+-- none of the first n arcs begins (or ends) at svertex s
 abbrev pub IsNoArc : Map → ℕ → Bool → ℕ → Type 0
 IsNoArc M s begins n = (j : ℕ) (b : Arc) → j < n → At M.arcs j b → end_of b begins ≡ s → ⊥
 

@@ -1,6 +1,5 @@
--- Items of a plane that lie beside an edge.
-use Rattle.std.specs.Prelude.{ℕ}
-use Rattle.nef_space.specs.Vectors.{Vector, SameDirection}
+-- Arcs of a plane beside an edge.
+use Rattle.nef_space.specs.Prelude.{ℕ, Vector, SameDirection}
 use Rattle.law_sphere.specs.Maps.{At, Arc}
 use Rattle.law_complex.specs.Complexes.{Vertex, Edge, Complex}
 use Rattle.law_complex.specs.Skeleton.{PlaneMeet, meets_vertex, meets_edge, IsArcOnSide}
@@ -9,7 +8,7 @@ use Rattle.law_complex.specs.Skeleton.{PlaneMeet, meets_vertex, meets_edge, IsAr
 abbrev pub IsArcBeside : Vertex → ℕ → Vector → Vector → ℕ → Type 0
 IsArcBeside v s n d k = (a : Arc) × At v.map.arcs k a × SameDirection a.normal n × IsArcOnSide v s n d a
 
--- the complex has the vertex or the edge
+-- the complex has the vertex or the edge with this number
 abbrev pub HasMet : Complex → PlaneMeet → Type 0
 HasMet C (meets_vertex k) = (v : Vertex) × At C.vertices k v
 HasMet C (meets_edge k) = (e : Edge) × At C.edges k e

@@ -1,7 +1,6 @@
--- The half great circles between the directions of an edge.
-use Rattle.std.specs.Prelude.{◌≡◌, ℕ, zero, suc, ◌<◌, ◌+◌, ◌*◌, List, [], ◌∷◌}
-use Rattle.nef_space.specs.Vectors.{opposite}
-use Rattle.law_sphere.specs.Maps.{At, MapVertex}
+-- The half great circles at the points of an edge.
+use Rattle.std.specs.Prelude.{◌≡◌, ◌<◌, ◌+◌, ◌*◌, ◌∷◌, ℕ, zero, suc, List, []}
+use Rattle.nef_complex.specs.Prelude.{opposite, At, MapVertex}
 use Rattle.nef_smap.specs.declared.map.SArc.{SArc}
 use Rattle.nef_spair.specs.Arcs.{AreApart}
 
@@ -9,7 +8,7 @@ use Rattle.nef_spair.specs.Arcs.{AreApart}
 abbrev pub two_ends : MapVertex → List MapVertex
 two_ends u = record { dir = opposite u.dir; mark = u.mark; around = u.around } ∷ u ∷ []
 
--- h leads from svertex number `source` of the two to the other, on the circle of a and with its labels
+-- h leads from svertex `source` of the two to the other one, on the circle of the arc a and with its labels
 pub record IsHalf (a : SArc) (source : ℕ) (h : SArc) : Type 0 where
   pub normal : h.normal ≡ a.normal
   pub source_is : h.source ≡ source
@@ -18,16 +17,16 @@ pub record IsHalf (a : SArc) (source : ℕ) (h : SArc) : Type 0 where
   pub pos : h.pos ≡ a.pos
   pub neg : h.neg ≡ a.neg
 
--- the half circle from the first direction is of an arc that ends at svertex k, the one from the second of an arc that begins there
+-- arc a ends at svertex k (for the half circle from svertex 0) or begins there (for that from svertex 1)
 abbrev pub IsEndAt : ℕ → SArc → ℕ → Type 0
 IsEndAt k a zero = a.target ≡ k
 IsEndAt k a (suc source) = a.source ≡ k
 
--- number j's half circle from this direction is one of the first n
+-- of two half circles for each arc, that of arc j from svertex `source` is one of the first n
 abbrev pub IsBefore : ℕ → ℕ → ℕ → Type 0
 IsBefore j source n = (source < 2) × (2 * j + source < n)
 
--- the half circles of the arcs at svertex k, with the first n of two for each arc looked at
+-- hs has the half circles of the arcs at svertex k, with the first n of two for each arc looked at
 pub record AreHalves (as' : List SArc) (k n : ℕ) (hs : List SArc) : Type 0 where
   pub each : (i : ℕ) (h : SArc) → At hs i h → (j : ℕ) × (source : ℕ) × (a : SArc) × IsBefore j source n × At as' j a × IsEndAt k a source × IsHalf a source h
   pub all : (j source : ℕ) (a : SArc) → IsBefore j source n → At as' j a → IsEndAt k a source → (i : ℕ) × (h : SArc) × At hs i h × IsHalf a source h

@@ -1,14 +1,11 @@
--- Points among the vertices of a plane, in the order of points.
-use Rattle.std.specs.Prelude.{◌≡◌, ℕ, ◌<◌, ◌≤◌, pos, List}
-use Rattle.nef_space.specs.Lists.{IsAt}
-use Rattle.nef_space.specs.Place.{Place, Form, form_at, IsPlaceBelow}
-use Rattle.nef_geo.specs.Shapes.{place_of}
+-- The order of a point among the vertices on a plane, and points on an edge's line.
+use Rattle.std.specs.Prelude.{◌≡◌, ◌<◌, ◌≤◌}
+use Rattle.nef_complex.specs.Prelude.{ℕ, pos, List, IsAt, Place, Form, form_at, IsPlaceBelow, place_of}
 use Rattle.nef_complex.specs.declared.complex.Complex.{Complex}
-use Rattle.nef_complex.specs.declared.complex.Edge.{Edge}
-use Rattle.nef_complex.specs.declared.complex.Vertex.{Vertex}
+use Rattle.nef_edges.specs.Prelude.{Edge, Vertex}
 use Rattle.nef_plane.specs.Amid.{AllThrough}
 
--- the vertices on the plane with numbers below n come before the point, and the others on the plane after it
+-- the vertices on the plane with numbers below n come before the point y, the other vertices on the plane after y
 pub record PartsOn (vs : List Vertex) (h : Form) (y : Place) (n : ℕ) : Type 0 where
   pub before : (j : ℕ) (v : Vertex) → j < n → IsAt vs j v → form_at h (place_of v.point) ≡ pos 0 → IsPlaceBelow (place_of v.point) y
   pub after : (j : ℕ) (v : Vertex) → n ≤ j → IsAt vs j v → form_at h (place_of v.point) ≡ pos 0 → IsPlaceBelow y (place_of v.point)

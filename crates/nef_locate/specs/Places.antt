@@ -1,58 +1,55 @@
--- Places of a complex, the points that lie there, and their labels.
-use Rattle.std.specs.Prelude.{◌≡◌, ℕ}
+-- Places of a complex, the points that lie there, and the labels of places.
+use Rattle.std.specs.Prelude.{◌≡◌}
+use Rattle.nef_complex.specs.Prelude.{ℕ, Vector, Label, corner_of}
 use Rattle.nef_space.specs.Place.{Place as PlainPlace, IsAhead, IsBetween}
-use Rattle.nef_space.specs.Vectors.{Vector}
-use Rattle.nef_space.specs.declared.label.Label.{Label}
 use Rattle.law_sphere.specs.Maps.{At, MapSloop, Item, item_normal, item_pos, item_mark, item_neg, Side}
 use Rattle.nef_smap.specs.Sides.{IsSide}
-use Rattle.law_complex.specs.Complexes.{Vertex, Edge, Complex, IsCorner}
+use Rattle.law_complex.specs.Prelude.{Vertex, Edge, Complex, IsCorner, HasVolumeSide}
 use Rattle.law_complex.specs.Skeleton.{IsVertexPoint, IsEdgePoint, at_vertex, on_edge, in_facet, HasCorner, IsSkeletonPoint}
 use Rattle.law_complex.specs.Belongs.{SpotMark}
-use Rattle.law_complex.specs.Rays.{HasVolumeSide}
-use Rattle.nef_complex.specs.Complexes.{corner_of}
 use Rattle.nef_locate.specs.declared.point.Place.{Place}
 use Rattle.nef_locate.specs.declared.point.Place.TheVariants as place
 
--- side number j of vertex i is this side, with this label
+-- side j of vertex i is the side o, with the label l
 abbrev pub IsSideOf : Complex → ℕ → ℕ → Side → Label → Type 0
 IsSideOf C i j o l = (v : Vertex) × At C.vertices i v × IsSide v.map j o l
 
--- the complex has the vertex, the edge, the item or the side
+-- the complex has the vertex, the edge, the corner or the side that the place names
 abbrev pub IsPlaceIn : Complex → Place → Type 0
 IsPlaceIn C (place.Vertex k) = (v : Vertex) × At C.vertices k v
 IsPlaceIn C (place.OnEdge k) = (e : Edge) × At C.edges k e
 IsPlaceIn C (place.InFacet k) = (v : Vertex) × (x : Item) × IsCorner C (corner_of k) v x
 IsPlaceIn C (place.InVolume i j) = (o : Side) × (l : Label) × IsSideOf C i j o l
 
--- the point y lies there: it is the vertex, lies on the edge, has the corner, or has the side
+-- the point y lies at the place: it is the vertex, lies on the edge, has the corner, or has the side
 abbrev pub IsPlaceAt : Complex → PlainPlace → Place → Type 0
 IsPlaceAt C y (place.Vertex k) = IsVertexPoint C k y
 IsPlaceAt C y (place.OnEdge k) = IsEdgePoint C k y
 IsPlaceAt C y (place.InFacet k) = HasCorner C y (corner_of k)
 IsPlaceAt C y (place.InVolume i j) = (o : Side) × (l : Label) × IsSideOf C i j o l × HasVolumeSide C y (record { vertex = i; side = o })
 
--- the mark of the vertex, edge or item, or the label of the side
+-- the label of the place: the mark of its vertex, edge or item, or the label of its side
 abbrev pub IsPlaceLabel : Complex → Place → Label → Type 0
 IsPlaceLabel C (place.Vertex k) l = SpotMark C (at_vertex k) l
 IsPlaceLabel C (place.OnEdge k) l = SpotMark C (on_edge k) l
 IsPlaceLabel C (place.InFacet k) l = SpotMark C (in_facet (corner_of k)) l
 IsPlaceLabel C (place.InVolume i j) l = (o : Side) × IsSideOf C i j o l
 
--- the plane of the item, with its labels
+-- the sloop l is the plane of the item, with the item's labels
 pub record IsPlaneOf (x : Item) (l : MapSloop) : Type 0 where
   pub normal : item_normal x ≡ l.normal
   pub pos : item_pos x ≡ l.pos
   pub mark : item_mark x ≡ l.mark
   pub neg : item_neg x ≡ l.neg
 
--- the number of flat directions there
+-- the number of flat directions at points of the place
 abbrev pub place_dimension : Place → ℕ
 place_dimension (place.Vertex k) = 0
 place_dimension (place.OnEdge k) = 1
 place_dimension (place.InFacet k) = 2
 place_dimension (place.InVolume i j) = 3
 
--- the first skeleton point ahead of p along d lies there
+-- the first skeleton point ahead of p along d lies at the place
 pub record IsFirstHit (C : Complex) (p : PlainPlace) (d : Vector) (a : Place) : Type 0 where
   pub place : PlainPlace
   pub ahead : IsAhead p d place

@@ -13,15 +13,14 @@ use nef_complex::Complex;
 use nef_geo::{Sign, triple, up};
 use nef_smap::{SArc, SphereMap};
 
-// The number of the svertex where the arc begins, or where it ends.
+// The number of the svertex where the arc begins, or else where it ends.
 fn arc_end(arc: &SArc, begins: bool) -> usize
     ensures end { result ≡ end_of (arc_of arc.now) begins }
 {
     if begins { arc.source } else { arc.target }
 }
 
-// The last counterclockwise of the arcs at the svertex: of those before `number`, which is `last`, and of that with this
-// number.
+// The last counterclockwise of the svertex's arcs up to arc `number`, where `last` is the last of the arcs before it.
 fn later_arc(
     map: &SphereMap,
     svertex: usize,
@@ -53,8 +52,8 @@ fn later_arc(
     }
 }
 
-// Of the arcs that begin at the svertex, or of those that end there, the last counterclockwise. All of them lie on one
-// side of the upward direction, less than half a turn before it or past it.
+// The last counterclockwise of the arcs that begin at the svertex, or of the arcs that end there. Arcs of one kind lie
+// on one side of the upward direction: less than half a turn before the direction, or less than half a turn past it.
 fn last_arc(map: &SphereMap, svertex: usize, begins: bool) -> Option<usize>
     requires map { IsSphereMap map.now }
     requires within { svertex < length map.now.svertices }
@@ -67,9 +66,9 @@ fn last_arc(map: &SphereMap, svertex: usize, begins: bool) -> Option<usize>
     last
 }
 
-// The number of the side that bounds the sector of the svertex in which the upward direction lies: the side of the arc at
-// the svertex that comes last before it, or the side round a svertex without arcs. Arcs that begin here lie less than half
-// a turn before it, and those that end here less than half a turn past it, so the latter count only where none begins.
+// The number of the side that bounds the svertex's sector with the upward direction: the side of the last arc before
+// this direction, or the side round a svertex without arcs. Arcs that begin here lie less than half a turn before the
+// direction, and arcs that end here less than half a turn past it: an end counts only where no arc begins.
 fn side_near(map: &SphereMap, svertex: usize) -> usize
     requires map { IsSphereMap map.now }
     requires within { svertex < length map.now.svertices }
@@ -84,9 +83,9 @@ fn side_near(map: &SphereMap, svertex: usize) -> usize
     }
 }
 
-/// The side of a vertex above the points that lie at this place, both by number: at a vertex one that sees the upward
-/// direction, on an edge that of the lower end which bounds the sector in which this direction lies, in a facet the upper one
-/// of its corner's item, and in a volume the side that names it.
+/// The side above the points that lie at this place, as the numbers of vertex and side: at a vertex a side that sees
+/// the upward direction, on an edge the side of the lower end that bounds the sector with this direction, in a facet
+/// the upper side of the corner's item, and in a volume the side that names the volume.
 pub fn side_above(c: &Complex, floor: &Place) -> (usize, usize)
     requires shows { (s : Set) × ShowsSet s c.now }
     requires place { IsPlaceIn (complex_of c.now) floor.now }

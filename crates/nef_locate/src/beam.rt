@@ -1,4 +1,4 @@
-//! What a ray up or down first meets. Where it can't lead within the frame is passed over.
+//! What a ray upward or downward first meets. Carriers off the ray's way through the frame are passed over.
 
 ghost use Rattle.std.specs.Prelude.{◌≡◌, ◌⊎◌, ◌↔◌, ◌<◌, ◌<ℤ◌, ◌+ℤ◌, ◌-ℤ◌};
 ghost use Rattle.nef_complex.specs.Prelude.{IsTrue, IsNone, IfSome, None, length, pos, Place as PlainPlace, InClosedFrame, IsAhead, Set, Vector, IsDirection, opposite, up, IsReached, IsUpright, vector_of, place_of, hit_place, IsSkeletonPoint, complex_of, ShowsSet, IsInSpan, AreSmall};
@@ -12,10 +12,10 @@ use crate::point::Place;
 use nef_complex::{Bounds, Complex, Search, Span, carrier_spans, search_carriers};
 use nef_geo::{Dir, HALF_SIDE, Hit, Point, hit_order, ray_hit};
 
-// Carriers are crowded from so many vertices for each of them on, if these are no fewer than the carriers.
+// Carriers are crowded with at least this many vertices each, on the average, and no fewer than there are carriers.
 const LEAST_CROWD: usize = 64;
 
-// The bounds of what lies at most one above the numbers within these.
+// The bounds, raised by one at the upper end.
 fn above(bounds: &Bounds) -> Bounds
     requires small { AreSmall bounds.now }
     ensures low { result.low ≡ bounds.now.low }
@@ -27,7 +27,7 @@ fn above(bounds: &Bounds) -> Bounds
     }
 }
 
-// And of what lies at most one below them.
+// The bounds, lowered by one at the lower end.
 fn below(bounds: &Bounds) -> Bounds
     requires small { AreSmall bounds.now }
     ensures low { result.low ≡ bounds.now.low -ℤ pos 1 }
@@ -39,7 +39,7 @@ fn below(bounds: &Bounds) -> Bounds
     }
 }
 
-// Whether the direction is the upward one.
+// Whether the direction is the upward direction, and not the downward one.
 fn is_up(d: &Dir) -> bool
     requires upright { IsUpright (vector_of d.now) }
     ensures upward { IsTrue result ↔ (vector_of d.now ≡ up) }
@@ -47,9 +47,8 @@ fn is_up(d: &Dir) -> bool
     d.x() > 0
 }
 
-// A span of all points of the frame that the ray from the point leads to along the upward direction or the downward one. From
-// point to point of the frame y and z change by less than one, and all three coordinates rise along the upward direction. So
-// these points' y and z lie strictly within those of the span.
+// A span of all points of the frame that the upward or downward ray from the point leads to. Upward all coordinates
+// rise, y and z by less than one within the frame: so the y and z of these points lie strictly within the span.
 fn ray_window(p: &Point, d: &Dir) -> Span
     requires upright { IsUpright (vector_of d.now) }
     ensures ahead { (q : PlainPlace) → InClosedFrame (place_of p.now) → InClosedFrame q → IsAhead (place_of p.now) (vector_of d.now) q → IsInSpan result q }
@@ -77,14 +76,14 @@ fn ray_window(p: &Point, d: &Dir) -> Span
     }
 }
 
-// Whether a number strictly within the window's bounds may lie within the others.
+// Whether a number strictly within the window's bounds may lie within the other bounds.
 fn reach_into(window: &Bounds, bounds: &Bounds) -> bool
     ensures reach { IsTrue result ↔ ((bounds.now.low <ℤ window.now.high) × (window.now.low <ℤ bounds.now.high)) }
 {
     bounds.low < window.high && window.low < bounds.high
 }
 
-// Whether a point whose y and z lie strictly within those of the window may lie within the span.
+// Whether a point with y and z strictly within the window's bounds may lie within the span.
 fn may_lead_into(window: &Span, span: &Span) -> bool
     ensures leads { (q : PlainPlace) → IsAmid window.now q → IsInSpan span.now q → IsTrue result }
 {
@@ -94,16 +93,15 @@ fn may_lead_into(window: &Span, span: &Span) -> bool
     reach_into(&window.z, &span.z)
 }
 
-// What a ray meets, and the hit there.
-#[derive(Debug, Clone, Copy)]
+// What a ray meets, as a place of the complex, and the hit there.
+#[derive(Clone, Copy)]
 struct Met {
     place: Place,
     at: Hit,
 }
 
-// A ray up or down that is asked what it meets first of a complex, and a window within which all points of the frame
-// ahead lie, with y and z strictly within the window's. What it meets on some carrier may be known before, or that it meets
-// nothing on the carrier with a number.
+// The search for what an upward or downward ray first meets. All points of the frame ahead lie within the window, with
+// y and z strictly within. The ray meets `guess` on some carrier, or without a guess nothing on carrier `missed`.
 #[derive(Clone, Copy)]
 struct Beam<'a> {
     start: &'a Point,
@@ -115,7 +113,7 @@ struct Beam<'a> {
     ghost amid: { (q : PlainPlace) → InClosedFrame q → IsAhead (place_of start.now) (vector_of direction.now) q → IsAmid window q },
 }
 
-// Whether the hit lies before what was met, which it does where nothing was.
+// Whether the hit lies before what was met so far, or nothing was met.
 fn is_sooner(hit: &Hit, best: &Option<Met>) -> bool
     ensures sooner { (p : PlainPlace) (d : Vector) → IsDirection d → IsReached p d hit.now.num hit.now.den hit.now.den_sign (hit_place hit.now) → IfSome best.now (IsReachedMet p d) → (IsTrue result ↔ IsSooner d hit.now best.now) }
 {
@@ -125,7 +123,7 @@ fn is_sooner(hit: &Hit, best: &Option<Met>) -> bool
     }
 }
 
-// Takes over what is known to be met where nothing was found before.
+// Takes the guess over where nothing was met so far.
 fn begin_with(best: &mut Option<Met>, guess: &Option<Met>)
     ensures met { (c : PlainComplex) (p : PlainPlace) (d : Vector) → IfSome best.old (IsMet c p d) → IfSome guess.now (IsMet c p d) → IfSome best.new (IsMet c p d) }
     ensures kept { (best.old ≡ None) ⊎ (best.new ≡ best.old) }
@@ -137,7 +135,7 @@ fn begin_with(best: &mut Option<Met>, guess: &Option<Met>)
     }
 }
 
-// Whether the carrier with this number is known to hold nothing that the ray meets.
+// Whether the ray is known to meet nothing on the carrier with this number.
 fn is_missed(guess: &Option<Met>, missed: usize, number: usize) -> bool
     ensures missed { IsTrue result → IsNone guess.now × (number ≡ missed) }
 {
@@ -161,7 +159,7 @@ impl Search for Beam<'_> {
         false
     }
 
-    // What the carrier holds of the skeleton takes the place of what was met before if it lies before that.
+    // Takes what the ray meets on this carrier, if that lies before what was met so far.
     fn ask(&self, c: &Complex, number: usize, best: &mut Option<Met>) {
         if !may_lead_into(&self.window, &carrier_spans(c)[number]) {
             return;
@@ -186,13 +184,13 @@ impl Search for Beam<'_> {
 }
 
 // Where a ray crosses a carrier, and the carrier's number.
-#[derive(Debug, Clone, Copy)]
+#[derive(Clone, Copy)]
 struct Crossing {
     number: usize,
     at: Hit,
 }
 
-// A ray up or down that is asked which carrier it crosses first within the carrier's span, whatever that holds there.
+// The search for the carrier that an upward or downward ray crosses first within the carrier's span.
 #[derive(Clone, Copy)]
 struct Scout<'a> {
     start: &'a Point,
@@ -200,7 +198,7 @@ struct Scout<'a> {
     window: Span,
 }
 
-// Whether the hit lies before the crossing, if there is one.
+// Whether the hit lies before the nearest crossing so far, or there is none.
 fn is_nearer(hit: &Hit, nearest: &Option<Crossing>) -> bool {
     match nearest {
         Some(crossing) => hit_order(hit, &crossing.at).is_lt(),
@@ -225,7 +223,7 @@ impl Search for Scout<'_> {
         false
     }
 
-    // A carrier that the ray crosses before the others takes their place.
+    // Takes this carrier, if the ray crosses it before the nearest crossing so far.
     fn ask(&self, c: &Complex, number: usize, nearest: &mut Option<Crossing>) {
         let span = &carrier_spans(c)[number];
         if !may_lead_into(&self.window, span) {
@@ -242,14 +240,14 @@ impl Search for Scout<'_> {
     ghost apart = { λ x c f k o. tt };
 }
 
-// Whether carriers hold so much of the skeleton that it takes longer to ask one of them what it holds at a point than to find
-// where a ray crosses each of them.
+// Whether carriers hold so much of the skeleton that asking one carrier what it holds at a point takes longer than
+// finding where a ray crosses all carriers.
 fn is_crowded(c: &Complex) -> bool {
     let share = c.vertices.len() / c.carriers.len().max(1);
     share >= c.carriers.len().max(LEAST_CROWD)
 }
 
-// The carrier that the ray from `p` crosses first within the carrier's span. It is asked for where carriers are crowded.
+// Where carriers are crowded, the carrier that the ray from `p` crosses first within the carrier's span.
 fn first_crossed(c: &Complex, p: &Point, d: &Dir, window: &Span) -> Option<usize>
     requires shows { (s : Set) × ShowsSet s c.now }
     requires upright { IsUpright (vector_of d.now) }
@@ -283,8 +281,8 @@ fn met_on(c: &Complex, p: &Point, d: &Dir, number: usize) -> Option<Met>
     Some(Met { place, at: hit })
 }
 
-// What the ray from `p` meets on the carrier that it crosses first, and the carrier's number. Nearly nothing else needs to be
-// asked closely then. Where carriers aren't crowded, nothing is asked, and the number is that of no carrier.
+// What the ray from `p` meets on the carrier that it crosses first, and this carrier's number: then nearly no other
+// carrier needs to be asked closely. Where carriers aren't crowded there is no guess, and no carrier has the number.
 fn first_guess(c: &Complex, p: &Point, d: &Dir, window: &Span) -> (Option<Met>, usize)
     requires shows { (s : Set) × ShowsSet s c.now }
     requires upright { IsUpright (vector_of d.now) }
@@ -297,10 +295,9 @@ fn first_guess(c: &Complex, p: &Point, d: &Dir, window: &Span) -> (Option<Met>, 
     }
 }
 
-/// The place of the first skeleton point that the ray from `p` meets strictly ahead, along the upward direction or the
-/// downward one. `None` comes exactly where the ray meets none. No plane is parallel to these directions, so the ray hits
-/// each carrier at one point at most; and each skeleton point lies on a carrier, as a vertex, in an edge in it, or in a facet
-/// of it.
+/// The place of the first skeleton point strictly ahead of `p`, along the upward or the downward direction. `None`
+/// comes exactly where there is none. No plane is parallel to these directions, so the ray hits each carrier at one
+/// point at most; and each skeleton point is a vertex on a carrier, or lies on an edge or in a facet of a carrier.
 pub fn first_hit(c: &Complex, p: &Point, d: &Dir) -> Option<Place>
     requires shows { (s : Set) × ShowsSet s c.now }
     requires framed { InClosedFrame (place_of p.now) }

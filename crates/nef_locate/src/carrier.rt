@@ -1,5 +1,5 @@
-//! What of the skeleton stands at a point of a carrier. Vertices have numbers in the order of points, so the numbers alone tell
-//! of most vertices and edges that a hit isn't there.
+//! What of the skeleton lies at a point of a carrier. Vertices are numbered in the order of points, so the numbers
+//! alone exclude most vertices and edges.
 
 ghost use Rattle.std.specs.Prelude.{◌≡◌, ◌≤◌, ◌*ℤ◌, ◌<ℤ◌, ◌*◌, ◌<◌, ◌≤ℤ◌, ◌↔◌};
 ghost use Rattle.nef_complex.specs.Prelude.{ℕ, pos, length, IsNone, IfSome, nat_abs, IfOk, IfErr, IsTrue, MatchOption, IsAt, Form, InClosedFrame, form_at, SamePlace, IsPlaceBelow, Set, IsPlaceAtMost, form_of, hit_place, place_of, upright_limit, upright_weight_limit, IsEdgePoint, IsVertexPoint, complex_of, ShowsSet, AreNumbersWith, EdgeLiesIn, LiesOn, IsSkeletonIn, MatchOrdering, point_limit, weight_limit, half_side, IsInSpan};
@@ -15,8 +15,8 @@ use nef_geo::{HALF_SIDE, Hit, Plane, Point};
 use nef_plane::is_in_line;
 use std::cmp::Ordering;
 
-// The lower one of bounds, or where it lies beyond the frame what parts the numbers of the frame as it does. Products
-// with the result are small.
+// The lower bound, or for a bound beyond the frame a number at or just past the frame's border, so that products stay
+// small: the bound and the number divide the numbers of the frame alike.
 fn framed_low(low: i64) -> i64
     ensures low { IsFramedLow low result }
 {
@@ -29,7 +29,7 @@ fn framed_low(low: i64) -> i64
     }
 }
 
-// And the upper one.
+// The upper bound, clamped as `framed_low` clamps the lower one.
 fn framed_high(high: i64) -> i64
     ensures high { IsFramedHigh high result }
 {
@@ -42,8 +42,7 @@ fn framed_high(high: i64) -> i64
     }
 }
 
-// Whether n/w lies within the bounds, and is at most half the length of the frame's sides in size. Products are cheaper than
-// a quotient.
+// Whether n/w lies within the bounds and within the closed frame's bounds. Products are cheaper than a quotient.
 fn lies_between(n: i128, w: i128, bounds: &Bounds) -> bool
     requires w_small { nat_abs w ≤ upright_weight_limit }
     requires positive { pos 0 <ℤ w }
@@ -69,7 +68,7 @@ pub(crate) fn is_in_span(q: &Hit, span: &Span) -> bool
     lies_between(q.z(), q.w(), &span.z)
 }
 
-// Compares x/w and y/v.
+// Compares x/w with y/v.
 fn ratio_cmp(x: i64, w: i64, y: i128, v: i128) -> Ordering
     requires x_small { nat_abs x ≤ point_limit }
     requires w_small { nat_abs w ≤ weight_limit }
@@ -80,7 +79,7 @@ fn ratio_cmp(x: i64, w: i64, y: i128, v: i128) -> Ordering
     (x as i128 * v).cmp(&(y * w as i128))
 }
 
-// Compares a point and a hit by their first numbers, then by the second, then by the third.
+// Compares a point with a hit by their first coordinates, then by the second, then by the third.
 fn hit_cmp(p: &Point, q: &Hit) -> Ordering
     requires numbers { IsPlaceAtMost upright_limit upright_weight_limit (hit_place q.now) }
     ensures order { MatchOrdering result (IsPlaceBelow (place_of p.now) (hit_place q.now)) (SamePlace (place_of p.now) (hit_place q.now)) (IsPlaceBelow (hit_place q.now) (place_of p.now)) }
@@ -96,9 +95,9 @@ fn hit_cmp(p: &Point, q: &Hit) -> Ordering
     }
 }
 
-// Of the vertices of a plane, which have these numbers, the number of that which the hit is, by halving. Where it is none of
-// them, `Err` has the number of the first that comes after it, or that of all vertices: those of the plane with smaller numbers
-// come before the hit, and the others after it.
+// The number of the vertex at the hit, by halving, where `numbers` are the vertices on a plane. If no vertex of the
+// plane stands at the hit, `Err` has the number of the plane's first vertex after the hit, or else how many vertices
+// there are: the plane's vertices with smaller numbers come before the hit, and the others after it.
 fn find_among(c: &Complex, numbers: &[usize], q: &Hit) -> Result<usize, usize>
     requires shows { (s : Set) × ShowsSet s c.now }
     requires listed { (h : Form) × AreNumbersWith (LiesOn c.now.vertices h) numbers.now }
@@ -124,7 +123,7 @@ fn find_among(c: &Complex, numbers: &[usize], q: &Hit) -> Result<usize, usize>
     }
 }
 
-// Whether the hit, which lies in the closed frame, lies within the span in y and in z.
+// Whether the hit, a point of the closed frame, lies within the span in y and in z.
 fn is_in_sides(q: &Hit, span: &Span) -> bool
     requires numbers { IsPlaceAtMost upright_limit upright_weight_limit (hit_place q.now) }
     ensures held { InClosedFrame (hit_place q.now) → IsInSpan span.now (hit_place q.now) → IsTrue result }
@@ -135,8 +134,8 @@ fn is_in_sides(q: &Hit, span: &Span) -> bool
     lies_between(q.z(), q.w(), &span.z)
 }
 
-// Whether the hit, which lies in the closed frame, lies on the line of the edge with this number, and within the span of the
-// edge's ends in y and in z. Most edges that pass over a point in x lie beside it.
+// Whether the hit, a point of the closed frame, lies on the line of the edge with this number, and within the span of
+// the edge's ends in y and in z. Most edges that pass over a point in x lie beside the point.
 fn is_along(c: &Complex, number: usize, q: &Hit) -> bool
     requires shows { (s : Set) × ShowsSet s c.now }
     requires within { number < length c.now.edges }
@@ -154,9 +153,8 @@ fn is_along(c: &Complex, number: usize, q: &Hit) -> bool
     is_in_line(c, number, q)
 }
 
-// Of the edges in a plane, which are listed, that on which the hit lies. The vertices of the plane with numbers below the next
-// come before the hit, and the others after it. An edge on which the hit lies has its lower end among the former and its upper
-// end among the latter.
+// The edge on which the hit lies, of the edges in a plane. The plane's vertices with numbers below `next` come before
+// the hit, the others after it: so the edge's lower end is below number `next`, and its upper end isn't.
 fn edge_among(c: &Complex, items: &PlaneItems, q: &Hit, next: usize) -> Option<usize>
     requires shows { (s : Set) × ShowsSet s c.now }
     requires framed { InClosedFrame (hit_place q.now) }
@@ -177,8 +175,8 @@ fn edge_among(c: &Complex, items: &PlaneItems, q: &Hit, next: usize) -> Option<u
     None
 }
 
-// The edge or the facet of the carrier with this number at a point of the carrier that is no vertex. The vertices on the
-// carrier with numbers below the next come before the point, and the others after it.
+// What lies at a point of the carrier, where no vertex stands: an edge in the carrier, or a facet in the carrier. The
+// carrier's vertices with numbers below `next` come before the point, and the others after it.
 pub(crate) fn place_beside_vertices(
     c: &Complex,
     number: usize,
@@ -202,9 +200,9 @@ pub(crate) fn place_beside_vertices(
     Some(Place::InFacet(corner))
 }
 
-/// The vertex at a point of the carrier with this number, or the edge or the facet of the carrier there. The point's first
-/// three numbers are at most `2^86` in size and its w at most `2^73`. Where `None` comes, the point is no vertex, and lies on
-/// no edge whose ends both lie on the carrier and in no facet of its plane. It takes no memory.
+/// What lies at a point of the carrier with this number: a vertex, or an edge or a facet in the carrier. The point's
+/// first three numbers are at most `2^86` in size and its w at most `2^73`. Where `None` comes, the point is no vertex,
+/// and lies on no edge and in no facet in the carrier. No memory is taken.
 pub fn place_on(c: &Complex, number: usize, h: &Plane, q: &Hit) -> Option<Place>
     requires shows { (s : Set) × ShowsSet s c.now }
     requires number { IsAt c.now.carriers number h.now }

@@ -10,7 +10,7 @@ use nef_geo::{Dir, Hit, Plane, Sign, plane_axis, plane_normal, triple};
 use nef_plane::first_along_axis;
 use nef_smap::SArc;
 
-// Whether the arc has the normal and leaves the svertex on the side that the turn from the svertex to a direction tells.
+// Whether the arc has the normal and leaves the svertex to the side that `turn` tells, from the svertex to a direction.
 fn leaves_on(arc: &SArc, svertex: usize, normal: &Dir, turn: Sign) -> bool
     ensures leaves { IsTrue result ↔ (SameDirection (vector_of arc.now.normal) (vector_of normal.now) × (((arc.now.source ≡ svertex) × (turn ≡ Sign.Plus)) ⊎ ((arc.now.target ≡ svertex) × (turn ≡ Sign.Minus)))) }
 {
@@ -22,7 +22,7 @@ fn leaves_on(arc: &SArc, svertex: usize, normal: &Dir, turn: Sign) -> bool
         }
 }
 
-// The number of the arc with the normal that leaves the svertex on the side to which the direction points.
+// The number of the arc with the normal that leaves the svertex to the side to which the direction points.
 fn arc_beside(vertex: &Vertex, svertex: usize, normal: &Dir, d: &Dir) -> Option<usize>
     requires within { svertex < length vertex.now.map.svertices }
     ensures arc { MatchOption result ((k : ℕ) → IsArcBeside (vertex_of vertex.now) svertex (vector_of normal.now) (vector_of d.now) k → ⊥) (IsArcBeside (vertex_of vertex.now) svertex (vector_of normal.now) (vector_of d.now)) }
@@ -36,9 +36,9 @@ fn arc_beside(vertex: &Vertex, svertex: usize, normal: &Dir, d: &Dir) -> Option<
     None
 }
 
-/// The corner of the plane that lies in the direction from what is met: the vertex's item of the plane on which the direction
-/// lies, or the arc of the plane at the edge's lower end on the side of the edge to which it points. The direction is one
-/// of the plane. `None` comes exactly where there is no such corner.
+/// The corner of the plane `h` next to what a ray met, along a direction of the plane: the vertex's item of the plane
+/// on which the direction lies, or the arc of the plane at the edge's lower end on the side to which the direction
+/// points. `None` comes exactly where there is no such corner.
 pub fn corner_toward(c: &Complex, h: &Plane, d: &Dir, met: PlaneMeet) -> Option<Corner>
     requires shows { (s : Set) × ShowsSet s c.now }
     requires met { HasMet (complex_of c.now) (meet_of met) }
@@ -63,9 +63,9 @@ pub fn corner_toward(c: &Complex, h: &Plane, d: &Dir, met: PlaneMeet) -> Option<
 }
 
 /// The corner of the plane's facet in which the point lies. The point lies on the plane and in the closed frame, is no
-/// vertex and lies on no edge in the plane; its first three numbers are at most `2^86` in size and its w at most `2^73`.
-/// `None` comes exactly where the point lies in no facet of the plane, so also where an edge crosses the plane there. It
-/// takes no memory.
+/// vertex and lies on no edge in the plane; its first three numbers are at most `2^86` in size and its w at most
+/// `2^73`. `None` comes exactly where the point lies in no facet, so also where an edge crosses the plane. No memory is
+/// taken.
 pub fn in_facet(c: &Complex, h: &Plane, p: &Hit) -> Option<Corner>
     requires shows { (s : Set) × ShowsSet s c.now }
     requires framed { InClosedFrame (hit_place p.now) }
@@ -79,8 +79,8 @@ pub fn in_facet(c: &Complex, h: &Plane, p: &Hit) -> Option<Corner>
 {
     // a facet has items in its plane
     let items = plane_items(c, h)?;
-    // the ray from a point of a facet stays in it up to the first vertex or edge of the plane, which has an item on this
-    // side; and from such an item the facet reaches back to the point
+    // a ray from a point of a facet stays in the facet up to the first vertex or edge of the plane, which has an item
+    // on this side; and from such an item the facet reaches back to the point
     let axis = plane_axis(h);
     let met = first_along_axis(c, h, Some(items), p, &axis)?;
     corner_toward(c, h, &axis.back(), met)

@@ -15,7 +15,7 @@ use nef_smap::{SArc, SLoop, SVertex, SphereMap, copy, face_map, plane_map};
 use nef_spair::sort_arcs;
 use std::alloc::Global;
 
-// The svertices at the points of an edge that leaves a vertex at this svertex: the opposite direction is the lesser one.
+// The svertices at the points of an edge that leaves a vertex at `end`, in order: the opposite direction comes first.
 fn ends_of(alloc: Global, end: &SVertex) -> Result<Vec<SVertex>, OutOfMemory>
     ensures ends { IfOk result (λ v. map svertex_of v.items ≡ two_ends (svertex_of end.now)) }
 {
@@ -27,7 +27,7 @@ fn ends_of(alloc: Global, end: &SVertex) -> Result<Vec<SVertex>, OutOfMemory>
     Vec::from_slice(alloc, &[opposite, *end])
 }
 
-// The half of the arc's circle from svertex number `source` of two opposite ones to the other.
+// The half of the arc's circle that begins at svertex `source`, of two opposite svertices.
 fn half_circle(arc: &SArc, source: usize) -> SArc
     requires source { source < 2 }
     ensures half { IsHalf arc.now source result }
@@ -42,7 +42,7 @@ fn half_circle(arc: &SArc, source: usize) -> SArc
     }
 }
 
-// The half circles along the arcs that begin or end at the svertex: a whole circle gives both.
+// The half circles along the arcs that begin or end at the svertex: an arc that is a whole circle gives both halves.
 fn half_circles(alloc: Global, map: &SphereMap, svertex: usize) -> Result<Vec<SArc>, OutOfMemory>
     requires map { IsSphereMap map.now }
     requires svertex { (u : MapVertex) × At (map_of map.now).svertices svertex u }
@@ -82,7 +82,7 @@ fn edge_map(alloc: Global, c: &Complex, number: usize) -> Result<SphereMap, OutO
     })
 }
 
-// The least map of the set at the points that have this corner.
+// The least map of the set at the points of the facet that have this corner.
 fn facet_map(alloc: Global, c: &Complex, corner: &Corner) -> SphereMap
     requires shows { (s : Set) × ShowsSet s c.now }
     requires place { IsPlaceIn (complex_of c.now) (place.InFacet corner.now) }
@@ -99,8 +99,8 @@ fn facet_map(alloc: Global, c: &Complex, corner: &Corner) -> SphereMap
     plane_map(alloc, plane)
 }
 
-/// The least map of the set at the points that lie at this place. `OutOfMemory` comes where no memory is left; in a facet or
-/// a volume no memory is taken.
+/// The least map of the set at the points that lie at this place. `OutOfMemory` comes where no memory is left; in a
+/// facet or a volume no memory is taken.
 pub fn place_map(alloc: Global, c: &Complex, at: &Place) -> Result<SphereMap, OutOfMemory>
     requires shows { (s : Set) × ShowsSet s c.now }
     requires place { IsPlaceIn (complex_of c.now) at.now }
@@ -118,8 +118,8 @@ pub fn place_map(alloc: Global, c: &Complex, at: &Place) -> Result<SphereMap, Ou
     }
 }
 
-/// The least map of the set at the point, which lies in the closed frame. `OutOfMemory` says that memory was wanted and not
-/// found; off the vertices and edges none is wanted.
+/// The least map of the set at the point, which lies in the closed frame. `OutOfMemory` says that memory was wanted and
+/// not found; off the vertices and edges no memory is taken.
 pub fn local_map(alloc: Global, c: &Complex, p: &Point) -> Result<SphereMap, OutOfMemory>
     requires shows { (s : Set) × ShowsSet s c.now }
     requires framed { InClosedFrame (place_of p.now) }

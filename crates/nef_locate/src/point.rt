@@ -1,4 +1,4 @@
-//! Where a point lies in a complex, and its label there.
+//! The place of a point in a complex, and the label there.
 
 ghost use Rattle.nef_complex.specs.Prelude.{IsNone, IfSome, FlatDim, HasLabel, Form, InClosedFrame, Place as PlainPlace, Set, IsPlaceAtMost, place_of, hit_place, upright_limit, upright_weight_limit, IsSkeletonPoint, complex_of, ShowsSet, IsInSpan};
 ghost use Rattle.nef_locate.specs.Orders.{PartsOn};
@@ -12,9 +12,9 @@ use nef_complex::{Complex, Corner, Search, Span, find_vertex, search_carriers};
 use nef_geo::{Hit, Label, Point, Sign, hit_at, hit_side, up};
 use nef_smap::side_label;
 
-/// Where a point lies in a complex: it is a vertex, lies on an edge, in a facet, which an item of a vertex names, or in
-/// a volume, which a side of a vertex names. Numbers count from 0.
-#[derive(Debug, Clone, Copy, PartialEq, Eq)]
+/// A place of a complex: a vertex, an edge, a facet, which an item of a vertex names, or a volume, which a side of a
+/// vertex names. Numbers count from 0.
+#[derive(Clone, Copy)]
 pub enum Place {
     Vertex(usize),
     OnEdge(usize),
@@ -22,7 +22,7 @@ pub enum Place {
     InVolume { vertex: usize, side: usize },
 }
 
-/// The label of the points that lie at this place of the complex. It takes no memory.
+/// The label of the points that lie at this place of the complex. No memory is taken.
 pub fn place_label(c: &Complex, at: &Place) -> Label
     requires place { IsPlaceIn (complex_of c.now) at.now }
     ensures label { IsPlaceLabel (complex_of c.now) at.now result }
@@ -39,8 +39,8 @@ pub fn place_label(c: &Complex, at: &Place) -> Label
     }
 }
 
-// A point of the closed frame that is asked where it lies, and a window within which it lies. It is no vertex: so many
-// vertices come before it, and the others after it.
+// The search for the place of a point of the closed frame that is no vertex. The first `before` vertices come before
+// the point, and the others after it; the point lies within the window.
 #[derive(Clone, Copy)]
 struct Probe {
     at: Hit,
@@ -81,7 +81,7 @@ impl Search for Probe {
     ghost apart = { λ x c f k o e h a s S on i. (o h a s (hit_place x.at) S on i).1 x.inside };
 }
 
-// Where a point of the skeleton lies: it is a vertex, or is looked for on the carriers.
+// The place of a point of the skeleton: a vertex, or an edge or a facet, which is searched on the carriers.
 fn on_skeleton(c: &Complex, p: &Point) -> Option<Place>
     requires shows { (s : Set) × ShowsSet s c.now }
     requires framed { InClosedFrame (place_of p.now) }
@@ -101,7 +101,7 @@ fn on_skeleton(c: &Complex, p: &Point) -> Option<Place>
     }
 }
 
-// The side that a point off the skeleton has: the one above what the ray down from it first meets.
+// The place of a point off the skeleton: the side above what the ray down from the point first meets.
 fn in_volume(c: &Complex, p: &Point) -> Place
     requires shows { (s : Set) × ShowsSet s c.now }
     requires framed { InClosedFrame (place_of p.now) }
@@ -118,9 +118,8 @@ fn in_volume(c: &Complex, p: &Point) -> Place
     }
 }
 
-/// Where the point, one of the closed frame, lies in the complex: it is a vertex, or lies on an edge, in a facet, which the
-/// corner behind it names, or in a volume, which the side above the first skeleton point down from it names. It takes no
-/// memory.
+/// The place in the complex of a point of the closed frame: a vertex, an edge, a facet, which the corner behind the
+/// point names, or a volume, which the side above the first skeleton point below the point names. No memory is taken.
 pub fn locate(c: &Complex, p: &Point) -> Place
     requires shows { (s : Set) × ShowsSet s c.now }
     requires framed { InClosedFrame (place_of p.now) }

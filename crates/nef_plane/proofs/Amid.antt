@@ -1,43 +1,6 @@
 -- A point is strictly between the ends of an edge, or is a vertex, exactly where all carriers see it so.
-use Rattle.std.proofs.Common.{◌≡◌, ℕ, ◌<◌, ℤ, pos, ◌+ℤ◌, ◌-ℤ◌, ◌*ℤ◌, ◌<ℤ◌, arith, ap, sym, ◌∙◌, ⊎_elim, subst, List, [], ◌∷◌}
-use Rattle.std.proofs.lemmas.Int.{ints}
-use Rattle.nef_space.proofs.Ring.{ring, at, num, ◌⊕◌, ◌⊖◌, ◌⊗◌}
-use Rattle.nef_space.proofs.Order.{mul_pos, mul_neg, by_order}
-use Rattle.nef_space.specs.Place.{Place, Form, form_at, slope, normal_of, toward, SamePlace, IsBetween}
-use Rattle.nef_space.specs.Sets.{Set}
-use Rattle.nef_space.specs.Vectors.{opposite, dot, cross, IsZero, IsDirection, SameDirection}
-use Rattle.nef_geo.specs.Shapes.{form_of, place_of}
-use Rattle.nef_geo.specs.Signs.{sign_of}
-use Rattle.nef_geo.specs.declared.plane.Plane.{Plane}
-use Rattle.nef_geo.specs.declared.sign.Sign.TheVariants.{Minus, Zero, Plus}
-use Rattle.nef_geo.proofs.Signs.{sign_of-positive, sign_of-negative, zero_sign}
-use Rattle.law_near.specs.Homogeneous.{of_place}
-use Rattle.law_near.proofs.Mixed.{toward-place}
-use Rattle.law_near.proofs.Directions.{zero-decided}
-use Rattle.law_near.proofs.Far.{nought-or}
-use Rattle.law_near.proofs.Near.{slope-toward}
-use Rattle.law_near.proofs.Sums.{form-sum}
-use Rattle.law_near.proofs.Between.{mixed-of, between-turned}
-use Rattle.law_near.proofs.FlatDecided.{cross-turned}
-use Rattle.law_near.proofs.Flats.{vector-same}
-use Rattle.law_sphere.specs.Maps.{At}
-use Rattle.law_sphere.proofs.Compare.{SameDirection-turned, SameDirection-trans}
-use Rattle.nef_smap.proofs.Lists.{map-at}
-use Rattle.law_complex.specs.Complexes.{HasEnds}
+use Rattle.nef_plane.proofs.Prelude.{◌≡◌, ℕ, ◌<◌, ℤ, pos, ◌+ℤ◌, ◌-ℤ◌, ◌*ℤ◌, ◌<ℤ◌, arith, ap, sym, ◌∙◌, ⊎_elim, subst, List, [], ◌∷◌, ints, ring, at, num, ◌⊕◌, ◌⊖◌, ◌⊗◌, mul_pos, mul_neg, by_order, nought-or, Place, Form, form_at, slope, normal_of, toward, SamePlace, IsBetween, Set, opposite, dot, cross, IsZero, IsDirection, SameDirection, form_of, place_of, sign_of, Plane, Minus, Zero, Plus, sign_of-positive, sign_of-negative, zero_sign, of_place, toward-place, slope-toward, form-sum, mixed-of, between-turned, At, map-at, HasEnds, Shows, IsVertexPoint, IsEdgePoint, same-by, same-by-minus, cross-back, aligned, ahead-back, plane-way, Vertex, Edge, Complex, vertex_of, edge_of, complex_of, vertex-same, listed_edge, ends, apart, edge-inside, times-nought, times-pos, times-neg, SidesWith, IsAmid, AllSideWith, AreAmid, AllHold, zero-decided, vector-same, cross-turned, SameDirection-turned, SameDirection-trans}
 use Rattle.law_complex.specs.Complexes.{Vertex as PlainVertex}
-use Rattle.law_complex.specs.Shows.{Shows}
-use Rattle.law_complex.specs.Skeleton.{IsVertexPoint, IsEdgePoint}
-use Rattle.law_complex.proofs.FacetAngles.{same-by, same-by-minus, cross-back, aligned}
-use Rattle.law_complex.proofs.FacetEdges.{ahead-back}
-use Rattle.law_complex.proofs.Planes.{plane-way}
-use Rattle.nef_complex.specs.declared.complex.Vertex.{Vertex}
-use Rattle.nef_complex.specs.declared.complex.Edge.{Edge}
-use Rattle.nef_complex.specs.declared.complex.Complex.{Complex}
-use Rattle.nef_complex.specs.Complexes.{vertex_of, edge_of, complex_of}
-use Rattle.nef_complex.proofs.Ends.{vertex-same, listed_edge, ends, apart, edge-inside}
-use Rattle.nef_complex.proofs.Parted.{times-nought, times-pos, times-neg}
-use Rattle.nef_plane.specs.Amid.{SidesWith, IsAmid, AllSideWith, AreAmid}
-use Rattle.nef_plane.specs.Meets.{AllHold}
 use Rattle.nef_plane.proofs.Crossed.{vertex-crossed, edge-along}
 use Rattle.nef_plane.proofs.Meeting.{level-same}
 

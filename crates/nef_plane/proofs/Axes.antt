@@ -1,19 +1,5 @@
 -- The axis of a plane: what lies in the plane and keeps the sweep coordinate is parallel to it.
-use Rattle.std.proofs.Common.{◌≡◌, ℤ, pos, neg_ℤ, ◌-ℤ◌, ◌*ℤ◌, Bool, true, false, cond, ◌&&◌, ◌∙◌, subst, ⊎_elim, [], ◌∷◌}
-use Rattle.std.specs.Ordering.{int_eq}
-use Rattle.nef_space.proofs.Ring.{ring, at, num, neg, ◌⊕◌, ◌⊖◌, ◌⊗◌}
-use Rattle.nef_space.specs.Place.{normal_of}
-use Rattle.nef_space.specs.Vectors.{Vector, vector, opposite, dot, cross, plane_axis, beside_x, beside_y, IsZero, IsDirection, SameDirection}
-use Rattle.nef_geo.specs.Shapes.{form_of}
-use Rattle.nef_geo.specs.declared.plane.Plane.{Plane}
-use Rattle.nef_geo.proofs.InPlane.{axis-in_plane, axis-direction}
-use Rattle.law_near.proofs.Directions.{direction-left}
-use Rattle.law_near.proofs.FlatDecided.{cross-turned}
-use Rattle.law_near.proofs.Flats.{vector-same}
-use Rattle.law_sphere.proofs.KindFlats.{in-span}
-use Rattle.law_sphere.proofs.Parallel.{parallel-trans}
-use Rattle.nef_plane.specs.Meets.{IsAlongAxis, IsParallelToAxis, sweep_axis}
-use Rattle.nef_complex.proofs.Parted.{along-cross}
+use Rattle.nef_plane.proofs.Prelude.{◌≡◌, ℤ, pos, neg_ℤ, ◌-ℤ◌, ◌*ℤ◌, Bool, true, false, cond, ◌&&◌, ◌∙◌, subst, ⊎_elim, [], ◌∷◌, int_eq, ring, at, num, neg, ◌⊕◌, ◌⊖◌, ◌⊗◌, normal_of, Vector, vector, opposite, dot, cross, plane_axis, beside_x, beside_y, IsZero, IsDirection, SameDirection, form_of, Plane, axis-in_plane, axis-direction, IsAlongAxis, IsParallelToAxis, sweep_axis, along-cross, vector-same, cross-turned, in-span, parallel-trans, direction-left}
 
 opposite-parallel : (d a : Vector) → IsZero (cross d (opposite a)) → IsZero (cross a d)
 opposite-parallel d a z = (each d.y d.z a.y a.z z.0, each d.z d.x a.z a.x z.1, each d.x d.y a.x a.y z.2)

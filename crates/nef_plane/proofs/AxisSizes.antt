@@ -1,26 +1,8 @@
 -- A direction along the axis of a plane, or along its second direction, is as small as that: it is in lowest terms, so its numbers divide those of the other.
-use Rattle.std.proofs.Common.{◌≡◌, ℕ, ◌<◌, ◌≤◌, ℤ, pos, negsuc, neg_ℤ, ◌*ℤ◌, ◌<ℤ◌, ◌-ℤ◌, nat_abs, List, [], ◌∷◌, arith, refl, sym, ap, ◌∙◌, subst, inl, inr, ⊎_elim}
-use Rattle.std.proofs.lemmas.Int.{ints}
-use Rattle.std.proofs.lemmas.Nat.Gcd.{le_of_dvd}
-use Rattle.std.specs.Int.{◌∣◌}
-use Rattle.nef_space.proofs.Ring.{ring, at, num, Poly, ◌⊕◌, ◌⊖◌, ◌⊗◌}
-use Rattle.nef_space.proofs.Combination.{given, none, follows}
-use Rattle.nef_space.proofs.Order.{by_order}
-use Rattle.nef_space.specs.Limits.{normal_limit}
-use Rattle.nef_space.specs.Numbers.{IsLowest}
-use Rattle.nef_space.specs.Place.{Place, normal_of}
-use Rattle.nef_space.specs.Vectors.{Vector, dot, opposite, plane_axis, plane_dir, IsAtMost, SameDirection}
-use Rattle.nef_geo.specs.Shapes.{form_of, vector_of}
-use Rattle.nef_geo.specs.Widths.{ray_limit, plane_dir_limit}
-use Rattle.nef_geo.specs.declared.dir.Dir.{Dir}
-use Rattle.nef_geo.specs.declared.plane.Plane.{Plane}
+use Rattle.nef_plane.proofs.Prelude.{◌≡◌, ℕ, ◌<◌, ◌≤◌, ℤ, pos, negsuc, neg_ℤ, ◌*ℤ◌, ◌<ℤ◌, ◌-ℤ◌, nat_abs, List, [], ◌∷◌, arith, refl, sym, ap, ◌∙◌, subst, inl, inr, ⊎_elim, ints, le_of_dvd, ◌∣◌, ring, at, num, Poly, ◌⊕◌, ◌⊖◌, ◌⊗◌, given, none, follows, by_order, nought-or, normal_limit, IsLowest, Place, normal_of, Vector, dot, opposite, plane_axis, plane_dir, IsAtMost, SameDirection, form_of, vector_of, ray_limit, plane_dir_limit, Dir, Plane, pair_small, dir-size, times-nought, IsAlongAxis, IsAlongDir, IsWithinDirection}
 use Rattle.nef_geo.proofs.Cramer.{difference}
 use Rattle.nef_geo.proofs.Euclid.{divides_same}
-use Rattle.nef_geo.proofs.InPlane.{pair_small, dir-size}
-use Rattle.law_near.proofs.Far.{nought-or}
 use Rattle.law_complex.specs.Complexes.{Complex}
-use Rattle.nef_complex.proofs.Parted.{times-nought}
-use Rattle.nef_plane.specs.Meets.{IsAlongAxis, IsAlongDir, IsWithinDirection}
 
 -- a number that divides another is no greater, and nought where the other is
 entry : (m n p q : ℤ) (l : ℕ) → pos 0 <ℤ p → m *ℤ p ≡ n *ℤ q → nat_abs m ∣ nat_abs n → nat_abs n ≤ l → nat_abs m ≤ l

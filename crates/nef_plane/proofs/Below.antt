@@ -1,11 +1,6 @@
 -- Numbers in increasing order, parted at a limit.
-use Rattle.std.proofs.Common.{◌≡◌, ℕ, ◌<◌, ◌≤◌, List, get_or, true, false, ltb, arith, ap, ⊎_elim, subst}
-use Rattle.std.proofs.Math.Nat.{eq-or-lt_of_le}
-use Rattle.std.proofs.lemmas.Bool.{ltb-true, ltb-false}
-use Rattle.std.proofs.lemmas.List.Sorted.{IsPartitionedBy-ltb}
-use Rattle.std.specs.List.Sorted.{IsPartitionedBy, IsPartitionPoint}
-use Rattle.nef_space.specs.Lists.{IsAt}
-use Rattle.nef_classes.proofs.ClassLists.{is-at_get, is-at_is, is-at_within}
+use Rattle.nef_plane.proofs.Prelude.{◌≡◌, ℕ, ◌<◌, ◌≤◌, List, get_or, true, false, ltb, arith, ap, ⊎_elim, subst, eq-or-lt_of_le, ltb-true, ltb-false, IsPartitionedBy-ltb, IsPartitionPoint, IsAt, is-at_get, is-at_is, is-at_within}
+use Rattle.std.specs.List.Sorted.{IsPartitionedBy}
 
 module _ (ns : List ℕ) (n : ℕ) where
   pub below-parted : ((i j k l : ℕ) → i < j → IsAt ns i k → IsAt ns j l → k < l) → IsPartitionedBy (λ k. ltb k n) ns

@@ -1,30 +1,6 @@
 -- An edge along the ray has an end between the ray's start and each of its points ahead.
-use Rattle.std.proofs.Common.{◌≡◌, ℕ, ℤ, pos, neg_ℤ, ◌-ℤ◌, ◌*ℤ◌, ◌<ℤ◌, arith, sym, ap, ◌∙◌, ◌⊎◌, inl, inr, ⊎_elim, subst, refl, [], ◌∷◌}
-use Rattle.std.proofs.lemmas.Int.{ints}
-use Rattle.nef_space.proofs.Ring.{ring, at, num, neg, ◌⊕◌, ◌⊖◌, ◌⊗◌}
-use Rattle.nef_space.proofs.Order.{by_order}
-use Rattle.nef_space.specs.Place.{Place, Form, toward, SamePlace, IsAhead, IsBetween}
-use Rattle.nef_space.specs.Sets.{Set}
-use Rattle.nef_space.specs.Vectors.{Vector, opposite, dot, cross, IsZero, IsDirection, SameDirection, IsOpposite}
-use Rattle.law_near.proofs.Mixed.{between-same, toward-place}
-use Rattle.law_near.proofs.Directions.{zero-decided, dot-comm}
-use Rattle.law_near.proofs.Between.{between-inner, between-turned}
-use Rattle.law_near.proofs.FlatDecided.{cross-turned}
-use Rattle.law_near.proofs.Flats.{vector-same}
-use Rattle.law_near.proofs.Rays.{same-place_sym}
-use Rattle.law_sphere.specs.Maps.{At}
-use Rattle.law_sphere.proofs.Compare.{SameDirection-turned, SameDirection-trans}
-use Rattle.law_sphere.proofs.Lists.{at-one}
-use Rattle.law_sphere.proofs.Vectors.{nought-if}
-use Rattle.law_complex.specs.Complexes.{Vertex, Edge, Complex, HasEnds, IsEdge}
-use Rattle.law_complex.specs.Shows.{Shows}
-use Rattle.law_complex.specs.Skeleton.{meets_edge, IsVertexPoint}
-use Rattle.law_complex.proofs.FacetAngles.{cross-back}
-use Rattle.law_complex.proofs.FacetEdges.{ahead-back}
-use Rattle.law_complex.proofs.Ways.{between-way, between-ends, same-itself}
-use Rattle.nef_complex.specs.Planes.{HoldsBoth}
-use Rattle.nef_complex.proofs.Lines.{on_line}
-use Rattle.nef_plane.specs.Meets.{HasNoSvertex, IsOffEdges, AtEdgeNumber}
+use Rattle.nef_plane.proofs.Prelude.{◌≡◌, ℕ, ℤ, pos, neg_ℤ, ◌-ℤ◌, ◌*ℤ◌, ◌<ℤ◌, arith, sym, ap, ◌∙◌, ◌⊎◌, inl, inr, ⊎_elim, subst, refl, [], ◌∷◌, ints, ring, at, num, neg, ◌⊕◌, ◌⊖◌, ◌⊗◌, by_order, Place, Form, toward, SamePlace, IsAhead, IsBetween, Set, Vector, opposite, dot, cross, IsZero, IsDirection, SameDirection, IsOpposite, between-same, toward-place, between-inner, between-turned, same-place_sym, At, at-one, HasEnds, IsEdge, Shows, meets_edge, IsVertexPoint, cross-back, ahead-back, between-way, between-ends, same-itself, HoldsBoth, on_line, HasNoSvertex, IsOffEdges, AtEdgeNumber, dot-comm, zero-decided, vector-same, cross-turned, nought-if, SameDirection-turned, SameDirection-trans}
+use Rattle.law_complex.specs.Complexes.{Vertex, Edge, Complex}
 
 -- ---- turned ways
 opposite-way : (a b : Vector) → IsOpposite a b → SameDirection b (opposite a)

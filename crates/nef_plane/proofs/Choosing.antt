@@ -1,15 +1,5 @@
 -- What a meeting and a comparison answer.
-use Rattle.std.proofs.Common.{◌≡◌, pos, Option, Some, None, List, refl, sym, ◌∙◌, inl, inr, subst}
-use Rattle.std.specs.Option.{MatchOption}
-use Rattle.std.specs.Prelude.{IsNone, IfSome}
-use Rattle.nef_space.specs.Place.{Place, form_at}
-use Rattle.nef_space.specs.Vectors.{Vector}
-use Rattle.nef_geo.specs.Shapes.{form_of, far_place}
-use Rattle.nef_geo.specs.declared.hit.FarHit.{FarHit}
-use Rattle.nef_geo.specs.declared.plane.Plane.{Plane}
-use Rattle.law_complex.proofs.Ways.{same-itself}
-use Rattle.nef_complex.specs.Planes.{HoldsBoth}
-use Rattle.nef_plane.specs.Meets.{Encounter, far_reach_of, IsParallelToAxis, sweep_form, AreOpposite, IsHitThrough, NoneCrosses, IsMet, AllHold, IsNearer, IsNotPast}
+use Rattle.nef_plane.proofs.Prelude.{◌≡◌, pos, Option, Some, None, List, refl, sym, ◌∙◌, inl, inr, subst, MatchOption, IsNone, IfSome, Place, form_at, Vector, form_of, far_place, FarHit, Plane, same-itself, HoldsBoth, Encounter, far_reach_of, IsParallelToAxis, sweep_form, AreOpposite, IsHitThrough, NoneCrosses, IsMet, AllHold, IsNearer, IsNotPast}
 use Rattle.nef_plane.proofs.Meeting.{met-some, met-all}
 
 pub met-answers : (o : Option FarHit) (gs : List Plane) (h : Plane) (p : Place) (d : Vector) → IsParallelToAxis (form_of h) d → form_at (form_of h) p ≡ pos 0 → (a b : Place) → HoldsBoth (form_of h) a b

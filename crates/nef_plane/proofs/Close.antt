@@ -1,26 +1,6 @@
 -- A coordinate that hardly changes along a direction changes by less than one within the frame.
-use Rattle.std.proofs.Common.{◌≡◌, ℕ, ◌+◌, ◌*◌, ◌<◌, ◌≤◌, ℤ, pos, neg_ℤ, ◌-ℤ◌, ◌*ℤ◌, ◌<ℤ◌, nat_abs, arith, true, ◌⊎◌, ◌↔◌, ⊎_elim, sym, ap, ◌∙◌, subst, w64, cond, ◌&&◌, List, length, [], ◌∷◌, refl}
-use Rattle.std.proofs.Math.Nat.{mul-pos, mul-le-mul_left, mul-le-mul_right}
-use Rattle.std.specs.Ordering.{int_eq}
-use Rattle.std.proofs.lemmas.Bool.{cases_lt}
-use Rattle.std.proofs.lemmas.Bool.Decides.{Decides-int_eq}
-use Rattle.std.proofs.lemmas.Int.{ints, unsigned_abs-mul}
+use Rattle.nef_plane.proofs.Prelude.{◌≡◌, ℕ, ◌+◌, ◌*◌, ◌<◌, ◌≤◌, ℤ, pos, neg_ℤ, ◌-ℤ◌, ◌*ℤ◌, ◌<ℤ◌, nat_abs, arith, true, ◌⊎◌, ◌↔◌, ⊎_elim, sym, ap, ◌∙◌, subst, w64, cond, ◌&&◌, List, length, [], ◌∷◌, refl, mul-pos, mul-le-mul_left, mul-le-mul_right, int_eq, cases_lt, Decides-int_eq, ints, unsigned_abs-mul, load, wrap, exact_of, abs_minus, abs_times, ring, at, num, ◌⊕◌, ◌⊖◌, ◌⊗◌, half_side, Place, Form, form, form_at, toward, InClosedFrame, IsAhead, Vector, vector, dot, form_of, ray_limit, Plane, through-at, through-slope, is-at_within, Vertex, StaysClose, IsFirst, IsPast, shifted_form, IsSwept, sweep_axis, sweep_form}
 use mir.Val.{to_z, of_z}
-use Rattle.nef_space.proofs.Machine.{load, wrap, exact_of}
-use Rattle.nef_space.proofs.Order.{abs_minus, abs_times}
-use Rattle.nef_space.proofs.Ring.{ring, at, num, ◌⊕◌, ◌⊖◌, ◌⊗◌}
-use Rattle.nef_space.specs.Limits.{half_side}
-use Rattle.nef_space.specs.Place.{Place, Form, form, form_at, toward, InClosedFrame, IsAhead}
-use Rattle.nef_space.specs.Vectors.{Vector, vector, dot}
-use Rattle.nef_geo.specs.Shapes.{form_of}
-use Rattle.nef_geo.specs.Widths.{ray_limit}
-use Rattle.nef_geo.specs.declared.plane.Plane.{Plane}
-use Rattle.law_complex.proofs.FacetAngles.{through-at, through-slope}
-use Rattle.nef_classes.proofs.ClassLists.{is-at_within}
-use Rattle.nef_complex.specs.declared.complex.Vertex.{Vertex}
-use Rattle.nef_plane.specs.Courses.{StaysClose, IsFirst, IsPast, shifted_form}
-use Rattle.nef_plane.specs.Levels.{IsSwept}
-use Rattle.nef_plane.specs.Meets.{sweep_axis, sweep_form}
 use Rattle.nef_plane.proofs.Sweep.{first-swept}
 
 -- ---- sizes

@@ -1,32 +1,8 @@
 -- Not all carriers that hold a vertex are along one direction, and those that hold an edge only where the edge is; some carrier holds it.
-use Rattle.std.proofs.Common.{◌≡◌, ℕ, pos, sym, ◌∙◌, subst}
-use Rattle.nef_space.specs.Signs.{Lies}
-use Rattle.nef_space.proofs.Order.{nought-is}
-use Rattle.nef_space.specs.Local.{Flat}
-use Rattle.nef_space.specs.Place.{Place, Form, form_at, slope, normal_of, toward, IsBetween}
-use Rattle.nef_space.specs.Sets.{Set}
-use Rattle.nef_space.specs.Vectors.{Vector, cross, IsZero, IsDirection}
-use Rattle.nef_geo.specs.Shapes.{form_of}
-use Rattle.nef_geo.specs.declared.plane.Plane.{Plane}
-use Rattle.law_near.proofs.Directions.{dot-comm}
-use Rattle.law_near.specs.Cells.{carriers}
-use Rattle.law_near.specs.Laws.{EdgeSupport}
-use Rattle.law_near.proofs.Edges.{start, start-between}
-use Rattle.law_near.proofs.FlatDecided.{parallel-both, triple-in_plane, cross-turned}
+use Rattle.nef_plane.proofs.Prelude.{◌≡◌, ℕ, pos, sym, ◌∙◌, subst, Lies, nought-is, Flat, Place, Form, form_at, slope, normal_of, toward, IsBetween, Set, Vector, cross, IsZero, IsDirection, form_of, Plane, carriers, EdgeSupport, start, start-between, edge-support, At, at-map, HasEnds, Shows, SamePlane, edge-points, plane-turned, plane-point, plane-slope, Complex, complex_of, HoldsBoth, through-both, along-cross, AllHold, dot-comm, cross-turned, parallel-both, triple-in_plane}
 use Rattle.law_near.proofs.Meets.{vertex-meets}
-use Rattle.law_near.proofs.Supports.{edge-support}
-use Rattle.law_sphere.specs.Maps.{At}
-use Rattle.nef_smap.proofs.Lists.{at-map}
-use Rattle.law_complex.specs.Complexes.{Vertex, Edge, HasEnds}
-use Rattle.law_complex.specs.Shows.{Shows, SamePlane}
-use Rattle.law_complex.proofs.Edges.{edge-points, edge-way}
-use Rattle.law_complex.proofs.Planes.{plane-turned, plane-point, plane-slope}
-use Rattle.nef_complex.specs.declared.complex.Complex.{Complex}
-use Rattle.nef_complex.specs.Complexes.{complex_of}
-use Rattle.nef_complex.specs.Planes.{HoldsBoth}
-use Rattle.nef_complex.proofs.Ends.{through-both}
-use Rattle.nef_complex.proofs.Parted.{along-cross}
-use Rattle.nef_plane.specs.Meets.{AllHold}
+use Rattle.law_complex.specs.Complexes.{Vertex, Edge}
+use Rattle.law_complex.proofs.Edges.{edge-way}
 
 -- the program's carrier of a plane of the set
 carrier-of : (s : Set) (c : Complex) → Shows s (complex_of c) → (f : Form) → Lies (carriers s) f → (i : ℕ) × (g : Plane) × At c.carriers i g × SamePlane (form_of g) f

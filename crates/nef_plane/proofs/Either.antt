@@ -1,23 +1,5 @@
 -- What holds of vertices and of edges, said of either by its ends.
-use Rattle.std.proofs.Common.{◌≡◌, ℕ, List, sym, refl, subst}
-use Rattle.nef_space.specs.Lists.{IsAt}
-use Rattle.nef_space.specs.Place.{Form}
-use Rattle.nef_space.specs.Sets.{Set}
-use Rattle.nef_geo.specs.Shapes.{place_of}
-use Rattle.nef_geo.specs.declared.plane.Plane.{Plane}
-use Rattle.law_complex.specs.Shows.{Shows}
-use Rattle.nef_classes.proofs.ClassLists.{is-at_one, is-at_some}
-use Rattle.nef_complex.specs.declared.complex.Vertex.{Vertex}
-use Rattle.nef_complex.specs.declared.complex.Edge.{Edge}
-use Rattle.nef_complex.specs.declared.complex.Complex.{Complex}
-use Rattle.nef_complex.specs.declared.complex.PlaneMeet.{PlaneMeet}
-use Rattle.nef_complex.specs.declared.complex.PlaneMeet.TheVariants.{AtVertex, AtEdge}
-use Rattle.nef_complex.specs.Complexes.{complex_of}
-use Rattle.nef_complex.specs.Index.{AreHolders}
-use Rattle.nef_complex.specs.Planes.{HoldsBoth}
-use Rattle.nef_complex.proofs.Ends.{low-within, high-within}
-use Rattle.nef_complex.proofs.Reading.{got-at}
-use Rattle.nef_plane.specs.Ends.{HasMeet, MeetLiesIn, AreEnds, HasEndsAt}
+use Rattle.nef_plane.proofs.Prelude.{◌≡◌, ℕ, List, sym, refl, subst, IsAt, Form, Set, place_of, Plane, Shows, is-at_one, is-at_some, Vertex, Edge, Complex, PlaneMeet, AtVertex, AtEdge, complex_of, AreHolders, HoldsBoth, low-within, high-within, got-at, HasMeet, MeetLiesIn, AreEnds, HasEndsAt}
 use Rattle.nef_plane.proofs.Listed.{held-vertex, held-edge}
 
 module _ (c : Complex) where

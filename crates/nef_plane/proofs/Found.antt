@@ -1,32 +1,7 @@
 -- What a ray meets at a vertex, inside an edge, and first of all.
-use Rattle.std.proofs.Common.{◌≡◌, ℕ, ◌<◌, length, refl, sym, ⊎_elim, ◌⊎◌, inl, inr, subst, pos}
-use Rattle.nef_space.specs.Place.{Place, Form, form_at, slope, normal_of, toward, SamePlace, IsAhead, IsBetween}
-use Rattle.nef_space.specs.Sets.{Set}
-use Rattle.nef_space.specs.Vectors.{Vector, cross, IsZero, IsDirection}
-use Rattle.nef_geo.specs.Shapes.{place_of}
-use Rattle.law_near.proofs.Mixed.{place-toward}
-use Rattle.law_near.proofs.Directions.{direction-right}
-use Rattle.law_near.proofs.Between.{between-inner}
-use Rattle.law_near.proofs.Rays.{same-place_sym}
-use Rattle.law_sphere.specs.Maps.{At}
-use Rattle.law_sphere.proofs.KindFlats.{in-span}
-use Rattle.law_sphere.proofs.Lists.{at-one}
-use Rattle.nef_smap.proofs.Lists.{map-at, at-map, at-within}
-use Rattle.law_complex.specs.Complexes.{HasEnds}
+use Rattle.nef_plane.proofs.Prelude.{◌≡◌, ℕ, ◌<◌, length, refl, sym, ⊎_elim, ◌⊎◌, inl, inr, subst, pos, Place, Form, form_at, slope, normal_of, toward, SamePlace, IsAhead, IsBetween, Set, Vector, cross, IsZero, IsDirection, place_of, place-toward, between-inner, same-place_sym, At, at-one, map-at, at-map, at-within, HasEnds, Shows, meets_vertex, meets_edge, Meets, IsFirstInPlane, plane-way, same-itself, same-place_trans, Vertex, Edge, Complex, vertex_of, edge_of, complex_of, HoldsBoth, vertex-same, listed_edge, ends, apart, of-ends, one-crossing, held-between, Encounter, FromVertex, HasNoSvertex, IsOffEdges, AllHold, AtVertexNumber, AtEdgeNumber, AtVertexOrEdge, IsReachedMet, IsNearestMet, in-span, direction-right}
 use Rattle.law_complex.specs.Complexes.{Vertex as PlainVertex, Edge as PlainEdge}
-use Rattle.law_complex.specs.Shows.{Shows}
-use Rattle.law_complex.specs.Skeleton.{PlaneMeet as PlainMeet, meets_vertex, meets_edge, Meets, IsFirstInPlane}
-use Rattle.law_complex.proofs.Planes.{plane-way}
-use Rattle.law_complex.proofs.Ways.{same-itself, same-place_trans}
-use Rattle.nef_complex.specs.declared.complex.Vertex.{Vertex}
-use Rattle.nef_complex.specs.declared.complex.Edge.{Edge}
-use Rattle.nef_complex.specs.declared.complex.Complex.{Complex}
-use Rattle.nef_complex.specs.Complexes.{vertex_of, edge_of, complex_of}
-use Rattle.nef_complex.specs.Planes.{HoldsBoth}
-use Rattle.nef_complex.proofs.Ends.{vertex-same, listed_edge, ends, apart, of-ends}
-use Rattle.nef_complex.proofs.Lines.{one-crossing}
-use Rattle.nef_complex.proofs.Parted.{held-between}
-use Rattle.nef_plane.specs.Meets.{Encounter, FromVertex, HasNoSvertex, IsOffEdges, AllHold, AtVertexNumber, AtEdgeNumber, AtVertexOrEdge, IsReachedMet, IsNearestMet}
+use Rattle.law_complex.specs.Skeleton.{PlaneMeet as PlainMeet}
 use Rattle.nef_plane.proofs.Beside.{edge-or_end}
 use Rattle.nef_plane.proofs.Crossed.{vertex-crossed, edge-along}
 use Rattle.nef_plane.proofs.Nearest.{between-ahead}

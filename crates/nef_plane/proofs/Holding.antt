@@ -1,12 +1,5 @@
 -- The carriers that hold a vertex or an edge by number, as the calls that read them see them.
-use Rattle.std.proofs.Common.{◌≡◌, ℕ, List, sym, subst}
-use Rattle.nef_space.specs.Lists.{IsAt}
-use Rattle.nef_geo.specs.Shapes.{place_of}
-use Rattle.nef_geo.specs.declared.plane.Plane.{Plane}
-use Rattle.nef_complex.specs.declared.complex.Vertex.{Vertex}
-use Rattle.nef_complex.specs.declared.complex.Edge.{Edge}
-use Rattle.nef_complex.specs.declared.complex.Complex.{Complex}
-use Rattle.nef_complex.specs.Index.{AreHolders, AreHoldersAlong}
+use Rattle.nef_plane.proofs.Prelude.{◌≡◌, ℕ, List, sym, subst, IsAt, place_of, Plane, Vertex, Edge, Complex, AreHolders, AreHoldersAlong}
 
 module _ (c : Complex) (k : ℕ) (gs : List Plane) (ns : List ℕ) (e : gs ≡ c.carriers) where
   pub vertex-held : (v : Vertex) → IsAt c.vertices k v → ((v : Vertex) → IsAt c.vertices k v → AreHolders c.carriers (place_of v.point) (place_of v.point) ns) → AreHolders gs (place_of v.point) (place_of v.point) ns

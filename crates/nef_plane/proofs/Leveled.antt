@@ -1,35 +1,5 @@
 -- The vertices of a plane beside a line along its axis, and what the line doesn't meet of the plane.
-use Rattle.std.proofs.Common.{◌≡◌, ℕ, zero, suc, ◌+◌, ◌<◌, ◌≤◌, length, ℤ, pos, negsuc, Bool, true, false, ◌↔◌, IsTrue, List, arith, inl, inr, ⊎_elim, refl, subst}
-use Rattle.std.proofs.Math.Nat.{eq-or-lt_of_le}
-use Rattle.std.proofs.lemmas.Bool.{cases_lt}
-use Rattle.std.proofs.lemmas.Int.{ints}
-use Rattle.nef_space.proofs.Order.{by_order}
-use Rattle.nef_space.specs.Lists.{IsAt}
-use Rattle.nef_space.specs.Place.{Place, Form, form_at, IsAhead, IsBetween}
-use Rattle.nef_space.specs.Sets.{Set}
-use Rattle.nef_space.specs.Vectors.{Vector}
-use Rattle.nef_geo.specs.Shapes.{form_of, place_of}
-use Rattle.nef_geo.specs.Signs.{sign_of}
-use Rattle.nef_geo.specs.declared.plane.Plane.{Plane}
-use Rattle.nef_geo.specs.declared.sign.Sign.TheVariants.{Minus, Zero, Plus}
-use Rattle.law_near.proofs.Between.{between-turned}
-use Rattle.law_near.proofs.Rays.{same-place_sym}
-use Rattle.law_sphere.specs.Maps.{At}
-use Rattle.law_sphere.proofs.Lists.{at-one}
-use Rattle.law_complex.specs.Shows.{Shows}
-use Rattle.law_complex.proofs.FacetAngles.{between-level, between-level_minus}
-use Rattle.nef_classes.proofs.ClassLists.{is-at_one, is-at_within}
-use Rattle.nef_complex.specs.declared.complex.Vertex.{Vertex}
-use Rattle.nef_complex.specs.declared.complex.Edge.{Edge}
-use Rattle.nef_complex.specs.declared.complex.Complex.{Complex}
-use Rattle.nef_complex.specs.declared.complex.PlaneMeet.{PlaneMeet}
-use Rattle.nef_complex.specs.Complexes.{edge_of, complex_of}
-use Rattle.nef_complex.specs.Index.{LiesOn, EdgeLiesIn, AreNumbersWith}
-use Rattle.nef_complex.proofs.Reading.{got-at}
-use Rattle.nef_smap.proofs.Lists.{map-at}
-use Rattle.nef_plane.specs.Levels.{IsShort, AreShortBelow, AreFarFrom, IsLevel, IsUnparted, IsSwept}
-use Rattle.nef_plane.specs.Ends.{MeetLiesIn, AreEnds}
-use Rattle.nef_plane.specs.Meets.{IsParallelToAxis, AtVertexNumber, AtEdgeNumber, AtMeet, sweep_form, IsMissed}
+use Rattle.nef_plane.proofs.Prelude.{◌≡◌, ℕ, zero, suc, ◌+◌, ◌<◌, ◌≤◌, length, ℤ, pos, negsuc, Bool, true, false, ◌↔◌, IsTrue, List, arith, inl, inr, ⊎_elim, refl, subst, eq-or-lt_of_le, cases_lt, ints, by_order, IsAt, Place, Form, form_at, IsAhead, IsBetween, Set, Vector, form_of, place_of, sign_of, Plane, Minus, Zero, Plus, between-turned, same-place_sym, At, at-one, Shows, between-level, between-level_minus, is-at_one, is-at_within, Vertex, Edge, Complex, PlaneMeet, edge_of, complex_of, LiesOn, EdgeLiesIn, AreNumbersWith, got-at, map-at, IsShort, AreShortBelow, AreFarFrom, IsLevel, IsUnparted, IsSwept, MeetLiesIn, AreEnds, IsParallelToAxis, AtVertexNumber, AtEdgeNumber, AtMeet, sweep_form, IsMissed}
 use Rattle.nef_plane.specs.declared.plane.Level.{Level}
 use Rattle.nef_plane.proofs.Axes.{axis-some}
 use Rattle.nef_plane.proofs.Either.{by-numbers}

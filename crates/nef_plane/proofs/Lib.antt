@@ -1,3 +1,4 @@
+pub mod Prelude
 pub mod Axes
 pub mod Meeting
 pub mod Nearest

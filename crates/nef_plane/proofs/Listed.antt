@@ -1,31 +1,8 @@
 -- What a ray meets in a plane that holds it lies there.
-use Rattle.std.proofs.Common.{◌≡◌, ℕ, ◌<◌, Option, Some, None, List, pos, sym, subst}
-use Rattle.std.specs.Prelude.{IfSome}
-use Rattle.nef_space.specs.Lists.{IsAt}
-use Rattle.nef_space.specs.Place.{Place, Form, form_at, IsAhead}
-use Rattle.nef_space.specs.Vectors.{Vector, IsDirection}
-use Rattle.nef_geo.specs.Shapes.{place_of}
-use Rattle.law_near.proofs.Rays.{same-place_sym}
-use Rattle.law_sphere.specs.Maps.{At}
-use Rattle.nef_classes.proofs.ClassLists.{is-at_one, is-at_within}
-use Rattle.nef_smap.proofs.Lists.{at-map, at-within}
-use Rattle.nef_smap.proofs.SideLists.{get-from_at}
+use Rattle.nef_plane.proofs.Prelude.{◌≡◌, ℕ, ◌<◌, Option, Some, None, List, pos, sym, subst, IfSome, IsAt, Place, Form, form_at, IsAhead, Vector, IsDirection, place_of, same-place_sym, At, is-at_one, is-at_within, at-map, at-within, get-from_at, LiesIn, Vertex, Edge, Complex, PlaneMeet as ProgramMeet, AtVertex, AtEdge, vertex_of, edge_of, complex_of, LiesOn, EdgeLiesIn, AreNumbersWith, ArePeaks, HoldsBoth, vertex-same, meet_at, count_in, AreItems, HasMeet, MeetLiesIn, IsVertexOrLies, HoldsRay, AtMeet}
 use Rattle.law_complex.specs.Complexes.{Vertex as PlainVertex, Edge as PlainEdge}
-use Rattle.law_complex.specs.Skeleton.{PlaneMeet, LiesIn}
-use Rattle.nef_complex.specs.declared.complex.Vertex.{Vertex}
-use Rattle.nef_complex.specs.declared.complex.Edge.{Edge}
-use Rattle.nef_complex.specs.declared.complex.Complex.{Complex}
-use Rattle.nef_complex.specs.declared.complex.PlaneMeet.{PlaneMeet as ProgramMeet}
-use Rattle.nef_complex.specs.declared.complex.PlaneMeet.TheVariants.{AtVertex, AtEdge}
+use Rattle.law_complex.specs.Skeleton.{PlaneMeet}
 use Rattle.nef_complex.specs.declared.complex.PlaneItems.{PlaneItems}
-use Rattle.nef_complex.specs.Complexes.{vertex_of, edge_of, complex_of}
-use Rattle.nef_complex.specs.Index.{LiesOn, EdgeLiesIn, AreNumbersWith}
-use Rattle.nef_complex.specs.Peaks.{ArePeaks}
-use Rattle.nef_complex.specs.Planes.{HoldsBoth}
-use Rattle.nef_complex.proofs.Ends.{vertex-same}
-use Rattle.nef_plane.specs.Asked.{meet_at, count_in, AreItems}
-use Rattle.nef_plane.specs.Ends.{HasMeet, MeetLiesIn, IsVertexOrLies}
-use Rattle.nef_plane.specs.Meets.{HoldsRay, AtMeet}
 use Rattle.nef_plane.specs.declared.first.Kind.{Kind}
 use Rattle.nef_plane.specs.declared.first.Kind.TheVariants.{Vertex as KindVertex, Edge as KindEdge}
 use Rattle.nef_plane.proofs.Meeting.{level-same, ahead-level}

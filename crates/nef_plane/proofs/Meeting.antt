@@ -1,32 +1,6 @@
 -- Where a ray along the axis of a plane meets a segment of the plane, or a point of it.
-use Rattle.std.proofs.Common.{◌≡◌, zero, suc, ℤ, pos, negsuc, neg_ℤ, ◌*ℤ◌, ◌<ℤ◌, List, ap, sym, ◌∙◌, arith, ◌⊎◌, inl, inr, ⊎_elim, refl, [], ◌∷◌}
-use Rattle.std.proofs.lemmas.Int.{ints}
-use Rattle.nef_space.specs.Signs.{sign}
-use Rattle.nef_space.proofs.Ring.{ring, at, num, ◌⊖◌, ◌⊗◌}
-use Rattle.nef_space.proofs.Combination.{given, none, follows_times}
-use Rattle.nef_space.proofs.Order.{nought-is}
-use Rattle.nef_space.specs.Place.{Place, Form, form_at, slope, normal_of, toward, SamePlace, IsAhead, IsBetween}
-use Rattle.nef_space.specs.Vectors.{Vector, dot, cross, IsZero, IsDirection}
-use Rattle.nef_geo.specs.Hits.{IsCrossing}
-use Rattle.nef_geo.specs.Shapes.{form_of}
-use Rattle.nef_geo.specs.Signs.{sign_of}
-use Rattle.nef_geo.specs.Steps.{HasOppositeSigns}
-use Rattle.nef_geo.specs.declared.plane.Plane.{Plane}
-use Rattle.nef_geo.proofs.Signs.{sign_of-positive, sign_of-negative}
-use Rattle.law_near.proofs.Mixed.{between-same, toward-place, place-toward}
-use Rattle.law_near.proofs.Directions.{zero-decided, dot-zero}
-use Rattle.law_near.proofs.Far.{nought-or}
-use Rattle.law_near.proofs.Near.{slope-toward}
-use Rattle.law_near.proofs.FlatDecided.{cross-turned}
-use Rattle.law_near.proofs.Rays.{sign-same, same-place_sym}
-use Rattle.law_sphere.proofs.KindFlats.{in-span}
-use Rattle.law_complex.proofs.FacetAngles.{through-at, through-slope}
-use Rattle.law_complex.proofs.Planes.{plane-way}
-use Rattle.law_complex.proofs.Ways.{same-itself}
-use Rattle.nef_complex.specs.Planes.{HoldsBoth}
-use Rattle.nef_plane.specs.Meets.{IsParallelToAxis, sweep_axis, sweep_form, AreOpposite, NoneCrosses, IsMet, AllHold}
+use Rattle.nef_plane.proofs.Prelude.{◌≡◌, zero, suc, ℤ, pos, negsuc, neg_ℤ, ◌*ℤ◌, ◌<ℤ◌, List, ap, sym, ◌∙◌, arith, ◌⊎◌, inl, inr, ⊎_elim, refl, [], ◌∷◌, ints, sign, ring, at, num, ◌⊖◌, ◌⊗◌, given, none, follows_times, nought-is, nought-or, Place, Form, form_at, slope, normal_of, toward, SamePlace, IsAhead, IsBetween, Vector, dot, cross, IsZero, IsDirection, IsCrossing, form_of, sign_of, HasOppositeSigns, Plane, sign_of-positive, sign_of-negative, between-same, toward-place, place-toward, slope-toward, sign-same, same-place_sym, through-at, through-slope, plane-way, same-itself, HoldsBoth, IsParallelToAxis, sweep_axis, sweep_form, AreOpposite, NoneCrosses, IsMet, AllHold, times-nought, parted-cut, held-between, crossed-parted, zero-decided, dot-zero, cross-turned, in-span}
 use Rattle.nef_plane.proofs.Axes.{axis-some, axis-level, axis-keeps, axis-parallel}
-use Rattle.nef_complex.proofs.Parted.{times-nought, parted-cut, held-between, crossed-parted}
 
 -- ---- signs
 opposite-cases : (x y : ℤ) → sign_of x ≡ sign_of (neg_ℤ y) → HasOppositeSigns x y ⊎ ((x ≡ pos 0) × (y ≡ pos 0))

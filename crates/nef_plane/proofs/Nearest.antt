@@ -1,20 +1,6 @@
 -- The nearest of what a ray meets.
-use Rattle.std.proofs.Common.{◌≡◌, ℕ, ◌<◌, ◌≤◌, ◌+◌, List, Option, Some, None, arith, refl, sym, ◌⊎◌, inl, inr, ⊎_elim, subst}
-use Rattle.std.proofs.Math.Nat.{eq-or-lt_of_le}
-use Rattle.std.proofs.lemmas.Bool.{cases_lt}
-use Rattle.nef_space.specs.Lists.{IsAt}
-use Rattle.nef_space.specs.Place.{Place, toward, IsAhead, IsBetween}
-use Rattle.nef_space.specs.Vectors.{Vector}
-use Rattle.law_near.proofs.Mixed.{between-same}
-use Rattle.law_near.proofs.Between.{between-inner}
-use Rattle.law_sphere.proofs.Compare.{SameDirection-turned, SameDirection-trans}
-use Rattle.law_complex.proofs.Ways.{between-way, same-itself}
+use Rattle.nef_plane.proofs.Prelude.{◌≡◌, ℕ, ◌<◌, ◌≤◌, ◌+◌, List, Option, Some, None, arith, refl, sym, ◌⊎◌, inl, inr, ⊎_elim, subst, eq-or-lt_of_le, cases_lt, IsAt, Place, toward, IsAhead, IsBetween, Vector, between-same, between-inner, between-way, same-itself, IfSome, is-at_one, Span, Encounter, IsReachedMet, IsMissed, IsNearest, IsNearestMet, IsNearer, IsNotPast, IsOutside, HoldsBefore, SameDirection-turned, SameDirection-trans}
 use Rattle.law_complex.specs.Skeleton.{PlaneMeet}
-use Rattle.std.specs.Prelude.{IfSome}
-use Rattle.nef_classes.proofs.ClassLists.{is-at_one}
-use Rattle.nef_complex.specs.declared.spans.Span.{Span}
-use Rattle.nef_plane.specs.Meets.{Encounter, IsReachedMet, IsMissed, IsNearest, IsNearestMet, IsNearer, IsNotPast}
-use Rattle.nef_plane.specs.Windows.{IsOutside, HoldsBefore}
 use Rattle.nef_plane.proofs.Choosing.{keep-first}
 
 -- what lies between a point and one ahead of it is ahead

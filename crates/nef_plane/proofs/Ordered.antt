@@ -1,34 +1,5 @@
 -- The vertices of a plane stand in order of the coordinate that the plane's axis keeps, and a ray from one of them meets what lies on one side of it.
-use Rattle.std.proofs.Common.{◌≡◌, ℕ, ◌≤◌, pos, ◌-ℤ◌, ◌*ℤ◌, ◌<ℤ◌, ◌≤ℤ◌, arith, Bool, true, false, ◌&&◌, inl, inr, ⊎_elim, refl, sym, ap, ◌∙◌, subst, cond, [], ◌∷◌}
-use Rattle.std.proofs.Math.Nat.{eq-or-lt_of_le}
-use Rattle.std.specs.Ordering.{int_eq}
-use Rattle.std.proofs.lemmas.Bool.Decides.{Decides-int_eq}
-use Rattle.std.proofs.lemmas.Int.{ints}
-use Rattle.nef_space.specs.Signs.{sign}
-use Rattle.nef_space.proofs.Order.{by_order, mul_pos, mul_neg, mul_nonneg, sign-plus, sign-minus, plus-is, minus-is}
-use Rattle.nef_space.proofs.Ring.{ring, at, num, ◌⊖◌, ◌⊗◌}
-use Rattle.nef_space.specs.Place.{Place, Form, form_at, slope, toward, SamePlace, IsAhead, IsBetween, IsPlaceBelow}
-use Rattle.nef_space.specs.Sets.{Set}
-use Rattle.nef_space.specs.Vectors.{Vector, vector, dot}
-use Rattle.nef_geo.specs.Shapes.{form_of, place_of}
-use Rattle.nef_geo.specs.declared.plane.Plane.{Plane}
-use Rattle.law_near.proofs.Near.{slope-toward}
-use Rattle.law_near.proofs.Mixed.{place-toward}
-use Rattle.law_near.proofs.Directions.{dot-zero}
-use Rattle.law_near.proofs.Rays.{slope-same}
-use Rattle.law_sphere.specs.Maps.{At}
-use Rattle.law_sphere.proofs.Lists.{at-one}
-use Rattle.nef_smap.proofs.Lists.{map-at}
-use Rattle.law_complex.specs.Shows.{Shows}
-use Rattle.law_complex.proofs.FacetAngles.{through-at, through-slope}
-use Rattle.law_complex.proofs.Planes.{plane-way}
-use Rattle.law_complex.proofs.Ways.{same-itself}
-use Rattle.nef_complex.specs.declared.complex.Vertex.{Vertex}
-use Rattle.nef_complex.specs.declared.complex.Complex.{Complex}
-use Rattle.nef_complex.specs.Complexes.{vertex_of, complex_of}
-use Rattle.nef_complex.proofs.Parted.{times-pos, times-nought}
-use Rattle.nef_plane.specs.Levels.{IsSwept}
-use Rattle.nef_plane.specs.Meets.{sweep_axis, sweep_form}
+use Rattle.nef_plane.proofs.Prelude.{◌≡◌, ℕ, ◌≤◌, pos, ◌-ℤ◌, ◌*ℤ◌, ◌<ℤ◌, ◌≤ℤ◌, arith, Bool, true, false, ◌&&◌, inl, inr, ⊎_elim, refl, sym, ap, ◌∙◌, subst, cond, [], ◌∷◌, eq-or-lt_of_le, int_eq, Decides-int_eq, ints, sign, by_order, mul_pos, mul_neg, mul_nonneg, sign-plus, sign-minus, plus-is, minus-is, ring, at, num, ◌⊖◌, ◌⊗◌, Place, Form, form_at, slope, toward, SamePlace, IsAhead, IsBetween, IsPlaceBelow, Set, Vector, vector, dot, form_of, place_of, Plane, slope-toward, place-toward, slope-same, At, at-one, map-at, Shows, through-at, through-slope, plane-way, same-itself, Vertex, Complex, vertex_of, complex_of, times-pos, times-nought, IsSwept, sweep_axis, sweep_form, dot-zero}
 
 weight : (r : Place) → pos 0 <ℤ pos r.w
 weight r = let m = r.proper in omega (arith, ints)

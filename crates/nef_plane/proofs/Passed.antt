@@ -1,37 +1,6 @@
 -- What the course of a ray within a plane passes over, the ray doesn't meet.
-use Rattle.std.proofs.Common.{◌≡◌, ℕ, zero, suc, ◌+◌, ◌≤◌, ℤ, pos, negsuc, ◌<ℤ◌, ◌≤ℤ◌, List, ◌⊎◌, arith, inl, inr, ⊎_elim, sym, ◌∙◌, subst}
-use Rattle.std.specs.Option.{MatchOption}
-use Rattle.std.proofs.lemmas.Int.{ints}
-use Rattle.nef_space.proofs.Order.{by_order, sign-plus, sign-minus, plus-is, minus-is}
-use Rattle.nef_space.specs.Lists.{IsAt}
-use Rattle.nef_space.specs.Place.{Place, Form, form_at, SamePlace, InClosedFrame, IsAhead, IsBetween}
-use Rattle.nef_space.specs.Sets.{Set}
-use Rattle.nef_space.specs.Vectors.{Vector, dot, IsDirection}
-use Rattle.nef_geo.specs.Shapes.{form_of, place_of}
-use Rattle.nef_geo.specs.declared.plane.Plane.{Plane}
-use Rattle.nef_geo.specs.declared.point.Point.{Point}
-use Rattle.nef_geo.specs.declared.sign.Sign.TheVariants.{Minus, Plus}
-use Rattle.nef_geo.specs.Signs.{sign_of}
-use Rattle.law_near.proofs.Rays.{sign-same}
-use Rattle.law_sphere.specs.Maps.{At}
-use Rattle.law_sphere.proofs.Lists.{at-one}
-use Rattle.nef_smap.proofs.Lists.{map-at}
-use Rattle.nef_smap.proofs.SideLists.{get-from_at}
-use Rattle.law_complex.proofs.Ways.{same-itself}
-use Rattle.law_complex.specs.Shows.{Shows}
-use Rattle.nef_complex.specs.declared.complex.Vertex.{Vertex}
-use Rattle.nef_complex.specs.declared.complex.Edge.{Edge}
-use Rattle.nef_complex.specs.declared.complex.Complex.{Complex}
-use Rattle.nef_complex.specs.declared.complex.PlaneMeet.{PlaneMeet}
-use Rattle.nef_complex.specs.Complexes.{vertex_of, edge_of, complex_of}
-use Rattle.nef_complex.specs.Index.{LiesOn, EdgeLiesIn}
-use Rattle.nef_complex.proofs.Ends.{listed_edge, ends}
+use Rattle.nef_plane.proofs.Prelude.{◌≡◌, ℕ, zero, suc, ◌+◌, ◌≤◌, ℤ, pos, negsuc, ◌<ℤ◌, ◌≤ℤ◌, List, ◌⊎◌, arith, inl, inr, ⊎_elim, sym, ◌∙◌, subst, MatchOption, ints, by_order, sign-plus, sign-minus, plus-is, minus-is, IsAt, Place, Form, form_at, SamePlace, InClosedFrame, IsAhead, IsBetween, Set, Vector, dot, IsDirection, form_of, place_of, Plane, Point, Minus, Plus, sign_of, sign-same, At, at-one, map-at, get-from_at, same-itself, Shows, Vertex, Edge, Complex, PlaneMeet, vertex_of, edge_of, complex_of, LiesOn, EdgeLiesIn, listed_edge, ends, got-at, StartsAt, IsCourse, IsPassed, IsFirst, IsPast, MeetLiesIn, AreEnds, AtVertexNumber, AtEdgeNumber, AtMeet, AreOpposite, sweep_axis, sweep_form, IsMissed, ray_form}
 use Rattle.nef_complex.proofs.Framed.{vertex-framed, edge-framed}
-use Rattle.nef_complex.proofs.Reading.{got-at}
-use Rattle.nef_plane.specs.Courses.{StartsAt, IsCourse, IsPassed, IsFirst, IsPast}
-use Rattle.nef_plane.specs.Ends.{MeetLiesIn, AreEnds}
-use Rattle.nef_plane.specs.Meets.{AtVertexNumber, AtEdgeNumber, AtMeet, AreOpposite, sweep_axis, sweep_form, IsMissed}
-use Rattle.nef_plane.specs.Parting.{ray_form}
 use Rattle.nef_plane.specs.declared.course.Course.{Course}
 use Rattle.nef_plane.proofs.Either.{by-numbers}
 use Rattle.nef_plane.proofs.Found.{vertex-none, edge-none}

@@ -1,35 +1,6 @@
 -- The side of a plane through a ray on which a point lies, and what the ray doesn't meet.
-use Rattle.std.proofs.Common.{◌≡◌, ℕ, ℤ, pos, ◌+ℤ◌, ◌-ℤ◌, ◌*ℤ◌, ◌≤◌, nat_abs, w64, Option, Some, None, sym, ap, ◌∙◌, subst, [], ◌∷◌}
-use Rattle.std.specs.Prelude.{IfSome}
-use Rattle.std.specs.Option.{MatchOption}
+use Rattle.nef_plane.proofs.Prelude.{◌≡◌, ℕ, ℤ, pos, ◌+ℤ◌, ◌-ℤ◌, ◌*ℤ◌, ◌≤◌, nat_abs, w64, Option, Some, None, sym, ap, ◌∙◌, subst, [], ◌∷◌, IfSome, MatchOption, load, const, wrap, ◌⊟◌, exact_of, ring, at, num, ◌⊕◌, ◌⊖◌, ◌⊗◌, direction_limit, form_at, toward, Set, Vector, vector, dot, IsDirection, SameDirection, form_of, place_of, vector_of, sign_of, Dir, Plane, Point, Sign, place-toward, same-place_sym, At, Shows, through-at, through-slope, same-itself, Vertex, Edge, Complex, complex_of, AreOpposite, HoldsRay, AtVertexNumber, AtEdgeNumber, IsMissed, ray_form, IsAcrossRay, dot-comm, dot-zero, level-way, pos-abs}
 use mir.Val.{to_z, of_z}
-use Rattle.nef_space.proofs.Machine.{load, const, wrap, ◌⊟◌, exact_of}
-use Rattle.nef_space.proofs.Ring.{ring, at, num, ◌⊕◌, ◌⊖◌, ◌⊗◌}
-use Rattle.nef_space.specs.Limits.{direction_limit}
-use Rattle.nef_space.specs.Place.{form_at, toward}
-use Rattle.nef_space.specs.Sets.{Set}
-use Rattle.nef_space.specs.Vectors.{Vector, vector, dot, IsDirection, SameDirection}
-use Rattle.nef_geo.specs.Shapes.{form_of, place_of, vector_of}
-use Rattle.nef_geo.specs.Signs.{sign_of}
-use Rattle.nef_geo.specs.declared.dir.Dir.{Dir}
-use Rattle.nef_geo.specs.declared.plane.Plane.{Plane}
-use Rattle.nef_geo.specs.declared.point.Point.{Point}
-use Rattle.nef_geo.specs.declared.sign.Sign.{Sign}
-use Rattle.nef_geo.proofs.Places.{pos_size}
-use Rattle.law_near.proofs.Mixed.{place-toward}
-use Rattle.law_near.proofs.Directions.{dot-zero, dot-comm}
-use Rattle.law_near.proofs.Rays.{same-place_sym}
-use Rattle.law_sphere.specs.Maps.{At}
-use Rattle.law_complex.specs.Shows.{Shows}
-use Rattle.law_complex.proofs.FacetAngles.{through-at, through-slope}
-use Rattle.law_complex.proofs.FacetSides.{level-way}
-use Rattle.law_complex.proofs.Ways.{same-itself}
-use Rattle.nef_complex.specs.declared.complex.Vertex.{Vertex}
-use Rattle.nef_complex.specs.declared.complex.Edge.{Edge}
-use Rattle.nef_complex.specs.declared.complex.Complex.{Complex}
-use Rattle.nef_complex.specs.Complexes.{complex_of}
-use Rattle.nef_plane.specs.Meets.{AreOpposite, HoldsRay, AtVertexNumber, AtEdgeNumber, IsMissed}
-use Rattle.nef_plane.specs.Parting.{ray_form, IsAcrossRay}
 use Rattle.nef_plane.proofs.Found.{vertex-none, edge-none}
 use Rattle.nef_plane.proofs.Meeting.{level-same, level-opposite, ahead-level, between-opposite}
 use Rattle.nef_plane.proofs.Sweep.{numbers-same}
@@ -40,7 +11,7 @@ product_of n a = n.x *ℤ a.x +ℤ n.y *ℤ a.y +ℤ n.z *ℤ a.z
 -- the sign of the difference of two such products, each times the other point's weight, is the side
 pub side-is : (n : Dir) (p a : Point) (r : Sign) (m v k w : ℤ) → r ≡ sign_of (m *ℤ v -ℤ k *ℤ w) → m ≡ product_of n a → v ≡ p.w → k ≡ product_of n p → w ≡ a.w → r ≡ sign_of (form_at (ray_form n p) (place_of a))
 side-is n p a r m v k w e f g h l =
-    e ∙ ap sign_of (numbers-same m v k w (product_of n a) (pos (nat_abs p.w)) (product_of n p) (pos (nat_abs a.w)) f (g ∙ sym (pos_size p.w p.proper)) h (l ∙ sym (pos_size a.w a.proper))
+    e ∙ ap sign_of (numbers-same m v k w (product_of n a) (pos (nat_abs p.w)) (product_of n p) (pos (nat_abs a.w)) f (g ∙ sym (pos-abs p.w p.proper)) h (l ∙ sym (pos-abs a.w a.proper))
     ∙ ring (n.x ∷ n.y ∷ n.z ∷ a.x ∷ a.y ∷ a.z ∷ p.x ∷ p.y ∷ p.z ∷ pos (nat_abs p.w) ∷ pos (nat_abs a.w) ∷ [])
     ((at 0 ⊗ at 3 ⊕ at 1 ⊗ at 4 ⊕ at 2 ⊗ at 5) ⊗ at 9 ⊖ (at 0 ⊗ at 6 ⊕ at 1 ⊗ at 7 ⊕ at 2 ⊗ at 8) ⊗ at 10)
     (at 0 ⊗ (at 3 ⊗ at 9 ⊖ at 6 ⊗ at 10) ⊕ at 1 ⊗ (at 4 ⊗ at 9 ⊖ at 7 ⊗ at 10) ⊕ at 2 ⊗ (at 5 ⊗ at 9 ⊖ at 8 ⊗ at 10)) tt

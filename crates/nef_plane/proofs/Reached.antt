@@ -1,33 +1,6 @@
 -- What a ray crosses of the planes that hold a vertex or an edge.
-use Rattle.std.proofs.Common.{◌≡◌, ℕ, pos, ⊎_elim, inl, inr, Option, Some, None, refl, ◌↔◌}
-use Rattle.std.specs.Prelude.{IsNone, IfSome}
-use Rattle.nef_space.specs.Place.{Place, SamePlace, IsAhead, IsBetween, form_at, slope}
-use Rattle.nef_space.specs.Sets.{Set}
-use Rattle.nef_space.specs.Vectors.{Vector, IsDirection}
-use Rattle.nef_geo.specs.Hits.{IsCrossing, IsReached}
-use Rattle.nef_geo.specs.Shapes.{form_of, place_of, hit_place}
-use Rattle.nef_geo.specs.declared.hit.Hit.{Hit}
-use Rattle.nef_geo.specs.declared.plane.Plane.{Plane}
-use Rattle.law_sphere.specs.Maps.{At}
-use Rattle.law_near.proofs.Mixed.{between-same}
-use Rattle.law_near.proofs.Rays.{same-place_sym}
-use Rattle.nef_smap.proofs.Lists.{map-at}
-use Rattle.law_complex.specs.Shows.{Shows}
-use Rattle.law_complex.specs.Skeleton.{PlaneMeet as PlainMeet, IsVertexPoint, IsEdgePoint}
-use Rattle.law_complex.proofs.Ways.{same-itself}
-use Rattle.nef_complex.specs.declared.complex.Vertex.{Vertex}
-use Rattle.nef_complex.specs.declared.complex.Edge.{Edge}
-use Rattle.nef_complex.specs.declared.complex.Complex.{Complex}
-use Rattle.nef_complex.specs.declared.complex.PlaneMeet.{PlaneMeet}
-use Rattle.nef_complex.specs.declared.complex.PlaneMeet.TheVariants.{AtVertex, AtEdge}
-use Rattle.nef_complex.specs.Complexes.{vertex_of, edge_of, complex_of}
-use Rattle.nef_complex.specs.Planes.{HoldsBoth}
-use Rattle.nef_complex.proofs.Ends.{vertex-same, listed_edge, ends, edge-inside}
-use Rattle.nef_complex.proofs.Lines.{one-crossing}
-use Rattle.nef_complex.proofs.Parted.{held-between}
-use Rattle.nef_complex.proofs.Reading.{got-at}
-use Rattle.nef_plane.specs.Ends.{IsVertexOrLies, HasEndsAt}
-use Rattle.nef_plane.specs.Meets.{Reach, reach_of, near_met_of, IsHitThrough, AllHold, IsWithin, AtVertexNumber, AtEdgeNumber, AtMeet, IsMeetPoint, IsNearestMet, IsMissed}
+use Rattle.nef_plane.proofs.Prelude.{◌≡◌, ℕ, pos, ⊎_elim, inl, inr, Option, Some, None, refl, ◌↔◌, IsNone, IfSome, Place, SamePlace, IsAhead, IsBetween, form_at, slope, Set, Vector, IsDirection, IsCrossing, IsReached, form_of, place_of, hit_place, Hit, Plane, At, between-same, same-place_sym, map-at, Shows, IsVertexPoint, IsEdgePoint, same-itself, Vertex, Edge, Complex, PlaneMeet, AtVertex, AtEdge, vertex_of, edge_of, complex_of, HoldsBoth, vertex-same, listed_edge, ends, edge-inside, one-crossing, held-between, got-at, IsVertexOrLies, HasEndsAt, Reach, reach_of, near_met_of, IsHitThrough, AllHold, IsWithin, AtVertexNumber, AtEdgeNumber, AtMeet, IsMeetPoint, IsNearestMet, IsMissed}
+use Rattle.law_complex.specs.Skeleton.{PlaneMeet as PlainMeet}
 use Rattle.nef_plane.proofs.Either.{by-ends}
 use Rattle.nef_plane.proofs.Found.{both-same, vertex-some, vertex-none, edge-some, edge-none}
 use Rattle.nef_plane.proofs.Listed.{held-edge}

@@ -1,19 +1,5 @@
 -- Edges of a plane by the numbers of their ends.
-use Rattle.std.proofs.Common.{ℕ, ◌<◌, ◌≤◌, List, arith, refl}
-use Rattle.nef_space.specs.Lists.{IsAt}
-use Rattle.nef_space.specs.Place.{Form}
-use Rattle.nef_space.specs.Sets.{Set}
-use Rattle.nef_classes.proofs.ClassLists.{is-at_within}
-use Rattle.nef_smap.proofs.Lists.{map-at}
-use Rattle.nef_smap.proofs.SideLists.{at-from_get}
-use Rattle.law_complex.specs.Shows.{Shows}
-use Rattle.nef_complex.specs.declared.complex.Edge.{Edge}
-use Rattle.nef_complex.specs.declared.complex.Complex.{Complex}
-use Rattle.nef_complex.specs.declared.complex.PlaneMeet.TheVariants.{AtEdge}
-use Rattle.nef_complex.specs.Complexes.{edge_of, complex_of}
-use Rattle.nef_complex.specs.Index.{AreWithin, EdgeLiesIn, AreNumbersWith}
-use Rattle.nef_complex.specs.Peaks.{EndBelow}
-use Rattle.nef_plane.specs.Ends.{AreEnds}
+use Rattle.nef_plane.proofs.Prelude.{ℕ, ◌<◌, ◌≤◌, List, arith, refl, IsAt, Form, Set, is-at_within, map-at, at-from_get, Shows, Edge, Complex, AtEdge, edge_of, complex_of, AreWithin, EdgeLiesIn, AreNumbersWith, EndBelow, AreEnds}
 
 -- the listed edges of a plane are edges
 pub edges-within : (c : Complex) (h : Form) (ns : List ℕ) → AreNumbersWith (EdgeLiesIn c.vertices c.edges h) ns → AreWithin c.edges ns

@@ -1,17 +1,6 @@
 -- The side of a line beside a point on which another point lies, by one coordinate.
-use Rattle.std.proofs.Common.{◌≡◌, ℤ, pos, ◌-ℤ◌, ◌*ℤ◌, nat_abs, ◌≤◌, w64, Bool, true, false, cond, ◌&&◌, sym, ap, ◌∙◌, [], ◌∷◌}
-use Rattle.std.specs.Ordering.{int_eq}
+use Rattle.nef_plane.proofs.Prelude.{◌≡◌, ℤ, pos, ◌-ℤ◌, ◌*ℤ◌, nat_abs, ◌≤◌, w64, Bool, true, false, cond, ◌&&◌, sym, ap, ◌∙◌, [], ◌∷◌, int_eq, load, wrap, exact_of, Place, form_at, toward, Vector, vector, dot, form_of, place_of, sign_of, Sign, Plane, Point, shifted_form, pos-abs}
 use mir.Val.{to_z, of_z}
-use Rattle.nef_space.proofs.Machine.{load, wrap, exact_of}
-use Rattle.nef_space.specs.Place.{Place, form_at, toward}
-use Rattle.nef_space.specs.Vectors.{Vector, vector, dot}
-use Rattle.nef_geo.specs.Shapes.{form_of, place_of}
-use Rattle.nef_geo.specs.Signs.{sign_of}
-use Rattle.nef_geo.specs.declared.sign.Sign.{Sign}
-use Rattle.nef_geo.specs.declared.plane.Plane.{Plane}
-use Rattle.nef_geo.specs.declared.point.Point.{Point}
-use Rattle.nef_geo.proofs.Places.{pos_size}
-use Rattle.nef_plane.specs.Courses.{shifted_form}
 use Rattle.nef_plane.proofs.Close.{first-product, second-product, second-swept, shifted-at}
 use Rattle.nef_plane.proofs.Sweep.{exact-of, exact-weight, first-swept}
 
@@ -32,7 +21,7 @@ module _ (h : Plane) (p a : Point) (z : ℤ) (small : nat_abs z ≤ 1) (r : Sign
   axis b = cond b (vector (pos 0) (pos 1) (pos 0)) (vector (pos 1) (pos 0) (pos 0))
 
   read : (n k : ℤ) → to_z w64 (of_z w64 x) ≡ n → to_z w64 (of_z w64 y) ≡ k → r ≡ sign_of (n *ℤ pos P.w -ℤ k *ℤ pos Q.w -ℤ z *ℤ (pos P.w *ℤ pos Q.w))
-  read n k e f = sign ∙ ap sign_of (numbers-same _ _ _ _ _ n (pos P.w) k (pos Q.w) z e (exact-weight v p.w start_is p.w_small ∙ sym (pos_size p.w p.proper)) f (exact-weight w a.w weight_is a.w_small ∙ sym (pos_size a.w a.proper))
+  read n k e f = sign ∙ ap sign_of (numbers-same _ _ _ _ _ n (pos P.w) k (pos Q.w) z e (exact-weight v p.w start_is p.w_small ∙ sym (pos-abs p.w p.proper)) f (exact-weight w a.w weight_is a.w_small ∙ sym (pos-abs a.w a.proper))
       (exact_of (1 ∷ []) (z ∷ []) (wrap w64 (load 0)) (small, tt) tt))
 
   beside : (b : Bool) (m : ℤ) → b ≡ (int_eq h.c (pos 0) && int_eq h.b (pos 0)) → r ≡ sign_of (m -ℤ z *ℤ (pos P.w *ℤ pos Q.w)) → m ≡ dot (axis b) (toward P Q) → r ≡ sign_of (form_at (shifted_form (form_of h) P z) Q)

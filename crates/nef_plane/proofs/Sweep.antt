@@ -1,25 +1,7 @@
 -- The side of the ray's line on which a point lies, by one coordinate.
-use Rattle.std.proofs.Common.{◌≡◌, ℤ, pos, ◌-ℤ◌, ◌*ℤ◌, nat_abs, ◌≤◌, w64, Bool, true, false, cond, ◌&&◌, sym, ap, ◌∙◌, refl, subst, [], ◌∷◌}
-use Rattle.std.specs.Ordering.{int_eq}
-use Rattle.std.proofs.lemmas.Bool.Decides.{Decides-int_eq}
+use Rattle.nef_plane.proofs.Prelude.{◌≡◌, ℤ, pos, ◌-ℤ◌, ◌*ℤ◌, nat_abs, ◌≤◌, w64, Bool, true, false, cond, ◌&&◌, sym, ap, ◌∙◌, refl, subst, [], ◌∷◌, int_eq, Decides-int_eq, load, wrap, exact_of, ring, at, num, ◌⊕◌, ◌⊖◌, ◌⊗◌, direction_limit, point_limit, weight_limit, Place, form_at, plane_through, toward, Vector, vector, dot, form_of, vector_of, place_of, hit_place, sign_of, hit_limit, hit_weight_limit, Sign, Dir, Hit, Plane, Point, through-at, sweep_axis, sweep_form, pos-abs}
 use mir.Syntax.{w128}
 use mir.Val.{to_z, of_z}
-use Rattle.nef_space.proofs.Machine.{load, wrap, exact_of}
-use Rattle.nef_space.proofs.Ring.{ring, at, num, ◌⊕◌, ◌⊖◌, ◌⊗◌}
-use Rattle.nef_space.specs.Limits.{direction_limit, point_limit, weight_limit}
-use Rattle.nef_space.specs.Place.{Place, form_at, plane_through, toward}
-use Rattle.nef_space.specs.Vectors.{Vector, vector, dot}
-use Rattle.nef_geo.specs.Shapes.{form_of, vector_of, place_of, hit_place}
-use Rattle.nef_geo.specs.Signs.{sign_of}
-use Rattle.nef_geo.specs.Widths.{hit_limit, hit_weight_limit}
-use Rattle.nef_geo.specs.declared.sign.Sign.{Sign}
-use Rattle.nef_geo.specs.declared.dir.Dir.{Dir}
-use Rattle.nef_geo.specs.declared.hit.Hit.{Hit}
-use Rattle.nef_geo.specs.declared.plane.Plane.{Plane}
-use Rattle.nef_geo.specs.declared.point.Point.{Point}
-use Rattle.nef_geo.proofs.Places.{pos_size}
-use Rattle.law_complex.proofs.FacetAngles.{through-at}
-use Rattle.nef_plane.specs.Meets.{sweep_axis, sweep_form}
 
 -- ---- numbers within their bounds
 pub exact-of : (x y : ℤ) → x ≡ y → nat_abs y ≤ point_limit → to_z w64 (of_z w64 x) ≡ y
@@ -68,13 +50,13 @@ module _ (h : Plane) (p : Hit) (a : Point) (r : Sign) (x w y v : ℤ)
 
   pub second-sign : x ≡ a.y → y ≡ p.y → h.c ≡ pos 0 → h.b ≡ pos 0 → r ≡ sign_of (form_at (sweep_form (form_of h) P) Q)
   second-sign i j c b = value true (sym (rw ((Decides-int_eq h.c (pos 0)).1 c, (Decides-int_eq h.b (pos 0)).1 b) refl))
-      (numbers-same _ _ _ _ a.y (pos (nat_abs p.w)) p.y (pos (nat_abs a.w)) (exact-of x a.y i a.y_small) (start ∙ sym (pos_size p.w p.proper)) (exact-hit y p.y j p.y_small) (weight ∙ sym (pos_size a.w a.proper))
+      (numbers-same _ _ _ _ a.y (pos (nat_abs p.w)) p.y (pos (nat_abs a.w)) (exact-of x a.y i a.y_small) (start ∙ sym (pos-abs p.w p.proper)) (exact-hit y p.y j p.y_small) (weight ∙ sym (pos-abs a.w a.proper))
       ∙ ring (Q.x ∷ Q.y ∷ Q.z ∷ pos Q.w ∷ P.x ∷ P.y ∷ P.z ∷ pos P.w ∷ []) (at 1 ⊗ at 7 ⊖ at 5 ⊗ at 3)
       (num (pos 0) ⊗ (at 0 ⊗ at 7 ⊖ at 4 ⊗ at 3) ⊕ num (pos 1) ⊗ (at 1 ⊗ at 7 ⊖ at 5 ⊗ at 3) ⊕ num (pos 0) ⊗ (at 2 ⊗ at 7 ⊖ at 6 ⊗ at 3)) tt)
 
   pub first-sign : x ≡ a.x → y ≡ p.x → (h.c ≡ pos 0 → h.b ≡ pos 0 → ⊥) → r ≡ sign_of (form_at (sweep_form (form_of h) P) Q)
   first-sign i j n = value false (first-swept h n)
-      (numbers-same _ _ _ _ a.x (pos (nat_abs p.w)) p.x (pos (nat_abs a.w)) (exact-of x a.x i a.x_small) (start ∙ sym (pos_size p.w p.proper)) (exact-hit y p.x j p.x_small) (weight ∙ sym (pos_size a.w a.proper))
+      (numbers-same _ _ _ _ a.x (pos (nat_abs p.w)) p.x (pos (nat_abs a.w)) (exact-of x a.x i a.x_small) (start ∙ sym (pos-abs p.w p.proper)) (exact-hit y p.x j p.x_small) (weight ∙ sym (pos-abs a.w a.proper))
       ∙ ring (Q.x ∷ Q.y ∷ Q.z ∷ pos Q.w ∷ P.x ∷ P.y ∷ P.z ∷ pos P.w ∷ []) (at 0 ⊗ at 7 ⊖ at 4 ⊗ at 3)
       (num (pos 1) ⊗ (at 0 ⊗ at 7 ⊖ at 4 ⊗ at 3) ⊕ num (pos 0) ⊗ (at 1 ⊗ at 7 ⊖ at 5 ⊗ at 3) ⊕ num (pos 0) ⊗ (at 2 ⊗ at 7 ⊖ at 6 ⊗ at 3)) tt)
 

@@ -1,27 +1,6 @@
 -- What a ray along the axis of a plane meets at a vertex and inside an edge.
-use Rattle.std.proofs.Common.{◌≡◌, ℕ, pos, inl, inr, ⊎_elim, refl}
-use Rattle.nef_space.specs.Place.{Place, form_at, SamePlace, IsBetween}
-use Rattle.nef_space.specs.Sets.{Set}
-use Rattle.nef_space.specs.Vectors.{Vector}
-use Rattle.nef_geo.specs.Shapes.{form_of, place_of, far_place}
-use Rattle.nef_geo.specs.declared.hit.FarHit.{FarHit}
-use Rattle.nef_geo.specs.declared.plane.Plane.{Plane}
-use Rattle.law_near.proofs.Mixed.{place-toward}
-use Rattle.law_near.proofs.Rays.{same-place_sym}
-use Rattle.law_sphere.specs.Maps.{At}
-use Rattle.law_complex.specs.Shows.{Shows}
+use Rattle.nef_plane.proofs.Prelude.{◌≡◌, ℕ, pos, inl, inr, ⊎_elim, refl, Place, form_at, SamePlace, IsBetween, Set, Vector, form_of, place_of, far_place, FarHit, Plane, place-toward, same-place_sym, At, Shows, between-ends, same-itself, Vertex, Edge, Complex, PlaneMeet, AtVertex, AtEdge, complex_of, apart, got-at, HasEndsAt, IsParallelToAxis, IsHitThrough, IsMet, AllHold, AtVertexNumber, AtEdgeNumber, AtMeet, IsNearestMet, far_met_of, far_reach_of, IsMissed}
 use Rattle.law_complex.specs.Skeleton.{PlaneMeet as PlainMeet}
-use Rattle.law_complex.proofs.Ways.{between-ends, same-itself}
-use Rattle.nef_complex.specs.declared.complex.Vertex.{Vertex}
-use Rattle.nef_complex.specs.declared.complex.Edge.{Edge}
-use Rattle.nef_complex.specs.declared.complex.Complex.{Complex}
-use Rattle.nef_complex.specs.declared.complex.PlaneMeet.{PlaneMeet}
-use Rattle.nef_complex.specs.declared.complex.PlaneMeet.TheVariants.{AtVertex, AtEdge}
-use Rattle.nef_complex.specs.Complexes.{complex_of}
-use Rattle.nef_complex.proofs.Ends.{apart}
-use Rattle.nef_complex.proofs.Reading.{got-at}
-use Rattle.nef_plane.specs.Ends.{HasEndsAt}
-use Rattle.nef_plane.specs.Meets.{IsParallelToAxis, IsHitThrough, IsMet, AllHold, AtVertexNumber, AtEdgeNumber, AtMeet, IsNearestMet, far_met_of, far_reach_of, IsMissed}
 use Rattle.nef_plane.proofs.Axes.{axis-some}
 use Rattle.nef_plane.proofs.Either.{by-ends}
 use Rattle.nef_plane.proofs.Found.{both-same, vertex-some, vertex-none, edge-some, edge-none}

@@ -1,32 +1,8 @@
 -- What lies outside a window isn't met sooner than what the window leads to.
-use Rattle.std.proofs.Common.{◌≡◌, ℕ, ◌<◌, length, List, Option, Some, None, sym, subst, ⊎_elim, inl, inr}
-use Rattle.std.specs.Prelude.{IfSome}
-use Rattle.nef_space.specs.Lists.{IsAt}
-use Rattle.nef_space.specs.Place.{Place, Form}
-use Rattle.nef_space.specs.Sets.{Set}
-use Rattle.nef_space.specs.Vectors.{Vector}
-use Rattle.nef_geo.specs.Shapes.{place_of}
+use Rattle.nef_plane.proofs.Prelude.{◌≡◌, ℕ, ◌<◌, length, List, Option, Some, None, sym, subst, ⊎_elim, inl, inr, IfSome, IsAt, Place, Form, Set, Vector, place_of, Shows, at-map, at-within, is-at_some, Vertex, Complex, PlaneMeet as ProgramMeet, AtVertex, AtEdge, Span, edge_of, complex_of, meet_of, AreAlone, IsInSpan, IsNarrower, vertex-same, edge-inside, got-at, span-same, span-between, span-wider, HasMeet, AreEnds, HasEndsAt, Reach, met_of, AtMeet, AtEdgeNumber, IsMeetPoint, IsWithin, IsNearest, IsOutside, HoldsBefore, IsWindowTo}
 use Rattle.law_complex.specs.Complexes.{Complex as PlainComplex}
-use Rattle.law_complex.specs.Shows.{Shows}
 use Rattle.law_complex.specs.Skeleton.{PlaneMeet}
-use Rattle.nef_smap.proofs.Lists.{at-map, at-within}
-use Rattle.nef_classes.proofs.ClassLists.{is-at_some}
-use Rattle.nef_complex.specs.declared.complex.Vertex.{Vertex}
-use Rattle.nef_complex.specs.declared.complex.Complex.{Complex}
-use Rattle.nef_complex.specs.declared.complex.PlaneMeet.{PlaneMeet as ProgramMeet}
-use Rattle.nef_complex.specs.declared.complex.PlaneMeet.TheVariants.{AtVertex, AtEdge}
-use Rattle.nef_complex.specs.declared.spans.Span.{Span}
-use Rattle.nef_complex.specs.Complexes.{edge_of, complex_of, meet_of}
-use Rattle.nef_complex.specs.Indexing.{AreAlone}
-use Rattle.nef_complex.specs.Spans.{IsInSpan, IsNarrower}
-use Rattle.nef_complex.proofs.Ends.{vertex-same, edge-inside}
-use Rattle.nef_complex.proofs.Reading.{got-at}
-use Rattle.nef_complex.proofs.Spanned.{span-same, span-between}
-use Rattle.nef_complex.proofs.Spanning.{span-wider}
-use Rattle.nef_plane.specs.Ends.{HasMeet, AreEnds, HasEndsAt}
 use Rattle.nef_plane.specs.declared.first.Met.{Met}
-use Rattle.nef_plane.specs.Meets.{Reach, met_of, AtMeet, AtEdgeNumber, IsMeetPoint, IsWithin, IsNearest}
-use Rattle.nef_plane.specs.Windows.{IsOutside, HoldsBefore, IsWindowTo}
 use Rattle.nef_plane.proofs.Either.{by-ends}
 use Rattle.nef_plane.proofs.Nearest.{From}
 

@@ -1,16 +1,13 @@
--- What lies in a plane, and the vertices or edges that are asked whether a ray meets them.
-use Rattle.std.specs.Prelude.{ℕ, length}
-use Rattle.nef_space.specs.Place.{Form}
+-- The vertices and edges of a plane, and vertices or edges by their kind.
+use Rattle.nef_complex.specs.Prelude.{ℕ, length, Form, LiesOn, EdgeLiesIn, AreNumbersWith, ArePeaks}
 use Rattle.nef_complex.specs.declared.complex.Complex.{Complex}
 use Rattle.nef_complex.specs.declared.complex.PlaneMeet.{PlaneMeet}
 use Rattle.nef_complex.specs.declared.complex.PlaneMeet.TheVariants.{AtVertex, AtEdge}
 use Rattle.nef_complex.specs.declared.complex.PlaneItems.{PlaneItems}
-use Rattle.nef_complex.specs.Index.{LiesOn, EdgeLiesIn, AreNumbersWith}
-use Rattle.nef_complex.specs.Peaks.{ArePeaks}
 use Rattle.nef_plane.specs.declared.first.Kind.{Kind}
 use Rattle.nef_plane.specs.declared.first.Kind.TheVariants.{Vertex, Edge}
 
--- the lists name the edges in the plane and the vertices on it, and have the peaks of these edges
+-- the lists have the edges in the plane and the vertices on it, by number, and the peaks of these edges
 pub record AreItems (c : Complex) (h : Form) (items : PlaneItems) : Type 0 where
   pub edges : AreNumbersWith (EdgeLiesIn c.vertices c.edges h) items.edges.now
   pub vertices : AreNumbersWith (LiesOn c.vertices h) items.vertices.now
@@ -21,7 +18,7 @@ abbrev pub meet_at : Kind → ℕ → PlaneMeet
 meet_at Vertex k = AtVertex k
 meet_at Edge k = AtEdge k
 
--- how many of the kind the complex has
+-- how many vertices or edges the complex has
 abbrev pub count_in : Complex → Kind → ℕ
 count_in c Vertex = length c.vertices
 count_in c Edge = length c.edges

@@ -1,27 +1,20 @@
--- What a ray within a plane meets there.
-use Rattle.std.specs.Prelude.{◌≡◌, ℕ, ℤ, pos, ◌<ℤ◌, neg_ℤ, cond, ◌&&◌, ◌⊎◌, Option, Some, List}
-use Rattle.std.specs.Option.{MatchOption}
+-- What a ray within a plane meets.
+use Rattle.std.specs.Prelude.{◌≡◌, ◌<ℤ◌, ◌&&◌, ◌⊎◌}
+use Rattle.nef_geo.specs.Prelude.{ℕ, ℤ, pos, neg_ℤ, cond, Option, Some, List, form_of, hit_place, far_place}
+use Rattle.nef_complex.specs.Prelude.{MatchOption, IsCrossing, IsReached, sign_of, Plane, At, MapVertex, meet_of, HoldsBoth}
 use Rattle.std.specs.Ordering.{int_eq}
-use Rattle.nef_space.specs.Place.{Place, Form, form_at, slope, normal_of, plane_through, toward, SamePlace, IsAhead, IsBetween}
-use Rattle.nef_space.specs.Vectors.{Vector, vector, cross, opposite, plane_axis, plane_dir, IsZero, IsDirection, SameDirection}
-use Rattle.nef_geo.specs.Hits.{IsCrossing, IsReached}
-use Rattle.nef_geo.specs.Shapes.{form_of, hit_place, far_place}
-use Rattle.nef_geo.specs.Signs.{sign_of}
+use Rattle.nef_space.specs.Prelude.{Place, Form, form_at, slope, normal_of, plane_through, toward, SamePlace, IsAhead, IsBetween, Vector, vector, cross, opposite, plane_axis, plane_dir, IsZero, IsDirection, SameDirection}
 use Rattle.nef_geo.specs.declared.hit.FarHit.{FarHit}
 use Rattle.nef_geo.specs.declared.hit.Hit.{Hit}
-use Rattle.nef_geo.specs.declared.plane.Plane.{Plane}
-use Rattle.law_sphere.specs.Maps.{At, MapVertex}
 use Rattle.law_complex.specs.Complexes.{Vertex, Edge, Complex, HasEnds}
 use Rattle.law_complex.specs.Skeleton.{PlaneMeet, meets_vertex, meets_edge, IsVertexPoint, IsEdgePoint, LiesIn}
 use Rattle.nef_complex.specs.declared.complex.PlaneMeet.{PlaneMeet as ProgramMeet}
 use Rattle.nef_complex.specs.declared.complex.PlaneMeet.TheVariants.{AtVertex, AtEdge}
-use Rattle.nef_complex.specs.Complexes.{meet_of}
-use Rattle.nef_complex.specs.Planes.{HoldsBoth}
 use Rattle.nef_plane.specs.Asked.{meet_at}
 use Rattle.nef_plane.specs.declared.first.Met.{Met}
 use Rattle.nef_plane.specs.declared.first.Kind.{Kind}
 
--- the direction is that of the plane's axis, or its opposite
+-- the direction is the direction of the plane's axis, or its opposite
 abbrev pub IsAlongAxis : Form → Vector → Type 0
 IsAlongAxis h d = SameDirection d (plane_axis (normal_of h)) ⊎ SameDirection d (opposite (plane_axis (normal_of h)))
 
@@ -29,15 +22,15 @@ IsAlongAxis h d = SameDirection d (plane_axis (normal_of h)) ⊎ SameDirection d
 abbrev pub IsParallelToAxis : Form → Vector → Type 0
 IsParallelToAxis h d = IsDirection d × IsZero (cross (plane_axis (normal_of h)) d)
 
--- the direction is the second one of the plane, or its opposite
+-- the direction is the second direction of the plane, or its opposite
 abbrev pub IsAlongDir : Form → Vector → Type 0
 IsAlongDir h d = SameDirection d (plane_dir (normal_of h)) ⊎ SameDirection d (opposite (plane_dir (normal_of h)))
 
--- a ray within the plane goes along the axis, or from a vertex along the second direction
+-- the direction is along the plane's axis, or, from a vertex, along the plane's second direction
 abbrev pub IsWithinDirection : Complex → Form → Place → Vector → Type 0
 IsWithinDirection C h p d = IsAlongAxis h d ⊎ (((k : ℕ) × IsVertexPoint C k p) × IsAlongDir h d)
 
--- where p is a vertex, none of its svertices points along d
+-- no svertex of a vertex at p points along d
 abbrev pub HasNoSvertex : Complex → Place → Vector → Type 0
 HasNoSvertex C p d = (k j : ℕ) (v : Vertex) (u : MapVertex) → At C.vertices k v → SamePlace v.point p → At v.map.svertices j u → SameDirection u.dir d → ⊥
 
@@ -45,19 +38,19 @@ HasNoSvertex C p d = (k j : ℕ) (v : Vertex) (u : MapVertex) → At C.vertices 
 abbrev pub IsOffEdges : Complex → Form → Place → Type 0
 IsOffEdges C h p = ((k : ℕ) × IsVertexPoint C k p) ⊎ ((k : ℕ) → IsEdgePoint C k p → LiesIn C h k → ⊥)
 
--- the coordinate that the axis of a plane keeps: the first, or the second where the plane keeps the first
+-- the coordinate that is constant along the plane's axis: the first one, or the second where the axis changes the first
 abbrev pub sweep_axis : Form → Vector
 sweep_axis h = cond (int_eq h.c (pos 0) && int_eq h.b (pos 0)) (vector (pos 0) (pos 1) (pos 0)) (vector (pos 1) (pos 0) (pos 0))
 
--- the plane through p on which that coordinate stays the same
+-- the plane through p on which that coordinate is constant
 abbrev pub sweep_form : Form → Place → Form
 sweep_form h p = plane_through (sweep_axis h) p
 
--- the points lie on different sides of the plane, or both on it
+-- the points lie on different sides of the plane, or both on the plane
 abbrev pub AreOpposite : Form → Place → Place → Type 0
 AreOpposite k a b = sign_of (form_at k a) ≡ sign_of (neg_ℤ (form_at k b))
 
--- a point of a ray, with the step at which it stands
+-- a point on a ray, with the step at which it lies
 pub record Reach : Type 0 where
   pub place : Place
   pub num : ℤ
@@ -70,11 +63,11 @@ reach_of q = record { place = hit_place q; num = q.num; den = q.den; den_sign = 
 abbrev pub far_reach_of : FarHit → Reach
 far_reach_of q = record { place = far_place q; num = q.num; den = q.den; den_sign = q.den_sign }
 
--- it stands at its step along the ray
+-- the point lies at its step along the ray
 abbrev pub IsReachedAt : Place → Vector → Reach → Type 0
 IsReachedAt p d q = IsReached p d q.num q.den q.den_sign q.place
 
--- the ray crosses the plane, which holds both points, there
+-- the ray crosses a plane at the point, and this plane holds a and b
 pub record IsHitThrough (p : Place) (d : Vector) (a b : Place) (q : Reach) : Type 0 where
   pub plane : Plane
   pub holds : HoldsBoth (form_of plane) a b
@@ -85,17 +78,17 @@ pub record IsHitThrough (p : Place) (d : Vector) (a b : Place) (q : Reach) : Typ
 abbrev pub NoneCrosses : List Plane → Place → Vector → Place → Place → Type 0
 NoneCrosses gs p d a b = (i : ℕ) (g : Plane) → At gs i g → HoldsBoth (form_of g) a b → (q : Place) → IsCrossing p d (form_of g) q → ⊥
 
--- y lies strictly between two points, or is both
+-- y lies strictly between a and b, or a and b are y
 abbrev pub IsWithin : Place → Place → Place → Type 0
 IsWithin a b y = IsBetween a y b ⊎ (SamePlace a y × SamePlace b y)
 
--- the ray meets y, which lies strictly between two points of the plane, or is both
+-- the ray meets y, which lies strictly between two points a and b of the plane, or a and b are y
 pub record IsMet (h : Form) (p : Place) (d : Vector) (a b y : Place) : Type 0 where
   pub holds : HoldsBoth h a b
   pub ahead : IsAhead p d y
   pub on : IsWithin a b y
 
--- all of the planes that hold both points hold the direction
+-- each of the planes that hold a and b is along the direction
 abbrev pub AllHold : List Plane → Vector → Place → Place → Type 0
 AllHold gs d a b = (i : ℕ) (g : Plane) → At gs i g → HoldsBoth (form_of g) a b → slope (form_of g) d ≡ pos 0
 
@@ -103,7 +96,7 @@ AllHold gs d a b = (i : ℕ) (g : Plane) → At gs i g → HoldsBoth (form_of g)
 abbrev pub HoldsRay : Form → Place → Vector → Type 0
 HoldsRay h p d = (form_at h p ≡ pos 0) × (slope h d ≡ pos 0)
 
--- what the ray meets is at the vertex with this number
+-- what the ray meets is the vertex with this number
 abbrev pub AtVertexNumber : Complex → ℕ → PlaneMeet → Place → Type 0
 AtVertexNumber C k m q = (m ≡ meets_vertex k) × IsVertexPoint C k q
 
@@ -112,7 +105,7 @@ abbrev pub AtEdgeNumber : Complex → Form → Vector → ℕ → PlaneMeet → 
 AtEdgeNumber C h d k m q = (m ≡ meets_edge k) × (e : Edge) × (v : Vertex) × (w : Vertex) × At C.edges k e × HasEnds C e v w × IsBetween v.point q w.point
     × HoldsBoth h v.point w.point × (IsZero (cross (toward v.point w.point) d) → ⊥)
 
--- what the ray meets is at this vertex, or strictly inside this edge
+-- what the ray meets is this vertex, or a point strictly inside this edge
 abbrev pub AtMeet : Complex → Form → Vector → ProgramMeet → PlaneMeet → Place → Type 0
 AtMeet C h d (AtVertex k) m q = AtVertexNumber C k m q
 AtMeet C h d (AtEdge k) m q = AtEdgeNumber C h d k m q
@@ -122,22 +115,22 @@ abbrev pub IsMeetPoint : Complex → ProgramMeet → Place → Type 0
 IsMeetPoint C (AtVertex k) q = IsVertexPoint C k q
 IsMeetPoint C (AtEdge k) q = IsEdgePoint C k q
 
--- what is met at some vertex
+-- what the ray meets is some vertex
 abbrev pub AtSomeVertex : Complex → PlaneMeet → Place → Type 0
 AtSomeVertex C m q = (k : ℕ) × AtVertexNumber C k m q
 
--- or strictly inside some edge in the plane that isn't along the ray
+-- what the ray meets is strictly inside some edge in the plane that isn't along the ray
 abbrev pub AtSomeEdge : Complex → Form → Vector → PlaneMeet → Place → Type 0
 AtSomeEdge C h d m q = (k : ℕ) × AtEdgeNumber C h d k m q
 
--- what is met at some of the kind
+-- what the ray meets is some vertex or some edge, as the kind says
 abbrev pub AtSome : Complex → Form → Vector → Kind → PlaneMeet → Place → Type 0
 AtSome C h d t m q = (k : ℕ) × AtMeet C h d (meet_at t k) m q
 
 abbrev pub AtVertexOrEdge : Complex → Form → Vector → PlaneMeet → Place → Type 0
 AtVertexOrEdge C h d m q = AtSomeVertex C m q ⊎ AtSomeEdge C h d m q
 
--- what a ray meets, and where
+-- what a ray meets, and at which point
 pub record Encounter : Type 0 where
   pub meet : PlaneMeet
   pub at : Reach
@@ -151,11 +144,11 @@ near_met_of = met_of reach_of
 abbrev pub far_met_of : Met FarHit → Encounter
 far_met_of = met_of far_reach_of
 
--- what is met stands at its step along the ray
+-- what the ray meets is at its step along the ray
 abbrev pub IsReachedMet : Place → Vector → Encounter → Type 0
 IsReachedMet p d x = IsReachedAt p d x.at
 
--- of what has P the ray meets this first
+-- the ray meets x, which has P, and nothing before it that has P
 pub record IsNearestMet (p : Place) (d : Vector) (P : PlaneMeet → Place → Type 0) (x : Encounter) : Type 0 where
   pub reached : IsReachedMet p d x
   pub ahead : IsAhead p d x.at.place
@@ -166,20 +159,20 @@ pub record IsNearestMet (p : Place) (d : Vector) (P : PlaneMeet → Place → Ty
 abbrev pub IsMissed : Place → Vector → (PlaneMeet → Place → Type 0) → Type 0
 IsMissed p d P = (n : PlaneMeet) (q : Place) → IsAhead p d q → P n q → ⊥
 
--- the first of what has P, or none where the ray meets nothing that has it
+-- the option is the first of what has P, or none where the ray meets nothing that has P
 abbrev pub IsNearest : {X : Type 0} → (X → Encounter) → Place → Vector → (PlaneMeet → Place → Type 0) → Option X → Type 0
 IsNearest met p d P o = MatchOption o (IsMissed p d P) (λ x. IsNearestMet p d P (met x))
 
--- the one isn't past the other
+-- x isn't past y
 abbrev pub IsNotPast : Vector → Encounter → Encounter → Type 0
 IsNotPast d x y = SamePlace x.at.place y.at.place ⊎ IsAhead x.at.place d y.at.place
 
--- the option is one of the two, and not past either
+-- the option is a or b, and not past either
 pub record IsNearer {X : Type 0} (met : X → Encounter) (d : Vector) (a b r : Option X) : Type 0 where
   pub one : (r ≡ a) ⊎ (r ≡ b)
   pub first : (x : X) → a ≡ Some x → (y : X) × (r ≡ Some y) × IsNotPast d (met y) (met x)
   pub second : (x : X) → b ≡ Some x → (y : X) × (r ≡ Some y) × IsNotPast d (met y) (met x)
 
--- P of the point of the vertex with this number
+-- P holds of the point of the vertex with this number
 abbrev pub FromVertex : Complex → ℕ → (Place → Type 0) → Type 0
 FromVertex C k P = (v : Vertex) → At C.vertices k v → P v.point

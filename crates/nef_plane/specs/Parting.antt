@@ -1,10 +1,8 @@
--- Planes that hold a ray.
-use Rattle.std.specs.Prelude.{◌≡◌, ℕ, pos, ◌*◌, ◌^◌}
+-- Planes along a ray.
+use Rattle.std.specs.Prelude.{◌≡◌, ◌*◌, ◌^◌}
+use Rattle.nef_complex.specs.Prelude.{ℕ, pos, Vector, dot, place_of, vector_of, Point}
 use Rattle.nef_space.specs.Place.{Form, plane_through}
-use Rattle.nef_space.specs.Vectors.{Vector, dot}
-use Rattle.nef_geo.specs.Shapes.{place_of, vector_of}
 use Rattle.nef_geo.specs.declared.dir.Dir.{Dir}
-use Rattle.nef_geo.specs.declared.point.Point.{Point}
 
 -- the size of the product of a direction with a point's first three numbers
 abbrev pub product_limit : ℕ
@@ -14,6 +12,6 @@ product_limit = 9 * 2 ^ 82
 abbrev pub ray_form : Dir → Point → Form
 ray_form n p = plane_through (vector_of n) (place_of p)
 
--- a plane with this normal is along the direction
+-- a plane with the normal n is along the direction d
 abbrev pub IsAcrossRay : Vector → Dir → Type 0
 IsAcrossRay d n = dot (vector_of n) d ≡ pos 0

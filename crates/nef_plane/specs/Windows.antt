@@ -1,21 +1,20 @@
--- Spans of the points before what a ray met.
+-- Windows: spans of the points before what a ray met.
 use Rattle.std.specs.Prelude.{Option, IfSome}
-use Rattle.std.specs.Option.{MatchOption}
+use Rattle.nef_complex.specs.Prelude.{MatchOption, IsInSpan}
 use Rattle.nef_space.specs.Place.{Place, IsBetween}
 use Rattle.law_complex.specs.Complexes.{Complex}
 use Rattle.nef_complex.specs.declared.spans.Span.{Span}
-use Rattle.nef_complex.specs.Spans.{IsInSpan}
 use Rattle.nef_plane.specs.declared.first.Met.{Met}
 use Rattle.nef_plane.specs.Meets.{Encounter, IsMeetPoint}
 
--- there is a window, and the point isn't in it
+-- the point lies outside the window, which there is
 abbrev pub IsOutside : Option Span → Place → Type 0
 IsOutside window y = MatchOption window ⊥ (λ s. IsInSpan s y → ⊥)
 
--- where there is a window, something was met, and the window holds each point between p and that
+-- if there is a window, something was met, and the window holds each point between p and that
 abbrev pub HoldsBefore : {X : Type 0} → (X → Encounter) → Place → Option X → Option Span → Type 0
 HoldsBefore seen p best window = IfSome window (λ s. MatchOption best ⊥ (λ x. (y : Place) → IsBetween p y (seen x).at.place → IsInSpan s y))
 
--- the window holds each point between a point of the one span and one of what was met
+-- if there is a window, it holds each point between a point of the span `from` and a point of what was met
 abbrev pub IsWindowTo : {H : Type 0} → Complex → Option Span → Option (Met H) → Option Span → Type 0
 IsWindowTo C from best window = (p : Place) → IfSome from (λ s. IsInSpan s p) → IfSome window (λ s. MatchOption best ⊥ (λ x. (q y : Place) → IsMeetPoint C x.meet q → IsBetween p y q → IsInSpan s y))

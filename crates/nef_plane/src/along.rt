@@ -1,4 +1,4 @@
-//! The first vertex, or edge in a plane, that a ray meets which lies in the plane or begins at a vertex.
+//! What a ray from a vertex, or a ray within a plane, first meets: a vertex, or an edge in the plane.
 
 ghost use Rattle.std.specs.Prelude.{◌≡◌, ◌<◌, ◌↔◌};
 ghost use Rattle.nef_complex.specs.Prelude.{length, pos, IsTrue, IsNone, IfSome, Place, slope, IsAhead, form_at, Set, IsAtMost, form_of, vector_of, place_of, hit_place, ray_limit, upright_limit, upright_weight_limit, PlaneMeet as PlainMeet, Meets, IsFirstInPlane, IsVertexPoint, complex_of, meet_of, ShowsSet, AreWithin, AreHolders, IsPlaceAtMost};
@@ -27,7 +27,7 @@ fn is_held(ray: &VertexRay) -> bool
     side(ray.plane, ray.start) == Sign::Zero && is_along(ray.plane, ray.direction)
 }
 
-// Where the ray crosses the first of the carriers with these numbers that isn't along it. They are those that hold two points.
+// Where the ray crosses the first of the carriers that hold two points, which are listed, that isn't along the ray.
 fn crossed_at(carriers: &[Plane], holders: &[usize], ray: &VertexRay) -> Option<Hit>
     requires within { AreWithin carriers.now holders.now }
     ensures through { (a b : Place) → AreHolders carriers.now a b holders.now → IfSome result (λ q. IsHitThrough (place_of ray.now.start.now) (vector_of ray.now.direction.now) a b (reach_of q)) }
@@ -66,7 +66,7 @@ impl PlaneRay for VertexRay<'_> {
         }
     }
 
-    // Each vertex serves, though the plane may not hold it.
+    // Each vertex serves, even one off the plane.
     fn can_tell(&self, c: &Complex, meet: PlaneMeet) -> bool {
         match meet {
             PlaneMeet::AtVertex(_) => true,
@@ -74,7 +74,7 @@ impl PlaneRay for VertexRay<'_> {
         }
     }
 
-    // The course tells of most vertices and edges, by the numbers of their ends.
+    // By the numbers of their ends, the course excludes most vertices and edges, which the ray doesn't meet.
     fn may_meet(&self, c: &Complex, course: &Course, meet: PlaneMeet) -> bool {
         let (low, high) = ends_of(c, meet);
         if !course.may_reach(low, high) {
@@ -102,8 +102,8 @@ impl PlaneRay for VertexRay<'_> {
     ghost holds = { λ r c x y. y.holds };
 }
 
-// What the ray from the vertex with this number meets first. Where the plane holds the ray, and what lies there is listed,
-// that alone is asked; or else all vertices and edges.
+// What the ray from the vertex with this number first meets. Where the plane holds the ray and the plane's items are
+// listed, only these are asked, or else all vertices and edges.
 fn first_met(
     c: &Complex,
     ray: &VertexRay,
@@ -124,10 +124,10 @@ fn first_met(
     }
 }
 
-/// The first vertex, or edge in the plane `h`, that the ray from the vertex with this number along `d` meets strictly
-/// ahead. The items are those of the plane; without them all vertices and edges are asked. The entries of the direction
-/// are at most `2^36` in size, as those of `plane_dir` are, and no svertex of the vertex points along it. `None` comes
-/// exactly where nothing is met.
+/// The first vertex, or edge in the plane `h`, strictly ahead on the ray from the vertex with this number along `d`.
+/// `items` are those of the plane; without them all vertices and edges are asked. The entries of `d` are at most `2^36`
+/// in size, as those of `plane_dir`, and no svertex of the vertex points along `d`. `None` comes exactly where there is
+/// none.
 pub fn first_along_dir(
     c: &Complex,
     h: &Plane,
@@ -153,7 +153,7 @@ pub fn first_along_dir(
     Some(met.meet)
 }
 
-// Whether the direction is that of the plane's axis, or its opposite.
+// Whether the direction is that of the plane's axis, or the opposite direction.
 fn is_along_axis(h: &Plane, d: &Dir) -> bool
     ensures along { IsTrue result ↔ IsAlongAxis (form_of h.now) (vector_of d.now) }
 {
@@ -161,7 +161,7 @@ fn is_along_axis(h: &Plane, d: &Dir) -> bool
     d.is_same(&axis) || d.is_same(&axis.back())
 }
 
-// The number of the vertex at the point, where the direction isn't the axis or its opposite.
+// The number of the vertex at the point, where the direction is neither the plane's axis nor its opposite.
 fn vertex_off_axis(c: &Complex, h: &Plane, p: &Hit, d: &Dir) -> Option<usize>
     requires shows { (s : Set) × ShowsSet s c.now }
     requires direction { IsWithinDirection (complex_of c.now) (form_of h.now) (hit_place p.now) (vector_of d.now) }
@@ -179,11 +179,11 @@ fn vertex_off_axis(c: &Complex, h: &Plane, p: &Hit, d: &Dir) -> Option<usize>
     None
 }
 
-/// The first vertex or edge in the plane `h` that the ray from `p` along `d` meets strictly ahead. The point lies on the
-/// plane and is a vertex or lies strictly inside no edge in the plane; its first three numbers are at most `2^86` in
-/// size and its w at most `2^73`. The direction is the plane's axis or its opposite, or, where the point is a vertex,
-/// the plane's second direction or its opposite. No svertex of a vertex at the point points along it. `None` comes
-/// exactly where nothing is met. It takes no memory.
+/// The first vertex, or edge in the plane `h`, strictly ahead on the ray from `p` along `d`. The point lies on the
+/// plane, strictly inside no edge in the plane; its first three numbers are at most `2^86` in size and its w at most
+/// `2^73`. The direction is the plane's axis or its opposite, or, from a vertex, the plane's second direction or its
+/// opposite. No svertex of a vertex at `p` points along `d`. `None` comes exactly where none is met. No memory is
+/// taken.
 pub fn first_in_plane(c: &Complex, h: &Plane, p: &Hit, d: &Dir) -> Option<PlaneMeet>
     requires shows { (s : Set) × ShowsSet s c.now }
     requires on { form_at (form_of h.now) (hit_place p.now) ≡ pos 0 }

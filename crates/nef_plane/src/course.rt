@@ -1,6 +1,6 @@
-//! Courses of rays within a plane from a vertex, and planes that hold a ray. They tell of most vertices and edges of the plane,
-//! by numbers alone, that the ray doesn't meet them: it meets a vertex only where a plane along it holds that, and an edge only
-//! where the plane parts its ends or holds both.
+//! Courses of rays within a plane from a vertex, and planes along a ray. By numbers alone, both exclude most vertices
+//! and edges of the plane: a ray meets a vertex only where a plane along the ray holds the vertex, and an edge only
+//! where this plane parts the edge's ends or holds both.
 
 ghost use Rattle.std.specs.Prelude.{◌≡◌, ◌*◌, ◌<◌, ◌≤◌, ◌-ℤ◌, ◌*ℤ◌, ◌↔◌, ◌⊎◌, ◌+ℤ◌};
 ghost use Rattle.nef_complex.specs.Prelude.{nat_abs, IsTrue, IfSome, half_side, point_limit, weight_limit, Set, dot, IsAtMost, form_of, vector_of, place_of, sign_of, ray_limit, ShowsSet, LiesOn, AreNumbersWith, MatchOption, form_at};
@@ -20,7 +20,7 @@ fn product_with(n: &Dir, a: &Point) -> i128
     n.x() as i128 * a.x() as i128 + n.y() as i128 * a.y() as i128 + n.z() as i128 * a.z() as i128
 }
 
-// The side of the plane through p with this normal on which the point lies. The base is the product of the normal with p.
+// The side on which the point `a` lies of the plane through p with normal n. `base` is the product of n with p.
 fn side_through(n: &Dir, p: &Point, base: i128, a: &Point) -> Sign
     requires base { base ≡ n.now.x *ℤ p.now.x +ℤ n.now.y *ℤ p.now.y +ℤ n.now.z *ℤ p.now.z }
     requires small { nat_abs base ≤ product_limit }
@@ -31,7 +31,7 @@ fn side_through(n: &Dir, p: &Point, base: i128, a: &Point) -> Sign
     Sign::of(here - there)
 }
 
-// Whether the plane through p with this normal parts the points or holds both.
+// Whether the plane through p with normal n parts the points a and b or holds both.
 fn are_parted(n: &Dir, p: &Point, a: &Point, b: &Point) -> bool
     ensures opposite { IsTrue result ↔ AreOpposite (ray_form n.now p.now) (place_of a.now) (place_of b.now) }
 {
@@ -39,8 +39,7 @@ fn are_parted(n: &Dir, p: &Point, a: &Point, b: &Point) -> bool
     side_through(n, p, base, a) == side_through(n, p, base, b).opposite()
 }
 
-// The normal of a plane that is along the direction and along an axis that isn't along the plane h. `None` comes where
-// the direction is along that axis.
+// The normal of a plane along the direction d and along an axis that crosses h; `None` where d is along that axis.
 fn normal_beside(h: &Plane, d: &Dir) -> Option<Dir>
     ensures across { IfSome result (IsAcrossRay (vector_of d.now)) }
 {
@@ -53,8 +52,8 @@ fn normal_beside(h: &Plane, d: &Dir) -> Option<Dir>
     }
 }
 
-/// Whether a ray from p may pass between the points, or through both where they are one. It doesn't, where the plane
-/// through p with the normal, if there is one, holds the ray and has both points strictly on one side.
+/// Whether a ray from p may pass between the points a and b, or through both if they are one point. The plane through p
+/// with the normal, if there is one, holds the ray; a ray with both points strictly on one side doesn't pass.
 pub(crate) fn may_pass(normal: &Option<Dir>, p: &Point, a: &Point, b: &Point) -> bool
     ensures beside { (IsTrue result → ⊥) → MatchOption normal.now ⊥ (λ n. AreOpposite (ray_form n p.now) (place_of a.now) (place_of b.now) → ⊥) }
 {
@@ -64,8 +63,8 @@ pub(crate) fn may_pass(normal: &Option<Dir>, p: &Point, a: &Point, b: &Point) ->
     }
 }
 
-// A ray from a vertex, and the plane in which edges are to be met. The plane need not hold the ray.
-#[derive(Debug, Clone, Copy)]
+// A ray from a vertex, and the plane whose edges may be met. The plane need not hold the ray.
+#[derive(Clone, Copy)]
 pub(crate) struct VertexRay<'a> {
     pub(crate) plane: &'a Plane,
     pub(crate) start: &'a Point,
@@ -73,16 +72,16 @@ pub(crate) struct VertexRay<'a> {
     pub(crate) ghost small: { IsAtMost ray_limit (vector_of direction.now) },
 }
 
-// Two numbers of vertices, and the normal of a plane along the ray, if there is one. The ray meets nothing between vertices
-// of the plane with numbers below the first, nor between vertices with numbers from the other on.
-#[derive(Debug, Clone, Copy)]
+// What numbers of vertices tell of a ray within a plane: the ray meets nothing between vertices of the plane that are
+// all below `first`, nor between vertices that are all at `past` or above. The normal is that of a plane along the ray.
+#[derive(Clone, Copy)]
 pub(crate) struct Course {
     pub(crate) first: usize,
     pub(crate) past: usize,
     pub(crate) normal: Option<Dir>,
 }
 
-// Whether the direction leads on in the coordinate that the plane's axis keeps.
+// Whether the direction leads forward, back, or neither in the coordinate that is constant along the plane's axis.
 fn sweep_sign(h: &Plane, d: &Dir) -> Sign
     ensures sweep { result ≡ sign_of (dot (sweep_axis (form_of h.now)) (vector_of d.now)) }
 {
@@ -93,7 +92,7 @@ fn sweep_sign(h: &Plane, d: &Dir) -> Sign
     }
 }
 
-// Whether n is more than 4096 times as large as k.
+// Whether n is more than 4096 times as large as k in size.
 fn outweighs(n: i64, k: i64) -> bool
     requires n_small { nat_abs n ≤ ray_limit }
     requires k_small { nat_abs k ≤ ray_limit }
@@ -102,8 +101,8 @@ fn outweighs(n: i64, k: i64) -> bool
     2 * HALF_SIDE.unsigned_abs() * k.unsigned_abs() < n.unsigned_abs()
 }
 
-// Whether from point to point of the closed frame along the direction the coordinate that the plane's axis keeps changes by
-// less than one. It does where another coordinate changes more than 4096 times as much, since the frame is no wider.
+// Whether the coordinate that is constant along the plane's axis changes by less than one within the closed frame along
+// the direction. It does where another coordinate changes more than 4096 times as much, since the frame is no wider.
 fn stays_close(h: &Plane, d: &Dir) -> bool
     requires small { IsAtMost ray_limit (vector_of d.now) }
     ensures close { IsTrue result → StaysClose (sweep_axis (form_of h.now)) (vector_of d.now) }
@@ -128,8 +127,8 @@ fn shift_sign(n: i64, w: i64, k: i64, v: i64, by: i64) -> Sign
     Sign::of(n as i128 * v as i128 - k as i128 * w as i128 - shift)
 }
 
-// A line of the plane on which the coordinate that the plane's axis keeps is by this much greater than at the point.
-#[derive(Debug, Clone, Copy)]
+// A line of the plane along the plane's axis. The coordinate that is constant on the line exceeds the point's by `by`.
+#[derive(Clone, Copy)]
 struct Shifted<'a> {
     plane: &'a Plane,
     point: &'a Point,
@@ -150,8 +149,8 @@ impl Line for Shifted<'_> {
     }
 }
 
-// The number of the first vertex of the plane past the line on which the coordinate is by this much greater than at the ray's
-// start, where those on the line may count as before it; or the other number, where the ray may lead far in the coordinate.
+// The number of the plane's first vertex past the line whose constant coordinate exceeds the start's by `by`; vertices
+// on the line may count as before the line. The number is `otherwise` where the ray may lead far in that coordinate.
 fn number_beside(
     c: &Complex,
     ray: &VertexRay,
@@ -177,9 +176,9 @@ fn number_beside(
 }
 
 impl Course {
-    // The course of the ray, which the plane holds, from the vertex with this number. The plane's vertices have these
-    // numbers. They stand in order of the coordinate, so the ray meets nothing between vertices of which none is past its
-    // start; and nothing far from the start where the coordinate hardly changes.
+    // The course of the ray from the vertex with this number; the plane holds the ray and has the vertices with these
+    // numbers. Vertices stand in order of the coordinate that is constant along the axis, so the ray meets nothing
+    // between vertices before its start; and nothing far from the start where this coordinate hardly changes.
     pub(crate) fn of(c: &Complex, ray: &VertexRay, start: usize, numbers: &[usize]) -> Course
         requires shows { (s : Set) × ShowsSet s c.now }
         requires start { StartsAt c.now.vertices start ray.now.start.now }
@@ -208,7 +207,7 @@ impl Course {
         }
     }
 
-    // Whether the ray may meet what lies between the vertices with these numbers, of which the first is no greater.
+    // Whether the ray may meet what lies between the vertices with these numbers, where `low` isn't above `high`.
     pub(crate) fn may_reach(&self, low: usize, high: usize) -> bool
         ensures passed { (IsTrue result → ⊥) → IsPassed self.now low high }
     {

@@ -1,4 +1,4 @@
-//! What a ray meets first of the vertices and edges that it is asked about.
+//! What a ray first meets of a plane's vertices and edges, or of all.
 
 ghost use Rattle.std.specs.Prelude.{◌≡◌, ◌<◌, ◌≤◌};
 ghost use Rattle.nef_complex.specs.Prelude.{ℕ, length, IsTrue, IfSome, Place, Form, SamePlace, IsAhead, Set, Vector, IsDirection, complex_of, ShowsSet, AreNumbersWith, LiesOn, IsAt, MatchOrdering, PlaneMeet as PlainMeet, IsInSpan, AreAlone};
@@ -14,18 +14,18 @@ use nef_complex::{Complex, PlaneItems, PlaneMeet, Span, point_spans};
 use nef_geo::{FarHit, Hit, far_order, hit_order};
 use std::cmp::Ordering;
 
-// What a ray meets, and the hit there.
-#[derive(Debug, Clone, Copy, Drop)]
+// The vertex or edge that a ray meets, and the hit there.
+#[derive(Clone, Copy, Drop)]
 pub(crate) struct Met<H> {
     pub(crate) meet: PlaneMeet,
     pub(crate) at: H,
 }
 
-// A hit of a ray, with the step at which it stands.
+// A hit of a ray, with the step at which the hit lies on the ray.
 pub(crate) trait Stepped: Copy + Drop {
     ghost reach: { Self → Reach };
 
-    // Which of two hits of one ray is nearer to its start.
+    // Which of two hits of one ray is nearer to the ray's start.
     fn order(&self, other: &Self) -> Ordering
         ensures along { (p : Place) (d : Vector) → IsDirection d → IsReachedAt p d (reach self.now) → IsReachedAt p d (reach other.now) → MatchOrdering result (IsAhead (reach self.now).place d (reach other.now).place) (SamePlace (reach self.now).place (reach other.now).place) (IsAhead (reach other.now).place d (reach self.now).place) };
 }
@@ -46,8 +46,7 @@ impl Stepped for FarHit {
     }
 }
 
-// What a ray meets first of two, each of which stands at its step along the ray: the first one where they stand at one
-// point. `None` comes exactly where both are `None`.
+// The nearer of two things that a ray meets; the first one where both are met at one point.
 fn nearer<H: Stepped>(one: Option<Met<H>>, other: Option<Met<H>>) -> Option<Met<H>>
     ensures nearer { (p : Place) (d : Vector) → IsDirection d → IfSome one (λ x. IsReachedMet p d (met_of H.reach x)) → IfSome other (λ x. IsReachedMet p d (met_of H.reach x)) → IsNearer (met_of H.reach) d one other result }
 {
@@ -62,8 +61,8 @@ fn nearer<H: Stepped>(one: Option<Met<H>>, other: Option<Met<H>>) -> Option<Met<
     }
 }
 
-// A ray that is asked about one vertex or edge at a time. Where its plane holds it and what lies there is listed, a guide
-// tells most of them off the ray without a carrier.
+// A ray that is asked about one vertex or edge at a time. Where its plane holds the ray and the plane's items are
+// listed, a guide excludes most vertices and edges without a look at carriers.
 pub(crate) trait PlaneRay {
     type At: Stepped;
 
@@ -75,7 +74,7 @@ pub(crate) trait PlaneRay {
 
     ghost way: { Self → Vector };
 
-    // The guide is one of the ray in the complex.
+    // The guide is right for the ray in the complex.
     ghost guided: { Self → ComplexValue → Self.Guide → Type 0 };
 
     // The ray can tell where it meets this vertex or edge.
@@ -87,14 +86,14 @@ pub(crate) trait PlaneRay {
         requires told { tells self.now c.now meet }
         ensures nearest { IsNearest (met_of Self.At.reach) (start self.now) (way self.now) (AtMeet (complex_of c.now) (plane self.now) (way self.now) meet) result };
 
-    // Whether the ray can tell where it meets this vertex or edge. It meets no other.
+    // Whether the ray can tell where it meets this vertex or edge. The ray meets no vertex or edge where it can't tell.
     fn can_tell(&self, c: &Complex, meet: PlaneMeet) -> bool
         requires shows { (s : Set) × ShowsSet s c.now }
         requires within { HasMeet c.now meet }
         ensures told { IsTrue result → tells self.now c.now meet }
         ensures off { (IsTrue result → ⊥) → IsMissed (start self.now) (way self.now) (AtMeet (complex_of c.now) (plane self.now) (way self.now) meet) };
 
-    // Whether the ray may meet this vertex or edge of the plane. If it may, it can tell where.
+    // Whether the ray may meet this vertex or edge of the plane. If so, the ray can tell where.
     fn may_meet(&self, c: &Complex, guide: &Self::Guide, meet: PlaneMeet) -> bool
         requires shows { (s : Set) × ShowsSet s c.now }
         requires guide { guided self.now c.now guide.now }
@@ -102,38 +101,38 @@ pub(crate) trait PlaneRay {
         ensures told { IsTrue result → tells self.now c.now meet }
         ensures off { (IsTrue result → ⊥) → IsMissed (start self.now) (way self.now) (AtMeet (complex_of c.now) (plane self.now) (way self.now) meet) };
 
-    // A number of a vertex: the ray meets nothing of the plane between vertices of which all have smaller ones.
+    // The number of a vertex: the ray meets nothing of the plane between vertices with smaller numbers.
     fn first(&self, c: &Complex, guide: &Self::Guide) -> usize
         requires shows { (s : Set) × ShowsSet s c.now }
         requires guide { guided self.now c.now guide.now }
         ensures missed { (m : PlaneMeetValue) (i j : ℕ) → AreEnds c.now m i j → MeetLiesIn c.now (plane self.now) m → i < result → j < result → IsMissed (start self.now) (way self.now) (AtMeet (complex_of c.now) (plane self.now) (way self.now) m) };
 
-    // A number of a vertex: the ray meets nothing of the plane between vertices of which none has a smaller one.
+    // The number of a vertex: the ray meets nothing of the plane between vertices with this number or greater ones.
     fn past(&self, c: &Complex, guide: &Self::Guide) -> usize
         requires shows { (s : Set) × ShowsSet s c.now }
         requires guide { guided self.now c.now guide.now }
         ensures missed { (m : PlaneMeetValue) (i j : ℕ) → AreEnds c.now m i j → MeetLiesIn c.now (plane self.now) m → result ≤ i → IsMissed (start self.now) (way self.now) (AtMeet (complex_of c.now) (plane self.now) (way self.now) m) };
 
-    // A span of the start, if its coordinates fit.
+    // A span of the ray's start, if its coordinates fit 64 bits.
     fn start_span(&self) -> Option<Span>
         ensures start { IfSome result (λ s. IsInSpan s (start self.now)) };
 
-    // The way of a ray isn't zero, so the ray leads somewhere.
+    // The direction of a ray isn't zero.
     ghost leads: { (r : Self) → IsDirection (way r) };
 
     // Where there is a guide, the plane holds the ray.
     ghost holds: { (r : Self) (c : ComplexValue) (x : Self.Guide) → guided r c x → HoldsRay (plane r) (start r) (way r) };
 }
 
-// Whether vertices or edges are asked.
-#[derive(Debug, Clone, Copy)]
+// Whether all vertices or all edges are asked.
+#[derive(Clone, Copy)]
 enum Kind {
     Vertex,
     Edge,
 }
 
 impl Kind {
-    // The one with this number.
+    // The vertex or edge with this number.
     fn at(self, number: usize) -> PlaneMeet
         ensures at { result ≡ meet_at self number }
     {
@@ -144,7 +143,7 @@ impl Kind {
     }
 }
 
-// How many of the numbers, which stand in increasing order, are below the limit, by halving.
+// How many of the increasing numbers are below the limit, by halving.
 fn count_below(numbers: &[usize], limit: usize) -> usize
     requires ordered { (i j k l : ℕ) → i < j → IsAt numbers.now i k → IsAt numbers.now j l → k < l }
     ensures within { result ≤ length numbers.now }
@@ -154,7 +153,7 @@ fn count_below(numbers: &[usize], limit: usize) -> usize
     numbers.partition_point(|number| *number < limit)
 }
 
-// The first that the ray meets of the vertices of the plane, which have the listed numbers.
+// What the ray first meets of the plane's vertices, which have these numbers.
 fn nearest_vertex<R: PlaneRay>(
     ray: &R,
     c: &Complex,
@@ -178,10 +177,10 @@ fn nearest_vertex<R: PlaneRay>(
     best
 }
 
-// So many edges are asked before there is a window: it is of use only where more are left.
+// How many edges are asked before there is a window, which is of use only where more are left.
 const ASKED_AT_ONCE: usize = 4;
 
-// The span of the ray's start that was known, or the one that is made where one more edge is to be asked without a window.
+// A span of the ray's start: the known one, or a new one where one more edge is to be asked without a window.
 fn known_start<R: PlaneRay>(ray: &R, left: usize, known: Option<Span>) -> Option<Span>
     requires known { IfSome known (λ s. IsInSpan s (R.start ray.now)) }
     ensures start { IfSome result (λ s. IsInSpan s (R.start ray.now)) }
@@ -189,7 +188,7 @@ fn known_start<R: PlaneRay>(ray: &R, left: usize, known: Option<Span>) -> Option
     if left == 1 { ray.start_span() } else { known }
 }
 
-// A window that holds all points between the start and what was met, where a span of the start is known.
+// A window with all points between the ray's start and what was met so far, where a span of the start is known.
 fn window_to<H>(
     c: &Complex,
     spans: &[Span],
@@ -207,7 +206,7 @@ fn window_to<H>(
     }
 }
 
-// Whether the ray may meet this vertex or edge of the plane within the window, if there is one. If it may, it can tell where.
+// Whether the ray may meet this vertex or edge of the plane within the window, if any. If so, the ray can tell where.
 fn may_meet_within<R: PlaneRay>(
     ray: &R,
     c: &Complex,
@@ -226,9 +225,9 @@ fn may_meet_within<R: PlaneRay>(
     may_lie_within(c, spans, window, meet) && ray.may_meet(c, guide, meet)
 }
 
-// The first that the ray meets of the edges of the plane that aren't along the ray. Where it meets an edge along it, it meets an
-// end of that edge sooner. Edges are asked from the last that may be met to the first, since peaks tell of those before. The
-// spans are those of the vertices: most edges are far from the way to what was met so far.
+// What the ray first meets of the plane's edges that aren't along the ray: an edge along the ray has an end that the
+// ray meets sooner. Edges are asked from the last that may be met to the first, since peaks tell of the edges before.
+// By the vertices' spans, most edges are far from the way to what was met so far.
 fn nearest_edge<R: PlaneRay>(
     ray: &R,
     c: &Complex,
@@ -262,7 +261,7 @@ fn nearest_edge<R: PlaneRay>(
     best
 }
 
-// The first that the ray meets of the listed vertices and edges, which are those of the plane.
+// What the ray first meets of the plane's vertices and edges, which are listed.
 pub(crate) fn nearest_met<R: PlaneRay>(
     ray: &R,
     c: &Complex,
@@ -279,8 +278,8 @@ pub(crate) fn nearest_met<R: PlaneRay>(
     nearer(vertex, edge)
 }
 
-// The first that the ray meets of all vertices of the complex, or of all its edges in the plane that aren't along the ray, where
-// no list names those in the plane. There are so many of these vertices or edges.
+// What the ray first meets of all `count` vertices, or of all `count` edges that lie in the plane and aren't along the
+// ray, where no list names the plane's items.
 fn nearest_of_all<R: PlaneRay>(ray: &R, c: &Complex, kind: Kind, count: usize) -> Option<Met<R::At>>
     requires shows { (s : Set) × ShowsSet s c.now }
     requires count { count ≡ count_in c.now kind }
@@ -296,7 +295,7 @@ fn nearest_of_all<R: PlaneRay>(ray: &R, c: &Complex, kind: Kind, count: usize) -
     best
 }
 
-// The first that the ray meets of all vertices and edges of the complex.
+// What the ray first meets of all vertices of the complex, and of all edges in the plane.
 pub(crate) fn met_of_all<R: PlaneRay>(ray: &R, c: &Complex) -> Option<Met<R::At>>
     requires shows { (s : Set) × ShowsSet s c.now }
     ensures nearest { IsNearest (met_of R.At.reach) (R.start ray.now) (R.way ray.now) (AtVertexOrEdge (complex_of c.now) (R.plane ray.now) (R.way ray.now)) result }

@@ -1,8 +1,8 @@
-//! The ends of a vertex or an edge that a ray may meet, the carriers that hold them, and whether a plane does; and whether a
-//! point of a ray is a vertex, or lies on an edge. A vertex is both of its ends.
+//! The ends of a vertex or an edge that a ray may meet, the carriers that hold both ends, and whether a hit is a vertex
+//! or lies on an edge. A vertex is both of its ends.
 //!
-//! The numbers of a general hit are too large to be multiplied with those of a vertex. The carriers tell instead: at least
-//! three of those that hold a vertex meet there alone, and at least two of those that hold an edge meet in its line.
+//! A hit's numbers may be too large for products with a vertex's numbers. The carriers tell instead: at least three
+//! carriers of a vertex meet in the vertex alone, and at least two carriers of an edge meet in its line.
 
 ghost use Rattle.std.specs.Prelude.{◌<◌, ◌↔◌};
 ghost use Rattle.nef_complex.specs.Prelude.{length, IsTrue, IsAt, Place, Set, form_of, place_of, hit_place, IsVertexPoint, IsEdgePoint, complex_of, ShowsSet, AreWithin, AreHolders};
@@ -15,7 +15,7 @@ ghost use Rattle.nef_plane.specs.Meets.{IsMeetPoint};
 use nef_complex::{Complex, PlaneMeet, edge_holders, holds, vertex_holders};
 use nef_geo::{Hit, Plane, Point, Sign, hit_side, side};
 
-// The numbers of the ends.
+// The numbers of the vertices at the ends of this vertex or edge.
 pub(crate) fn ends_of(c: &Complex, meet: PlaneMeet) -> (usize, usize)
     requires shows { (s : Set) × ShowsSet s c.now }
     requires within { HasMeet c.now meet }
@@ -32,7 +32,7 @@ pub(crate) fn ends_of(c: &Complex, meet: PlaneMeet) -> (usize, usize)
     }
 }
 
-// The numbers of the carriers that hold both ends.
+// The numbers of the carriers that hold both ends of this vertex or edge.
 pub(crate) fn holders_of(c: &Complex, meet: PlaneMeet) -> &[usize]
     requires shows { (s : Set) × ShowsSet s c.now }
     requires within { HasMeet c.now meet }
@@ -44,7 +44,7 @@ pub(crate) fn holders_of(c: &Complex, meet: PlaneMeet) -> &[usize]
     }
 }
 
-// Whether this vertex or edge lies in the plane: both of its ends do.
+// Whether this vertex or edge lies in the plane: the plane holds both ends.
 pub(crate) fn lies_in(c: &Complex, h: &Plane, meet: PlaneMeet) -> bool
     requires shows { (s : Set) × ShowsSet s c.now }
     requires within { HasMeet c.now meet }
@@ -56,8 +56,7 @@ pub(crate) fn lies_in(c: &Complex, h: &Plane, meet: PlaneMeet) -> bool
     holds(h, a) && holds(h, b)
 }
 
-// Whether q lies on the side of b of each of the carriers with these numbers, or on the carrier where b does. They are those that
-// hold some point.
+// Whether q lies on b's side of each carrier that holds some point, which are listed, or on the carrier where b does.
 fn sides_with(carriers: &[Plane], holders: &[usize], b: &Point, q: &Hit) -> bool
     requires within { AreWithin carriers.now holders.now }
     ensures sides { (a : Place) → AreHolders carriers.now a a holders.now → (IsTrue result ↔ AllSideWith carriers.now a (place_of b.now) (hit_place q.now)) }
@@ -71,7 +70,7 @@ fn sides_with(carriers: &[Plane], holders: &[usize], b: &Point, q: &Hit) -> bool
     true
 }
 
-// Whether each of the carriers with these numbers, which are those that hold two points, holds the hit too.
+// Whether each listed carrier holds the hit. The list has the carriers that hold two points.
 fn are_through(carriers: &[Plane], holders: &[usize], q: &Hit) -> bool
     requires within { AreWithin carriers.now holders.now }
     ensures through { (a b : Place) → AreHolders carriers.now a b holders.now → (IsTrue result ↔ AllThrough carriers.now a b (hit_place q.now)) }
@@ -84,7 +83,7 @@ fn are_through(carriers: &[Plane], holders: &[usize], q: &Hit) -> bool
     true
 }
 
-/// Whether the hit lies on the line of the edge with this number, as each carrier that holds both of its ends tells.
+/// Whether the hit lies on the line of the edge with this number: each carrier that holds both ends holds the hit.
 pub fn is_in_line(c: &Complex, number: usize, q: &Hit) -> bool
     requires shows { (s : Set) × ShowsSet s c.now }
     requires within { number < length c.now.edges }
@@ -93,7 +92,7 @@ pub fn is_in_line(c: &Complex, number: usize, q: &Hit) -> bool
     are_through(c.carriers.as_slice(), edge_holders(c, number), q)
 }
 
-/// Whether the hit is the vertex with this number. It is, exactly where each carrier that holds the vertex holds it.
+/// Whether the hit is at the vertex with this number: exactly where each carrier that holds the vertex holds the hit.
 pub fn is_at_vertex(c: &Complex, number: usize, q: &Hit) -> bool
     requires shows { (s : Set) × ShowsSet s c.now }
     requires within { number < length c.now.vertices }
@@ -103,9 +102,9 @@ pub fn is_at_vertex(c: &Complex, number: usize, q: &Hit) -> bool
     sides_with(c.carriers.as_slice(), vertex_holders(c, number), point, q)
 }
 
-/// Whether the hit lies strictly between the ends of the edge with this number. It does, exactly where it lies on the other
-/// end's side of each carrier that holds one, or on the carrier where that holds both. Those that hold both are asked
-/// first, since they pass over most edges.
+/// Whether the hit lies strictly between the ends of the edge with this number: exactly where it lies on the other
+/// end's side of each carrier that holds one end, and on each carrier that holds both ends. Carriers that hold both
+/// ends are asked first, since they exclude most edges.
 pub fn is_on_edge(c: &Complex, number: usize, q: &Hit) -> bool
     requires shows { (s : Set) × ShowsSet s c.now }
     requires within { number < length c.now.edges }
@@ -123,7 +122,7 @@ pub fn is_on_edge(c: &Complex, number: usize, q: &Hit) -> bool
     sides_with(carriers, at_low, high, q) && sides_with(carriers, at_high, low, q)
 }
 
-// Whether the hit is this vertex, or lies strictly inside this edge.
+// Whether the hit is at this vertex, or lies strictly inside this edge.
 pub(crate) fn is_at(c: &Complex, meet: PlaneMeet, q: &Hit) -> bool
     requires shows { (s : Set) × ShowsSet s c.now }
     requires within { HasMeet c.now meet }

@@ -1,5 +1,5 @@
-//! The first vertex or edge in a plane that a ray along the plane's axis meets; lines of a plane along its axis, and the vertices
-//! of the plane beside them, which stand in order of the coordinate that the axis keeps.
+//! What a ray along a plane's axis first meets; and lines of a plane along its axis, with the plane's vertices on both
+//! sides. Vertices stand in order of the coordinate that is constant along the axis.
 
 ghost use Rattle.std.specs.Prelude.{◌≡◌, ◌<◌, ◌≤◌, ◌*ℤ◌, ◌-ℤ◌, ◌↔◌};
 ghost use Rattle.nef_complex.specs.Prelude.{pos, nat_abs, IsTrue, IsNone, IfSome, MatchOption, normal_limit, point_limit, weight_limit, Place, form_at, IsAhead, Form, Set, IsAtMost, IsPlaceAtMost, form_of, vector_of, place_of, hit_place, sign_of, upright_limit, upright_weight_limit, ratio_limit, PlaneMeet as PlainMeet, Meets, IsFirstInPlane, complex_of, meet_of, ShowsSet, LiesOn, AreNumbersWith, AreWithin, AreHolders};
@@ -14,9 +14,9 @@ use crate::window::hit_span;
 use nef_complex::{Complex, PlaneItems, PlaneMeet, Span};
 use nef_geo::{Dir, FarHit, Hit, Plane, Point, Sign, far_hit};
 
-// A line of a plane along its axis.
+// A line of a plane along the plane's axis.
 pub(crate) trait Line {
-    // The form of a plane through the line whose sign tells the sides.
+    // A form through the line, whose sign tells the sides of the line.
     ghost form: { Self → Form };
 
     // The side of the line on which a point of the plane lies.
@@ -24,7 +24,7 @@ pub(crate) trait Line {
         ensures across { result ≡ sign_of (form_at (form self.now) (place_of a.now)) };
 }
 
-// Whether a point of the plane lies before the line or, if that counts, on it.
+// Whether a point of the plane lies before the line or, if `on_counts`, on the line.
 fn is_short<L: Line>(line: &L, on_counts: bool, a: &Point) -> bool
     ensures short { IsTrue result ↔ IsShort on_counts (form_at (L.form line.now) (place_of a.now)) }
 {
@@ -35,7 +35,7 @@ fn is_short<L: Line>(line: &L, on_counts: bool, a: &Point) -> bool
     }
 }
 
-// The number of the first vertex of the plane that isn't short, by halving, or the number of all vertices if all of them are.
+// The number of the plane's first vertex that isn't before the line, by halving, or how many vertices there are.
 pub(crate) fn first_far<L: Line>(
     c: &Complex,
     h: &Plane,
@@ -67,7 +67,7 @@ pub(crate) fn first_far<L: Line>(
 }
 
 // A ray within a plane, along the plane's axis.
-#[derive(Debug, Clone, Copy)]
+#[derive(Clone, Copy)]
 struct AxisRay<'a> {
     plane: &'a Plane,
     start: &'a Hit,
@@ -103,18 +103,17 @@ impl Line for AxisRay<'_> {
     }
 }
 
-// The vertices of a plane stand in order of the coordinate that the plane's axis keeps, so that their numbers alone tell of
-// most vertices and edges of the plane that a line along the axis doesn't meet them. Those with numbers below the first lie
-// before the line, those from the second number on past it, and those between on it.
-#[derive(Debug, Clone, Copy)]
+// What numbers of vertices tell of a line along a plane's axis, as the plane's vertices stand in order of the
+// coordinate that is constant along the axis: vertices below `first` lie before the line, vertices at `past` or above
+// lie past the line, and vertices between lie on the line. So most edges of the plane are known to miss the line.
+#[derive(Clone, Copy)]
 pub(crate) struct Level {
     pub(crate) first: usize,
     pub(crate) past: usize,
 }
 
 impl Level {
-    // Whether the vertices of the plane with these numbers, of which the first is no greater, may lie on different sides
-    // of the line, or both on it.
+    // Whether the plane's vertices with these numbers, in order, may lie on different sides of the line, or both on it.
     fn may_part(&self, low: usize, high: usize) -> bool
         ensures unparted { (IsTrue result → ⊥) → IsUnparted self.now low high }
     {
@@ -126,8 +125,7 @@ impl Level {
     }
 }
 
-// Where the ray crosses the first of the carriers with these numbers that it crosses at all. They are those that hold two
-// points.
+// Where the ray crosses the first of the carriers that hold two points, which are listed, that it crosses at all.
 fn hit_through(carriers: &[Plane], holders: &[usize], ray: &AxisRay) -> Option<FarHit>
     requires within { AreWithin carriers.now holders.now }
     ensures hit { (a b : Place) → AreHolders carriers.now a b holders.now → MatchOption result (NoneCrosses carriers.now (hit_place ray.now.start.now) (vector_of ray.now.direction.now) a b) (λ q. IsHitThrough (hit_place ray.now.start.now) (vector_of ray.now.direction.now) a b (far_reach_of q)) }
@@ -140,7 +138,7 @@ fn hit_through(carriers: &[Plane], holders: &[usize], ray: &AxisRay) -> Option<F
     None
 }
 
-// Whether the points lie on different sides of the ray's line, or both on it.
+// Whether the points lie on different sides of the ray's line, or both on the line.
 fn are_parted(ray: &AxisRay, a: &Point, b: &Point) -> bool
     ensures opposite { IsTrue result ↔ AreOpposite (sweep_form (form_of ray.now.plane.now) (hit_place ray.now.start.now)) (place_of a.now) (place_of b.now) }
 {
@@ -162,7 +160,7 @@ impl PlaneRay for AxisRay<'_> {
 
     ghost tells = { λ r c m. MeetLiesIn c (form_of r.plane.now) m };
 
-    // Where the ray meets the vertex or edge some carrier that holds its ends crosses the ray.
+    // Where the ray meets the vertex or edge, some carrier that holds both ends crosses the ray.
     fn met(&self, c: &Complex, meet: PlaneMeet) -> Option<Met<FarHit>> {
         let (low, high) = ends_of(c, meet);
         let a = &c.vertices.at(low).point;
@@ -178,7 +176,7 @@ impl PlaneRay for AxisRay<'_> {
         lies_in(c, self.plane, meet)
     }
 
-    // The level tells of most vertices and edges, by the numbers of their ends.
+    // By the numbers of their ends, the level excludes most vertices and edges, which the ray doesn't meet.
     fn may_meet(&self, c: &Complex, level: &Level, meet: PlaneMeet) -> bool {
         let (low, high) = ends_of(c, meet);
         level.may_part(low, high)
@@ -201,10 +199,10 @@ impl PlaneRay for AxisRay<'_> {
     ghost holds = { λ r c x y. y.1 };
 }
 
-/// The first vertex or edge in the plane `h` that the ray from `p` along `d` meets strictly ahead. The items are those of
-/// the plane; without them all vertices and edges are asked: some may lie in it though no vertex has an item there. The
-/// direction is the plane's axis or its opposite, and the point is as `first_in_plane` wants it. `None` comes exactly where
-/// nothing is met.
+/// The first vertex, or edge in the plane `h`, strictly ahead on the ray from `p` along `d`. `items` are those of the
+/// plane; without them all vertices and edges are asked: some may lie in the plane though no vertex has an item there.
+/// The direction is the plane's axis or its opposite, and the point is as `first_in_plane` wants it. `None` comes
+/// exactly where none is met.
 pub fn first_along_axis(
     c: &Complex,
     h: &Plane,

@@ -1,5 +1,5 @@
-//! Windows of a ray that is asked about one edge after the other: spans of all points before what it met first so far. An edge
-//! whose span has no point in common with the window isn't met sooner.
+//! Windows of a ray that is asked about one edge after the other: spans of all points up to what the ray met first so
+//! far. The ray meets an edge no sooner if the edge's span has no point in common with the window.
 
 ghost use Rattle.std.specs.Prelude.{◌<ℤ◌, ◌≤ℤ◌, ◌*ℤ◌};
 ghost use Rattle.nef_complex.specs.Prelude.{pos, IsTrue, IfSome, Place, Set, hit_place, complex_of, ShowsSet, IsInSpan, AreAlone};
@@ -12,7 +12,7 @@ use crate::places::ends_of;
 use nef_complex::{Bounds, Complex, PlaneMeet, Span, may_meet};
 use nef_geo::Hit;
 
-// Whole numbers next to x/w, the one below and the one above. `None` comes only where these have more than 64 bits.
+// Whole numbers that bound x/w: the greatest at or below x/w, and the next. `None` says that they don't fit 64 bits.
 fn bounds_of(x: i128, w: i128) -> Option<Bounds>
     requires positive { pos 0 <ℤ w }
     ensures low { IfSome result (λ b. (b.low *ℤ w) ≤ℤ x) }
@@ -23,7 +23,7 @@ fn bounds_of(x: i128, w: i128) -> Option<Bounds>
     Some(Bounds { low, high })
 }
 
-// A span of the hit. `None` comes only where its coordinates have more than 64 bits.
+// A span of the hit. `None` says that its coordinates don't fit 64 bits.
 pub(crate) fn hit_span(q: &Hit) -> Option<Span>
     ensures hit { IfSome result (λ s. IsInSpan s (hit_place q.now)) }
 {
@@ -33,7 +33,7 @@ pub(crate) fn hit_span(q: &Hit) -> Option<Span>
     Some(Span { x, y, z })
 }
 
-// A span of the vertex or edge, as wide as those of its ends.
+// A span of the vertex or edge, from the spans of its ends.
 fn meet_span(c: &Complex, spans: &[Span], meet: PlaneMeet) -> Span
     requires shows { (s : Set) × ShowsSet s c.now }
     requires alone { AreAlone c.now.vertices spans.now }
@@ -44,7 +44,7 @@ fn meet_span(c: &Complex, spans: &[Span], meet: PlaneMeet) -> Span
     spans[low].with_span(&spans[high])
 }
 
-// Whether the vertex or edge may have a point within the window, which it may where there is none.
+// Whether the vertex or edge may have a point within the window. Without a window each vertex and edge may.
 pub(crate) fn may_lie_within(
     c: &Complex,
     spans: &[Span],
@@ -62,7 +62,7 @@ pub(crate) fn may_lie_within(
     }
 }
 
-// A span of all points between those of a span and those of the vertex or edge.
+// A span of all points between a point of the span and a point of the vertex or edge.
 pub(crate) fn span_up_to(c: &Complex, spans: &[Span], from: &Span, meet: PlaneMeet) -> Span
     requires shows { (s : Set) × ShowsSet s c.now }
     requires alone { AreAlone c.now.vertices spans.now }

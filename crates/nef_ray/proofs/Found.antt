@@ -1,32 +1,5 @@
 -- The first change at a crossing of a carrier is the end of the ray, and there is one.
-use Rattle.std.proofs.Common.{◌≡◌, ℕ, ◌<◌, ◌≤◌, List, All, IsSortedBy, false, ◌⊎◌, ⊎_elim, inl, inr, get_or, sym, subst}
-use Rattle.std.specs.List.{Contains}
-use Rattle.std.proofs.lemmas.Bool.{cases_lt}
-use Rattle.std.proofs.lemmas.List.Elements.{All-contains}
-use Rattle.std.proofs.lemmas.List.Sorted.{sorted_far}
-use Rattle.nef_space.specs.Signs.{Lies}
-use Rattle.nef_space.specs.Local.{Germ}
-use Rattle.nef_space.specs.Place.{Place, Form, SamePlace, InFrame, InClosedFrame, IsBetween}
-use Rattle.nef_space.specs.Sets.{Set}
-use Rattle.nef_space.specs.Vectors.{Vector}
-use Rattle.law_near.proofs.Mixed.{between-same}
-use Rattle.nef_geo.specs.Hits.{IsCrossing}
-use Rattle.nef_geo.specs.Shapes.{form_of, vector_of, place_of, hit_place}
-use Rattle.nef_geo.specs.declared.plane.Plane.{Plane}
-use Rattle.law_near.specs.Cells.{carriers}
-use Rattle.law_near.proofs.Rays.{same-place_sym}
-use Rattle.law_sphere.specs.Maps.{At}
-use Rattle.nef_smap.proofs.Lists.{at-contains, at-get, at-map, at-within}
-use Rattle.law_complex.proofs.FacetEdges.{ahead-same}
-use Rattle.law_complex.proofs.Planes.{plane-turned, plane-point, plane-slope}
-use Rattle.law_complex.proofs.Ways.{same-itself}
-use Rattle.nef_complex.specs.declared.complex.Complex.{Complex}
-use Rattle.nef_complex.specs.Complexes.{ShowsSet}
-use Rattle.nef_ray.specs.declared.ray.Crossed.{Crossed}
-use Rattle.nef_ray.specs.declared.ray.RayEnd.{RayEnd}
-use Rattle.nef_ray.specs.declared.ray.RayStart.{RayStart}
-use Rattle.nef_ray.specs.Changes.{IsHitOf, IsUnchanged, IsUnchangedOn, IsChangeOf, IsListed, AreAllCrossed, crossed_lt}
-use Rattle.nef_ray.specs.Ends.{IsRayEnd}
+use Rattle.nef_ray.proofs.Prelude.{◌≡◌, ℕ, ◌<◌, ◌≤◌, List, All, IsSortedBy, false, ◌⊎◌, ⊎_elim, inl, inr, get_or, sym, subst, Contains, cases_lt, All-contains, sorted_far, Lies, Germ, Place, Form, SamePlace, InFrame, InClosedFrame, IsBetween, Set, Vector, between-same, IsCrossing, form_of, vector_of, place_of, hit_place, Plane, carriers, same-place_sym, At, at-contains, at-get, at-map, at-within, ahead-same, plane-turned, plane-point, plane-slope, same-itself, Complex, ShowsSet, Crossed, RayEnd, RayStart, IsHitOf, IsUnchanged, IsUnchangedOn, IsChangeOf, IsListed, AreAllCrossed, crossed_lt, IsRayEnd}
 use Rattle.nef_ray.proofs.Along.{label-stays, changes-somewhere}
 use Rattle.nef_ray.proofs.Listed.{each-listed}
 use Rattle.nef_ray.proofs.Nearest.{stays}

@@ -1,3 +1,4 @@
+pub mod Prelude
 pub mod Along
 pub mod OneEnd
 pub mod SomeEnd

@@ -1,20 +1,6 @@
 -- The planes that a ray crosses, listed one after another, sorted, and gone through.
-use Rattle.std.proofs.Common.{◌≡◌, ℕ, ◌+◌, ◌<◌, List, [], ◌∷◌, ◌++◌, length, get_or, subst, refl, All}
-use Rattle.std.specs.List.Sorted.{IsPermutation}
-use Rattle.std.proofs.lemmas.List.Elements.{All-contains, Contains-append_left, Contains-push}
-use Rattle.std.specs.List.{Contains}
-use Rattle.std.proofs.lemmas.List.Sorted.{Contains-permutation}
-use Rattle.nef_space.specs.Place.{Place}
-use Rattle.nef_geo.specs.Hits.{IsCrossing}
-use Rattle.nef_geo.specs.Shapes.{form_of, vector_of, place_of}
-use Rattle.nef_geo.specs.declared.plane.Plane.{Plane}
-use Rattle.law_sphere.specs.Maps.{At}
-use Rattle.nef_smap.proofs.Lists.{contains-at, at-contains}
+use Rattle.nef_ray.proofs.Prelude.{◌≡◌, ℕ, ◌+◌, ◌<◌, List, [], ◌∷◌, ◌++◌, length, get_or, subst, refl, All, IsPermutation, All-contains, Contains-append_left, Contains-push, Contains, Contains-permutation, Place, IsCrossing, form_of, vector_of, place_of, Plane, At, contains-at, at-contains, read-at, next-all, Crossed, RayStart, IsListed, AreAllCrossed}
 use Rattle.nef_edges.proofs.Places.{at-some}
-use Rattle.nef_complex.proofs.Reading.{read-at, next-all}
-use Rattle.nef_ray.specs.declared.ray.Crossed.{Crossed}
-use Rattle.nef_ray.specs.declared.ray.RayStart.{RayStart}
-use Rattle.nef_ray.specs.Changes.{IsListed, AreAllCrossed}
 
 -- a plane that the ray crosses is among those crossed
 abbrev pub CrossedListed : RayStart → List Crossed → Plane → Type 0

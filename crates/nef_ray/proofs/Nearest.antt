@@ -1,21 +1,5 @@
 -- What a ray meets in one plane.
-use Rattle.nef_space.specs.Place.{Place, SamePlace, toward, IsAhead, IsBetween}
-use Rattle.nef_space.specs.Sets.{Set}
-use Rattle.nef_space.specs.Vectors.{Vector}
-use Rattle.nef_space.specs.declared.label.Label.{Label}
-use Rattle.nef_geo.specs.Hits.{IsCrossing}
-use Rattle.nef_geo.specs.Shapes.{form_of, hit_place}
-use Rattle.nef_geo.specs.declared.hit.Hit.{Hit}
-use Rattle.nef_geo.specs.declared.plane.Plane.{Plane}
-use Rattle.law_near.specs.Cells.{carriers}
-use Rattle.law_near.proofs.Alike.{germs-by_cell}
-use Rattle.law_near.proofs.Germs.{Label-cells}
-use Rattle.law_near.proofs.Rays.{signs-same}
-use Rattle.law_sphere.proofs.Compare.{SameDirection-turned, SameDirection-trans}
-use Rattle.nef_complex.proofs.Lines.{one-crossing}
-use Rattle.law_complex.proofs.EqualPoints.{ahead-from}
-use Rattle.nef_locate.proofs.RayMeets.{at-hit}
-use Rattle.nef_ray.specs.Changes.{IsUnchanged}
+use Rattle.nef_ray.proofs.Prelude.{Place, SamePlace, toward, IsAhead, IsBetween, Set, Vector, Label, IsCrossing, form_of, hit_place, Hit, Plane, carriers, germs-by_cell, Label-cells, signs-same, one-crossing, ahead-from, at-hit, IsUnchanged, SameDirection-turned, SameDirection-trans}
 
 -- the ray crosses a plane at one point
 pub crossings-same : (p : Place) (d : Vector) (h : Plane) (y q : Place) → IsCrossing p d (form_of h) y → IsCrossing p d (form_of h) q → SamePlace y q

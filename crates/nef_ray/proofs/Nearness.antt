@@ -1,17 +1,7 @@
 -- The order of crossings by their steps.
-use Rattle.std.proofs.Common.{◌≡◌, ℤ, ◌*ℤ◌, ◌≤ℤ◌, ◌<ℤ◌, true, false, Ordering, Less, Equal, Greater, arith, ap, refl}
-use Rattle.std.proofs.lemmas.Int.{ints}
-use Rattle.std.specs.Cmp.{IsStrictWeakOrder, int_ranks, int_cmp_is}
-use Rattle.std.specs.Ordering.{MatchOrdering, int_cmp, is_lt}
-use Rattle.nef_space.proofs.Fractions.{fraction-le-trans}
-use Rattle.nef_space.specs.Place.{Place, SamePlace, IsAhead}
-use Rattle.nef_space.specs.Vectors.{Vector, IsDirection}
-use Rattle.nef_geo.specs.Hits.{IsReached}
-use Rattle.nef_geo.specs.Shapes.{hit_place}
+use Rattle.nef_ray.proofs.Prelude.{◌≡◌, ℤ, ◌*ℤ◌, ◌≤ℤ◌, ◌<ℤ◌, true, false, Ordering, Less, Equal, Greater, arith, ap, refl, ints, IsStrictWeakOrder, int_ranks, MatchOrdering, int_cmp, is_lt, fraction-le-trans, Place, SamePlace, IsAhead, Vector, IsDirection, IsReached, hit_place, never-same, never-both, Crossed, crossed_lt}
+use Rattle.std.specs.Cmp.{int_cmp_is}
 use Rattle.nef_geo.proofs.Along.{along-ray}
-use Rattle.nef_locate.proofs.RayMeets.{never-same, never-both}
-use Rattle.nef_ray.specs.declared.ray.Crossed.{Crossed}
-use Rattle.nef_ray.specs.Changes.{crossed_lt}
 
 -- ---- what an answer says
 less-of : (a b : ℤ) (o : Ordering) → MatchOrdering o (a <ℤ b) (a ≡ b) (b <ℤ a) → is_lt o ≡ true → a <ℤ b

@@ -1,27 +1,5 @@
 -- A ray has one end.
-use Rattle.std.proofs.Common.{◌≡◌, refl, sym, ◌⊎◌, inl, inr, ⊎_elim, Bool, true, false, arith, subst}
-use Rattle.std.proofs.lemmas.Int.{ints}
-use Rattle.nef_space.specs.Local.{HasLabel, Germ}
-use Rattle.nef_space.specs.Place.{Place, SamePlace, toward, IsAhead, IsBetween}
-use Rattle.nef_space.specs.Sets.{Set}
-use Rattle.nef_space.specs.Vectors.{Vector, opposite, SameDirection}
-use Rattle.nef_space.specs.declared.label.Label.{Label}
-use Rattle.law_near.proofs.Mixed.{toward-place, place-decided}
-use Rattle.law_near.proofs.Directions.{direction-left}
-use Rattle.law_near.proofs.Near.{reach_all}
-use Rattle.law_near.specs.Cells.{carriers}
-use Rattle.law_near.proofs.Edges.{start, start-close, start-between}
-use Rattle.law_near.proofs.Flats.{vector-same, germ-toward}
-use Rattle.law_near.proofs.Germs.{Label-cells, label-one, Germ-unique}
-use Rattle.law_near.proofs.Rays.{signs-same, same-place_sym, Germ-same}
-use Rattle.law_sphere.proofs.Around.{Beside, same_way, other_way, beside}
-use Rattle.law_sphere.proofs.Compare.{SameDirection-turned, SameDirection-trans, dir-self}
-use Rattle.law_complex.proofs.FacetEdges.{ahead-back}
-use Rattle.law_complex.proofs.Ways.{between-outer, same-itself}
-use Rattle.nef_complex.proofs.Lines.{on_line}
-use Rattle.nef_edges.proofs.Rays.{to_opposite}
-use Rattle.nef_plane.proofs.Nearest.{between-ahead}
-use Rattle.nef_ray.specs.Ends.{Changes, IsRayEnd, OneRayEnd}
+use Rattle.nef_ray.proofs.Prelude.{◌≡◌, refl, sym, ◌⊎◌, inl, inr, ⊎_elim, Bool, true, false, arith, subst, ints, HasLabel, Germ, Place, SamePlace, toward, IsAhead, IsBetween, Set, Vector, opposite, SameDirection, Label, toward-place, place-decided, reach_all, carriers, start, start-close, start-between, germ-toward, Label-cells, label-one, Germ-unique, signs-same, same-place_sym, Germ-same, Beside, same_way, other_way, beside, ahead-back, between-outer, same-itself, on_line, to_opposite, between-ahead, Changes, IsRayEnd, OneRayEnd, vector-same, SameDirection-turned, SameDirection-trans, dir-self, direction-left}
 
 -- of two points ahead the one lies before the other, or they are the same
 ray-cases : (p x z : Place) (d : Vector) → IsAhead p d x → IsAhead p d z → IsBetween p x z ⊎ SamePlace x z ⊎ IsBetween p z x

@@ -1,27 +1,5 @@
 -- A ray from a point of the frame has an end, since the label is another where the ray has left the frame.
-use Rattle.std.proofs.Common.{◌⊎◌, inl, inr, ⊎_elim, Bool, true, false, subst}
-use Rattle.nef_space.specs.Local.{HasLabel, Germ}
-use Rattle.nef_space.specs.Place.{Place, InFrame, toward, IsAhead, IsBetween}
-use Rattle.nef_space.specs.Sets.{Set}
-use Rattle.nef_space.specs.Vectors.{Vector, IsDirection}
-use Rattle.nef_space.specs.declared.label.Label.{Label}
-use Rattle.law_near.proofs.Mixed.{between-same}
-use Rattle.law_near.proofs.Near.{reach_all}
-use Rattle.law_near.specs.Cells.{carriers}
-use Rattle.law_near.specs.Laws.{FirstChange}
-use Rattle.law_near.proofs.Between.{between-turned, between-inner, label-along_ray}
-use Rattle.law_near.proofs.Decided.{label_of, germ_of}
-use Rattle.law_near.proofs.Decisions.{label-decided}
-use Rattle.law_near.proofs.Edges.{start, start-close, start-between, beyond, halfway, halfway-between, halfway-outside, leads-somewhere}
-use Rattle.law_near.proofs.FirstChange.{first-change}
-use Rattle.law_near.proofs.Flats.{label-toward}
-use Rattle.law_near.proofs.Frames.{no-germ_out}
-use Rattle.law_near.proofs.Germs.{Label-cells}
-use Rattle.law_near.proofs.Rays.{signs-same, same-place_sym, Germ-same}
-use Rattle.law_sphere.proofs.Compare.{SameDirection-turned, SameDirection-trans}
-use Rattle.law_complex.proofs.Ways.{between-rest, between-outer, between-start, between-cases, same-itself}
-use Rattle.nef_plane.proofs.Nearest.{between-ahead}
-use Rattle.nef_ray.specs.Ends.{IsRayEnd, RayHasEnd}
+use Rattle.nef_ray.proofs.Prelude.{◌⊎◌, inl, inr, ⊎_elim, Bool, true, false, subst, HasLabel, Germ, Place, InFrame, toward, IsAhead, IsBetween, Set, Vector, IsDirection, Label, between-same, reach_all, carriers, FirstChange, between-turned, between-inner, label-along_ray, label_of, germ_of, label-decided, start, start-close, start-between, beyond, halfway, halfway-between, halfway-outside, leads-somewhere, first-change, label-toward, no-germ_out, Label-cells, signs-same, same-place_sym, Germ-same, between-rest, between-outer, between-start, between-cases, same-itself, between-ahead, IsRayEnd, RayHasEnd, SameDirection-turned, SameDirection-trans}
 use Rattle.nef_ray.proofs.Along.{beyond-ahead, label-outside}
 
 module _ (s : Set) (p : Place) (d : Vector) (inside : InFrame p) (some : IsDirection d) where

@@ -1,24 +1,7 @@
 -- The point where a ray crosses a plane, by the machine's numbers.
-use Rattle.std.proofs.Common.{◌≡◌, ℕ, ◌≤◌, ℤ, pos, ◌+ℤ◌, ◌*ℤ◌, ◌<ℤ◌, neg_ℤ, nat_abs, List, [], ◌∷◌, inl, inr, arith, refl, ap, sym, ◌∙◌, w64, to_z, of_z}
-use Rattle.std.proofs.lemmas.Int.{ints}
-use Rattle.nef_space.specs.Signs.{sign}
-use Rattle.nef_space.proofs.Machine.{Code, load, wrap, ◌⊞◌, ◌⊠◌, Limited, exact_of}
-use Rattle.nef_space.proofs.Order.{mul_pos, nought-is}
-use Rattle.nef_space.proofs.Ring.{ring, at, num, neg, ◌⊕◌, ◌⊗◌}
-use Rattle.nef_space.specs.Limits.{normal_limit, offset_limit, ray_direction_limit, ray_point_limit, ray_weight_limit}
-use Rattle.nef_space.specs.Place.{Place, Form, form_at, slope, SamePlace}
-use Rattle.nef_space.specs.Vectors.{Vector, IsAtMost}
-use Rattle.nef_geo.specs.Hits.{IsCrossing, IsPlaceAtMost, IsReachedBy}
-use Rattle.nef_geo.specs.Shapes.{form_of, vector_of, place_at, place_of}
-use Rattle.nef_geo.specs.Steps.{HasOppositeSigns}
-use Rattle.nef_geo.specs.declared.dir.Dir.{Dir}
-use Rattle.nef_geo.specs.declared.plane.Plane.{Plane}
-use Rattle.nef_geo.specs.declared.point.Point.{Point}
+use Rattle.nef_ray.proofs.Prelude.{◌≡◌, ℕ, ◌≤◌, ℤ, pos, ◌+ℤ◌, ◌*ℤ◌, ◌<ℤ◌, neg_ℤ, nat_abs, List, [], ◌∷◌, inl, inr, arith, refl, ap, sym, ◌∙◌, w64, to_z, of_z, ints, sign, Code, load, wrap, ◌⊞◌, ◌⊠◌, Limited, exact_of, mul_pos, nought-is, pos-abs, ring, at, num, neg, ◌⊕◌, ◌⊗◌, normal_limit, offset_limit, ray_direction_limit, ray_point_limit, ray_weight_limit, Place, Form, form_at, slope, SamePlace, Vector, IsAtMost, IsCrossing, IsPlaceAtMost, IsReachedBy, form_of, vector_of, place_at, place_of, HasOppositeSigns, Dir, Plane, Point, sign-same, same-place_sym, ahead-same, start_form_limit, ray_slope_limit}
 use Rattle.nef_geo.proofs.Crossings.{IsCrossing-reached, opposite-crossing}
-use Rattle.nef_geo.proofs.Places.{form_at-place_of, pos_size}
-use Rattle.law_near.proofs.Rays.{sign-same, same-place_sym}
-use Rattle.law_complex.proofs.FacetEdges.{ahead-same}
-use Rattle.nef_ray.specs.Widths.{start_form_limit, ray_slope_limit}
+use Rattle.nef_geo.proofs.Places.{form_at-place_of}
 
 -- ---- a plane's form at the start
 abbrev pub form_sizes : List ℕ
@@ -129,6 +112,6 @@ crossed-at h p d q X v g n m ev eg en em r same =
     let s = opposite-crossing (form_of h) (place_of p) (vector_of d) q d.some X in
     let b = balanced (form_at (form_of h) (place_of p)) (slope (form_of h) (vector_of d)) n m s (en ∙ ap (λ (i : ℤ). pos (nat_abs i)) ev) (em ∙ ap (λ (i : ℤ). pos (nat_abs i)) eg) in
     let positive = mul_pos p.w m p.proper b.below in
-    let by : IsReachedBy (place_of p) (vector_of d) n m (p.x *ℤ m +ℤ n *ℤ d.x) (p.y *ℤ m +ℤ n *ℤ d.y) (p.z *ℤ m +ℤ n *ℤ d.z) (p.w *ℤ m) = record { x_is = refl; y_is = refl; z_is = refl; w_is = ap (λ (k : ℤ). k *ℤ m) (sym (pos_size p.w p.proper)) } in
+    let by : IsReachedBy (place_of p) (vector_of d) n m (p.x *ℤ m +ℤ n *ℤ d.x) (p.y *ℤ m +ℤ n *ℤ d.y) (p.z *ℤ m +ℤ n *ℤ d.z) (p.w *ℤ m) = record { x_is = refl; y_is = refl; z_is = refl; w_is = ap (λ (k : ℤ). k *ℤ m) (sym (pos-abs p.w p.proper)) } in
     crossing-same (place_of p) (vector_of d) (form_of h) (place_at (p.x *ℤ m +ℤ n *ℤ d.x) (p.y *ℤ m +ℤ n *ℤ d.y) (p.z *ℤ m +ℤ n *ℤ d.z) (p.w *ℤ m) positive) r (same positive)
     (IsCrossing-reached (form_of h) (place_of p) (vector_of d) n m (p.x *ℤ m +ℤ n *ℤ d.x) (p.y *ℤ m +ℤ n *ℤ d.y) (p.z *ℤ m +ℤ n *ℤ d.z) (p.w *ℤ m) positive d.some b.above by b.nought X.passes)

@@ -1,17 +1,14 @@
 -- Where the label along a ray first changes.
-use Rattle.std.specs.Prelude.{◌≡◌, Bool, true, false}
-use Rattle.nef_space.specs.Local.{HasLabel, Germ}
-use Rattle.nef_space.specs.Place.{Place, InFrame, SamePlace, IsAhead, IsBetween}
-use Rattle.nef_space.specs.Sets.{Set}
-use Rattle.nef_space.specs.Vectors.{Vector, IsDirection}
+use Rattle.std.specs.Prelude.{◌≡◌}
+use Rattle.nef_space.specs.Prelude.{Bool, true, false, HasLabel, Germ, Place, InFrame, SamePlace, IsAhead, IsBetween, Set, Vector, IsDirection}
 use Rattle.nef_space.specs.declared.label.Label.{Label}
 
--- the label along d changes from m to l at q: q has l, or q has m and l comes just after it
+-- the label along d changes from m to l at q: q has the label l, or q has m and just after it comes l
 abbrev pub Changes : Set → Place → Vector → Label → Bool → Label → Type 0
 Changes s q d m false l = HasLabel s q l
 Changes s q d m true l = HasLabel s q m × Germ s q d l
 
--- q is ahead of p along d, the label is the same from just after p up to q, and there it changes to l: at q itself, or just after it
+-- q is ahead of p, up to q the label is that just after p, and at q, or just after it, the label changes to l
 pub record IsRayEnd (s : Set) (p : Place) (d : Vector) (q : Place) (after : Bool) (l : Label) : Type 0 where
   pub before : Label
   pub germ : Germ s p d before

@@ -1,7 +1,7 @@
 -- Bounds on the sizes of numbers of rays.
 use Rattle.std.specs.Prelude.{ℕ, ◌*◌, ◌^◌}
 
--- a plane's form at the start, and the product of its normal with the direction
+-- of a plane's form at the start, and of the product of its normal with the direction
 abbrev pub start_form_limit : ℕ
 start_form_limit = 2 ^ 34
 

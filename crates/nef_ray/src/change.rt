@@ -1,4 +1,4 @@
-//! Whether the label changes at a point of a ray, where it crosses a plane.
+//! The change of the label at a point where a ray crosses a plane.
 
 ghost use Rattle.std.specs.Prelude.{◌≡◌, ◌*◌, ◌≤◌, ◌↔◌, ◌+ℤ◌, ◌*ℤ◌, ◌<ℤ◌};
 ghost use Rattle.nef_complex.specs.Prelude.{nat_abs, IsTrue, IfOk, IfSome, IsNone, pos, Germ, InClosedFrame, SamePlace, Place, form_at, slope, Set, vector_of, place_of, hit_place, form_of, place_at, ShowsSet, ray_direction_limit, ray_point_limit, ray_weight_limit, IsAtMost, IsCrossing, IsPlaceAtMost};
@@ -13,7 +13,7 @@ use nef_locate::{local_map, locate, place_label};
 use nef_smap::label_at;
 use std::alloc::Global;
 
-// The plane's form at the point.
+// The value of the plane's form at the point.
 fn form(h: &Plane, p: &Point) -> i64
     requires small { IsPlaceAtMost ray_point_limit ray_weight_limit (place_of p.now) }
     ensures value { result ≡ form_at (form_of h.now) (place_of p.now) }
@@ -22,7 +22,6 @@ fn form(h: &Plane, p: &Point) -> i64
     h.a() * p.x() + h.b() * p.y() + h.c() * p.z() + h.d() * p.w()
 }
 
-// The product of the plane's normal with the direction.
 fn slope(h: &Plane, d: &Dir) -> i64
     requires small { IsAtMost ray_direction_limit (vector_of d.now) }
     ensures value { result ≡ slope (form_of h.now) (vector_of d.now) }
@@ -31,7 +30,6 @@ fn slope(h: &Plane, d: &Dir) -> i64
     h.a() * d.x() + h.b() * d.y() + h.c() * d.z()
 }
 
-// The size of the number.
 fn size(n: i64) -> i64
     requires small { nat_abs n ≤ start_form_limit }
     ensures size { result ≡ pos (nat_abs n) }
@@ -39,7 +37,7 @@ fn size(n: i64) -> i64
     if n < 0 { -n } else { n }
 }
 
-// The point at the step num/den from p.
+// The point at the step num/den from p along d.
 fn reached(p: &Point, d: &Dir, num: i64, den: i64) -> Point
     requires p_small { IsPlaceAtMost ray_point_limit ray_weight_limit (place_of p.now) }
     requires d_small { IsAtMost ray_direction_limit (vector_of d.now) }
@@ -66,7 +64,7 @@ fn crossing(p: &Point, d: &Dir, h: &Plane) -> Point
     reached(p, d, size(form(h, p)), size(slope(h, d)))
 }
 
-// The label just after the point, along the direction.
+// The label just after the point along the direction.
 pub(crate) fn label_after(
     alloc: Global,
     c: &Complex,
@@ -81,7 +79,7 @@ pub(crate) fn label_after(
     Ok(label_at(&map, d))
 }
 
-// Whether the number is at most this large in size.
+// Whether the number is at most `limit` in size.
 fn is_within(number: i64, limit: u64) -> bool
     ensures within { IsTrue result ↔ (nat_abs number ≤ limit) }
 {
@@ -96,8 +94,8 @@ fn is_framed(p: &Point) -> bool
     is_within(p.x(), limit) && is_within(p.y(), limit) && is_within(p.z(), limit)
 }
 
-// The change of the label where the ray crosses the plane, if there is one: at the crossing itself, or else just after it.
-// Outside the closed frame there is none to look for.
+// The change of the label where the ray crosses the plane, at the crossing or else just after the crossing. `None`
+// comes where the label doesn't change there, and outside the closed frame.
 pub(crate) fn change_on(
     alloc: Global,
     c: &Complex,

@@ -1,8 +1,8 @@
 //! Where the label along a ray first changes.
 //!
-//! A ray from a point has one label just after the point. It ends at the first point that has another label, or after which
-//! the label is another. A set is constant where no sign of a carrier's form changes, so a ray ends where it crosses a
-//! carrier; and it ends at a side of the frame at the latest.
+//! A ray from a point has one label just after the point, and ends at the first point that has another label, or after
+//! which the label is another. A set is constant where no sign of a carrier's form changes, so a ray ends where it
+//! crosses a carrier, and at the latest at a side of the frame.
 #![tactic(auto)]
 
 mod change;

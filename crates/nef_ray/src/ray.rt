@@ -1,4 +1,4 @@
-//! The end of a ray, among the carriers that it crosses, in the order of the steps at which it does.
+//! The end of a ray: the carriers that the ray crosses are asked in the order of the crossings.
 
 ghost use Rattle.nef_complex.specs.Prelude.{IfOk, All, ray_direction_limit, ray_point_limit, ray_weight_limit, InFrame, Set, IsAtMost, IsPlaceAtMost, vector_of, place_of, ShowsSet};
 ghost use Rattle.std.specs.Prelude.{IsSortedBy};
@@ -11,9 +11,9 @@ use nef_complex::Complex;
 use nef_geo::{Dir, Hit, Label, Plane, Point, hit_order, ray_hit};
 use std::alloc::Global;
 
-/// Where the label along a ray first changes: the point, whether the point itself still has the label from before it, so that
-/// the label changes just after it, and the label there or just after it.
-#[derive(Debug, Clone, Copy, PartialEq, Eq)]
+/// Where the label along a ray first changes: the point; whether the point still has the label from before, so that the
+/// label changes just after the point; and the label at the point or just after it.
+#[derive(Clone, Copy)]
 pub struct RayEnd {
     pub point: Point,
     pub after: bool,
@@ -21,16 +21,17 @@ pub struct RayEnd {
 }
 
 // A ray, and the label just after its start.
-#[derive(Debug, Clone, Copy)]
+#[derive(Clone, Copy)]
 pub(crate) struct RayStart {
     pub(crate) from: Point,
     pub(crate) along: Dir,
     pub(crate) before: Label,
 }
 
-/// Where the label along the ray from the point first changes, in the set that the complex shows. The point lies in the frame;
-/// its first three numbers are at most `2^21` in size and its w at most `2^10`, and the entries of the direction are at most
-/// `2^10` in size. The ray leaves the frame, so the label does change. `OutOfMemory` says that memory was wanted and not found.
+/// Where the label along the ray from the point first changes, in the set that the complex shows. The point lies in the
+/// frame; its first three numbers are at most `2^21` in size and its w at most `2^10`, and the entries of the direction
+/// are at most `2^10` in size. The ray leaves the frame, so the label does change. `OutOfMemory` says that memory was
+/// wanted and not found.
 pub fn ray_end(alloc: Global, c: &Complex, p: &Point, d: &Dir) -> Result<RayEnd, OutOfMemory>
     requires shows { (s : Set) × ShowsSet s c.now }
     requires framed { InFrame (place_of p.now) }
@@ -52,15 +53,15 @@ pub fn ray_end(alloc: Global, c: &Complex, p: &Point, d: &Dir) -> Result<RayEnd,
     unreachable!()
 }
 
-/// The label along a ray from a point of the frame changes at some point, or just after it: by the time it leaves the frame.
-/// It first changes at one point alone, there or just after it, and to one label.
+/// The label along a ray from a point of the frame changes at some point, or just after it: at the latest where the ray
+/// leaves the frame. The first change is at one point alone, there or just after it, and to one label.
 pub fn ray_end_laws()
     ensures some { RayHasEnd }
     ensures one { OneRayEnd }
 {}
 
 // A plane that a ray crosses, and the hit there.
-#[derive(Debug, Clone, Copy)]
+#[derive(Clone, Copy)]
 pub(crate) struct Crossed {
     pub(crate) plane: Plane,
     pub(crate) at: Hit,

@@ -1,23 +1,5 @@
 -- The map of a corner shows the set there.
-use Rattle.std.proofs.Common.{◌≡◌, neg_ℤ, arith, refl, sym, ◌∙◌, ap, ◌⊎◌, inl, inr, Bool, true, false, subst}
-use Rattle.std.proofs.lemmas.Int.{ints}
-use Rattle.nef_space.specs.Signs.{Sign, minus, nought, plus, sign}
-use Rattle.nef_space.proofs.Order.{sign-neg, sign_turned}
-use Rattle.nef_space.specs.Place.{Place, slope}
-use Rattle.nef_space.specs.Vectors.{Vector, dot}
-use Rattle.nef_space.specs.Sets.{Set}
-use Rattle.nef_space.specs.Local.{HasLabel, Germ}
-use Rattle.nef_space.specs.declared.label.Label.{Label}
-use Rattle.nef_space.specs.declared.label.Label.TheVariants.{Out, Not, In}
-use Rattle.nef_geo.specs.Shapes.{place_of}
-use Rattle.law_near.specs.Cells.{sign_at}
-use Rattle.law_near.proofs.Frames.{frame-minus}
-use Rattle.law_sphere.specs.Least.{Cone}
-use Rattle.nef_star.specs.Ops.{op_label}
-use Rattle.nef_star.specs.declared.star.Op.TheVariants.{And}
-use Rattle.nef_smap.specs.Maps.{map_of}
-use Rattle.nef_complex.specs.declared.complex.Vertex.{Vertex}
-use Rattle.nef_result.specs.Ends.{Ends, IsCornerPlace, IsCornerOf, at_wall, corner_label, x_axis, y_axis, z_axis}
+use Rattle.nef_result.proofs.Prelude.{◌≡◌, neg_ℤ, arith, refl, sym, ◌∙◌, ap, ◌⊎◌, inl, inr, Bool, true, false, subst, ints, Sign, minus, nought, plus, sign, sign-neg, sign_turned, Place, slope, Vector, dot, Set, HasLabel, Germ, Label, Out, Not, In, place_of, sign_at, frame-minus, Cone, op_label, And, map_of, Vertex, Ends, IsCornerPlace, IsCornerOf, at_wall, corner_label, x_axis, y_axis, z_axis}
 use Rattle.nef_result.proofs.Walls.{Axis, on_x, on_y, on_z, wall, wall-listed, IsWhole, germ-inward, germ-outward}
 use Rattle.nef_result.proofs.CornerVertices.{end_of, through, leads-in}
 

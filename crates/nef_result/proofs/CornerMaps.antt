@@ -1,25 +1,6 @@
 -- The maps at the sides and the corners of the frame, from what their makers promise.
-use Rattle.std.proofs.Common.{◌≡◌, ℕ, zero, suc, ◌+◌, ◌-◌, ◌<◌, ℤ, pos, ◌*ℤ◌, ◌<ℤ◌, arith, refl, sym, ◌∙◌, ap, ◌↔◌, Bool, true, false, cond, subst, List, [], ◌∷◌, ◌++◌, map, take, Some, w64, to_z, of_z}
-use Rattle.std.proofs.lemmas.Int.{ints}
-use Rattle.nef_space.specs.Signs.{sign}
-use Rattle.nef_space.specs.Lists.{IsAt}
-use Rattle.nef_space.specs.Place.{Form, SamePlace}
-use Rattle.nef_space.specs.Vectors.{Vector, dot, IsDirection}
-use Rattle.nef_space.specs.declared.label.Label.{Label}
-use Rattle.nef_space.specs.declared.label.Label.TheVariants.{Out}
-use Rattle.nef_geo.specs.Shapes.{place_at, place_of, form_of}
+use Rattle.nef_result.proofs.Prelude.{◌≡◌, ℕ, zero, suc, ◌+◌, ◌-◌, ◌<◌, ℤ, pos, ◌*ℤ◌, ◌<ℤ◌, arith, refl, sym, ◌∙◌, ap, ◌↔◌, Bool, true, false, cond, subst, List, [], ◌∷◌, ◌++◌, map, take, Some, w64, to_z, of_z, ints, sign, IsAt, Form, SamePlace, Vector, dot, IsDirection, Label, Out, place_at, place_of, form_of, Plane, Point, ByOp, by_side, MapLabel, op_label, And, map_of, IsSphereMap, IsLeastMap, SphereMap, x_axis, y_axis, z_axis, end_at, ends, IsCornerPlace, at_wall, IsWall, IsCornerOf, sorted_sides}
 use Rattle.nef_geo.specs.Reading.{side_forms}
-use Rattle.nef_geo.specs.declared.plane.Plane.{Plane}
-use Rattle.nef_geo.specs.declared.point.Point.{Point}
-use Rattle.law_sphere.specs.Labelling.{ByOp}
-use Rattle.law_sphere.specs.Least.{by_side}
-use Rattle.law_sphere.specs.Maps.{MapLabel}
-use Rattle.nef_star.specs.Ops.{op_label}
-use Rattle.nef_star.specs.declared.star.Op.TheVariants.{And}
-use Rattle.nef_smap.specs.Maps.{map_of, IsSphereMap, IsLeastMap}
-use Rattle.nef_smap.specs.declared.map.SphereMap.{SphereMap}
-use Rattle.nef_result.specs.Ends.{x_axis, y_axis, z_axis, end_at, ends, IsCornerPlace, at_wall, IsWall, IsCornerOf}
-use Rattle.nef_result.specs.Planes.{sorted_sides}
 
 -- ---- a side
 -- the map of a plane with these labels on its two sides

@@ -1,20 +1,6 @@
 -- The frame's corners are vertices of every set, and the only ones of a set that holds all of the frame or nothing of it.
-use Rattle.std.proofs.Common.{◌≡◌, ℤ, pos, negsuc, neg_ℤ, ◌+ℤ◌, ◌*ℤ◌, ◌<ℤ◌, arith, refl, sym, ◌∙◌, ap, ◌⊎◌, inl, inr, ⊎_elim, Bool, true, false, not, subst}
-use Rattle.std.proofs.lemmas.Int.{ints}
-use Rattle.nef_space.specs.Signs.{minus, nought, sign}
-use Rattle.nef_space.proofs.Order.{minus-is, nought-is, sign-minus, mul_pos, by_order}
-use Rattle.nef_space.specs.Place.{Place, Form, form_at, slope}
-use Rattle.nef_space.specs.Vectors.{Vector, vector, IsDirection}
-use Rattle.nef_space.specs.Sets.{Set}
-use Rattle.nef_space.specs.Local.{Flat, IsVertex}
-use Rattle.nef_space.specs.declared.label.Label.{Label}
-use Rattle.nef_space.specs.declared.label.Label.TheVariants.{Out}
-use Rattle.law_near.specs.Cells.{sign_at}
-use Rattle.law_near.specs.Cones.{slide, FlatCone}
-use Rattle.law_near.proofs.Cells.{is_nought}
-use Rattle.law_near.proofs.Germs.{Germ-unique}
-use Rattle.law_near.proofs.Flats.{FlatCone-from_carriers, FlatCone-from_flat, Flat-from_cone, slope-slide}
-use Rattle.nef_result.specs.Ends.{end_at, Ends, ends, IsCornerPlace, x_axis, y_axis, z_axis}
+use Rattle.nef_result.proofs.Prelude.{◌≡◌, ℤ, pos, negsuc, neg_ℤ, ◌+ℤ◌, ◌*ℤ◌, ◌<ℤ◌, arith, refl, sym, ◌∙◌, ap, ◌⊎◌, inl, inr, ⊎_elim, Bool, true, false, not, subst, ints, minus, nought, sign, minus-is, nought-is, sign-minus, mul_pos, by_order, Place, Form, form_at, slope, Vector, vector, IsDirection, Set, Flat, IsVertex, Label, Out, sign_at, slide, FlatCone, is_nought, Germ-unique, FlatCone-from_flat, Flat-from_cone, slope-slide, end_at, Ends, ends, IsCornerPlace, x_axis, y_axis, z_axis}
+use Rattle.law_near.proofs.Flats.{FlatCone-from_carriers}
 use Rattle.nef_result.proofs.Walls.{Axis, on_x, on_y, on_z, wall, listed-wall, IsWhole, LeadsIn, germ-framed, germ-outward}
 
 abbrev pub end_of : Ends → Axis → Bool

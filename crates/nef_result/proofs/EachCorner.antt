@@ -1,13 +1,9 @@
 -- A complex that shows a set has a vertex at each corner of the frame.
-use Rattle.std.proofs.Common.{sym, subst}
-use Rattle.nef_space.specs.Place.{SamePlace}
-use Rattle.nef_geo.specs.Shapes.{place_of}
+use Rattle.nef_result.proofs.Prelude.{sym, subst, SamePlace, place_of, at-some, map-at, vertex_of}
 use Rattle.law_complex.specs.Complexes.{Vertex as PlainVertex}
-use Rattle.nef_edges.proofs.Places.{at-some, map-at}
-use Rattle.nef_complex.specs.Complexes.{vertex_of}
 use Rattle.nef_result.specs.Laws.{CornersAreVertices, CornersAreShown}
 use Rattle.nef_result.proofs.CornerVertices.{corner-vertex}
-use Rattle.nef_result.proofs.Listed.{corner_point, corner-is, corner-same}
+use Rattle.nef_result.proofs.CornerPoints.{corner_point, corner-is, corner-same}
 
 pub corners-vertices : CornersAreVertices
 corners-vertices s k p c = corner-vertex s k p c

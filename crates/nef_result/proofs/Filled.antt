@@ -1,22 +1,8 @@
 -- Maps that are moved out of operands, one after another. Each vertex of an operand stands at one place alone, so its map is
 -- there until the vertex of the result at that place takes it.
-use Rattle.std.proofs.Common.{◌≡◌, ℕ, zero, suc, ◌+◌, ◌<◌, List, [], ◌∷◌, length, arith, refl, ap, sym, subst, ◌∙◌, ◌⊎◌, inl, inr, ⊎_elim, set}
-use Rattle.std.proofs.lemmas.Bool.{cases_order}
-use Rattle.nef_space.specs.Place.{Place}
-use Rattle.nef_geo.specs.Shapes.{place_of}
-use Rattle.law_near.proofs.PlaceOrder.{place_below-apart}
-use Rattle.law_near.proofs.Rays.{same-place_sym}
-use Rattle.law_complex.proofs.Ways.{same-place_trans}
-use Rattle.law_sphere.specs.Maps.{At}
-use Rattle.law_sphere.proofs.Lists.{at-one}
+use Rattle.nef_result.proofs.Prelude.{◌≡◌, ℕ, zero, suc, ◌+◌, ◌<◌, List, [], ◌∷◌, length, arith, refl, ap, sym, subst, ◌∙◌, ◌⊎◌, inl, inr, ⊎_elim, set, cases_order, Place, place_of, place_below-apart, same-place_sym, same-place_trans, At, at-one, First, Second, SphereMap, Vertex, MapSource, of_operand, StandsAt, IsOtherOf, vertex_at, IsThere, AreThere, IsFilled, Names, HasNamed, IsFilledAt, AreFilledTo, AreLeft}
 use Rattle.nef_cand.specs.declared.named.Operand.{Operand}
-use Rattle.nef_cand.specs.declared.named.Operand.TheVariants.{First, Second}
-use Rattle.nef_smap.specs.declared.map.SphereMap.{SphereMap}
-use Rattle.nef_complex.specs.declared.complex.Vertex.{Vertex}
-use Rattle.nef_result.specs.declared.parting.Source.{Source}
-use Rattle.nef_result.specs.declared.parting.Source.TheVariants.{Here, Kept, Turned}
-use Rattle.nef_result.specs.Outcomes.{of_operand, StandsAt, IsOtherOf}
-use Rattle.nef_result.specs.Begun.{vertex_at, IsThere, AreThere, IsFilled, Names, HasNamed, IsFilledAt, AreFilledTo, AreLeft}
+use Rattle.nef_result.specs.declared.parting.MapSource.TheVariants.{Here, Kept, Turned}
 
 -- ---- a list with one element set
 pub set-here : {A : Type 0} (xs : List A) (k : ℕ) (x y : A) → At xs k x → At (set xs k y) k y
@@ -38,7 +24,7 @@ swapped-here us n v w x y m a e f g =
     (subst (λ (z : Vertex). At (set us n (vertex_at z.point w.map)) n (vertex_at v.point w.map)) (sym e) (set-here us n v (vertex_at v.point w.map) a))
 
 -- ---- at the start
-pub filled-none : (us vs ys : List Vertex) (fs : List Source) → AreFilledTo us vs ys fs 0 ys
+pub filled-none : (us vs ys : List Vertex) (fs : List MapSource) → AreFilledTo us vs ys fs 0 ys
 filled-none us vs ys fs = record { alike = refl; done = λ i y f l a b. absurd (omega (arith, l)); rest = λ i y n a. a }
 
 pub left-none : (ys us : List Vertex) → AreLeft ys 0 us us
@@ -47,13 +33,13 @@ left-none ys us k u a n = a
 -- ---- what a source names
 module _ (us vs : List Vertex) where
   -- the vertex that a source names stands at the place of its own
-  names-stands : (o : Operand) (k : ℕ) (p : Place) (f : Source) → IsThere us vs p f → Names f o k → (v : Vertex) × StandsAt (of_operand o us vs) k v p
+  names-stands : (o : Operand) (k : ℕ) (p : Place) (f : MapSource) → IsThere us vs p f → Names f o k → (v : Vertex) × StandsAt (of_operand o us vs) k v p
   names-stands o k p Here t n = absurd n
   names-stands o k p (Kept q m) t n = subst (λ (r : Operand). (v : Vertex) × StandsAt (of_operand r us vs) k v p) n.0 (subst (λ (j : ℕ). (v : Vertex) × StandsAt (of_operand q us vs) j v p) (sym n.1) t)
   names-stands o k p (Turned q m) t n = subst (λ (r : Operand). (v : Vertex) × StandsAt (of_operand r us vs) k v p) n.0 (subst (λ (j : ℕ). (v : Vertex) × StandsAt (of_operand q us vs) j v p) (sym n.1) (t.0, t.1))
 
 -- ---- one map more
-module _ (us vs ys : List Vertex) (fs : List Source) (T : AreThere us vs ys fs) (n : ℕ) (y : Vertex) (f : Source) (here : At ys n y) (source : At fs n f) where
+module _ (us vs ys : List Vertex) (fs : List MapSource) (T : AreThere us vs ys fs) (n : ℕ) (y : Vertex) (f : MapSource) (here : At ys n y) (source : At fs n f) where
   -- at the place of this one stood none of the earlier ones
   ahead : (ks : List Vertex) (k : ℕ) (v : Vertex) → StandsAt ks k v (place_of y.point) → (i : ℕ) (w : Vertex) → i < n → At ys i w → StandsAt ks k v (place_of w.point) → ⊥
   ahead ks k v s i w l a t =
@@ -65,7 +51,7 @@ module _ (us vs ys : List Vertex) (fs : List Source) (T : AreThere us vs ys fs) 
     left-in First k v s = L k v s.0 (ahead us k v s)
     left-in Second k v s = M k v s.0 (ahead vs k v s)
 
-    named-by : (g : Source) → IsThere us vs (place_of y.point) g → HasNamed ws zs g
+    named-by : (g : MapSource) → IsThere us vs (place_of y.point) g → HasNamed ws zs g
     named-by Here t = tt
     named-by (Kept o k) t = (t.0, left-in o k t.0 t.1)
     named-by (Turned o k) t = (t.0, left-in o k t.0 t.1, t.2)
@@ -73,7 +59,7 @@ module _ (us vs ys : List Vertex) (fs : List Source) (T : AreThere us vs ys fs) 
     pub has-named : HasNamed ws zs f
     has-named = named-by f (T.each n y f here source)
 
-    filled-by : (g : Source) (m l : SphereMap) → IsThere us vs (place_of y.point) g → IsFilled ws zs g m l → IsFilled us vs g m l
+    filled-by : (g : MapSource) (m l : SphereMap) → IsThere us vs (place_of y.point) g → IsFilled ws zs g m l → IsFilled us vs g m l
     filled-by Here m l t h = h
     filled-by (Kept o k) m l t h =
         let e : h.0 ≡ t.0 = at-one (of_operand o ws zs) k h.0 t.0 h.1 (left-in o k t.0 t.1) in
@@ -96,14 +82,14 @@ module _ (us vs ys : List Vertex) (fs : List Source) (T : AreThere us vs ys fs) 
         earlier : (i : ℕ) → i < n + 1 → (i < n) ⊎ (i ≡ n)
         earlier i l = ⊎_elim (λ e. inr e) (λ o. inl (⊎_elim (λ h. omega (arith, h, l)) (λ h. omega (arith, h, l)) o)) (cases_order i n)
 
-        at-this : (i : ℕ) (z : Vertex) (g : Source) → i ≡ n → At ys i z → At fs i g → IsFilledAt us vs g i z new
+        at-this : (i : ℕ) (z : Vertex) (g : MapSource) → i ≡ n → At ys i z → At fs i g → IsFilledAt us vs g i z new
         at-this i z g e a b =
             let same-vertex : y ≡ z = at-one ys n y z here (subst (λ (j : ℕ). At ys j z) e a) in
             let same-source : f ≡ g = at-one fs n f g source (subst (λ (j : ℕ). At fs j g) e b) in
             let d = filled y (F.rest n y (λ h. absurd (omega (arith, h))) here) in
             subst (λ (j : ℕ). IsFilledAt us vs g j z new) (sym e)
             (subst (λ (w : Vertex). IsFilledAt us vs g n w new) same-vertex
-            (subst (λ (h : Source). IsFilledAt us vs h n y new) same-source
+            (subst (λ (h : MapSource). IsFilledAt us vs h n y new) same-source
             (d.0, d.1, d.2, filled-by f y.map d.0.map (T.each n y f here source) d.3)))
 
   left-more : (o : Operand) (ws new : List Vertex) → AreLeft ys n (of_operand o us vs) ws → ((k : ℕ) (v : Vertex) → (Names f o k → ⊥) → At ws k v → At new k v) → AreLeft ys (n + 1) (of_operand o us vs) new

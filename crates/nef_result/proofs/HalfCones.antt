@@ -1,31 +1,10 @@
 -- The germs of a half are those of the frame and of its plane.
-use Rattle.std.proofs.Common.{◌≡◌, zero, suc, ◌+◌, ℤ, pos, negsuc, neg_ℤ, ◌<ℤ◌, arith, refl, sym, ◌∙◌, ap, ◌↔◌, Bool, true, false, cond, not, subst, [], ◌∷◌}
-use Rattle.std.proofs.lemmas.Int.{ints}
-use Rattle.nef_space.specs.Signs.{Sign, minus, nought, plus, sign}
-use Rattle.nef_space.proofs.Order.{sign-neg, sign_turned, minus-is, nought-is, plus-is}
-use Rattle.nef_space.proofs.Ring.{ring, at, neg, ◌⊕◌, ◌⊗◌}
-use Rattle.nef_space.specs.Local.{HasLabel, Germ, IsShort}
-use Rattle.nef_space.specs.Place.{Place, Form, Ratio, step, form_at, slope, normal_of}
-use Rattle.nef_space.specs.Sets.{Set, Holds, InHalf}
-use Rattle.nef_space.specs.Vectors.{Vector, IsDirection, SameDirection, dot}
-use Rattle.nef_space.specs.declared.label.Label.{Label}
-use Rattle.nef_space.specs.declared.label.Label.TheVariants.{Out, Not, In}
-use Rattle.nef_geo.specs.Shapes.{turned_form, given_form, form_of}
-use Rattle.nef_geo.specs.Signs.{sign_of}
+use Rattle.nef_result.proofs.Prelude.{◌≡◌, zero, suc, ◌+◌, ℤ, pos, negsuc, neg_ℤ, ◌<ℤ◌, arith, refl, sym, ◌∙◌, ap, ◌↔◌, Bool, true, false, cond, not, subst, [], ◌∷◌, ints, Sign, minus, nought, plus, sign, sign-neg, sign_turned, minus-is, nought-is, plus-is, ring, at, neg, ◌⊕◌, ◌⊗◌, HasLabel, Germ, IsShort, Place, Form, Ratio, step, form_at, slope, normal_of, Set, InHalf, Vector, IsDirection, SameDirection, dot, Label, Out, Not, In, turned_form, given_form, form_of, sign_of, Minus, Zero, Plus, ray-level, ray-keeps, sign_at, ByOp, Cone, by_side, Map, MapLabel, Valid, op_label, And, map_of, IsSphereMap, SphereMap}
+use Rattle.nef_space.specs.Sets.{Holds}
 use Rattle.nef_geo.specs.declared.plane.Oriented.{Oriented}
-use Rattle.nef_geo.specs.declared.sign.Sign.TheVariants.{Minus, Zero, Plus}
 use Rattle.law_near.specs.Near.{span}
-use Rattle.law_near.proofs.Near.{ray-level, ray-keeps}
-use Rattle.law_near.specs.Cells.{sign_at}
 use Rattle.law_near.proofs.Combine.{shorter}
 use Rattle.law_build.proofs.SideLabels.{side-same_way}
-use Rattle.law_sphere.specs.Labelling.{ByOp}
-use Rattle.law_sphere.specs.Least.{Cone, by_side}
-use Rattle.law_sphere.specs.Maps.{Map, MapLabel, Valid}
-use Rattle.nef_star.specs.Ops.{op_label}
-use Rattle.nef_star.specs.declared.star.Op.TheVariants.{And}
-use Rattle.nef_smap.specs.Maps.{map_of, IsSphereMap}
-use Rattle.nef_smap.specs.declared.map.SphereMap.{SphereMap}
 use Rattle.nef_result.specs.Halves.{inside_label, side_label, IsMapOfPlane}
 
 -- ---- the label of a half

@@ -1,20 +1,5 @@
 -- The corners in order, and the planes of the frame in order.
-use Rattle.std.proofs.Common.{◌≡◌, ℕ, zero, suc, ℤ, pos, ◌*ℤ◌, ◌<ℤ◌, arith, refl, ◌⊎◌, inl, inr, Bool, true, false, subst, List, [], ◌∷◌, ◌++◌, Some, None}
-use Rattle.std.proofs.lemmas.Int.{ints}
-use Rattle.nef_space.proofs.Ring.{ring, at, num, ◌⊖◌, ◌⊗◌}
-use Rattle.nef_space.proofs.Order.{lt_by, mul_pos}
-use Rattle.nef_space.specs.Lists.{IsAt}
-use Rattle.nef_space.specs.Limits.{half_side}
-use Rattle.nef_space.specs.Numbers.{IsBelow}
-use Rattle.nef_space.specs.Place.{Place, form_numbers, IsPlaceBelow, SamePlace}
-use Rattle.nef_space.specs.declared.label.Label.{Label}
-use Rattle.nef_geo.specs.Shapes.{place_of}
-use Rattle.law_sphere.specs.Maps.{At}
-use Rattle.law_sphere.specs.Least.{InOrder}
-use Rattle.nef_complex.specs.Complexes.{AreSorted}
-use Rattle.nef_complex.specs.declared.complex.Vertex.{Vertex}
-use Rattle.nef_result.specs.Planes.{sorted_sides}
-use Rattle.nef_result.specs.Ends.{end_at, Ends, ends, all_ends, IsCornerPlace, IsCornerOf, AreCorners}
+use Rattle.nef_result.proofs.Prelude.{◌≡◌, ℕ, zero, suc, ℤ, pos, ◌*ℤ◌, ◌<ℤ◌, arith, refl, ◌⊎◌, inl, inr, Bool, true, false, subst, List, [], ◌∷◌, ◌++◌, Some, None, ints, ring, at, num, ◌⊖◌, ◌⊗◌, lt_by, mul_pos, IsAt, half_side, IsBelow, Place, form_numbers, IsPlaceBelow, SamePlace, Label, place_of, At, InOrder, AreSorted, Vertex, sorted_sides, end_at, Ends, ends, all_ends, IsCornerPlace, IsCornerOf, AreCorners}
 use Rattle.law_complex.proofs.FacetNames.{weight as positive}
 
 -- ---- the order of two corners
@@ -57,11 +42,11 @@ corner-below k j p q (inr (e, inr (f, l))) c d = inr (
 
 -- ---- lists in order
 -- x is before each of the list
-abbrev IsBeforeAll : {A : Type 0} → (A → A → Type 0) → A → List A → Type 0
+abbrev pub IsBeforeAll : {A : Type 0} → (A → A → Type 0) → A → List A → Type 0
 IsBeforeAll B x [] = Unit {0}
 IsBeforeAll B x (y ∷ ys) = B x y × IsBeforeAll B x ys
 
-abbrev AreRising : {A : Type 0} → (A → A → Type 0) → List A → Type 0
+abbrev pub AreRising : {A : Type 0} → (A → A → Type 0) → List A → Type 0
 AreRising B [] = Unit {0}
 AreRising B (x ∷ xs) = IsBeforeAll B x xs × AreRising B xs
 
@@ -70,7 +55,7 @@ before-at B x [] r k y a = absurd a
 before-at B x (z ∷ zs) r zero y a = subst (B x) a r.0
 before-at B x (z ∷ zs) r (suc k) y a = before-at B x zs r.1 k y a
 
-in-order : {A : Type 0} (B : A → A → Type 0) (xs : List A) → AreRising B xs → InOrder B xs
+pub in-order : {A : Type 0} (B : A → A → Type 0) (xs : List A) → AreRising B xs → InOrder B xs
 in-order B [] r i k x y l a b = absurd a
 in-order B (z ∷ zs) r zero zero x y l a b = absurd (omega (arith, l))
 in-order B (z ∷ zs) r zero (suc k) x y l a b = subst (λ u. B u y) a (before-at B z zs r.0 k y b)

@@ -1,3 +1,4 @@
+pub mod Prelude
 pub mod PlaneMerge
 pub mod Merging
 pub mod Vertices
@@ -8,11 +9,7 @@ pub mod Walls
 pub mod CornerVertices
 pub mod CornerCones
 mod CornerMaps
-mod InOrder
+pub mod InOrder
 mod Shown
+pub mod CornerPoints
 pub mod EachCorner
-pub mod Octants
-pub mod OctantShapes
-pub mod OctantCones
-pub mod Listed
-pub mod FrameEdges

@@ -1,26 +1,6 @@
 -- The corners are the vertices of a set that holds all of the frame or nothing of it.
-use Rattle.std.proofs.Common.{◌≡◌, ℕ, zero, suc, pos, neg_ℤ, arith, refl, Bool, true, false, subst, List, map}
-use Rattle.std.proofs.lemmas.Int.{ints}
-use Rattle.nef_space.specs.Signs.{Lies}
-use Rattle.nef_space.proofs.Lists.{lies-left}
-use Rattle.nef_space.specs.Place.{Place, Form, form, SamePlace, IsPlaceBelow}
-use Rattle.nef_space.specs.Limits.{half_side}
-use Rattle.nef_space.specs.Sets.{Set, halves}
-use Rattle.nef_space.specs.Local.{IsVertex}
-use Rattle.nef_space.specs.declared.label.Label.{Label}
-use Rattle.nef_space.specs.declared.label.Label.TheVariants.{Out, Not, In}
-use Rattle.nef_geo.specs.Shapes.{place_of, form_of}
-use Rattle.nef_geo.specs.declared.plane.Plane.{Plane}
-use Rattle.law_near.specs.Cells.{frame, carriers}
-use Rattle.law_sphere.specs.Maps.{At}
-use Rattle.law_sphere.specs.Least.{Cone, Least, Ordered, InOrder}
-use Rattle.nef_edges.proofs.Places.{at-some, map-at, at-map}
-use Rattle.law_complex.specs.Complexes.{Vertex as PlainVertex, Edge as PlainEdge, Edges}
-use Rattle.law_complex.specs.Shows.{SamePlane, Carriers, Shows}
-use Rattle.nef_complex.specs.Complexes.{vertex_of, AreVerticesOf}
-use Rattle.nef_complex.specs.declared.complex.Vertex.{Vertex}
-use Rattle.nef_result.specs.Ends.{Ends, ends, all_ends, IsCornerOf, AreCorners}
-use Rattle.nef_result.specs.Planes.{sorted_sides}
+use Rattle.nef_result.proofs.Prelude.{◌≡◌, ℕ, zero, suc, pos, neg_ℤ, arith, refl, Bool, true, false, subst, List, map, ints, Lies, lies-left, Place, Form, form, SamePlace, IsPlaceBelow, half_side, Set, halves, IsVertex, Label, Out, Not, In, place_of, form_of, Plane, frame, carriers, At, Cone, Least, Ordered, InOrder, at-some, map-at, at-map, Edge as PlainEdge, Edges, SamePlane, Carriers, Shows, vertex_of, AreVerticesOf, Vertex, Ends, ends, all_ends, IsCornerOf, AreCorners, sorted_sides}
+use Rattle.law_complex.specs.Complexes.{Vertex as PlainVertex}
 use Rattle.nef_result.proofs.Walls.{Axis, on_x, on_y, on_z, wall, wall-listed, listed-wall, IsWhole, full-whole, empty-whole}
 use Rattle.nef_result.proofs.CornerVertices.{corner-vertex, vertex-corner}
 use Rattle.nef_result.proofs.CornerCones.{corner-cone}

@@ -1,43 +1,19 @@
 -- The vertices of a set among its candidates, with their maps, are all its vertices.
-use Rattle.std.proofs.Common.{◌≡◌, ℕ, ◌<◌, ◌+◌, List, [], ◌∷◌, ◌++◌, length, map, arith, refl, ap, sym, subst, ◌∙◌, ◌⊎◌, inl, inr}
-use Rattle.nef_space.specs.Local.{FlatDim, IsVertex}
-use Rattle.nef_space.specs.Place.{Place, IsPlaceBelow, SamePlace}
-use Rattle.nef_space.specs.Sets.{Set}
-use Rattle.nef_geo.specs.Shapes.{place_of, form_of}
-use Rattle.nef_geo.specs.declared.plane.Plane.{Plane}
-use Rattle.nef_geo.specs.declared.point.Point.{Point}
-use Rattle.law_near.specs.Cells.{carriers}
-use Rattle.law_near.proofs.Alike.{FlatDim-one, FlatDim-by_germs, germs-by_cell}
-use Rattle.law_near.proofs.Rays.{signs-same, same-place_sym}
-use Rattle.law_sphere.specs.Maps.{Map, At}
+use Rattle.nef_result.proofs.Prelude.{◌≡◌, ℕ, ◌<◌, ◌+◌, List, [], ◌∷◌, ◌++◌, length, map, arith, refl, ap, sym, subst, ◌∙◌, ◌⊎◌, inl, inr, FlatDim, IsVertex, Place, IsPlaceBelow, SamePlace, Set, place_of, form_of, Plane, Point, carriers, FlatDim-one, FlatDim-by_germs, germs-by_cell, signs-same, same-place_sym, Map, At, at-one, Cone, Least, Ordered, InOrder, Carriers, map_of, IsLeastMap, SphereMap, contains-at, some-at, at-some, map-at, at-map, at-before, at-last, at-more, vertex_of, AreVerticesOf, AreHolders, AreInOrder, AreVertexHolders, Vertex, Outcome, MapSource, ArePointsInOrder, IsOtherOf, IsOutcomeAt, AreOutcomesOf, Begins, vertex_at, IsAdded, AreBegun, IsThere, AreThere, IsFilled, AreFilledTo}
 use Rattle.law_sphere.proofs.Dimensions.{volume-dimension, facet-dimension, edge-dimension}
-use Rattle.law_sphere.proofs.Lists.{at-one}
-use Rattle.law_sphere.specs.Least.{Cone, Least, Ordered, InOrder}
 use Rattle.law_complex.specs.Complexes.{Vertex as PlainVertex}
-use Rattle.law_complex.specs.Shows.{Carriers}
-use Rattle.nef_smap.specs.Maps.{map_of, IsLeastMap}
-use Rattle.nef_smap.specs.declared.map.SphereMap.{SphereMap}
-use Rattle.nef_smap.proofs.Lists.{contains-at}
 use Rattle.nef_smap.proofs.SideLists.{at-some as element-at}
 use Rattle.nef_spair.specs.Kinds.{IsVertex as IsVertexMap}
 use Rattle.nef_spair.specs.declared.answer.Kind.TheVariants.{Vertex as vertex_kind}
 use Rattle.nef_spair.proofs.OneKind.{fits}
-use Rattle.nef_edges.proofs.Places.{at-within, some-at, at-some, map-at, at-map, at-before, at-last, at-more}
-use Rattle.nef_complex.specs.Complexes.{vertex_of, AreVerticesOf}
-use Rattle.nef_complex.specs.Index.{AreHolders, AreInOrder, AreVertexHolders}
-use Rattle.nef_complex.specs.declared.complex.Vertex.{Vertex}
-use Rattle.nef_result.specs.declared.outcome.Outcome.{Outcome}
+use Rattle.nef_edges.proofs.Places.{at-within}
 use Rattle.nef_result.specs.declared.outcome.Outcome.TheVariants as outcome
-use Rattle.nef_result.specs.declared.parting.Source.{Source}
-use Rattle.nef_result.specs.Results.{ArePointsInOrder}
-use Rattle.nef_result.specs.Outcomes.{IsOtherOf, IsOutcomeAt, AreOutcomesOf}
-use Rattle.nef_result.specs.Begun.{Begins, vertex_at, IsAdded, AreBegun, IsThere, AreThere, IsFilled, AreFilledTo}
 
 -- ---- one point after another
 pub begun-none : (ps : List Point) → AreBegun ps [] [] []
 begun-none ps = record { alike = refl; each = λ i v f a b. absurd a; all = λ k p o a b h. absurd b; ordered = λ i k u v l a b. absurd a }
 
-module _ (ps : List Point) (os : List Outcome) (vs : List Vertex) (fs : List Source) (B : AreBegun ps os vs fs) (o : Outcome) where
+module _ (ps : List Point) (os : List Outcome) (vs : List Vertex) (fs : List MapSource) (B : AreBegun ps os vs fs) (o : Outcome) where
   begun-left : o ≡ outcome.Gone → AreBegun ps (os ++ o ∷ []) vs fs
   begun-left n = record {
     alike = B.alike;
@@ -50,7 +26,7 @@ module _ (ps : List Point) (os : List Outcome) (vs : List Vertex) (fs : List Sou
       all k p l a h (inl b) = B.all k p l a b h
       all k p l a h (inr e) = absurd (h (sym e.1 ∙ n))
 
-  begun-kept : ArePointsInOrder ps → (p : Point) → At ps (length os) p → (m : SphereMap) (f : Source) → Begins o m f → AreBegun ps (os ++ o ∷ []) (vs ++ vertex_at p m ∷ []) (fs ++ f ∷ [])
+  begun-kept : ArePointsInOrder ps → (p : Point) → At ps (length os) p → (m : SphereMap) (f : MapSource) → Begins o m f → AreBegun ps (os ++ o ∷ []) (vs ++ vertex_at p m ∷ []) (fs ++ f ∷ [])
   begun-kept r p here m f begins = record {
     alike = let n = length-more vs (vertex_at p m) in let k = length-more fs f in let e = B.alike in omega (arith, n, k, e);
     each = λ k v g a b. each k v g (at-more vs (vertex_at p m) k v a) (at-more fs f k g b);
@@ -62,10 +38,10 @@ module _ (ps : List Point) (os : List Outcome) (vs : List Vertex) (fs : List Sou
       length-more [] x = refl
       length-more (z ∷ zs) x = let e = length-more zs x in omega (arith, e)
 
-      Each : Vertex → Source → Type 0
+      Each : Vertex → MapSource → Type 0
       Each v g = (k : ℕ) × (l : Outcome) × At ps k v.point × At (os ++ o ∷ []) k l × Begins l v.map g
 
-      each : (k : ℕ) (v : Vertex) (g : Source) → At vs k v ⊎ ((k ≡ length vs) × (vertex_at p m ≡ v)) → At fs k g ⊎ ((k ≡ length fs) × (f ≡ g)) → Each v g
+      each : (k : ℕ) (v : Vertex) (g : MapSource) → At vs k v ⊎ ((k ≡ length vs) × (vertex_at p m ≡ v)) → At fs k g ⊎ ((k ≡ length fs) × (f ≡ g)) → Each v g
       each k v g (inl a) (inl b) = let e = B.each k v g a b in (e.0, e.1, e.2, at-before os (o ∷ []) e.0 e.1 e.3, e.4)
       each k v g (inl a) (inr e) = let l = at-within vs k v a in let d = e.0 in let n = B.alike in absurd (omega (arith, l, d, n))
       each k v g (inr e) (inl b) = let l = at-within fs k g b in let d = e.0 in let n = B.alike in absurd (omega (arith, l, d, n))
@@ -92,7 +68,7 @@ module _ (ps : List Point) (os : List Outcome) (vs : List Vertex) (fs : List Sou
       ordered j k u v l (inr e) (inl b) = let h = at-within vs k v b in let d = e.0 in absurd (omega (arith, l, h, d))
       ordered j k u v l (inr e) (inr f) = let d = e.0 in let h = f.0 in absurd (omega (arith, l, d, h))
 
-  pub begun-added : ArePointsInOrder ps → (p : Point) → At ps (length os) p → (ws : List Vertex) (gs : List Source) → IsAdded p o vs fs ws gs → AreBegun ps (os ++ o ∷ []) ws gs
+  pub begun-added : ArePointsInOrder ps → (p : Point) → At ps (length os) p → (ws : List Vertex) (gs : List MapSource) → IsAdded p o vs fs ws gs → AreBegun ps (os ++ o ∷ []) ws gs
   begun-added r p here ws gs (inl (n, e, d)) =
       subst (λ (us : List Vertex). AreBegun ps (os ++ o ∷ []) us gs) (sym e) (subst (AreBegun ps (os ++ o ∷ []) vs) (sym d) (begun-left n))
   begun-added r p here ws gs (inr (m, f, b, e, d)) =
@@ -126,24 +102,24 @@ carriers-in-order s hs C i j g h l a b = C.ordered i j (form_of g) (form_of h) l
 
 -- ---- what the outcome says of a vertex
 module _ (us vs : List Vertex) where
-  there-by : (s : Set) (p : Place) (o : Outcome) (m : SphereMap) (f : Source) → IsOutcomeAt us vs s p o → Begins o m f → IsThere us vs p f
+  there-by : (s : Set) (p : Place) (o : Outcome) (m : SphereMap) (f : MapSource) → IsOutcomeAt us vs s p o → Begins o m f → IsThere us vs p f
   there-by s p (outcome.Made l) m f i b = subst (IsThere us vs p) (sym b.1) tt
   there-by s p (outcome.Stays o k) m f i b = let v = i.1 in subst (IsThere us vs p) (sym b) (v.0, v.1)
   there-by s p (outcome.Turned o k) m f i b = let v = i.1 in subst (IsThere us vs p) (sym b) (v.0, v.1, v.2)
   there-by s p outcome.Gone m f i b = absurd b
 
-  good-by : (s : Set) (p : Place) (o : Outcome) (m n : SphereMap) (f : Source) → IsOutcomeAt us vs s p o → Begins o m f → IsFilled us vs f m n → IsVertex s p × IsLeastMap n × Cone (map_of n) s p
+  good-by : (s : Set) (p : Place) (o : Outcome) (m n : SphereMap) (f : MapSource) → IsOutcomeAt us vs s p o → Begins o m f → IsFilled us vs f m n → IsVertex s p × IsLeastMap n × Cone (map_of n) s p
   good-by s p (outcome.Made l) m n f i b h =
-      let g : n ≡ m = subst (λ (r : Source). IsFilled us vs r m n) b.1 h in
+      let g : n ≡ m = subst (λ (r : MapSource). IsFilled us vs r m n) b.1 h in
       let e : l.value ≡ n = sym (g ∙ b.0) in
       (i.0, subst IsLeastMap e i.1, subst (λ (r : SphereMap). Cone (map_of r) s p) e i.2)
   good-by s p (outcome.Stays o k) m n f i b h =
-      let g = subst (λ (r : Source). IsFilled us vs r m n) b h in
+      let g = subst (λ (r : MapSource). IsFilled us vs r m n) b h in
       let v = i.1 in
       let e : v.0.map ≡ n = ap (λ (w : Vertex). w.map) (at-one _ k v.0 g.0 v.1.0 g.1) ∙ sym g.2 in
       (i.0, subst IsLeastMap e v.2, subst (λ (r : SphereMap). Cone (map_of r) s p) e v.3)
   good-by s p (outcome.Turned o k) m n f i b h =
-      let g = subst (λ (r : Source). IsFilled us vs r m n) b h in
+      let g = subst (λ (r : MapSource). IsFilled us vs r m n) b h in
       let v = i.1 in
       let e : g.0 ≡ v.0 = at-one _ k g.0 v.0 g.1 v.1.0 in
       let other = subst (λ (w : Vertex). IsOtherOf w.map n) e g.2 in
@@ -151,7 +127,7 @@ module _ (us vs : List Vertex) where
   good-by s p outcome.Gone m n f i b h = absurd b
 
 -- ---- the vertices of the set
-module _ (s : Set) (hs : List Plane) (ps : List Point) (us vs : List Vertex) (os : List Outcome) (A : AreOutcomesOf s hs ps us vs os) (ys : List Vertex) (fs : List Source) (B : AreBegun ps os ys fs) where
+module _ (s : Set) (hs : List Plane) (ps : List Point) (us vs : List Vertex) (os : List Outcome) (A : AreOutcomesOf s hs ps us vs os) (ys : List Vertex) (fs : List MapSource) (B : AreBegun ps os ys fs) where
   pub are-there : AreThere us vs ys fs
   are-there = record {
     alike = B.alike;
@@ -161,7 +137,7 @@ module _ (s : Set) (hs : List Plane) (ps : List Point) (us vs : List Vertex) (os
 
   module _ (xs : List Vertex) (F : AreFilledTo us vs ys fs (length fs) xs) where
     -- what became of a vertex
-    became : (i : ℕ) (x : Vertex) → At xs i x → (y : Vertex) × (f : Source) × At ys i y × At fs i f × (x.point ≡ y.point) × IsFilled us vs f y.map x.map
+    became : (i : ℕ) (x : Vertex) → At xs i x → (y : Vertex) × (f : MapSource) × At ys i y × At fs i f × (x.point ≡ y.point) × IsFilled us vs f y.map x.map
     became i x a =
         let l = at-within xs i x a in let n = F.alike in let k = B.alike in
         let y = element-at ys i (omega (arith, l, n)) in
@@ -234,14 +210,14 @@ module _ (s : Set) (hs : List Plane) (ps : List Point) (us vs : List Vertex) (os
     }
 
 -- ---- the same lists as they are handed on
-pub there-as : (us ws vs zs ys : List Vertex) (fs gs : List Source) → ws ≡ us → zs ≡ vs → gs ≡ fs → AreThere us vs ys fs → AreThere ws zs ys gs
+pub there-as : (us ws vs zs ys : List Vertex) (fs gs : List MapSource) → ws ≡ us → zs ≡ vs → gs ≡ fs → AreThere us vs ys fs → AreThere ws zs ys gs
 there-as us ws vs zs ys fs gs a b c T =
     subst (λ (ks : List Vertex). AreThere ks zs ys gs) (sym a) (subst (λ (ks : List Vertex). AreThere us ks ys gs) (sym b) (subst (AreThere us vs ys) (sym c) T))
 
-pub filled-as : (us ws vs zs ys : List Vertex) (fs gs : List Source) (xs : List Vertex) → ws ≡ us → zs ≡ vs → gs ≡ fs → AreFilledTo ws zs ys gs (length gs) xs → AreFilledTo us vs ys fs (length fs) xs
+pub filled-as : (us ws vs zs ys : List Vertex) (fs gs : List MapSource) (xs : List Vertex) → ws ≡ us → zs ≡ vs → gs ≡ fs → AreFilledTo ws zs ys gs (length gs) xs → AreFilledTo us vs ys fs (length fs) xs
 filled-as us ws vs zs ys fs gs xs a b c F =
     subst (λ (ks : List Vertex). AreFilledTo ks vs ys fs (length fs) xs) a
-    (subst (λ (ks : List Vertex). AreFilledTo ws ks ys fs (length fs) xs) b (subst (λ (hs : List Source). AreFilledTo ws zs ys hs (length hs) xs) c F))
+    (subst (λ (ks : List Vertex). AreFilledTo ws ks ys fs (length fs) xs) b (subst (λ (hs : List MapSource). AreFilledTo ws zs ys hs (length hs) xs) c F))
 
 pub vertices-as : (s : Set) (hs ks : List Plane) (xs zs : List Vertex) → ks ≡ hs → zs ≡ xs → AreVerticesOf s hs xs → AreVerticesOf s ks zs
 vertices-as s hs ks xs zs a b V = subst (λ (gs : List Plane). AreVerticesOf s gs zs) (sym a) (subst (AreVerticesOf s hs) (sym b) V)

@@ -1,20 +1,6 @@
 -- The sides of the frame by their axis and end, and the germs of a set that holds all of the frame or nothing of it.
-use Rattle.std.proofs.Common.{◌≡◌, pos, negsuc, arith, refl, sym, ◌∙◌, ◌⊎◌, inl, inr, Bool, true, false, subst}
-use Rattle.std.proofs.lemmas.Int.{ints}
-use Rattle.nef_space.specs.Signs.{Sign, minus, nought, sign, Lies}
-use Rattle.nef_space.proofs.Lists.{lies-left}
-use Rattle.nef_space.specs.Place.{Place, Form, slope, step, InFrame}
-use Rattle.nef_space.specs.Vectors.{Vector}
-use Rattle.nef_space.specs.Sets.{Set, halves, Holds}
-use Rattle.nef_space.specs.Local.{HasLabel, Germ}
-use Rattle.nef_space.specs.declared.label.Label.{Label}
-use Rattle.nef_space.specs.declared.label.Label.TheVariants.{Out, Not, In}
-use Rattle.law_near.proofs.Near.{reach_all, step-within}
-use Rattle.law_near.specs.Cells.{sign_at, side, frame, carriers}
-use Rattle.law_near.proofs.Cells.{keeps-all, coordinate-in}
-use Rattle.law_near.proofs.Decided.{label_of}
-use Rattle.law_near.proofs.Frames.{frame-minus}
-use Rattle.law_near.proofs.Germs.{Germ-from_sample, sample, sample-short, sign-along}
+use Rattle.nef_result.proofs.Prelude.{◌≡◌, pos, negsuc, arith, refl, sym, ◌∙◌, ◌⊎◌, inl, inr, Bool, true, false, subst, ints, Sign, minus, nought, sign, Lies, lies-left, Place, Form, slope, step, InFrame, Vector, Set, halves, HasLabel, Germ, Label, Out, Not, In, reach_all, step-within, sign_at, side, frame, carriers, keeps-all, coordinate-in, label_of, frame-minus, Germ-from_sample, sample, sample-short, sign-along}
+use Rattle.nef_space.specs.Sets.{Holds}
 
 pub data Axis : Type 0 where
   on_x : Axis

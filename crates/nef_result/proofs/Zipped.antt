@@ -1,15 +1,6 @@
 -- Points with the outcomes there, pair after pair.
-use Rattle.std.proofs.Common.{◌≡◌, ℕ, zero, suc, ◌<◌, List, [], ◌∷◌, ◌++◌, length, map, get_or, arith, refl, sym, ap, subst, ◌∙◌, Bor}
-use Rattle.std.specs.List.{zip}
-use Rattle.std.proofs.lemmas.List.{map-append, length-map}
+use Rattle.nef_result.proofs.Prelude.{◌≡◌, ℕ, zero, suc, ◌<◌, List, [], ◌∷◌, ◌++◌, length, map, get_or, arith, refl, sym, ap, subst, ◌∙◌, Bor, zip, map-append, length-map, Point, At, Vertex, Outcome, MapSource, ArePointsInOrder, IsAdded, AreBegun}
 use Rattle.std.proofs.lemmas.Slice.Zip.{seconds-zip}
-use Rattle.nef_geo.specs.declared.point.Point.{Point}
-use Rattle.law_sphere.specs.Maps.{At}
-use Rattle.nef_complex.specs.declared.complex.Vertex.{Vertex}
-use Rattle.nef_result.specs.declared.outcome.Outcome.{Outcome}
-use Rattle.nef_result.specs.declared.parting.Source.{Source}
-use Rattle.nef_result.specs.Results.{ArePointsInOrder}
-use Rattle.nef_result.specs.Begun.{IsAdded, AreBegun}
 use Rattle.nef_result.proofs.Vertices.{begun-added}
 
 -- a pair that the loop yields
@@ -40,12 +31,12 @@ seconds [] = refl
 seconds (x ∷ xs) = ap (λ (os : List Outcome). x.1 ∷ os) (seconds xs)
 
 -- at the end all outcomes were yielded
-pub all-yielded : (ps : List Point) (os : List Outcome) (xs : List Pair) (vs : List Vertex) (fs : List Source) → length os ≡ length ps → map shown xs ≡ zip ps os → AreBegun ps (outcomes_of xs) vs fs → AreBegun ps os vs fs
+pub all-yielded : (ps : List Point) (os : List Outcome) (xs : List Pair) (vs : List Vertex) (fs : List MapSource) → length os ≡ length ps → map shown xs ≡ zip ps os → AreBegun ps (outcomes_of xs) vs fs → AreBegun ps os vs fs
 all-yielded ps os xs vs fs alike e B =
     subst (λ (ls : List Outcome). AreBegun ps ls vs fs) (sym (seconds xs) ∙ ap (map (λ (q : Point × Outcome). q.1)) e ∙ seconds-zip ps os alike) B
 
 pub pair-added : (ps : List Point) (cs : List Outcome) (xs : List Pair) (x : Pair) → length xs < length (zip ps cs) → shown x ≡ get_or (zip ps cs) (length xs) (shown x) → ArePointsInOrder ps
-    → (vs ws : List Vertex) (fs gs : List Source) → AreBegun ps (outcomes_of xs) vs fs → IsAdded x.0.now x.1 vs fs ws gs → AreBegun ps (outcomes_of (xs ++ x ∷ [])) ws gs
+    → (vs ws : List Vertex) (fs gs : List MapSource) → AreBegun ps (outcomes_of xs) vs fs → IsAdded x.0.now x.1 vs fs ws gs → AreBegun ps (outcomes_of (xs ++ x ∷ [])) ws gs
 pair-added ps cs xs x within is r vs ws fs gs B added =
     subst (λ (ls : List Outcome). AreBegun ps ls ws gs) (sym (map-append (λ (p : Pair). p.1) xs (x ∷ [])))
     (begun-added ps (outcomes_of xs) vs fs B x.1 r x.0.now (subst (λ (n : ℕ). At ps n x.0.now) (sym (length-map xs (λ (p : Pair). p.1))) (at-zip ps cs (length xs) (shown x) within is)) ws gs added)

@@ -1,22 +1,18 @@
 -- Vertices whose maps are still to come, and from where.
-use Rattle.std.specs.Prelude.{◌≡◌, ◌<◌, ◌⊎◌, ◌∷◌, ◌++◌, ℕ, List, [], length}
-use Rattle.nef_space.specs.Place.{Place, IsPlaceBelow}
-use Rattle.nef_geo.specs.Shapes.{place_of}
-use Rattle.nef_geo.specs.declared.point.Point.{Point}
-use Rattle.law_sphere.specs.Least.{InOrder}
-use Rattle.law_sphere.specs.Maps.{At}
-use Rattle.nef_smap.specs.Maps.{IsLeastMap}
+use Rattle.std.specs.Prelude.{◌≡◌, ◌<◌, ◌⊎◌, ◌∷◌, ◌++◌}
+use Rattle.nef_complex.specs.Prelude.{ℕ, List, [], length, Place, IsPlaceBelow, place_of, Point, At}
+use Rattle.nef_spair.specs.Prelude.{InOrder, IsLeastMap}
 use Rattle.nef_smap.specs.declared.map.SphereMap.{SphereMap}
 use Rattle.nef_complex.specs.declared.complex.Vertex.{Vertex}
 use Rattle.nef_cand.specs.declared.named.Operand.{Operand}
 use Rattle.nef_result.specs.declared.outcome.Outcome.{Outcome}
 use Rattle.nef_result.specs.declared.outcome.Outcome.TheVariants as outcome
-use Rattle.nef_result.specs.declared.parting.Source.{Source}
-use Rattle.nef_result.specs.declared.parting.Source.TheVariants.{Here, Kept, Turned}
+use Rattle.nef_result.specs.declared.parting.MapSource.{MapSource}
+use Rattle.nef_result.specs.declared.parting.MapSource.TheVariants.{Here, Kept, Turned}
 use Rattle.nef_result.specs.Outcomes.{of_operand, StandsAt, IsOtherOf}
 
 -- the outcome says that there is a vertex whose map is, or comes from, there; m is the one that stands with it
-abbrev pub Begins : Outcome → SphereMap → Source → Type 0
+abbrev pub Begins : Outcome → SphereMap → MapSource → Type 0
 Begins (outcome.Made b) m f = (m ≡ b.value) × (f ≡ Here)
 Begins (outcome.Stays o k) m f = f ≡ Kept o k
 Begins (outcome.Turned o k) m f = f ≡ Turned o k
@@ -26,56 +22,56 @@ abbrev pub vertex_at : Point → SphereMap → Vertex
 vertex_at p m = record { point = p; map = m }
 
 -- a vertex at p with its source was added, or there is none
-abbrev pub IsAdded : Point → Outcome → List Vertex → List Source → List Vertex → List Source → Type 0
+abbrev pub IsAdded : Point → Outcome → List Vertex → List MapSource → List Vertex → List MapSource → Type 0
 IsAdded p o vs fs ws gs = ((o ≡ outcome.Gone) × (ws ≡ vs) × (gs ≡ fs))
-    ⊎ ((m : SphereMap) × (f : Source) × Begins o m f × (ws ≡ vs ++ vertex_at p m ∷ []) × (gs ≡ fs ++ f ∷ []))
+    ⊎ ((m : SphereMap) × (f : MapSource) × Begins o m f × (ws ≡ vs ++ vertex_at p m ∷ []) × (gs ≡ fs ++ f ∷ []))
 
 -- the vertices are the points with outcomes that say so, in their order, with their sources
-pub record AreBegun (ps : List Point) (os : List Outcome) (vs : List Vertex) (fs : List Source) : Type 0 where
+pub record AreBegun (ps : List Point) (os : List Outcome) (vs : List Vertex) (fs : List MapSource) : Type 0 where
   pub alike : length fs ≡ length vs
-  pub each : (i : ℕ) (v : Vertex) (f : Source) → At vs i v → At fs i f → (k : ℕ) × (o : Outcome) × At ps k v.point × At os k o × Begins o v.map f
+  pub each : (i : ℕ) (v : Vertex) (f : MapSource) → At vs i v → At fs i f → (k : ℕ) × (o : Outcome) × At ps k v.point × At os k o × Begins o v.map f
   pub all : (k : ℕ) (p : Point) (o : Outcome) → At ps k p → At os k o → (o ≡ outcome.Gone → ⊥) → (i : ℕ) × (v : Vertex) × At vs i v × (v.point ≡ p)
   pub ordered : InOrder (λ (u v : Vertex). IsPlaceBelow (place_of u.point) (place_of v.point)) vs
 
 -- ---- maps that are put in
 -- a vertex stands at p whose map the source names
-abbrev pub IsThere : List Vertex → List Vertex → Place → Source → Type 0
+abbrev pub IsThere : List Vertex → List Vertex → Place → MapSource → Type 0
 IsThere us vs p Here = Unit {0}
 IsThere us vs p (Kept o k) = (v : Vertex) × StandsAt (of_operand o us vs) k v p
 IsThere us vs p (Turned o k) = (v : Vertex) × StandsAt (of_operand o us vs) k v p × IsLeastMap v.map
 
 -- the vertices stand in order, and each source names a vertex at the place of its own
-pub record AreThere (us vs ys : List Vertex) (fs : List Source) : Type 0 where
+pub record AreThere (us vs ys : List Vertex) (fs : List MapSource) : Type 0 where
   pub alike : length fs ≡ length ys
-  pub each : (i : ℕ) (y : Vertex) (f : Source) → At ys i y → At fs i f → IsThere us vs (place_of y.point) f
+  pub each : (i : ℕ) (y : Vertex) (f : MapSource) → At ys i y → At fs i f → IsThere us vs (place_of y.point) f
   pub ordered : InOrder (λ (u v : Vertex). IsPlaceBelow (place_of u.point) (place_of v.point)) ys
 
 -- of a vertex with the map m, n is the map that the source names
-abbrev pub IsFilled : List Vertex → List Vertex → Source → SphereMap → SphereMap → Type 0
+abbrev pub IsFilled : List Vertex → List Vertex → MapSource → SphereMap → SphereMap → Type 0
 IsFilled us vs Here m n = n ≡ m
 IsFilled us vs (Kept o k) m n = (v : Vertex) × At (of_operand o us vs) k v × (n ≡ v.map)
 IsFilled us vs (Turned o k) m n = (v : Vertex) × At (of_operand o us vs) k v × IsOtherOf v.map n
 
 -- the source names this vertex of the operand
-abbrev pub Names : Source → Operand → ℕ → Type 0
+abbrev pub Names : MapSource → Operand → ℕ → Type 0
 Names Here o k = ⊥
 Names (Kept p n) o k = (p ≡ o) × (k ≡ n)
 Names (Turned p n) o k = (p ≡ o) × (k ≡ n)
 
 -- there is the vertex that the source names
-abbrev pub HasNamed : List Vertex → List Vertex → Source → Type 0
+abbrev pub HasNamed : List Vertex → List Vertex → MapSource → Type 0
 HasNamed us vs Here = Unit {0}
 HasNamed us vs (Kept o k) = (v : Vertex) × At (of_operand o us vs) k v
 HasNamed us vs (Turned o k) = (v : Vertex) × At (of_operand o us vs) k v × IsLeastMap v.map
 
 -- vertex number k, which was y, has the map that its source names
-abbrev pub IsFilledAt : List Vertex → List Vertex → Source → ℕ → Vertex → List Vertex → Type 0
+abbrev pub IsFilledAt : List Vertex → List Vertex → MapSource → ℕ → Vertex → List Vertex → Type 0
 IsFilledAt us vs f k y xs = (x : Vertex) × At xs k x × (x.point ≡ y.point) × IsFilled us vs f y.map x.map
 
 -- the first vertices have their maps, and the others are as they were
-pub record AreFilledTo (us vs ys : List Vertex) (fs : List Source) (n : ℕ) (xs : List Vertex) : Type 0 where
+pub record AreFilledTo (us vs ys : List Vertex) (fs : List MapSource) (n : ℕ) (xs : List Vertex) : Type 0 where
   pub alike : length xs ≡ length ys
-  pub done : (i : ℕ) (y : Vertex) (f : Source) → i < n → At ys i y → At fs i f → IsFilledAt us vs f i y xs
+  pub done : (i : ℕ) (y : Vertex) (f : MapSource) → i < n → At ys i y → At fs i f → IsFilledAt us vs f i y xs
   pub rest : (i : ℕ) (y : Vertex) → (i < n → ⊥) → At ys i y → At xs i y
 
 -- of the vertices of an operand those at none of the first places are as they were

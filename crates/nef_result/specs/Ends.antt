@@ -1,17 +1,10 @@
 -- The corners of the frame by the ends of its axes, and what the program's maps and vertices there say.
-use Rattle.std.specs.Prelude.{◌≡◌, pos, ℤ, neg_ℤ, ◌*ℤ◌, List, [], ◌∷◌, Bool, true, false}
-use Rattle.nef_space.specs.Signs.{Sign, sign}
-use Rattle.nef_space.specs.Limits.{half_side}
-use Rattle.nef_space.specs.Place.{Place}
-use Rattle.nef_space.specs.Vectors.{Vector, vector, dot, IsDirection}
-use Rattle.nef_space.specs.declared.label.Label.{Label}
-use Rattle.nef_space.specs.declared.label.Label.TheVariants.{Out}
-use Rattle.nef_geo.specs.Shapes.{place_of}
+use Rattle.std.specs.Prelude.{◌≡◌, ◌*ℤ◌, ◌∷◌}
+use Rattle.nef_space.specs.Prelude.{pos, ℤ, neg_ℤ, List, [], Bool, true, false, Sign, sign, half_side, Place, Vector, vector, dot, IsDirection}
+use Rattle.nef_stopo.specs.Prelude.{Label, MapLabel, op_label, map_of, IsSphereMap, IsLeastMap}
+use Rattle.nef_complex.specs.Prelude.{Out, place_of}
 use Rattle.law_sphere.specs.Least.{by_side}
-use Rattle.law_sphere.specs.Maps.{MapLabel}
-use Rattle.nef_star.specs.Ops.{op_label}
 use Rattle.nef_star.specs.declared.star.Op.TheVariants.{And}
-use Rattle.nef_smap.specs.Maps.{map_of, IsSphereMap, IsLeastMap}
 use Rattle.nef_smap.specs.declared.map.SphereMap.{SphereMap}
 use Rattle.nef_complex.specs.declared.complex.Vertex.{Vertex}
 

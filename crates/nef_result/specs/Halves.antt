@@ -1,12 +1,8 @@
 -- The labels of a half by the side of its plane.
-use Rattle.std.specs.Prelude.{◌≡◌, Bool, true, false}
+use Rattle.std.specs.Prelude.{◌≡◌}
+use Rattle.nef_complex.specs.Prelude.{Bool, true, false, Form, slope, Vector, IsDirection, Label, Not, In}
 use Rattle.nef_space.specs.Signs.{Sign, minus, nought, plus, sign}
-use Rattle.nef_space.specs.Place.{Form, slope}
-use Rattle.nef_space.specs.Vectors.{Vector, IsDirection}
-use Rattle.nef_space.specs.declared.label.Label.{Label}
-use Rattle.nef_space.specs.declared.label.Label.TheVariants.{Not, In}
-use Rattle.law_sphere.specs.Maps.{MapLabel}
-use Rattle.nef_smap.specs.Maps.{map_of, IsSphereMap}
+use Rattle.nef_smap.specs.Prelude.{MapLabel, map_of, IsSphereMap}
 use Rattle.nef_smap.specs.declared.map.SphereMap.{SphereMap}
 
 -- the label of a point of the frame, by whether a set holds there

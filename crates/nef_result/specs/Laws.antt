@@ -1,13 +1,6 @@
 -- The frame's corners are vertices of every set.
-use Rattle.std.specs.Prelude.{ℕ}
-use Rattle.nef_space.specs.Lists.{IsAt}
-use Rattle.nef_space.specs.Local.{IsVertex}
-use Rattle.nef_space.specs.Place.{Place}
-use Rattle.nef_space.specs.Sets.{Set}
-use Rattle.nef_geo.specs.Shapes.{place_of}
-use Rattle.nef_complex.specs.Complexes.{ShowsSet}
+use Rattle.nef_cand.specs.Prelude.{ℕ, IsAt, IsVertex, Place, Set, place_of, ShowsSet, Vertex}
 use Rattle.nef_complex.specs.declared.complex.Complex.{Complex}
-use Rattle.nef_complex.specs.declared.complex.Vertex.{Vertex}
 use Rattle.nef_result.specs.Ends.{Ends, IsCornerPlace}
 
 -- at a corner of the frame no direction is flat

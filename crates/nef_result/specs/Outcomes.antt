@@ -1,18 +1,9 @@
 -- What jobs say of candidates, and when that is right.
-use Rattle.std.specs.Prelude.{◌≡◌, ℕ, List, length, map}
-use Rattle.nef_space.specs.Local.{IsVertex}
-use Rattle.nef_space.specs.Place.{Place, SamePlace}
-use Rattle.nef_space.specs.Sets.{Set}
-use Rattle.nef_geo.specs.Shapes.{place_of, form_of}
-use Rattle.nef_geo.specs.declared.plane.Plane.{Plane}
-use Rattle.nef_geo.specs.declared.point.Point.{Point}
-use Rattle.law_sphere.specs.Least.{Cone}
-use Rattle.law_sphere.specs.Maps.{At}
-use Rattle.law_complex.specs.Shows.{Carriers}
+use Rattle.std.specs.Prelude.{◌≡◌}
+use Rattle.nef_complex.specs.Prelude.{ℕ, List, length, map, IsVertex, Place, SamePlace, Set, place_of, form_of, Plane, Point, Cone, At, Carriers}
 use Rattle.nef_smap.specs.Maps.{map_of, IsLeastMap}
 use Rattle.nef_smap.specs.declared.map.SphereMap.{SphereMap}
-use Rattle.nef_complex.specs.declared.complex.Vertex.{Vertex}
-use Rattle.nef_cand.specs.Candidates.{IsListed}
+use Rattle.nef_cand.specs.Prelude.{Vertex, IsListed}
 use Rattle.nef_cand.specs.declared.named.Operand.{Operand}
 use Rattle.nef_cand.specs.declared.named.Operand.TheVariants.{First, Second}
 use Rattle.nef_result.specs.declared.outcome.Outcome.{Outcome}

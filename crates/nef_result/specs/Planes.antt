@@ -1,7 +1,6 @@
 -- The planes of the frame in order.
-use Rattle.std.specs.Prelude.{pos, neg_ℤ, List, [], ◌∷◌}
-use Rattle.nef_space.specs.Limits.{half_side}
-use Rattle.nef_space.specs.Place.{Form, form}
+use Rattle.std.specs.Prelude.{◌∷◌}
+use Rattle.nef_space.specs.Prelude.{pos, neg_ℤ, List, [], half_side, Form, form}
 
 -- the normal forms of the frame's planes, in order of their four numbers
 abbrev pub sorted_sides : List Form

@@ -1,15 +1,9 @@
 //! Maps that are moved out of operands.
 
 ghost use Rattle.std.specs.Prelude.{◌≡◌, ◌<◌};
-ghost use Rattle.nef_complex.specs.Prelude.{ℕ, length, At};
-ghost use Rattle.nef_complex.specs.declared.complex.Vertex.{Vertex as VertexValue};
-ghost use Rattle.nef_cand.specs.declared.named.Operand.TheVariants.{First, Second};
-ghost use Rattle.nef_smap.specs.Maps.{IsLeastMap};
-ghost use Rattle.nef_smap.specs.declared.map.SphereMap.{SphereMap as MapValue};
-ghost use Rattle.nef_result.specs.Outcomes.{of_operand, IsOtherOf};
-ghost use Rattle.nef_result.specs.Begun.{vertex_at, HasNamed, Names, IsFilledAt, AreThere, AreFilledTo};
+ghost use Rattle.nef_result.specs.Prelude.{ℕ, length, At, Vertex as VertexValue, First, Second, IsLeastMap, SphereMap as MapValue, of_operand, IsOtherOf, vertex_at, HasNamed, Names, IsFilledAt, AreThere, AreFilledTo};
 
-use crate::parting::Source;
+use crate::parting::MapSource;
 use nef_cand::Operand;
 use nef_complex::Vertex;
 use nef_geo::Label;
@@ -30,7 +24,7 @@ fn swap_maps(vertices: &mut Vec<Vertex>, number: usize, others: &mut Vec<Vertex>
     mem::swap(&mut vertices[number].map, &mut others[from].map);
 }
 
-// The same with a vertex of the operand that is told.
+// Exchanges the maps of a vertex and of a vertex of the operand that is told.
 fn swap_with(
     vertices: &mut Vec<Vertex>,
     number: usize,
@@ -67,12 +61,12 @@ fn turn_map(alloc: Global, vertices: &mut Vec<Vertex>, number: usize)
     vertex.map = exchanged(map);
 }
 
-// Moves the map that the source names into the vertex. The vertex of the operand is left with the one that stood here.
+// Moves the map that the source names into the vertex. The operand's vertex is left with the map that the vertex had.
 fn fill(
     alloc: Global,
     vertices: &mut Vec<Vertex>,
     number: usize,
-    source: Source,
+    source: MapSource,
     first: &mut Vec<Vertex>,
     second: &mut Vec<Vertex>,
 )
@@ -85,22 +79,22 @@ fn fill(
     ensures second { (k : ℕ) (v : VertexValue) → (Names source Second k → ⊥) → At second.old.items k v → At second.new.items k v }
 {
     match source {
-        Source::Here => {}
-        Source::Kept(operand, from) => {
+        MapSource::Here => {}
+        MapSource::Kept(operand, from) => {
             swap_with(vertices, number, operand, from, first, second);
         }
-        Source::Turned(operand, from) => {
+        MapSource::Turned(operand, from) => {
             swap_with(vertices, number, operand, from, first, second);
             turn_map(alloc, vertices, number);
         }
     }
 }
 
-/// Moves the map that its source names into each vertex.
+/// Moves into each vertex the map that the vertex's source names.
 pub(crate) fn fill_all(
     alloc: Global,
     vertices: &mut Vec<Vertex>,
-    sources: &[Source],
+    sources: &[MapSource],
     first: &mut Vec<Vertex>,
     second: &mut Vec<Vertex>,
 )

@@ -1,7 +1,7 @@
 //! A complex that is read, and may be taken apart where nobody else has it.
 
 ghost use Rattle.std.specs.Prelude.{◌≡◌};
-ghost use Rattle.nef_result.specs.Givens.{given_of, moved_if, moved_of};
+ghost use Rattle.nef_result.specs.Prelude.{given_of, moved_if, moved_of};
 
 use nef_complex::{Complex, Vertex};
 use nef_geo::List;
@@ -9,11 +9,11 @@ use std::alloc::Global;
 use std::mem;
 
 /// A complex that is given to an operation.
-#[derive(Debug, Drop)]
+#[derive(Drop)]
 pub enum Given<'a> {
-    /// One that others read too.
+    /// A complex that others read too.
     Lent(&'a Complex),
-    /// One that nobody reads afterwards, so that what a result has of it may be moved.
+    /// A complex that nobody reads afterwards, so that what a result has of it may be moved.
     Own(Complex),
 }
 
@@ -28,7 +28,7 @@ impl<'a> Given<'a> {
         }
     }
 
-    /// Whether maps may be moved out of it.
+    /// Whether maps may be moved out of the complex.
     pub fn is_own(&self) -> bool
         ensures own { moved_if result (given_of self.now) ≡ moved_of self.now }
     {

@@ -1,11 +1,7 @@
 //! What a set has at a candidate.
 
 ghost use Rattle.std.specs.Prelude.{◌↔◌};
-ghost use Rattle.nef_complex.specs.Prelude.{List as Sequence, IfOk, IsTrue, Set, Place, Cone};
-ghost use Rattle.nef_complex.specs.declared.complex.Vertex.{Vertex};
-ghost use Rattle.nef_smap.specs.Maps.{map_of, IsLeastMap};
-ghost use Rattle.nef_spair.specs.Kinds.{IsVertex};
-ghost use Rattle.nef_result.specs.Outcomes.{IsOutcomeAt};
+ghost use Rattle.nef_result.specs.Prelude.{List as Sequence, IfOk, IsTrue, Set, Place, Cone, Vertex, map_of, IsLeastMap, IsVertex, IsOutcomeAt};
 
 use crate::OutOfMemory;
 use nef_cand::Operand;
@@ -15,13 +11,13 @@ use std::alloc::Global;
 
 /// What a set that is made of two others has at a candidate. Where a vertex of one of the two has the map already, and its map
 /// may be moved, it isn't made again: that vertex is told by its number.
-#[derive(Debug, Drop)]
+#[derive(Drop)]
 pub enum Outcome {
     /// A vertex with this least map. Few outcomes have one, and all are moved often, so it stands in a box.
     Made(Box<SphereMap>),
-    /// A vertex with the map of this one.
+    /// A vertex with the map of this vertex of an operand.
     Stays(Operand, usize),
-    /// A vertex with the map of this one in which In and `Not` are exchanged.
+    /// A vertex with the map of this vertex of an operand, in which In and `Not` are exchanged.
     Turned(Operand, usize),
     /// No vertex.
     Gone,

@@ -1,9 +1,7 @@
 //! The vertices of a set among its candidates, and where their maps are.
 
-ghost use Rattle.std.specs.Prelude.{◌≡◌, ◌∷◌, ◌++◌, ◌<◌, ◌≤◌, ◌+◌, vec_len, vec_capacity};
-ghost use Rattle.nef_complex.specs.Prelude.{[], length, IfOk};
-ghost use Rattle.nef_result.specs.Results.{ArePointsInOrder};
-ghost use Rattle.nef_result.specs.Begun.{IsAdded, AreBegun};
+ghost use Rattle.nef_result.specs.Prelude.{vec_len, vec_capacity, [], length, IfOk, ArePointsInOrder, IsAdded, AreBegun};
+ghost use Rattle.std.specs.Prelude.{◌≡◌, ◌∷◌, ◌++◌, ◌<◌, ◌≤◌, ◌+◌};
 
 use crate::OutOfMemory;
 use crate::outcome::Outcome;
@@ -14,23 +12,23 @@ use nef_smap::{SphereMap, face_map};
 use std::alloc::Global;
 
 /// Where the map of a vertex is.
-#[derive(Debug, Clone, Copy)]
-pub(crate) enum Source {
+#[derive(Clone, Copy)]
+pub(crate) enum MapSource {
     /// With the vertex.
     Here,
     /// With this vertex of an operand.
     Kept(Operand, usize),
-    /// With this one, but for In and `Not`, which are to be exchanged.
+    /// With this vertex of an operand, but for In and `Not`, which are to be exchanged in the map.
     Turned(Operand, usize),
 }
 
-// Adds a vertex, for which there is room, and its source.
+// Adds a vertex and the source of its map. Both lists have room for them.
 fn push_vertex(
     vertices: &mut Vec<Vertex>,
-    sources: &mut Vec<Source>,
+    sources: &mut Vec<MapSource>,
     point: &Point,
     map: SphereMap,
-    source: Source,
+    source: MapSource,
 )
     requires room { vec_len vertices.old < vec_capacity vertices.old }
     requires source_room { vec_len sources.old < vec_capacity sources.old }
@@ -43,11 +41,11 @@ fn push_vertex(
     sources.push_reserved(source);
 }
 
-// Adds the vertex at the point, if there is one, for which there is room. Where its map is with another vertex, a map that takes
-// no memory is put in its place.
+// Adds the vertex at the point, if the set has one there; both lists have room for it. Where the vertex's map is with another
+// vertex, a map that takes no memory is put in its place.
 fn add_vertex(
     vertices: &mut Vec<Vertex>,
-    sources: &mut Vec<Source>,
+    sources: &mut Vec<MapSource>,
     alloc: Global,
     point: &Point,
     outcome: Outcome,
@@ -61,16 +59,16 @@ fn add_vertex(
     match outcome {
         Outcome::Made(map) => {
             let map = Box::into_inner(map);
-            push_vertex(vertices, sources, point, map, Source::Here);
+            push_vertex(vertices, sources, point, map, MapSource::Here);
         }
         Outcome::Stays(operand, number) => {
             let empty = face_map(alloc, Label::Out, Label::Out);
-            let source = Source::Kept(operand, number);
+            let source = MapSource::Kept(operand, number);
             push_vertex(vertices, sources, point, empty, source);
         }
         Outcome::Turned(operand, number) => {
             let empty = face_map(alloc, Label::Out, Label::Out);
-            let source = Source::Turned(operand, number);
+            let source = MapSource::Turned(operand, number);
             push_vertex(vertices, sources, point, empty, source);
         }
         Outcome::Gone => {}
@@ -82,7 +80,7 @@ pub(crate) fn parted(
     alloc: Global,
     points: &[Point],
     outcomes: Vec<Outcome>,
-) -> Result<(Vec<Vertex>, Vec<Source>), OutOfMemory>
+) -> Result<(Vec<Vertex>, Vec<MapSource>), OutOfMemory>
     requires ordered { ArePointsInOrder points.now }
     requires alike { length outcomes.items ≡ length points.now }
     ensures begun { IfOk result (λ p. AreBegun points.now outcomes.items p.0.items p.1.items) }

@@ -2,12 +2,7 @@
 //! corners; and the map of a half at a point.
 
 ghost use Rattle.std.specs.Prelude.{◌≡◌, ◌∷◌, ◌++◌};
-ghost use Rattle.nef_complex.specs.Prelude.{List as Sequence, true, false, map, IfOk, OnOk, [], Set, Lies, Out, Not, In, form_of, vector_of, given_form, place_of, Cone, ShowsSet};
-ghost use Rattle.nef_smap.specs.Maps.{map_of, IsLeastMap};
-ghost use Rattle.nef_result.specs.Ends.{axes, end_at, Ends, ends, all_ends, IsWall, IsCornerOf, AreCorners};
-ghost use Rattle.nef_result.specs.Planes.{sorted_sides};
-ghost use Rattle.nef_result.specs.Laws.{CornersAreVertices, CornersAreShown};
-ghost use Rattle.nef_result.specs.Halves.{inside_label, IsMapOfPlane};
+ghost use Rattle.nef_result.specs.Prelude.{List as Sequence, true, false, map, IfOk, OnOk, [], Set, Lies, Out, Not, In, form_of, vector_of, given_form, place_of, Cone, ShowsSet, map_of, IsLeastMap, axes, end_at, Ends, ends, all_ends, IsWall, IsCornerOf, AreCorners, sorted_sides, CornersAreVertices, CornersAreShown, inside_label, IsMapOfPlane};
 
 use crate::OutOfMemory;
 use nef_complex::{Complex, Vertex};

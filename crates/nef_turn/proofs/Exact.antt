@@ -1,28 +1,11 @@
 -- Turned numbers make one direction and one plane in lowest terms.
-use Rattle.std.proofs.Common.{◌≡◌, ℕ, ◌≤◌, ℤ, pos, ◌*ℤ◌, ◌-ℤ◌, ◌<ℤ◌, neg_ℤ, nat_abs, Bool, true, false, cond, [], ◌∷◌, arith, ap, sym, ◌∙◌, subst, w64, to_z, of_z}
-use Rattle.std.proofs.lemmas.Int.{ints}
-use Rattle.nef_space.proofs.Ring.{ring, at, num, neg, ◌⊖◌, ◌⊗◌}
-use Rattle.nef_space.specs.Limits.{direction_limit, normal_limit, point_limit}
-use Rattle.nef_space.specs.Place.{Place, Form, form, SamePlace, normal_of}
-use Rattle.nef_space.specs.Vectors.{Vector, vector, IsDirection, IsAtMost, IsNormal, SameDirection}
-use Rattle.nef_geo.specs.Meet.{IsSamePlane}
-use Rattle.nef_geo.specs.Reading.{IsInRange, IsPositiveMultiple}
-use Rattle.nef_geo.specs.Shapes.{form_of, vector_of, turned_form as opposite_form, given_form, place_at}
-use Rattle.nef_geo.specs.declared.dir.Dir.{Dir}
+use Rattle.nef_turn.proofs.Prelude.{◌≡◌, ℕ, ◌≤◌, ℤ, pos, ◌*ℤ◌, ◌-ℤ◌, ◌<ℤ◌, neg_ℤ, nat_abs, Bool, true, false, cond, [], ◌∷◌, arith, ap, sym, ◌∙◌, subst, w64, to_z, of_z, ints, ring, at, num, neg, ◌⊖◌, ◌⊗◌, direction_limit, normal_limit, point_limit, Place, Form, form, SamePlace, normal_of, Vector, vector, IsDirection, IsAtMost, IsNormal, SameDirection, IsSamePlane, IsInRange, IsPositiveMultiple, form_of, vector_of, turned_form as opposite_form, given_form, place_at, Dir, Plane, Point, IsAtMost-weaken as larger, same_directions_equal, same_planes_equal, Triple, negated_if, turned, normal-direction, turned_vector, turned_plane, signed, signed_form, same-place_sym, at_most-turned, lowest_vector-turned, lowest_form-turned, normal-choice}
 use Rattle.nef_geo.specs.declared.plane.Oriented.{Oriented}
-use Rattle.nef_geo.specs.declared.plane.Plane.{Plane}
-use Rattle.nef_geo.specs.declared.point.Point.{Point}
-use Rattle.nef_geo.proofs.Products.{kept, IsAtMost-weaken as larger}
-use Rattle.nef_geo.proofs.Unique.{direction, same_directions_equal, plane, same_planes_equal}
-use Rattle.nef_case.specs.Turns.{Triple, negated_if, turned}
+use Rattle.nef_geo.proofs.Products.{kept}
+use Rattle.nef_geo.proofs.Unique.{direction, plane}
 use Rattle.nef_case.proofs.TurnLemmas.{same_triple}
-use Rattle.law_sphere.proofs.Vectors.{normal-direction}
-use Rattle.law_turns.specs.Turned.{turned_vector, turned_plane, signed}
-use Rattle.law_turns.specs.Complexes.{signed_form}
-use Rattle.law_near.proofs.Rays.{same-place_sym}
 use Rattle.law_turns.proofs.Coordinates.{same-vector}
 use Rattle.law_turns.proofs.Carriers.{same-form}
-use Rattle.law_turns.proofs.Numbers.{at_most-turned, lowest_vector-turned, lowest_form-turned, normal-choice}
 use Rattle.law_turns.proofs.Vectors.{direction-turned}
 
 -- ---- numbers that fit their machine words

@@ -1,10 +1,5 @@
 -- Lists of images, made one after the other.
-use Rattle.std.proofs.Common.{◌≡◌, ℕ, ◌+◌, ◌<◌, ◌≤◌, List, [], ◌∷◌, ◌++◌, length, get_or, arith, refl, sym, ap, subst, ◌∙◌, ⊎_elim}
-use Rattle.law_sphere.specs.Maps.{At}
-use Rattle.law_sphere.proofs.Lists.{at-one}
-use Rattle.nef_smap.proofs.Lists.{at-within}
-use Rattle.nef_edges.proofs.Places.{at-more, read-at}
-use Rattle.nef_turn.specs.Images.{AreImages}
+use Rattle.nef_turn.proofs.Prelude.{◌≡◌, ℕ, ◌+◌, ◌<◌, ◌≤◌, List, [], ◌∷◌, ◌++◌, length, get_or, arith, refl, sym, ap, subst, ◌∙◌, ⊎_elim, At, at-one, at-within, at-more, read-at, AreImages}
 use Rattle.nef_smap.proofs.SideLists.{at-some as at-length}
 
 length-more : {A : Type 0} (xs : List A) (x : A) → length (xs ++ x ∷ []) ≡ length xs + 1

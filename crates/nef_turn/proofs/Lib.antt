@@ -1,3 +1,4 @@
+pub mod Prelude
 pub mod Images
 pub mod Orders
 pub mod Exact

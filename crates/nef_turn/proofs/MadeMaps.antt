@@ -1,21 +1,5 @@
 -- A map of the turned svertices, arcs and sloop is the turned map.
-use Rattle.std.proofs.Common.{◌≡◌, ℕ, List, map, length, Some, option_map, ap, sym, ◌∙◌, subst}
-use Rattle.nef_space.specs.Vectors.{Vector, IsNormal}
-use Rattle.nef_geo.specs.Shapes.{vector_of}
-use Rattle.law_sphere.specs.Vectors.{IsPrimitive, VectorBelow}
-use Rattle.law_sphere.specs.Maps.{At, MapVertex, Arc, MapSloop, Item, arc_item, sloop_item, items, item_normal}
-use Rattle.law_sphere.specs.Least.{InOrder, ArcBelow, Ordered}
-use Rattle.law_sphere.proofs.Shot.{arc-at}
-use Rattle.law_sphere.proofs.Arcs.{sloop-at}
-use Rattle.law_build.proofs.BuiltAxes.{at-map, map-at}
-use Rattle.nef_smap.specs.Maps.{svertex_of, arc_of, sloop_of, map_of}
-use Rattle.nef_smap.specs.declared.map.SLoop.{SLoop}
-use Rattle.nef_smap.specs.declared.map.SphereMap.{SphereMap}
-use Rattle.nef_smap.proofs.Primitive.{dir-primitive}
-use Rattle.law_turns.specs.Maps.{turned_svertex, IsTurnedArc, IsTurnedOption, HasTurnedLists}
-use Rattle.nef_turn.specs.declared.maps.Moved.{Moved}
-use Rattle.nef_turn.specs.Images.{AreImages}
-use Rattle.nef_turn.specs.Turning.{AreMoved, AreNumbers, IsOfMoved, AreTurnedArcs, number_in}
+use Rattle.nef_turn.proofs.Prelude.{◌≡◌, ℕ, List, map, length, Some, option_map, ap, sym, ◌∙◌, subst, Vector, IsNormal, vector_of, IsPrimitive, VectorBelow, At, MapVertex, Arc, MapSloop, Item, arc_item, sloop_item, items, item_normal, InOrder, ArcBelow, Ordered, arc-at, sloop-at, at-map, map-at, svertex_of, arc_of, sloop_of, map_of, SLoop, SphereMap, dir-primitive, turned_svertex, IsTurnedArc, IsTurnedOption, HasTurnedLists, Moved, AreImages, AreMoved, AreNumbers, IsOfMoved, AreTurnedArcs, number_in}
 use Rattle.nef_turn.proofs.MovedSvertices.{placed, number-is}
 use Rattle.nef_spair.proofs.OneKind.{sloop-was as sloop-from}
 

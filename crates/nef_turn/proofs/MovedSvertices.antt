@@ -1,28 +1,5 @@
 -- Turned svertices, sorted, and their new numbers.
-use Rattle.std.proofs.Common.{◌≡◌, ℕ, ◌+◌, ◌<◌, ◌≤◌, List, length, map, get_or, set, arith, ap, sym, ◌∙◌, subst, ⊎_elim}
-use Rattle.std.proofs.Math.ListN.{length-set}
-use Rattle.std.proofs.Math.Nat.{eq-or-lt_of_le}
-use Rattle.std.proofs.lemmas.List.{length-map, get_or-set_same, get_or-set_other}
-use Rattle.std.proofs.lemmas.List.Sorted.{length_permutation}
-use Rattle.std.specs.List.Sorted.{IsPermutation}
-use Rattle.nef_geo.specs.Shapes.{vector_of}
-use Rattle.law_sphere.specs.Maps.{At, MapVertex, Shaped}
-use Rattle.law_sphere.specs.Least.{InOrder}
-use Rattle.law_sphere.proofs.Lists.{at-one}
-use Rattle.law_build.proofs.BuiltAxes.{at-map, map-at}
-use Rattle.nef_smap.specs.Maps.{svertex_of, map_of}
-use Rattle.nef_smap.specs.declared.map.SVertex.{SVertex}
-use Rattle.nef_smap.specs.declared.map.SphereMap.{SphereMap}
-use Rattle.nef_smap.proofs.Lists.{at-within, at-get}
-use Rattle.nef_smap.proofs.WellFormed.{dir-equal}
-use Rattle.nef_edges.proofs.Places.{read-at}
-use Rattle.nef_spair.proofs.Apart.{was-listed, still-listed}
-use Rattle.law_turns.specs.Turned.{turned_vector}
-use Rattle.law_turns.specs.Maps.{turned_svertex}
-use Rattle.law_turns.proofs.Exists.{image-number}
-use Rattle.nef_turn.specs.declared.maps.Moved.{Moved}
-use Rattle.nef_turn.specs.Images.{AreImages, AreApart}
-use Rattle.nef_turn.specs.Turning.{IsMoved, IsMovedBelow, HaveSameWay, HaveSameNumber, AreMoved, AreWithin, AreNumbers, svertex_in, IsOfMoved, Renumbers, number_in}
+use Rattle.nef_turn.proofs.Prelude.{◌≡◌, ℕ, ◌+◌, ◌<◌, ◌≤◌, List, length, map, get_or, set, arith, ap, sym, ◌∙◌, subst, ⊎_elim, length-set, eq-or-lt_of_le, length-map, get_or-set_same, get_or-set_other, length_permutation, IsPermutation, vector_of, At, MapVertex, Shaped, InOrder, at-one, at-map, map-at, svertex_of, map_of, SVertex, SphereMap, at-within, at-get, dir-equal, read-at, was-listed, still-listed, turned_vector, turned_svertex, image-number, Moved, AreImages, AreApart, IsMoved, IsMovedBelow, HaveSameWay, HaveSameNumber, AreMoved, AreWithin, AreNumbers, svertex_in, IsOfMoved, Renumbers, number_in}
 use Rattle.nef_turn.proofs.Images.{images-all}
 use Rattle.nef_turn.proofs.Orders.{moved-apart}
 

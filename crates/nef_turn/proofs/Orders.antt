@@ -1,22 +1,5 @@
 -- The orders of planes, directions and points by which turned items are sorted.
-use Rattle.std.proofs.Common.{◌≡◌, List, Ordering, Less, Equal, Greater, refl, sym, ap, ◌∙◌}
-use Rattle.std.specs.Ordering.{MatchOrdering}
-use Rattle.std.specs.Cmp.{IsTotalOrder}
-use Rattle.std.specs.List.Sorted.{IsPermutation, IsSorted}
-use Rattle.std.proofs.lemmas.Cmp.{on_total, tied_itself}
-use Rattle.nef_space.specs.Numbers.{IsBelow}
-use Rattle.nef_space.specs.Vectors.{triple_of}
-use Rattle.nef_geo.specs.Shapes.{place_of, vector_of}
-use Rattle.nef_geo.specs.declared.plane.Plane.{Plane}
-use Rattle.nef_geo.proofs.Orders.{plane_order, plane_total, plane-ordered, IsPlaneBelow, dir_order, dir_total, dir-ordered}
-use Rattle.law_sphere.specs.Least.{InOrder}
-use Rattle.nef_smap.proofs.WellFormed.{below-vectors}
-use Rattle.nef_complex.specs.declared.complex.Vertex.{Vertex}
-use Rattle.nef_complex.proofs.Order.{one-order, point_order, point-ordered, point_total}
-use Rattle.nef_spair.proofs.Apart.{sorted-in_order, still-apart}
-use Rattle.nef_turn.specs.declared.maps.Moved.{Moved}
-use Rattle.nef_turn.specs.Images.{AreApart}
-use Rattle.nef_turn.specs.Turning.{IsMovedBelow, HaveSameWay, IsVertexBelow, AreAtOnePlace}
+use Rattle.nef_turn.proofs.Prelude.{◌≡◌, List, Ordering, Less, Equal, Greater, refl, sym, ap, ◌∙◌, MatchOrdering, IsTotalOrder, IsPermutation, IsSorted, on_total, tied_itself, IsBelow, triple_of, place_of, vector_of, Plane, plane_order, plane_total, plane-ordered, IsPlaneBelow, dir_order, dir_total, dir-ordered, InOrder, below-vectors, Vertex, one-order, point_order, point-ordered, point_total, sorted-in_order, still-apart, Moved, AreApart, IsMovedBelow, HaveSameWay, IsVertexBelow, AreAtOnePlace}
 
 -- ---- planes
 abbrev pub IsOnePlane : Plane → Plane → Type 0

@@ -1,27 +1,8 @@
 -- The turned planes and vertices of a program's complex are those of the turned set, which are ready to be paired.
-use Rattle.std.proofs.Common.{ℕ, false, sym, subst, List, map}
-use Rattle.nef_space.specs.Limits.{normal_limit, svertex_limit}
-use Rattle.nef_space.specs.Sets.{Set}
-use Rattle.nef_space.specs.Vectors.{Vector, IsAtMost}
-use Rattle.nef_geo.specs.Shapes.{form_of}
-use Rattle.nef_geo.specs.declared.plane.Plane.{Plane}
-use Rattle.law_sphere.specs.Maps.{MapVertex, Map, Shaped}
-use Rattle.law_sphere.specs.Least.{Ordered}
-use Rattle.law_build.proofs.BuiltAxes.{at-map, map-at}
-use Rattle.nef_smap.specs.Maps.{map_of, IsSmall, IsLeastMap}
-use Rattle.nef_smap.specs.declared.map.SphereMap.{SphereMap}
+use Rattle.nef_turn.proofs.Prelude.{ℕ, false, sym, subst, List, map, normal_limit, svertex_limit, Set, Vector, IsAtMost, form_of, Plane, MapVertex, Map, Shaped, Ordered, at-map, map-at, map_of, IsSmall, IsLeastMap, SphereMap, vertex_of, complex_of, ShowsSet, AreVerticesOf, Vertex, Complex, got-at, turned_set, IsTurnedMap, AreTurnedPlanes, AreTurnedVertices, at_most-turned, get-from_at as at-got}
 use Rattle.law_complex.specs.Complexes.{Vertex as PlainVertex}
-use Rattle.nef_complex.specs.Complexes.{vertex_of, complex_of, ShowsSet, AreVerticesOf}
-use Rattle.nef_complex.specs.declared.complex.Vertex.{Vertex}
-use Rattle.nef_complex.specs.declared.complex.Complex.{Complex}
-use Rattle.nef_complex.proofs.Reading.{got-at}
-use Rattle.law_turns.specs.Turned.{turned_set}
-use Rattle.law_turns.specs.Maps.{IsTurnedMap}
-use Rattle.law_turns.specs.Complexes.{AreTurnedPlanes, AreTurnedVertices}
-use Rattle.law_turns.proofs.Numbers.{at_most-turned}
 use Rattle.law_turns.proofs.TurnedMaps.{svertex-from, item-from, item-normal, valid-turned, least-turned}
 use Rattle.law_turns.proofs.Complexes.{shows-turned}
-use Rattle.nef_smap.proofs.SideLists.{get-from_at as at-got}
 
 module _ (k : ℕ) where
   pub small-turned : (M N : Map) → Shaped M → IsTurnedMap k M N → IsSmall M → IsSmall N

@@ -1,19 +1,6 @@
 -- The steps that lead from the complex of a set to that of the turned set.
-use Rattle.std.proofs.Common.{◌≡◌, ℕ, List, map, subst}
-use Rattle.nef_space.specs.Sets.{Set}
-use Rattle.nef_geo.specs.Shapes.{form_of}
-use Rattle.nef_geo.specs.declared.plane.Plane.{Plane}
-use Rattle.law_build.proofs.BuiltAxes.{map-at}
-use Rattle.nef_complex.specs.Complexes.{vertex_of, ShowsSet, AreSorted, AreVerticesOf}
-use Rattle.nef_complex.specs.Index.{AreInOrder}
-use Rattle.nef_complex.specs.declared.complex.Vertex.{Vertex}
-use Rattle.nef_complex.specs.declared.complex.Complex.{Complex}
-use Rattle.nef_complex.proofs.Reading.{got-at}
-use Rattle.nef_edges.proofs.Places.{at-some}
-use Rattle.law_turns.specs.Turned.{turned_set}
-use Rattle.law_turns.specs.Complexes.{AreTurnedPlanes, AreTurnedVertices}
+use Rattle.nef_turn.proofs.Prelude.{◌≡◌, ℕ, List, map, subst, Set, form_of, Plane, map-at, vertex_of, ShowsSet, AreSorted, AreVerticesOf, AreInOrder, Vertex, Complex, got-at, at-some, turned_set, AreTurnedPlanes, AreTurnedVertices, HaveLeastMaps}
 use Rattle.nef_turn.proofs.Pairing.{paired-turned}
-use Rattle.nef_turn.specs.Turning.{HaveLeastMaps}
 
 module _ (s : Set) (c : Complex) (S : ShowsSet s c) where
   pub carriers-in_order : AreInOrder c.carriers

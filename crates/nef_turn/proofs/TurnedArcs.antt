@@ -1,22 +1,7 @@
 -- Turned arcs, sorted.
-use Rattle.std.proofs.Common.{ℕ, List, map, length, arith, ap, ◌∙◌, subst}
-use Rattle.std.proofs.lemmas.List.{length-map}
-use Rattle.std.specs.List.Sorted.{IsPermutation}
-use Rattle.nef_geo.specs.Shapes.{vector_of}
-use Rattle.law_sphere.specs.Maps.{At, MapVertex, Shaped}
-use Rattle.law_sphere.specs.Least.{InOrder}
-use Rattle.law_build.proofs.BuiltAxes.{at-map, map-at}
-use Rattle.nef_smap.specs.Maps.{svertex_of, arc_of, map_of}
-use Rattle.nef_smap.specs.declared.map.SArc.{SArc}
-use Rattle.nef_smap.specs.declared.map.SphereMap.{SphereMap}
-use Rattle.nef_smap.proofs.Lists.{at-within}
-use Rattle.nef_smap.proofs.Primitive.{dir-primitive}
-use Rattle.nef_spair.specs.Arcs.{IsArcBelow, AreApart}
-use Rattle.nef_spair.proofs.Apart.{was-listed, still-listed}
-use Rattle.law_turns.specs.Maps.{turned_svertex}
-use Rattle.law_turns.proofs.Exists.{IsArcImage as IsPlainImage, one-arc}
-use Rattle.nef_turn.specs.Images.{AreImages}
-use Rattle.nef_turn.specs.Turning.{HaveEnds, IsArcImage, Renumbers, AreTurnedArcs, number_in}
+use Rattle.nef_turn.proofs.Prelude.{ℕ, List, map, length, arith, ap, ◌∙◌, subst, length-map, IsPermutation, vector_of, At, MapVertex, Shaped, InOrder, at-map, map-at, svertex_of, arc_of, map_of, SArc, SphereMap, at-within, dir-primitive, IsArcBelow, was-listed, still-listed, turned_svertex, one-arc, AreImages, HaveEnds, IsArcImage, Renumbers, AreTurnedArcs, number_in}
+use Rattle.nef_spair.specs.Arcs.{AreApart}
+use Rattle.law_turns.proofs.Exists.{IsArcImage as IsPlainImage}
 use Rattle.nef_turn.proofs.Images.{images-all}
 
 module _ (k : ℕ) (m : SphereMap) (V : Shaped (map_of m)) (ns : List ℕ) (R : Renumbers k m.svertices ns) where

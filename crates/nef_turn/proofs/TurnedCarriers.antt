@@ -1,21 +1,5 @@
 -- Turned carriers, sorted, are the turned planes.
-use Rattle.std.proofs.Common.{◌≡◌, ℕ, List, map, ap, sym, ◌∙◌, subst, length}
-use Rattle.std.specs.List.Sorted.{IsPermutation, IsSorted}
-use Rattle.nef_space.specs.Numbers.{IsBelow}
-use Rattle.nef_space.specs.Place.{Form, form_numbers}
-use Rattle.nef_geo.specs.Shapes.{form_of}
-use Rattle.nef_geo.specs.declared.plane.Plane.{Plane}
-use Rattle.nef_geo.proofs.Orders.{plane_order, never-below}
-use Rattle.law_sphere.specs.Maps.{At}
-use Rattle.law_build.proofs.BuiltAxes.{at-map, map-at, number-order}
-use Rattle.nef_complex.specs.Index.{AreInOrder}
-use Rattle.nef_edges.proofs.Places.{at-some}
-use Rattle.nef_spair.proofs.Apart.{was-listed, still-listed}
-use Rattle.law_turns.specs.Turned.{turned_plane}
-use Rattle.law_turns.specs.Complexes.{signed_form, AreTurnedPlanes}
-use Rattle.law_turns.proofs.Exists.{one-plane}
-use Rattle.nef_turn.specs.Images.{AreImages, AreApart}
-use Rattle.nef_turn.specs.Turning.{IsTurnedCarrier}
+use Rattle.nef_turn.proofs.Prelude.{◌≡◌, ℕ, List, map, ap, sym, ◌∙◌, subst, length, IsPermutation, IsSorted, IsBelow, Form, form_numbers, form_of, Plane, plane_order, never-below, At, at-map, map-at, number-order, AreInOrder, at-some, was-listed, still-listed, turned_plane, signed_form, AreTurnedPlanes, one-plane, AreImages, AreApart, IsTurnedCarrier}
 use Rattle.nef_turn.proofs.Images.{images-all}
 use Rattle.nef_turn.proofs.Orders.{IsOnePlane, planes-in_order}
 

@@ -1,25 +1,7 @@
 -- Turned vertices, sorted, are those of the turned complex.
-use Rattle.std.proofs.Common.{ℕ, List, map, length, subst}
-use Rattle.std.specs.List.Sorted.{IsPermutation}
-use Rattle.nef_space.specs.Place.{SamePlace, IsPlaceBelow}
-use Rattle.nef_geo.specs.Shapes.{place_of}
-use Rattle.law_near.proofs.PlaceOrder.{place_below-apart}
-use Rattle.law_near.proofs.Rays.{same-place_sym}
-use Rattle.law_sphere.specs.Least.{InOrder, Ordered}
-use Rattle.law_build.proofs.BuiltAxes.{at-map, map-at, number-order}
-use Rattle.nef_smap.specs.Maps.{map_of}
+use Rattle.nef_turn.proofs.Prelude.{ℕ, List, map, length, subst, IsPermutation, SamePlace, IsPlaceBelow, place_of, place_below-apart, same-place_sym, InOrder, Ordered, at-map, map-at, number-order, map_of, vertex_of, AreSorted, Vertex, at-some, was-listed, still-listed, turned_place, IsTurnedMap, AreTurnedVertices, same-place_trans, AreImages, AreApart, IsVertexImage, IsVertexBelow, AreAtOnePlace}
 use Rattle.law_complex.specs.Complexes.{Vertex as PlainVertex}
-use Rattle.nef_complex.specs.Complexes.{vertex_of, AreSorted}
-use Rattle.nef_complex.specs.declared.complex.Vertex.{Vertex}
-use Rattle.nef_edges.proofs.Places.{at-some}
-use Rattle.nef_spair.proofs.Apart.{was-listed, still-listed}
-use Rattle.law_turns.specs.Turned.{turned_place}
-use Rattle.law_turns.specs.Maps.{IsTurnedMap}
-use Rattle.law_turns.specs.Complexes.{AreTurnedVertices}
 use Rattle.law_turns.proofs.Places.{same_place-turned}
-use Rattle.law_complex.proofs.Ways.{same-place_trans}
-use Rattle.nef_turn.specs.Images.{AreImages, AreApart}
-use Rattle.nef_turn.specs.Turning.{IsVertexImage, IsVertexBelow, AreAtOnePlace}
 use Rattle.nef_turn.proofs.Images.{images-all}
 
 module _ (k : ℕ) (us vs : List Vertex) (I : AreImages (IsVertexImage k) (length us) us vs) where

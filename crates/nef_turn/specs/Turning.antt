@@ -1,17 +1,11 @@
 -- What the steps of turning give: turned carriers, svertices, arcs and vertices.
-use Rattle.std.specs.Prelude.{◌≡◌, ℕ, ◌<◌, List, length, slice_index_or, Bool}
-use Rattle.nef_space.specs.Place.{SamePlace, IsPlaceBelow}
-use Rattle.nef_space.specs.Vectors.{IsNormal}
-use Rattle.nef_geo.specs.Shapes.{form_of, place_of, vector_of}
-use Rattle.nef_geo.specs.declared.plane.Plane.{Plane}
+use Rattle.std.specs.Prelude.{◌≡◌, ◌<◌, ℕ, List, length, slice_index_or, Bool}
+use Rattle.nef_complex.specs.Prelude.{SamePlace, IsPlaceBelow, IsNormal, form_of, place_of, vector_of, Plane, At}
 use Rattle.law_sphere.specs.Vectors.{VectorBelow}
-use Rattle.law_sphere.specs.Maps.{At}
-use Rattle.law_sphere.specs.Least.{InOrder, Ordered}
-use Rattle.nef_smap.specs.Maps.{svertex_of, arc_of, map_of, IsLeastMap}
+use Rattle.nef_spair.specs.Prelude.{InOrder, Ordered, svertex_of, arc_of, map_of, IsLeastMap, IsArcBelow}
 use Rattle.nef_smap.specs.declared.map.SVertex.{SVertex}
 use Rattle.nef_smap.specs.declared.map.SArc.{SArc}
 use Rattle.nef_complex.specs.declared.complex.Vertex.{Vertex}
-use Rattle.nef_spair.specs.Arcs.{IsArcBelow}
 use Rattle.law_turns.specs.Turned.{turned_plane, turned_place}
 use Rattle.law_turns.specs.Complexes.{signed_form}
 use Rattle.law_turns.specs.Maps.{turned_svertex, IsTurnedArc, IsTurnedMap}
@@ -22,7 +16,7 @@ abbrev pub IsTurnedCarrier : ℕ → ℕ → Plane → Plane → Type 0
 IsTurnedCarrier k j g h = (flip : Bool) × (form_of h ≡ signed_form flip (turned_plane k (form_of g)))
 
 -- ---- svertices
--- the svertex with the old number j, turned
+-- u is the svertex v, which has the old number j, turned by turn k
 abbrev pub IsMoved : ℕ → ℕ → SVertex → Moved → Type 0
 IsMoved k j v u = (u.old ≡ j) × (svertex_of u.svertex ≡ turned_svertex k (svertex_of v))
 
@@ -35,7 +29,7 @@ HaveSameWay u w = u.svertex.dir ≡ w.svertex.dir
 abbrev pub HaveSameNumber : Moved → Moved → Type 0
 HaveSameNumber u w = u.old ≡ w.old
 
--- us are the turned svertices vs, in order
+-- us has the turned svertices of vs, in order of their directions
 pub record AreMoved (k : ℕ) (vs : List SVertex) (us : List Moved) : Type 0 where
   pub count : length us ≡ length vs
   pub each : (j : ℕ) (u : Moved) → At us j u → (v : SVertex) × At vs u.old v × (svertex_of u.svertex ≡ turned_svertex k (svertex_of v))
@@ -46,7 +40,7 @@ pub record AreMoved (k : ℕ) (vs : List SVertex) (us : List Moved) : Type 0 whe
 abbrev pub AreWithin : List Moved → Type 0
 AreWithin us = (j : ℕ) (u : Moved) → At us j u → u.old < length us
 
--- of each of the first n svertices the new number stands at the place with the old one
+-- ns has at the old number of each of the first n svertices its new number
 abbrev pub AreNumbers : ℕ → List Moved → List ℕ → Type 0
 AreNumbers n us ns = (j : ℕ) (u : Moved) → j < n → At us j u → At ns u.old j
 
@@ -56,11 +50,11 @@ svertex_in u = u.svertex
 abbrev pub IsOfMoved : ℕ → Moved → SVertex → Type 0
 IsOfMoved j u v = v ≡ svertex_in u
 
--- the number at the place
+-- the number at place i of the list
 abbrev pub number_in : List ℕ → ℕ → ℕ
 number_in ns i = slice_index_or ns i 0
 
--- the numbers are those of the turned svertices in some list
+-- ns has the new numbers of the turned svertices of vs in some list
 pub record Renumbers (k : ℕ) (vs : List SVertex) (ns : List ℕ) : Type 0 where
   pub count : length ns ≡ length vs
   pub svertices : List SVertex

@@ -1,4 +1,4 @@
-//! Turned sphere maps: turned svertices and the numbers that they get, arcs and sloops.
+//! Turned sphere maps: turned svertices with their new numbers, turned arcs and sloops.
 
 ghost use Rattle.std.specs.Prelude.{◌≡◌};
 ghost use Rattle.nef_complex.specs.Prelude.{length, cond, option_map, map, IfOk, IfSome, IsNormal, vector_of, Ordered, Shaped};
@@ -14,8 +14,8 @@ use nef_smap::{SArc, SLoop, SVertex, SphereMap};
 use nef_spair::sort_arcs;
 use std::alloc::Global;
 
-// A turned svertex, with the number that the svertex had before the turn.
-#[derive(Debug, Clone, Copy)]
+// A turned svertex, with its number before the turn.
+#[derive(Clone, Copy)]
 struct Moved {
     svertex: SVertex,
     old: usize,
@@ -41,7 +41,7 @@ fn moved_svertices(alloc: Global, turn: &Turn, map: &SphereMap) -> Result<Vec<Mo
     Ok(images)
 }
 
-// The new number of each svertex, by its old one.
+// For each svertex its new number, in the order of the old numbers.
 fn new_numbers(alloc: Global, svertices: &[Moved]) -> Result<Vec<usize>, OutOfMemory>
     requires within { AreWithin svertices.now }
     requires apart { AreApart HaveSameNumber svertices.now }
@@ -62,7 +62,7 @@ fn unnumbered(alloc: Global, svertices: &[Moved]) -> Result<Vec<SVertex>, OutOfM
     svertices.iter().map(|moved| moved.svertex).collect(alloc)
 }
 
-// Two values, in the other order where they are to be exchanged.
+// The two values, exchanged if asked.
 fn exchanged_if<T: Copy>(exchange: bool, first: T, second: T) -> (T, T)
     ensures first { result.0 ≡ cond exchange second first }
     ensures second { result.1 ≡ cond exchange first second }
@@ -74,8 +74,8 @@ fn exchanged_if<T: Copy>(exchange: bool, first: T, second: T) -> (T, T)
     }
 }
 
-// The turned arc. A turn that makes counterclockwise clockwise exchanges the ends, and so does the normal form where it
-// is opposite to the turned normal; that exchanges the sides too.
+// The turned arc. The ends are exchanged by a turn that makes counterclockwise clockwise, and the ends and the sides
+// where the normal form is opposite to the turned normal.
 fn turned_arc(turn: &Turn, numbers: &[usize], arc: &SArc) -> SArc
     requires ends { HasEnds (length numbers.now) arc.now }
     ensures turned { IsArcImage turn.now.number numbers.now 0 arc.now result }
@@ -97,7 +97,7 @@ fn turned_arc(turn: &Turn, numbers: &[usize], arc: &SArc) -> SArc
     }
 }
 
-// The turned arcs of the map, in order. `numbers` gives the new number of each svertex.
+// The turned arcs of the map, in order. `numbers` has the new number of each svertex.
 fn turned_arcs(
     alloc: Global,
     turn: &Turn,
@@ -116,7 +116,7 @@ fn turned_arcs(
     Ok(images)
 }
 
-// The turned sloop, if there is one. The normal form exchanges the sides where it is opposite to the turned normal.
+// The turned sloop, if there is one. The sides are exchanged where the normal form is opposite to the turned normal.
 fn turned_sloop(turn: &Turn, sloop: Option<SLoop>) -> Option<SLoop>
     ensures turned { IsTurnedOption turn.now.number (option_map sloop_of sloop) (option_map sloop_of result) }
     ensures normal { IfSome result (λ l. IsNormal (vector_of l.normal)) }

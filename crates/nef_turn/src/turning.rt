@@ -1,5 +1,4 @@
-//! Turns by their rows, turned points, directions and normals, and the complex of a turned set: turned carriers and
-//! vertices, paired.
+//! Turns by their rows; turned points, directions, normals and carriers; and the complex of a turned set.
 
 ghost use Rattle.std.specs.Prelude.{◌≡◌, ◌<◌, ◌≤◌};
 ghost use Rattle.nef_complex.specs.Prelude.{nat_abs, All, map, IfOk, point_limit, SamePlace, Set, IsNormal, form_of, place_of, vector_of, vertex_of, AreSorted, ShowsSet, AreInOrder};
@@ -18,9 +17,9 @@ use nef_geo::{Dir, List, Oriented, Plane, Point, lex_cmp};
 use std::alloc::Global;
 
 /// One of the 48 turns, which put the axes into another order and then negate some of the new coordinates.
-#[derive(Debug, Clone, Copy)]
+#[derive(Clone, Copy)]
 pub(crate) struct Turn {
-    /// For each new coordinate 1, 2 or 3 for the old x, y or z, negative where it is negated.
+    /// For each new coordinate 1, 2 or 3 for the old x, y or z, negative where the coordinate is negated.
     pub(crate) row: [i8; 3],
     /// Whether the turn makes counterclockwise clockwise.
     pub(crate) odd: bool,
@@ -30,13 +29,12 @@ pub(crate) struct Turn {
     pub ghost parity: { odd ≡ is_odd number },
 }
 
-// Whether the turn makes counterclockwise clockwise: it exchanges two axes, or negates one coordinate or three, and not
-// both.
+// Whether the turn makes counterclockwise clockwise: it exchanges two axes or negates an odd number of axes, not both.
 fn is_odd(k: usize) -> bool
     requires turn { k < 48 }
     ensures odd { result ≡ is_odd k }
 {
-    // by the bits of the coordinates that are negated, and by the order
+    // by the coordinates that are negated, and by the order of the axes
     let negates_odd = [false, true, true, false, true, false, false, true];
     let exchanges = [false, true, true, false, false, true];
     negates_odd[k % 8] != exchanges[k / 8]
@@ -56,7 +54,7 @@ impl Turn {
     }
 }
 
-/// What the turn makes of three coordinates.
+/// The three coordinates after the turn.
 pub(crate) fn turned(turn: &Turn, x: i64, y: i64, z: i64) -> (i64, i64, i64)
     requires x_small { nat_abs x ≤ point_limit }
     requires y_small { nat_abs y ≤ point_limit }
@@ -82,7 +80,7 @@ pub(crate) fn turned_dir(turn: &Turn, d: &Dir) -> Dir
     Dir::reduced(x, y, z)
 }
 
-/// The normal form of the turned normal, and whether it is opposite to the turned normal.
+/// The normal form of the turned normal, and whether this form is opposite to the turned normal.
 pub(crate) fn turned_normal(turn: &Turn, normal: &Dir) -> (Dir, bool)
     ensures turned { vector_of result.0 ≡ signed result.1 (turned_vector turn.now.number (vector_of normal.now)) }
     ensures normal { IsNormal (vector_of result.0) }
@@ -152,8 +150,8 @@ pub fn turn_complex(alloc: Global, c: &Complex, k: usize) -> Result<Complex, Out
     Ok(complex)
 }
 
-/// A complex that is turned by some turn, and then by the turn that undoes it, shows the sets that it showed, and so has
-/// their text. Turned by two turns it shows what it shows turned by their composition.
+/// A complex turned by a turn, and then by the turn that undoes it, shows the same sets as before, and so has their
+/// text. A complex turned by two turns shows what the complex turned by their composition shows.
 pub fn turning_laws()
     ensures back { BackShowsSame }
     ensures twice { TwiceShowsComposed }

@@ -1,22 +1,11 @@
 -- `==` on what a map holds says whether it is equal.
-use Rattle.std.proofs.Common.{◌≡◌, refl, ap, sym, ◌∙◌, Bool, true, false, Option, Some, None, List}
-use Rattle.std.specs.Bool.{Decides}
+use Rattle.nef_unique.proofs.Prelude.{◌≡◌, refl, ap, sym, ◌∙◌, Bool, true, false, Option, Some, None, List, Decides, Decides-and, Decides-like, Decides-int_eq, Decides-eqb, vector, Label, Out, Not, In, Dir, Point, same_places_equal, SVertex, SArc, SLoop}
 use Rattle.std.specs.Option.{option_eq}
 use Rattle.std.specs.Cmp.Lexicographic.{pointwise}
 use Rattle.std.proofs.lemmas.Slice.Eq.{slice_eq-Decides}
-use Rattle.std.proofs.lemmas.Bool.Decides.{Decides-and, Decides-like, Decides-int_eq, Decides-eqb}
-use Rattle.nef_space.specs.Vectors.{vector}
-use Rattle.nef_space.specs.declared.label.Label.{Label}
-use Rattle.nef_space.specs.declared.label.Label.TheVariants.{Out, Not, In}
 use Rattle.nef_space.specs.contracts.label.LabelPartialEq.TheImpl.{eq-value as label_eq}
-use Rattle.nef_geo.specs.declared.dir.Dir.{Dir}
-use Rattle.nef_geo.specs.declared.point.Point.{Point}
 use Rattle.nef_geo.specs.contracts.dir.DirPartialEq.TheImpl.{eq-value as dir_eq}
 use Rattle.nef_geo.specs.contracts.point.PointPartialEq.TheImpl.{eq-value as point_eq}
-use Rattle.nef_geo.proofs.Unique.{same_places_equal}
-use Rattle.nef_smap.specs.declared.map.SVertex.{SVertex}
-use Rattle.nef_smap.specs.declared.map.SArc.{SArc}
-use Rattle.nef_smap.specs.declared.map.SLoop.{SLoop}
 use Rattle.nef_smap.specs.contracts.map.SVertexPartialEq.TheImpl.{eq-value as svertex_eq}
 use Rattle.nef_smap.specs.contracts.map.SArcPartialEq.TheImpl.{eq-value as arc_eq}
 use Rattle.nef_smap.specs.contracts.map.SLoopPartialEq.TheImpl.{eq-value as sloop_eq}

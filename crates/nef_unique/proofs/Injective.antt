@@ -1,22 +1,7 @@
 -- What the program holds is told by what it stands for.
-use Rattle.std.proofs.Common.{◌≡◌, ℕ, ◌<◌, ◌^◌, refl, ap, ◌∙◌, List, [], ◌∷◌, map, subst, Option, Some, None, option_map}
+use Rattle.nef_unique.proofs.Prelude.{◌≡◌, ℕ, ◌<◌, ◌^◌, refl, ap, ◌∙◌, List, [], ◌∷◌, map, subst, Option, Some, None, option_map, SameDirection, Label, vector_of, Dir, same_directions_equal, MapVertex, Arc, MapSloop, Map, svertex_of, arc_of, sloop_of, map_of, SVertex, SArc, SLoop, SphereMap, Edge as PlainEdge, Vertex, edge_of, dir-self}
 use Rattle.std.proofs.Props.{props}
-use Rattle.nef_space.specs.Vectors.{SameDirection}
-use Rattle.nef_space.specs.declared.label.Label.{Label}
-use Rattle.nef_geo.specs.Shapes.{vector_of}
-use Rattle.nef_geo.specs.declared.dir.Dir.{Dir}
-use Rattle.nef_geo.proofs.Unique.{same_directions_equal}
-use Rattle.law_sphere.specs.Maps.{MapVertex, Arc, MapSloop, Map}
-use Rattle.law_sphere.proofs.Compare.{dir-self}
-use Rattle.nef_smap.specs.Maps.{svertex_of, arc_of, sloop_of, map_of}
-use Rattle.nef_smap.specs.declared.map.SVertex.{SVertex}
-use Rattle.nef_smap.specs.declared.map.SArc.{SArc}
-use Rattle.nef_smap.specs.declared.map.SLoop.{SLoop}
-use Rattle.nef_smap.specs.declared.map.SphereMap.{SphereMap}
-use Rattle.law_complex.specs.Complexes.{Edge as PlainEdge}
-use Rattle.nef_complex.specs.declared.complex.Vertex.{Vertex}
 use Rattle.nef_complex.specs.declared.complex.Edge.{Edge}
-use Rattle.nef_complex.specs.Complexes.{edge_of}
 
 -- ---- lists and options
 pub map-one : {A B : Type 0} (f : A → B) → ((x y : A) → f x ≡ f y → x ≡ y) → (xs ys : List A) → map f xs ≡ map f ys → xs ≡ ys

@@ -1,3 +1,4 @@
+pub mod Prelude
 pub mod Injective
 pub mod Vertices
 pub mod Sets

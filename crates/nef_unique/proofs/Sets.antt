@@ -1,22 +1,7 @@
 -- Sets that are shown by the same vertices are one.
-use Rattle.std.proofs.Common.{◌≡◌, pos, sym, inl, inr, ⊎_elim, List, subst}
-use Rattle.nef_space.specs.Local.{SameSet, HasLabel, Germ, IsVertex}
-use Rattle.nef_space.specs.Place.{Place, SamePlace}
-use Rattle.nef_space.specs.Sets.{Set}
-use Rattle.nef_space.specs.Vectors.{Vector, IsZero}
-use Rattle.nef_space.specs.declared.label.Label.{Label}
-use Rattle.law_near.proofs.Far.{nought-or}
-use Rattle.law_near.specs.Cells.{carriers}
-use Rattle.law_near.specs.Cones.{SameCone}
-use Rattle.law_near.proofs.Alike.{germs-by_cell}
-use Rattle.law_near.proofs.Decided.{Decided}
+use Rattle.nef_unique.proofs.Prelude.{◌≡◌, pos, sym, inl, inr, ⊎_elim, List, subst, SameSet, HasLabel, Germ, IsVertex, Place, SamePlace, Set, Vector, IsZero, Label, carriers, SameCone, germs-by_cell, Decided, Label-cells, label-one, Germ-zero, signs-same, same-place_sym, Cone, At, Map, Complex, Shows, nought-or}
 use Rattle.law_near.proofs.Determined.{same-set_of}
-use Rattle.law_near.proofs.Germs.{Label-cells, label-one}
-use Rattle.law_near.proofs.Rays.{Germ-zero, signs-same, same-place_sym}
-use Rattle.law_sphere.specs.Least.{Cone}
-use Rattle.law_sphere.specs.Maps.{At, Map}
-use Rattle.law_complex.specs.Complexes.{Vertex, Complex}
-use Rattle.law_complex.specs.Shows.{Shows}
+use Rattle.law_complex.specs.Complexes.{Vertex}
 use Rattle.law_complex.proofs.Cones.{label-germ, germ-label}
 
 -- ---- one map that shows two sets

@@ -1,25 +1,7 @@
 -- Complexes that show one set have the same vertices and edges.
-use Rattle.std.proofs.Common.{◌≡◌, ℕ, arith, refl, sym, List, map, inl, inr, subst}
-use Rattle.std.proofs.lemmas.Int.{ints}
-use Rattle.nef_space.specs.Local.{SameSet}
-use Rattle.nef_space.specs.Place.{Place, SamePlace, IsPlaceBelow}
-use Rattle.nef_space.specs.Sets.{Set}
-use Rattle.law_near.specs.Cones.{SameCone}
-use Rattle.law_near.proofs.Alike.{cones-of_same, FlatDim-by_cone}
-use Rattle.law_near.proofs.PlaceOrder.{place_below-trans, place_below-apart}
-use Rattle.nef_geo.specs.Shapes.{place_of}
-use Rattle.nef_geo.specs.declared.point.Point.{Point}
-use Rattle.nef_geo.proofs.Unique.{same_places_equal}
-use Rattle.law_sphere.specs.Least.{Cone, InOrder}
-use Rattle.law_sphere.specs.Maps.{At, Map}
-use Rattle.law_sphere.proofs.Equal.{same-lists, cone-unique}
-use Rattle.nef_smap.specs.Maps.{map_of}
-use Rattle.nef_smap.proofs.Lists.{map-at, at-map}
-use Rattle.law_complex.specs.Complexes.{Vertex as PlainVertex, Edge as PlainEdge, IsEdgeBelow, Edges}
-use Rattle.law_complex.specs.Shows.{Shows}
-use Rattle.nef_complex.specs.declared.complex.Vertex.{Vertex}
+use Rattle.nef_unique.proofs.Prelude.{◌≡◌, ℕ, arith, refl, sym, List, map, inl, inr, subst, ints, SameSet, Place, SamePlace, IsPlaceBelow, Set, SameCone, cones-of_same, FlatDim-by_cone, place_below-trans, place_below-apart, place_of, Point, same_places_equal, Cone, InOrder, At, Map, same-lists, cone-unique, map_of, map-at, at-map, Edge as PlainEdge, IsEdgeBelow, Edges, Shows, Vertex, vertex_of, edge_of, complex_of}
+use Rattle.law_complex.specs.Complexes.{Vertex as PlainVertex}
 use Rattle.nef_complex.specs.declared.complex.Complex.{Complex}
-use Rattle.nef_complex.specs.Complexes.{vertex_of, edge_of, complex_of}
 use Rattle.nef_unique.proofs.Injective.{map-one, map_of-one, vertex-equal, edge-one}
 
 -- ---- edges

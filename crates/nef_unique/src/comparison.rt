@@ -1,4 +1,4 @@
-//! Complexes by their vertices, and the laws of what is unique.
+//! Comparing complexes by their vertices, and the laws of what is unique.
 
 ghost use Rattle.std.specs.Prelude.{◌≡◌, ◌↔◌};
 ghost use Rattle.nef_complex.specs.Prelude.{IsTrue, SameSet, Set, ShowsSet};
@@ -7,7 +7,7 @@ ghost use Rattle.nef_unique.specs.Laws.{LeastUnique, SameSetSameVertices, SameVe
 use nef_complex::{Complex, Vertex};
 use nef_smap::SphereMap;
 
-/// Whether two maps are equal in all that they hold. It takes no memory.
+/// Whether two maps are equal in all that they hold. No memory is taken.
 pub fn same_map(a: &SphereMap, b: &SphereMap) -> bool
     ensures same { IsTrue result ↔ (a.now ≡ b.now) }
 {
@@ -25,8 +25,8 @@ fn same_vertex(a: &Vertex, b: &Vertex) -> bool
     a.point == b.point && same_map(&a.map, &b.map)
 }
 
-/// Whether the two complexes have as many vertices, with the same points and equal maps one by one. Carriers and edges
-/// aren't looked at. It takes no memory.
+/// Whether the two complexes have the same vertices: as many, with equal points and maps one by one. Carriers and edges
+/// aren't looked at. No memory is taken.
 pub fn same_vertices(a: &Complex, b: &Complex) -> bool
     ensures same { IsTrue result ↔ (a.now.vertices ≡ b.now.vertices) }
 {
@@ -43,15 +43,15 @@ pub fn same_vertices(a: &Complex, b: &Complex) -> bool
     true
 }
 
-/// Whether the sets that the complexes show are the same: they hold at the same points of the frame. It takes no memory.
+/// Whether the sets that the complexes show hold at the same points of the frame. No memory is taken.
 pub fn compare(a: &Complex, b: &Complex) -> bool
     ensures same { (s t : Set) → ShowsSet s a.now → ShowsSet t b.now → IsTrue result ↔ SameSet s t }
 {
     same_vertices(a, b)
 }
 
-/// Two least maps with one mark and one label in every direction are equal. So complexes that show one set have the
-/// same vertices and edges; and sets with the same vertices are one.
+/// Two least maps with one mark and one label in each direction are equal. So complexes that show one set have the same
+/// vertices and edges; and sets with the same vertices are one set.
 pub fn unique_laws()
     ensures least { LeastUnique }
     ensures vertices { SameSetSameVertices }

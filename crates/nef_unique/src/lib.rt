@@ -1,6 +1,6 @@
 //! When two complexes show one set: exactly where they have the same vertices.
 //!
-//! Least maps are unique, so the vertices of a set with their maps are read off the set; and they determine it.
+//! Least maps are unique, so a set determines its vertices with their maps; and the vertices determine the set.
 #![tactic(auto)]
 
 mod comparison;

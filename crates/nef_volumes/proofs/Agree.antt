@@ -1,7 +1,5 @@
 -- Chains of links of two kinds, where the things of the one stand for those of the other.
-use Rattle.std.proofs.Common.{◌⊎◌, inl, inr, List, [], ◌∷◌, subst}
-use Rattle.nef_space.specs.Lists.{IsChain, Chained}
-use Rattle.nef_classes.proofs.Chains.{chain-trans, chain-turned}
+use Rattle.nef_volumes.proofs.Prelude.{◌⊎◌, inl, inr, List, [], ◌∷◌, subst, IsChain, Chained, chain-trans, chain-turned}
 
 module _ {X Y : Type 0} (Link : X → X → Type 0) (Other : Y → Y → Type 0) (Is : X → Y → Type 0) (same : (x : X) (y z : Y) → Is x y → Is x z → Chained Other y z)
     (step : (x u : X) → Link x u → (y : Y) × (z : Y) × Is x y × Is u z × Chained Other y z) where

@@ -1,26 +1,6 @@
 -- The parts of a complex, put together.
-use Rattle.std.proofs.Common.{◌≡◌, ℕ, ◌<◌, List, [], ◌∷◌, length, map, arith, refl, sym, subst}
-use Rattle.nef_space.specs.Lists.{IsAt, Chained}
-use Rattle.nef_space.specs.declared.label.Label.{Label}
-use Rattle.nef_geo.specs.declared.plane.Plane.{Plane}
-use Rattle.law_sphere.specs.Maps.{At, Item, item_pos, item_neg}
-use Rattle.nef_classes.proofs.ClassLists.{is-at_one, is-at_within}
-use Rattle.law_complex.specs.Complexes.{Vertex, Complex, Corner, IsCorner}
-use Rattle.law_complex.specs.Rays.{VertexSide, HasSideLabel}
-use Rattle.nef_complex.specs.Complexes.{corner_of}
+use Rattle.nef_volumes.proofs.Prelude.{◌≡◌, ℕ, ◌<◌, List, [], ◌∷◌, length, map, arith, refl, sym, subst, IsAt, Chained, Label, Plane, At, Item, item_pos, item_neg, is-at_one, is-at_within, Vertex, Complex, Corner, IsCorner, VertexSide, HasSideLabel, corner_of, VolumeLink, IsCycle, Cycles, IsFacetOf, IsVolumeOf, VolumeNumbers, pos_of, neg_of, IsFacetAt, cycle_corners, IsFacet, shell_sides, IsParts, SfaceNumbers, Shells, Cycle, Facet, Parts, Shell, IsFacetParts, AreVolumeLabels, HasItem, IsFirstCorner, HasFirst, AreFacetsOf}
 use Rattle.nef_complex.specs.declared.complex.Corner.{Corner as ProgramCorner}
-use Rattle.law_links.specs.Links.{VolumeLink}
-use Rattle.nef_complex.specs.Cycles.{IsCycle, Cycles}
-use Rattle.nef_complex.specs.Numbers.{IsFacetOf, IsVolumeOf, VolumeNumbers, pos_of, neg_of, IsFacetAt, cycle_corners, IsFacet, shell_sides, IsParts}
-use Rattle.nef_complex.specs.Shells.{SfaceNumbers, Shells}
-use Rattle.nef_complex.specs.declared.parts.Cycle.{Cycle}
-use Rattle.nef_complex.specs.declared.parts.Facet.{Facet}
-use Rattle.nef_complex.specs.declared.parts.Parts.{Parts}
-use Rattle.nef_complex.specs.declared.parts.Shell.{Shell}
-use Rattle.nef_facets.specs.Facets.{IsFacetParts}
-use Rattle.nef_volumes.specs.Labels.{AreVolumeLabels}
-use Rattle.nef_facets.specs.Carriers.{HasItem}
-use Rattle.nef_volumes.specs.Parts.{IsFirstCorner, HasFirst, AreFacetsOf}
 use Rattle.nef_volumes.proofs.Components.{numbered-item}
 use Rattle.nef_volumes.proofs.FacetSides.{chain-pos, chain-neg}
 use Rattle.nef_volumes.proofs.VolumeLabels.{numbered-side}

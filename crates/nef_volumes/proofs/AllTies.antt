@@ -1,21 +1,5 @@
 -- The ties of all links together.
-use Rattle.std.proofs.Common.{◌≡◌, ℕ, ◌⊎◌, inl, inr, List, ◌++◌, refl, ◌∙◌, subst, ◌↔◌}
-use Rattle.std.specs.List.{Contains}
-use Rattle.std.proofs.lemmas.List.Elements.{Contains-append_left, Contains-append_right}
-use Rattle.nef_space.specs.Sets.{Set}
-use Rattle.nef_space.specs.Vectors.{opposite, up}
-use Rattle.law_sphere.specs.Maps.{At, Side, around_svertex, pos_item, neg_item, Sees}
-use Rattle.law_sphere.proofs.Lists.{at-one}
-use Rattle.nef_classes.proofs.Chains.{chain-trans, chain-turned}
-use Rattle.law_complex.specs.Complexes.{Vertex, Edge, Complex, Corner}
-use Rattle.law_complex.specs.Shows.{Shows}
-use Rattle.law_complex.specs.Rays.{VertexSide, RayDown}
-use Rattle.nef_classes.specs.Tables.{AreTied}
-use Rattle.nef_classes.specs.declared.table.Tie.{Tie}
-use Rattle.law_links.specs.Links.{FacetLink, IsSideOf, LinkInSface, AreSidesAlong, pos_arcs, neg_arcs, around_ends, LinkAcrossFacet, LinkDown, LinkOutside, VolumeLink}
-use Rattle.nef_complex.specs.Shells.{ShellLink}
-use Rattle.nef_facets.specs.Ties.{cell_of}
-use Rattle.nef_volumes.specs.Ties.{outside_cell, IsCellOf, IsEndOf, AreLinks, AreTiedSides, AreTiesOf, AreTiesWithOutside, AreTiedOutside, AreTiesDown, AreVolumeTies, LinkOfItems, LinkOfEnds, LinkOfFacets, AreTiedCorners, AreItemTies}
+use Rattle.nef_volumes.proofs.Prelude.{◌≡◌, ℕ, ◌⊎◌, inl, inr, List, ◌++◌, refl, ◌∙◌, subst, ◌↔◌, Contains, Contains-append_left, Contains-append_right, Set, opposite, up, At, Side, around_svertex, pos_item, neg_item, Sees, at-one, chain-trans, chain-turned, Vertex, Edge, Complex, Corner, Shows, VertexSide, RayDown, AreTied, Tie, FacetLink, IsSideOf, LinkInSface, AreSidesAlong, pos_arcs, neg_arcs, around_ends, LinkAcrossFacet, LinkDown, LinkOutside, VolumeLink, ShellLink, cell_of, outside_cell, IsCellOf, IsEndOf, AreLinks, AreTiedSides, AreTiesOf, AreTiesWithOutside, AreTiedOutside, AreTiesDown, AreVolumeTies, LinkOfItems, LinkOfEnds, LinkOfFacets, AreTiedCorners, AreItemTies}
 use Rattle.nef_volumes.proofs.SideCells.{tie-chain, more-tied, more-sides, both-links, links-as, one-cell}
 use Rattle.nef_volumes.proofs.BelowTies.{linked, one-below}
 

@@ -1,34 +1,8 @@
 -- The side above the point where a ray down ends is one, up to its sface.
-use Rattle.std.proofs.Common.{◌≡◌, ℕ, ◌+◌, pos, ◌⊎◌, inl, inr, [], ◌∷◌, arith, ap, sym, ◌∙◌, subst}
-use Rattle.std.proofs.lemmas.Int.{ints}
-use Rattle.nef_space.proofs.Ring.{ring, at, num, ◌⊕◌, ◌⊖◌, ◌⊗◌}
-use Rattle.nef_space.specs.Place.{Place, Form, form_at, normal_of, SamePlace, toward, IsBetween}
-use Rattle.nef_space.specs.Sets.{Set}
-use Rattle.nef_space.specs.Vectors.{Vector, IsDirection, SameDirection, dot, cross, opposite, blend, plane_axis, up}
-use Rattle.nef_space.specs.declared.label.Label.{Label}
-use Rattle.law_near.proofs.Rays.{same-place_sym}
+use Rattle.nef_volumes.proofs.Prelude.{◌≡◌, ℕ, ◌+◌, pos, ◌⊎◌, inl, inr, [], ◌∷◌, arith, ap, sym, ◌∙◌, subst, ints, ring, at, num, ◌⊕◌, ◌⊖◌, ◌⊗◌, Place, Form, form_at, normal_of, SamePlace, toward, IsBetween, Set, Vector, IsDirection, SameDirection, dot, cross, opposite, blend, plane_axis, up, Label, same-place_sym, between-same, At, item_normal, pos_item, Side, dir_of, HasSide, Sees, InOneSface, here, link, BoundsSector, normals-same, on-level, normal-is, at-one, bounds-sees, Vertex, Edge, Complex, Corner, Shows, item_plane, IsVertexPoint, IsEdgePoint, Spot, at_vertex, on_edge, in_facet, IsSpot, HasCorner, VertexSide, HasSideLabel, IsAbove, RayDown, same-itself, same-place_trans, facet-point, through-at, through-level, axis-in, LinkInSface, through-same, corner-same as corner-like, level-back, one-vertex, one-named, SameDirection-turned, SameDirection-trans, opposite-same}
 use Rattle.law_cones.proofs.Smooth.{parallel-by}
-use Rattle.law_near.proofs.Mixed.{between-same}
-use Rattle.law_sphere.specs.Maps.{At, item_normal, pos_item, Side, dir_of, HasSide, Sees, InOneSface, here, link}
-use Rattle.law_sphere.specs.Sectors.{BoundsSector}
-use Rattle.law_sphere.proofs.Compare.{SameDirection-turned, SameDirection-trans, normals-same}
-use Rattle.law_sphere.proofs.Forms.{on-level}
-use Rattle.law_sphere.proofs.Vectors.{normal-is}
-use Rattle.law_sphere.proofs.Lists.{at-one}
-use Rattle.law_sphere.proofs.Sectors.{bounds-sees}
-use Rattle.law_complex.specs.Complexes.{Vertex, Edge, Complex, Corner}
-use Rattle.law_complex.specs.Shows.{Shows}
-use Rattle.law_complex.specs.Skeleton.{item_plane, IsVertexPoint, IsEdgePoint, Spot, at_vertex, on_edge, in_facet, IsSpot, HasCorner}
-use Rattle.law_complex.specs.Rays.{VertexSide, HasSideLabel, IsAbove, RayDown}
-use Rattle.law_complex.proofs.Ways.{same-itself, opposite-same, same-place_trans}
-use Rattle.law_complex.proofs.FacetPoints.{facet-point}
-use Rattle.law_complex.proofs.FacetAngles.{through-at}
-use Rattle.law_complex.proofs.FacetNames.{through-level, axis-in}
-use Rattle.law_links.specs.Links.{LinkInSface}
-use Rattle.law_links.proofs.Across.{through-same}
-use Rattle.law_complex.proofs.EqualPoints.{corner-same as corner-like}
-use Rattle.nef_locate.proofs.SamePlanes.{level-back, first-same, corner-same, axis-same}
-use Rattle.nef_conn.proofs.OneNamed.{one-vertex, one-edge_through, edge-inside, one-named}
+use Rattle.nef_locate.proofs.SamePlanes.{first-same, corner-same, axis-same}
+use Rattle.nef_conn.proofs.OneNamed.{one-edge_through, edge-inside}
 use Rattle.nef_conn.proofs.SameRay.{on-ray}
 
 module _ (s : Set) (C : Complex) (S : Shows s C) where

@@ -1,35 +1,13 @@
 -- Points at items are joined exactly where the items have one facet number, and points at sides where the sides have one volume number; so facets and volumes are the components of the points with two flat directions and with three.
-use Rattle.std.proofs.Common.{◌≡◌, ◌↔◌, ℕ, ◌<◌, inr, List, length, arith, subst}
-use Rattle.std.proofs.lemmas.List.{length-map}
-use Rattle.nef_space.specs.Local.{FlatDim, Joined}
-use Rattle.nef_space.specs.Place.{Place}
-use Rattle.nef_space.specs.Sets.{Set}
-use Rattle.nef_space.specs.declared.label.Label.{Label}
-use Rattle.law_sphere.specs.Maps.{Item, items}
-use Rattle.nef_classes.proofs.ClassLists.{is-at_within, is-at_some}
-use Rattle.nef_smap.proofs.SideLists.{at-from_get, at-some, side-has}
-use Rattle.nef_smap.proofs.Lists.{at-within}
-use Rattle.law_complex.specs.Complexes.{Vertex, Complex as PlainComplex, Corner, IsCorner}
-use Rattle.law_complex.specs.Rays.{VertexSide, HasSideLabel}
-use Rattle.law_complex.specs.Shows.{Shows}
-use Rattle.law_complex.proofs.Ways.{same-itself}
-use Rattle.nef_complex.specs.Complexes.{vertex_of, edge_of, complex_of}
+use Rattle.nef_volumes.proofs.Prelude.{◌≡◌, ◌↔◌, ℕ, ◌<◌, inr, List, length, arith, subst, length-map, FlatDim, Joined, Place, Set, Label, Item, items, is-at_within, is-at_some, at-from_get, at-some, side-has, at-within, Vertex, Complex as PlainComplex, Corner, IsCorner, VertexSide, HasSideLabel, Shows, same-itself, vertex_of, edge_of, complex_of, IsAtItem, IsAtSide, IsUpright, sides-have_points, sides-joined, HasComponents, IsFacetOf, IsVolumeOf, FacetNumbers, IsParts, Parts, FacetsAreComponents, VolumesAreComponents, AreCounted, HasItem}
 use Rattle.nef_complex.specs.declared.complex.Complex.{Complex}
-use Rattle.law_links.specs.Components.{IsAtItem, IsAtSide, IsUpright}
 use Rattle.law_links.proofs.ItemLinks.{items-joined}
 use Rattle.law_links.proofs.ItemPoints.{items-have_points}
-use Rattle.law_links.proofs.SidePoints.{sides-have_points}
-use Rattle.law_links.proofs.SidesJoined.{sides-joined}
-use Rattle.nef_conn.specs.Components.{HasComponents}
 use Rattle.nef_conn.proofs.AtItems.{points-reach_items}
 use Rattle.nef_conn.proofs.AtSides.{points-reach_sides}
 use Rattle.nef_conn.proofs.Counted.{components-by, vertices-counted, edges-counted}
 use Rattle.nef_conn.proofs.SidesName.{converse-for_all}
 use Rattle.nef_conn.proofs.Steps.{joined-items_linked}
-use Rattle.nef_complex.specs.Numbers.{IsFacetOf, IsVolumeOf, FacetNumbers, IsParts}
-use Rattle.nef_complex.specs.declared.parts.Parts.{Parts}
-use Rattle.nef_volumes.specs.Joins.{FacetsAreComponents, VolumesAreComponents, AreCounted}
-use Rattle.nef_facets.specs.Carriers.{HasItem}
 use Rattle.nef_volumes.proofs.SideLabels.{upright}
 use Rattle.nef_volumes.proofs.VolumeLabels.{numbered-side}
 

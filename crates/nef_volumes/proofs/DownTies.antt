@@ -1,15 +1,6 @@
 -- The ties down the rays from some of the vertices.
-use Rattle.std.proofs.Common.{◌≡◌, ℕ, zero, suc, ◌+◌, ◌<◌, ◌≤◌, ◌⊎◌, inl, inr, ⊎_elim, List, [], ◌∷◌, ◌++◌, length, arith, sym, subst}
-use Rattle.std.specs.List.{Contains}
-use Rattle.std.proofs.lemmas.List.Elements.{Contains-append_left, Contains-append_right, Contains-push, Contains-push_cases}
-use Rattle.nef_classes.proofs.ClassLists.{less-or-last}
-use Rattle.law_complex.specs.Complexes.{Complex}
-use Rattle.law_complex.specs.Rays.{VertexSide}
-use Rattle.nef_classes.specs.declared.table.Tie.{Tie}
-use Rattle.nef_complex.specs.Complexes.{complex_of}
+use Rattle.nef_volumes.proofs.Prelude.{◌≡◌, ℕ, zero, suc, ◌+◌, ◌<◌, ◌≤◌, ◌⊎◌, inl, inr, ⊎_elim, List, [], ◌∷◌, ◌++◌, length, arith, sym, subst, Contains, Contains-append_left, Contains-append_right, Contains-push, Contains-push_cases, less-or-last, Complex, VertexSide, Tie, complex_of, LinkDown, IsCellOf, IsTieDown, AreDownBetween, AreTiesDown}
 use Rattle.nef_complex.specs.declared.complex.Complex.{Complex as ProgramComplex}
-use Rattle.law_links.specs.Links.{LinkDown}
-use Rattle.nef_volumes.specs.Ties.{IsCellOf, IsTieDown, AreDownBetween, AreTiesDown}
 use Rattle.nef_volumes.proofs.ReadVertex.{vertex-within}
 use Rattle.nef_volumes.proofs.SideCells.{both-links}
 

@@ -1,36 +1,10 @@
 -- Rays down from vertices, and the sides that see downward.
-use Rattle.std.proofs.Common.{◌≡◌, ℕ, ◌<◌, pos, neg_ℤ, [], ◌∷◌, length, Some, slice_get, arith, refl, ap, sym, ◌∙◌, subst}
-use Rattle.std.proofs.lemmas.Int.{ints}
-use Rattle.nef_space.proofs.Ring.{ring, at, neg, ◌⊖◌, ◌⊗◌}
-use Rattle.nef_space.specs.Place.{Place, InClosedFrame, IsAhead}
-use Rattle.nef_space.specs.Sets.{Set}
-use Rattle.nef_space.specs.Vectors.{Vector, IsZero, SameDirection, cross, opposite, up}
-use Rattle.nef_space.specs.declared.label.Label.{Label}
-use Rattle.nef_space.specs.declared.label.Label.TheVariants.{Out}
-use Rattle.nef_geo.specs.Shapes.{place_of}
-use Rattle.law_sphere.specs.Maps.{At, MapVertex, Item, items, item_normal, OnItem, IsFree, Side, HasSide, Sees, here, link}
-use Rattle.law_sphere.proofs.Forms.{on-level}
-use Rattle.nef_smap.specs.declared.map.SphereMap.{SphereMap}
-use Rattle.nef_smap.specs.Maps.{map_of, IsSphereMap}
-use Rattle.nef_smap.specs.Sides.{LabelledSide, sides_of, IsSide, SideSees}
-use Rattle.nef_classes.proofs.ClassLists.{is-at_one}
-use Rattle.nef_smap.proofs.SideLists.{side-has}
-use Rattle.nef_smap.proofs.SideNumbers.{number-one}
-use Rattle.nef_smap.proofs.Upward.{map-ahead, map-across}
-use Rattle.law_complex.specs.Complexes.{Vertex}
-use Rattle.law_complex.specs.Skeleton.{Spot as SkeletonSpot, IsSpot, IsSkeletonPoint}
-use Rattle.law_complex.specs.Rays.{VertexSide, HasSideLabel, IsAbove, RayDown}
-use Rattle.nef_complex.specs.Complexes.{vertex_of, complex_of, ShowsSet}
+use Rattle.nef_volumes.proofs.Prelude.{◌≡◌, ℕ, ◌<◌, pos, neg_ℤ, [], ◌∷◌, length, Some, slice_get, arith, refl, ap, sym, ◌∙◌, subst, ints, ring, at, neg, ◌⊖◌, ◌⊗◌, Place, InClosedFrame, IsAhead, Set, Vector, IsZero, SameDirection, cross, opposite, up, Label, Out, place_of, At, MapVertex, Item, items, item_normal, OnItem, IsFree, Side, HasSide, Sees, here, link, on-level, SphereMap, map_of, IsSphereMap, LabelledSide, sides_of, IsSide, SideSees, is-at_one, side-has, number-one, map-ahead, map-across, Vertex, Spot as SkeletonSpot, IsSpot, IsSkeletonPoint, VertexSide, HasSideLabel, IsAbove, RayDown, vertex_of, complex_of, ShowsSet, Cell, LinkDown, IsPlaceAt, IsFirstHit, IsSideAbove, side_cell, IsCellOf, IsFloorCell, IsTieDown, dot-opposite}
 use Rattle.nef_complex.specs.declared.complex.Complex.{Complex}
 use Rattle.nef_complex.specs.declared.complex.Vertex.{Vertex as ProgramVertex}
-use Rattle.nef_classes.specs.declared.table.Cell.{Cell}
-use Rattle.law_links.specs.Links.{LinkDown}
-use Rattle.law_links.proofs.EdgeEnds.{dot-opposite}
 use Rattle.nef_complex.proofs.Framed.{dim-framed}
 use Rattle.nef_locate.specs.declared.point.Place.{Place as LocatedPlace}
-use Rattle.nef_locate.specs.Places.{IsPlaceAt, IsFirstHit}
-use Rattle.nef_locate.specs.Rays.{IsSideAbove}
-use Rattle.nef_volumes.specs.Ties.{side_cell, IsCellOf, IsBelow, IsFloorCell, IsTieDown}
+use Rattle.nef_volumes.specs.Ties.{IsBelow}
 use Rattle.nef_volumes.proofs.SideCells.{cell-numbered}
 use Rattle.nef_volumes.proofs.ReadVertex.{vertex-there, vertex-read, vertex-within}
 

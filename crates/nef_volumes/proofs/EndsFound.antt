@@ -1,22 +1,8 @@
 -- The ends of the program's edges.
-use Rattle.std.proofs.Common.{◌≡◌, ℕ, ◌<◌, length, map, Option, Some, None, slice_get, arith, ap, sym, ◌∙◌, subst}
-use Rattle.std.proofs.lemmas.List.{length-map}
-use Rattle.nef_space.specs.declared.label.Label.{Label}
-use Rattle.nef_space.specs.Sets.{Set}
-use Rattle.law_sphere.specs.Maps.{At, MapVertex}
-use Rattle.law_sphere.proofs.Lists.{at-one}
-use Rattle.nef_smap.specs.declared.map.SVertex.{SVertex}
-use Rattle.nef_smap.specs.Maps.{svertex_of}
-use Rattle.nef_smap.proofs.Lists.{map-at, at-within}
-use Rattle.nef_smap.proofs.SideLists.{at-from_get}
-use Rattle.law_complex.specs.Complexes.{Vertex, Edge}
-use Rattle.nef_complex.specs.Complexes.{edge_of, complex_of, ShowsSet}
+use Rattle.nef_volumes.proofs.Prelude.{◌≡◌, ℕ, ◌<◌, length, map, Option, Some, None, slice_get, arith, ap, sym, ◌∙◌, subst, length-map, Label, Set, At, MapVertex, at-one, SVertex, svertex_of, map-at, at-within, at-from_get, Vertex, Edge, edge_of, complex_of, ShowsSet, Cell, Tie, HasSvertex, IsAroundCell, IsTieOfEnds}
 use Rattle.nef_complex.specs.declared.complex.Complex.{Complex}
 use Rattle.nef_complex.specs.declared.complex.Edge.{Edge as ProgramEdge}
 use Rattle.nef_complex.specs.declared.complex.Vertex.{Vertex as ProgramVertex}
-use Rattle.nef_classes.specs.declared.table.Cell.{Cell}
-use Rattle.nef_classes.specs.declared.table.Tie.{Tie}
-use Rattle.nef_volumes.specs.Ties.{HasSvertex, IsAroundCell, IsTieOfEnds}
 use Rattle.nef_volumes.proofs.ReadVertex.{edge-there, edge-read, vertex-read, vertex-within}
 
 module _ (s : Set) (c : Complex) (S : ShowsSet s c) (k : ℕ) (e : ProgramEdge) (i : slice_get c.edges k ≡ Some e) where

@@ -1,25 +1,7 @@
 -- Lists of facets, and the numbers of the volumes beside them.
-use Rattle.std.proofs.Common.{◌≡◌, ℕ, ◌<◌, ⊎_elim, List, [], ◌∷◌, ◌++◌, length, length-append, Bool, true, false, Some, slice_get, arith, refl, ap, sym, ◌∙◌, subst}
-use Rattle.nef_space.specs.Lists.{IsAt}
-use Rattle.nef_space.specs.declared.label.Label.{Label}
-use Rattle.nef_geo.specs.declared.plane.Plane.{Plane}
-use Rattle.law_sphere.specs.Maps.{At, items, item_pos, item_neg, HasSide}
-use Rattle.nef_smap.specs.Maps.{map_of}
-use Rattle.nef_smap.specs.Sides.{sides_of}
-use Rattle.nef_smap.specs.SideNumbers.{number_of}
-use Rattle.nef_classes.proofs.ClassLists.{is-at_one, is-at_within, is-at_some, is-at_left, is-at_last, less-or-last}
-use Rattle.nef_smap.proofs.Lists.{at-within}
-use Rattle.nef_smap.proofs.SideNumbers.{side-number}
-use Rattle.law_complex.specs.Complexes.{Vertex, Complex as PlainComplex, Corner as PlainCorner}
-use Rattle.nef_complex.specs.Complexes.{vertex_of, complex_of}
+use Rattle.nef_volumes.proofs.Prelude.{◌≡◌, ℕ, ◌<◌, ⊎_elim, List, [], ◌∷◌, ◌++◌, length, length-append, Bool, true, false, Some, slice_get, arith, refl, ap, sym, ◌∙◌, subst, IsAt, Label, Plane, At, items, item_pos, item_neg, HasSide, map_of, sides_of, number_of, is-at_one, is-at_within, is-at_some, is-at_left, is-at_last, less-or-last, at-within, side-number, Vertex, Complex as PlainComplex, Corner as PlainCorner, vertex_of, complex_of, IsVolumeOf, VolumeNumbers, Cycle, Facet, side_at, HasItem, side_beside, IsBeside, AreFacetsOf}
 use Rattle.nef_complex.specs.declared.complex.Complex.{Complex}
 use Rattle.nef_complex.specs.declared.complex.Vertex.{Vertex as ProgramVertex}
-use Rattle.nef_complex.specs.Numbers.{IsVolumeOf, VolumeNumbers}
-use Rattle.nef_complex.specs.declared.parts.Cycle.{Cycle}
-use Rattle.nef_complex.specs.declared.parts.Facet.{Facet}
-use Rattle.nef_volumes.specs.Ties.{side_at}
-use Rattle.nef_facets.specs.Carriers.{HasItem}
-use Rattle.nef_volumes.specs.Parts.{side_beside, IsBeside, AreFacetsOf}
 use Rattle.nef_volumes.proofs.ReadVertex.{vertex-there, vertex-read, vertex-within}
 
 -- ---- the volume at a side of an item

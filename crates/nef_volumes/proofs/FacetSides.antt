@@ -1,17 +1,5 @@
 -- Sides of items that links join are joined on both sides.
-use Rattle.std.proofs.Common.{◌≡◌, ℕ, inl, inr, refl, sym, subst}
-use Rattle.nef_space.specs.Lists.{Chained}
-use Rattle.law_sphere.specs.Maps.{At, Item, arc_item, Side, item_pos, item_neg, pos_item, neg_item}
-use Rattle.law_sphere.proofs.Arcs.{at-arc}
-use Rattle.nef_classes.proofs.Chains.{chain-link, chain-map}
-use Rattle.nef_space.specs.Place.{Place, Form}
-use Rattle.nef_space.specs.Vectors.{Vector}
-use Rattle.law_complex.specs.Complexes.{Vertex, Complex, Corner, IsCorner}
-use Rattle.law_complex.specs.Skeleton.{meets_vertex, meets_edge, RayNames}
-use Rattle.law_complex.specs.Rays.{VertexSide}
-use Rattle.law_links.specs.Links.{LinkAlong, FacetLink, IsSideOf, pos_arcs, neg_arcs, VolumeLink}
-use Rattle.nef_complex.specs.Numbers.{pos_of, neg_of}
-use Rattle.nef_facets.specs.Carriers.{HasItem}
+use Rattle.nef_volumes.proofs.Prelude.{◌≡◌, ℕ, inl, inr, refl, sym, subst, Chained, At, Item, arc_item, Side, item_pos, item_neg, pos_item, neg_item, at-arc, chain-link, chain-map, Place, Form, Vector, Vertex, Complex, Corner, IsCorner, meets_vertex, meets_edge, RayNames, VertexSide, LinkAlong, FacetLink, IsSideOf, pos_arcs, neg_arcs, VolumeLink, pos_of, neg_of, HasItem}
 
 module _ (C : Complex) where
   -- ---- there are items at linked corners

@@ -1,14 +1,6 @@
 -- Sides put into the lists of their shells, one after the other.
-use Rattle.std.proofs.Common.{◌≡◌, ◌≢◌, ℕ, suc, ◌+◌, ◌<◌, ◌≤◌, pos, ◌⊎◌, inl, inr, ⊎_elim, List, [], ◌∷◌, ◌++◌, length, set, arith, refl, ap, sym, ◌∙◌, subst}
-use Rattle.std.proofs.lemmas.Bool.{cases_order}
-use Rattle.std.proofs.lemmas.Int.{ints}
-use Rattle.nef_space.specs.Lists.{IsAt}
-use Rattle.nef_classes.proofs.ClassLists.{Either, earlier, last, is-at_either, is-at_one, is-at_within, less-or-last}
-use Rattle.nef_classes.proofs.Writes.{set-same, set-at}
-use Rattle.nef_complex.specs.Shells.{IsNameBelow}
+use Rattle.nef_volumes.proofs.Prelude.{◌≡◌, ◌≢◌, ℕ, suc, ◌+◌, ◌<◌, ◌≤◌, pos, ◌⊎◌, inl, inr, ⊎_elim, List, [], ◌∷◌, ◌++◌, length, set, arith, refl, ap, sym, ◌∙◌, subst, cases_order, ints, IsAt, Either, earlier, last, is-at_either, is-at_one, is-at_within, less-or-last, set-same, set-at, IsNameBelow, AreHeld, IsShellOf, AreNumberedNames, IsNamedBefore, AreGathered, IsPut}
 use Rattle.nef_complex.specs.declared.parts.Side.{Side}
-use Rattle.nef_volumes.specs.Held.{AreHeld}
-use Rattle.nef_volumes.specs.Shells.{IsShellOf, AreNumberedNames, IsNamedBefore, AreGathered, IsPut}
 use Rattle.nef_volumes.proofs.Held.{held-none, held-as, held-opened, held-more}
 
 same-name : (i j k l : ℕ) → i ≡ j → k ≡ l → ◌≡◌ {A = Side} (record { vertex = i; side = k }) (record { vertex = j; side = l })

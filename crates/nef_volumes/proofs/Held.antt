@@ -1,10 +1,5 @@
 -- Things in rows by their numbers: one thing more.
-use Rattle.std.proofs.Common.{◌≡◌, ℕ, ◌<◌, ◌⊎◌, inl, inr, ⊎_elim, List, [], ◌∷◌, ◌++◌, length, set, arith, sym, subst}
-use Rattle.std.proofs.lemmas.Bool.{cases_order}
-use Rattle.nef_space.specs.Lists.{IsAt}
-use Rattle.nef_classes.proofs.ClassLists.{Either, earlier, last, is-at_either, is-at_one, is-at_within, is-at_left, is-at_last}
-use Rattle.nef_classes.proofs.Writes.{set-same, set-other, set-at}
-use Rattle.nef_volumes.specs.Held.{AreHeld}
+use Rattle.nef_volumes.proofs.Prelude.{◌≡◌, ℕ, ◌<◌, ◌⊎◌, inl, inr, ⊎_elim, List, [], ◌∷◌, ◌++◌, length, set, arith, sym, subst, cases_order, IsAt, Either, earlier, last, is-at_either, is-at_one, is-at_within, is-at_left, is-at_last, set-same, set-other, set-at, AreHeld}
 
 module _ {X : Type 0} (Number : X → ℕ → Type 0) where
   no-thing : (q : ℕ) (x : X) → IsAt {X = X} [] q x → ⊥

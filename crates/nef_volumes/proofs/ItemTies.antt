@@ -1,23 +1,5 @@
 -- The ties of the sides of tied items, and of the sides round the ends of edges.
-use Rattle.std.proofs.Common.{◌≡◌, ℕ, ◌⊎◌, inl, inr, List, [], map, Bool, true, false, cond, arith, refl, ap, sym, ◌∙◌, subst}
-use Rattle.std.specs.List.{Contains}
-use Rattle.nef_space.specs.Lists.{IsAt}
-use Rattle.nef_space.specs.declared.label.Label.{Label}
-use Rattle.law_sphere.specs.Maps.{At, Item, items, item_pos, item_neg, Side, around_svertex, pos_item, neg_item, HasSide}
-use Rattle.law_sphere.proofs.Lists.{at-one}
-use Rattle.nef_smap.specs.SideNumbers.{number_of}
-use Rattle.nef_smap.proofs.Lists.{at-map}
-use Rattle.nef_smap.proofs.SideLists.{at-from_get, at-some}
-use Rattle.law_complex.specs.Complexes.{Vertex, Edge, Complex, Corner}
-use Rattle.law_complex.specs.Rays.{VertexSide, HasSideLabel}
-use Rattle.nef_classes.specs.Tables.{IsCellIn, AreTied, AreTiedWithin}
-use Rattle.nef_classes.specs.declared.table.Cell.{Cell}
-use Rattle.nef_classes.specs.declared.table.Tie.{Tie}
-use Rattle.law_links.specs.Links.{IsSideOf}
-use Rattle.nef_complex.specs.Numbers.{count_items}
-use Rattle.nef_facets.specs.Ties.{cell_of, corner_at, Adds, Any}
-use Rattle.nef_facets.proofs.Adding.{adds-both}
-use Rattle.nef_volumes.specs.Ties.{side_cell, IsCellOf, AreTiedSides, AreTiesOf, side_at, IsItemSide, IsSideTie, IsTieOfItems, LinkOfItems, LinkOfEnds, IsAroundCell, IsTieOfEnds}
+use Rattle.nef_volumes.proofs.Prelude.{◌≡◌, ℕ, ◌⊎◌, inl, inr, List, [], map, Bool, true, false, cond, arith, refl, ap, sym, ◌∙◌, subst, Contains, IsAt, Label, At, Item, items, item_pos, item_neg, Side, around_svertex, pos_item, neg_item, HasSide, at-one, number_of, at-map, at-from_get, at-some, Vertex, Edge, Complex, Corner, VertexSide, HasSideLabel, IsCellIn, AreTied, AreTiedWithin, Cell, Tie, IsSideOf, count_items, cell_of, corner_at, Adds, Any, adds-both, side_cell, IsCellOf, AreTiedSides, AreTiesOf, side_at, IsItemSide, IsSideTie, IsTieOfItems, LinkOfItems, LinkOfEnds, IsAroundCell, IsTieOfEnds}
 use Rattle.nef_volumes.proofs.SideCells.{tie-chain, cell-is}
 use Rattle.nef_volumes.proofs.OutsideTies.{only-added}
 

@@ -1,28 +1,11 @@
 -- Points are joined exactly where they lie in one part.
-use Rattle.std.proofs.Common.{Bool, ◌≡◌, ℕ, arith, refl, ap, subst, ◌↔◌}
+use Rattle.nef_volumes.proofs.Prelude.{Bool, ◌≡◌, ℕ, arith, refl, ap, subst, ◌↔◌, Decides-like, Decides-eqb, FlatDim, Joined, Place, Set, FlatDim-one, joined-both, joined-turned, Complex as PlainComplex, edge-points, facet-of, facet-point, dim-same, free-flat, facet-at, complex_of, ShowsSet, IsParts, Parts, IsPartAt, Volume}
 use Rattle.std.specs.Bool.{Decides}
-use Rattle.std.proofs.lemmas.Bool.Decides.{Decides-like, Decides-eqb}
-use Rattle.nef_space.specs.Local.{FlatDim, Joined}
-use Rattle.nef_space.specs.Place.{Place}
-use Rattle.nef_space.specs.Sets.{Set}
-use Rattle.law_near.proofs.Alike.{FlatDim-one}
-use Rattle.law_near.proofs.Even.{joined-both, joined-turned}
-use Rattle.law_complex.specs.Complexes.{Complex as PlainComplex}
-use Rattle.law_complex.proofs.Edges.{edge-points}
-use Rattle.law_complex.proofs.FacetNames.{facet-of}
-use Rattle.law_complex.proofs.FacetPoints.{facet-point}
-use Rattle.law_complex.proofs.FacetWays.{dim-same}
-use Rattle.law_complex.proofs.Skeletons.{free-flat}
 use Rattle.nef_conn.proofs.Reaching.{corners-reached, sides-reached}
 use Rattle.nef_conn.proofs.OnEdges.{joined-as_flat, joined-vertices, joined-edges}
-use Rattle.law_links.proofs.Down.{facet-at}
-use Rattle.nef_complex.specs.Complexes.{complex_of, ShowsSet}
 use Rattle.nef_complex.specs.declared.complex.Complex.{Complex}
-use Rattle.nef_complex.specs.Numbers.{IsParts}
-use Rattle.nef_complex.specs.declared.parts.Parts.{Parts}
-use Rattle.nef_volumes.specs.Joins.{IsPartAt}
 use Rattle.nef_volumes.specs.declared.all.Part.{Part}
-use Rattle.nef_volumes.specs.declared.all.Part.TheVariants.{Vertex, Edge, Facet, Volume}
+use Rattle.nef_volumes.specs.declared.all.Part.TheVariants.{Vertex, Edge, Facet}
 use Rattle.nef_volumes.specs.contracts.all.PartPartialEq.TheImpl.{eq-value as part_eq}
 use Rattle.nef_volumes.proofs.Components.{facets-are_components, volumes-are_components}
 use Rattle.nef_volumes.proofs.SideLabels.{upright}

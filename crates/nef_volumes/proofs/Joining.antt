@@ -1,18 +1,6 @@
 -- The classes that ties join, and further ties besides, by links between the numbers of the former.
-use Rattle.std.proofs.Common.{◌≡◌, ℕ, ◌<◌, ◌⊎◌, inl, inr, List, ◌++◌, arith, refl, ◌∙◌, subst, ◌↔◌, Result, Ok, Err}
-use Rattle.std.specs.Prelude.{IfOk}
-use Rattle.std.specs.List.{Contains}
-use Rattle.std.proofs.lemmas.List.Elements.{Contains-append_left, Contains-append_right, Contains-append_cases}
-use Rattle.nef_space.specs.Lists.{IsAt, Chained, NumbersClasses}
-use Rattle.nef_classes.specs.Classes.{AreLinked, AreWithin, AreClasses, AreNumbered}
-use Rattle.nef_classes.specs.Tables.{IsCellIn, AreTiedWithin, AreTied, HasCounts, IsCellNumber, AreNumbers}
-use Rattle.nef_classes.specs.declared.forest.Link.{Link}
-use Rattle.nef_classes.specs.declared.table.Cell.{Cell}
-use Rattle.nef_classes.specs.declared.table.Tie.{Tie}
-use Rattle.nef_classes.proofs.Chains.{chain-here, chain-link}
-use Rattle.nef_classes.proofs.ClassLists.{is-at_one, is-at_within, is-at_some}
+use Rattle.nef_volumes.proofs.Prelude.{◌≡◌, ℕ, ◌<◌, ◌⊎◌, inl, inr, List, ◌++◌, arith, refl, ◌∙◌, subst, ◌↔◌, Result, Ok, Err, IfOk, Contains, Contains-append_left, Contains-append_right, Contains-append_cases, IsAt, Chained, NumbersClasses, AreLinked, AreWithin, AreClasses, AreNumbered, IsCellIn, AreTiedWithin, AreTied, HasCounts, IsCellNumber, AreNumbers, Link, Cell, Tie, chain-here, chain-link, is-at_one, is-at_within, is-at_some, HasCellNumber, AreNumbersBelow, HaveNumbers, AreNumberLinks, AreRenumbered}
 use Rattle.nef_classes.proofs.ByAppearance.{numbers-classes}
-use Rattle.nef_volumes.specs.Joining.{HasCellNumber, AreNumbersBelow, HaveNumbers, AreNumberLinks, AreRenumbered}
 use Rattle.nef_volumes.proofs.Agree.{chains-agree}
 use Rattle.nef_volumes.proofs.SideCells.{contains-at, at-contained, tie-chain, more-tied}
 

@@ -1,4 +1,4 @@
-pub mod BothFound
+pub mod Prelude
 pub mod Agree
 pub mod ReadVertex
 pub mod SideCells

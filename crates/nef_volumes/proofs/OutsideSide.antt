@@ -1,31 +1,6 @@
 -- Some side of each of the program's complexes is outside: the one above a corner of the frame.
-use Rattle.std.proofs.Common.{◌≡◌, ℕ, ◌+◌, ◌*◌, ◌<◌, ℤ, pos, negsuc, neg_ℤ, ◌+ℤ◌, ◌*ℤ◌, ◌<ℤ◌, nat_abs, [], ◌∷◌, arith, refl, sym, subst}
-use Rattle.std.proofs.lemmas.Int.{ints}
-use Rattle.nef_space.proofs.Order.{mul_pos, by_order, lt_by}
-use Rattle.nef_space.proofs.Ring.{at, num, neg, ◌⊕◌, ◌⊖◌, ◌⊗◌}
-use Rattle.nef_space.specs.Limits.{half_side}
-use Rattle.nef_space.specs.Place.{Place, Ratio}
-use Rattle.nef_space.specs.Sets.{Set}
-use Rattle.nef_space.specs.Local.{Germ, IsVertex}
-use Rattle.nef_space.specs.Vectors.{Vector, vector, up}
-use Rattle.nef_space.specs.declared.label.Label.TheVariants.{Out}
+use Rattle.nef_volumes.proofs.Prelude.{◌≡◌, ℕ, ◌+◌, ◌*◌, ◌<◌, ℤ, pos, negsuc, neg_ℤ, ◌+ℤ◌, ◌*ℤ◌, ◌<ℤ◌, nat_abs, [], ◌∷◌, arith, refl, sym, subst, ints, mul_pos, by_order, lt_by, at, num, neg, ◌⊕◌, ◌⊖◌, ◌⊗◌, half_side, Place, Ratio, Set, Germ, IsVertex, Vector, vector, up, Out, slide, FlatCone, FlatCone-from_flat, Germ-same, same-place_sym, At, MapLabel, at_svertex, on_item, seen, SeenAs, on-level, SphereMap, map_of, IsSphereMap, at-map, get-from_at, map-ahead, Vertex, VertexSide, HasSideLabel, Shows, germ-label, vertex_of, complex_of, dir-self}
 use Rattle.nef_geo.proofs.InPlane.{up-direction}
-use Rattle.law_near.specs.Cones.{slide, FlatCone}
-use Rattle.law_near.proofs.Flats.{FlatCone-from_flat}
-use Rattle.law_near.proofs.Rays.{Germ-same, same-place_sym}
-use Rattle.law_sphere.specs.Maps.{At, MapLabel, at_svertex, on_item, seen, SeenAs}
-use Rattle.law_sphere.proofs.Compare.{dir-self}
-use Rattle.law_sphere.proofs.Forms.{on-level}
-use Rattle.nef_smap.specs.declared.map.SphereMap.{SphereMap}
-use Rattle.nef_smap.specs.Maps.{map_of, IsSphereMap}
-use Rattle.nef_smap.proofs.Lists.{at-map}
-use Rattle.nef_smap.proofs.SideLists.{get-from_at}
-use Rattle.nef_smap.proofs.Upward.{map-ahead}
-use Rattle.law_complex.specs.Complexes.{Vertex}
-use Rattle.law_complex.specs.Rays.{VertexSide, HasSideLabel}
-use Rattle.law_complex.specs.Shows.{Shows}
-use Rattle.law_complex.proofs.Cones.{germ-label}
-use Rattle.nef_complex.specs.Complexes.{vertex_of, complex_of}
 use Rattle.nef_complex.specs.declared.complex.Complex.{Complex}
 use Rattle.nef_locate.proofs.UpwardSides.{no-svertex}
 use Rattle.nef_volumes.proofs.SideLabels.{HasLeastMaps}

@@ -1,29 +1,8 @@
 -- The ties of the outside.
-use Rattle.std.proofs.Common.{◌≡◌, ℕ, ◌<◌, inl, inr, ⊎_elim, List, [], ◌∷◌, ◌++◌, length, Some, slice_get, arith, refl, ap, sym, ◌∙◌, subst}
-use Rattle.std.specs.List.{Contains}
-use Rattle.nef_space.specs.Lists.{Chained}
-use Rattle.nef_space.specs.declared.label.Label.TheVariants.{Out}
-use Rattle.law_sphere.specs.Maps.{Side}
-use Rattle.nef_smap.specs.Maps.{map_of}
-use Rattle.nef_smap.specs.Sides.{sides_of, IsSide}
-use Rattle.nef_classes.proofs.ClassLists.{is-at_within}
-use Rattle.nef_smap.specs.SideNumbers.{number_of}
-use Rattle.nef_smap.proofs.SideLists.{side-has}
-use Rattle.nef_smap.proofs.SideNumbers.{side-number, number-one}
-use Rattle.nef_classes.proofs.Chains.{chain-trans, chain-turned}
-use Rattle.law_complex.specs.Complexes.{Vertex, Complex}
-use Rattle.nef_complex.specs.Complexes.{vertex_of, complex_of}
+use Rattle.nef_volumes.proofs.Prelude.{◌≡◌, ℕ, ◌<◌, inl, inr, ⊎_elim, List, [], ◌∷◌, ◌++◌, length, Some, slice_get, arith, refl, ap, sym, ◌∙◌, subst, Contains, Chained, Out, Side, map_of, sides_of, IsSide, is-at_within, number_of, side-has, side-number, number-one, chain-trans, chain-turned, Vertex, Complex, vertex_of, complex_of, adds-one, adds-none, VertexSide, HasSideLabel, AreTied, Cell, Tie, LinkOutside, Adds, Any, outside_cell, side_cell, IsCellOf, IsEndOf, AreTiedSides, AreTiesWithOutside, AreTiedOutside, IsTieOutside}
 use Rattle.nef_complex.specs.declared.complex.Complex.{Complex as ProgramComplex}
 use Rattle.nef_complex.specs.declared.complex.Vertex.{Vertex as ProgramVertex}
-use Rattle.nef_facets.proofs.Adding.{adds-one, adds-none}
 use Rattle.nef_volumes.proofs.ReadVertex.{vertex-there, vertex-read}
-use Rattle.law_complex.specs.Rays.{VertexSide, HasSideLabel}
-use Rattle.nef_classes.specs.Tables.{AreTied}
-use Rattle.nef_classes.specs.declared.table.Cell.{Cell}
-use Rattle.nef_classes.specs.declared.table.Tie.{Tie}
-use Rattle.law_links.specs.Links.{LinkOutside}
-use Rattle.nef_facets.specs.Ties.{Adds, Any}
-use Rattle.nef_volumes.specs.Ties.{outside_cell, side_cell, IsCellOf, IsEndOf, AreTiedSides, AreTiesWithOutside, AreTiedOutside, IsTieOutside}
 use Rattle.nef_volumes.proofs.SideCells.{tie-chain, cell-is, cell-numbered}
 
 -- all elements of a list that was empty have P

@@ -1,18 +1,6 @@
 -- The numbers of the part in which a point lies are those of its place in the complex.
-use Rattle.std.proofs.Common.{ℕ, arith}
-use Rattle.nef_space.specs.Lists.{IsInTable}
-use Rattle.nef_space.specs.Place.{Place, InFrame, InClosedFrame}
-use Rattle.nef_classes.proofs.ClassLists.{is-at_within, is-at_some}
-use Rattle.nef_smap.proofs.Lists.{at-within}
-use Rattle.nef_smap.specs.Sides.{sides_of}
-use Rattle.law_complex.specs.Complexes.{Complex as PlainComplex, Corner}
-use Rattle.nef_locate.specs.Places.{IsPlaceIn, IsPlaceAt}
+use Rattle.nef_volumes.proofs.Prelude.{ℕ, arith, IsInTable, Place, InFrame, InClosedFrame, is-at_within, is-at_some, at-within, sides_of, Complex as PlainComplex, Corner, IsPlaceIn, IsPlaceAt, IsParts, IsFacetOf, Parts, IsPartAt, HasItem, Volume}
 use Rattle.nef_locate.specs.declared.point.Place.TheVariants as place
-use Rattle.nef_complex.specs.Numbers.{IsParts, IsFacetOf}
-use Rattle.nef_complex.specs.declared.parts.Parts.{Parts}
-use Rattle.nef_volumes.specs.Joins.{IsPartAt}
-use Rattle.nef_facets.specs.Carriers.{HasItem}
-use Rattle.nef_volumes.specs.declared.all.Part.TheVariants.{Volume}
 use Rattle.nef_volumes.proofs.Components.{item-numbered}
 
 -- the frame lies in the closed frame

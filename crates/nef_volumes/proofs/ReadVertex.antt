@@ -1,12 +1,5 @@
 -- The program's vertices and edges as those of its complex.
-use Rattle.std.proofs.Common.{◌≡◌, ℕ, ◌<◌, length, Some, slice_get, arith}
-use Rattle.std.proofs.lemmas.List.{length-map}
-use Rattle.law_sphere.specs.Maps.{At}
-use Rattle.law_sphere.proofs.Lists.{at-one}
-use Rattle.nef_smap.proofs.Lists.{map-at, at-within}
-use Rattle.nef_smap.proofs.SideLists.{at-from_get}
-use Rattle.law_complex.specs.Complexes.{Vertex, Edge}
-use Rattle.nef_complex.specs.Complexes.{vertex_of, edge_of, complex_of}
+use Rattle.nef_volumes.proofs.Prelude.{◌≡◌, ℕ, ◌<◌, length, Some, slice_get, arith, length-map, At, at-one, map-at, at-within, at-from_get, Vertex, Edge, vertex_of, edge_of, complex_of}
 use Rattle.nef_complex.specs.declared.complex.Complex.{Complex}
 use Rattle.nef_complex.specs.declared.complex.Edge.{Edge as ProgramEdge}
 use Rattle.nef_complex.specs.declared.complex.Vertex.{Vertex as ProgramVertex}

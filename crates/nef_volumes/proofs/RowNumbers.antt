@@ -1,28 +1,5 @@
 -- The numbers of the table of sides, after the row of the outside, are those of the classes of sides.
-use Rattle.std.proofs.Common.{◌≡◌, ℕ, zero, suc, ◌+◌, ◌<◌, ◌≤◌, pos, ◌⊎◌, inl, inr, List, [], ◌∷◌, ◌++◌, length, take, drop, map, arith, refl, ap, sym, ◌∙◌, subst, ◌↔◌}
-use Rattle.std.proofs.lemmas.Int.{ints}
-use Rattle.std.proofs.lemmas.List.{length-map}
-use Rattle.nef_space.specs.Lists.{IsAt, IsChain, Chained, NumbersClasses, IsInTable}
-use Rattle.nef_space.specs.Numbers.{IsBelow}
-use Rattle.nef_space.specs.Sets.{Set}
-use Rattle.nef_space.specs.declared.label.Label.{Label}
-use Rattle.nef_space.specs.declared.label.Label.TheVariants.{Out}
-use Rattle.nef_smap.specs.Sides.{sides_of}
-use Rattle.nef_smap.proofs.Lists.{map-at}
-use Rattle.nef_smap.proofs.SideLists.{side-has, at-from_get, get-from_at}
-use Rattle.nef_smap.proofs.SideNumbers.{number-one}
-use Rattle.nef_classes.proofs.ClassLists.{is-at_within, is-at_some}
-use Rattle.law_complex.specs.Complexes.{Complex}
-use Rattle.law_complex.specs.Shows.{Shows}
-use Rattle.law_complex.specs.Rays.{VertexSide, HasSideLabel}
-use Rattle.nef_classes.specs.Tables.{AreTied, IsCellBelow, HasCounts, IsCellNumber, AreNumbers}
-use Rattle.nef_classes.specs.declared.table.Cell.{Cell}
-use Rattle.nef_classes.specs.declared.table.Tie.{Tie}
-use Rattle.law_links.specs.Links.{VolumeLink}
-use Rattle.law_links.specs.Components.{IsUpright}
-use Rattle.nef_complex.specs.Sides.{IsSideNumber}
-use Rattle.nef_complex.specs.Numbers.{HasRows, count_sides, IsVolumeOf, IsSideBelow, VolumeNumbers}
-use Rattle.nef_volumes.specs.Ties.{outside_cell, side_cell, row_counts, IsCellOf, IsEndOf, AreTiesWithOutside, AreTiedOutside}
+use Rattle.nef_volumes.proofs.Prelude.{◌≡◌, ℕ, zero, suc, ◌+◌, ◌<◌, ◌≤◌, pos, ◌⊎◌, inl, inr, List, [], ◌∷◌, ◌++◌, length, take, drop, map, arith, refl, ap, sym, ◌∙◌, subst, ◌↔◌, ints, length-map, IsAt, IsChain, Chained, NumbersClasses, IsInTable, IsBelow, Set, Label, Out, sides_of, map-at, side-has, at-from_get, get-from_at, number-one, is-at_within, is-at_some, Complex, Shows, VertexSide, HasSideLabel, AreTied, IsCellBelow, HasCounts, IsCellNumber, AreNumbers, Cell, Tie, VolumeLink, IsUpright, IsSideNumber, HasRows, count_sides, IsVolumeOf, IsSideBelow, VolumeNumbers, outside_cell, side_cell, row_counts, IsCellOf, IsEndOf, AreTiesWithOutside, AreTiedOutside}
 use Rattle.nef_volumes.proofs.SideCells.{contains-at, one-cell, not-outside, ends-in_volume, volume-chains}
 use Rattle.nef_volumes.proofs.SideLabels.{chain-label}
 

@@ -1,32 +1,6 @@
 -- The ties between sides of one sface.
-use Rattle.std.proofs.Common.{◌≡◌, ◌≢◌, ℕ, zero, suc, ◌+◌, ◌<◌, ◌==◌, true, false, ◌⊎◌, inl, inr, ⊎_elim, arith, refl, ap, sym, ◌∙◌, subst}
-use Rattle.std.proofs.Common.{List, [], ◌∷◌, ◌++◌, length, length-append, take, Some}
-use Rattle.std.proofs.lemmas.Bool.{cases_order}
-use Rattle.std.proofs.lemmas.Bool.Decides.{eqb_tells}
-use Rattle.std.proofs.lemmas.List.{length-take}
-use Rattle.std.specs.List.{Contains}
-use Rattle.nef_space.specs.Lists.{IsAt, IsChain, Chained}
-use Rattle.nef_space.specs.Vectors.{Vector}
-use Rattle.nef_space.specs.declared.label.Label.{Label}
-use Rattle.law_sphere.specs.Maps.{At, Map, Side, HasSide, Sees, InOneSface, here, link}
-use Rattle.nef_smap.specs.Sides.{LabelledSide, sides_of, IsSide, SideSees, SeeOneWay, AreSfaces}
-use Rattle.nef_smap.specs.SideNumbers.{number_of}
-use Rattle.nef_smap.proofs.SideLists.{side-has}
-use Rattle.nef_smap.proofs.SideNumbers.{side-number, number-one}
-use Rattle.nef_classes.proofs.ClassLists.{Either, earlier, last, is-at_either, is-at_one, is-at_within, is-at_some, is-at_take, less-or-last}
-use Rattle.nef_classes.proofs.Chains.{chain-here, chain-link, chain-trans, chain-turned}
-use Rattle.law_complex.specs.Complexes.{Vertex, Complex}
-use Rattle.law_complex.specs.Rays.{VertexSide}
+use Rattle.nef_volumes.proofs.Prelude.{◌≡◌, ◌≢◌, ℕ, zero, suc, ◌+◌, ◌<◌, ◌==◌, true, false, ◌⊎◌, inl, inr, ⊎_elim, arith, refl, ap, sym, ◌∙◌, subst, List, [], ◌∷◌, ◌++◌, length, length-append, take, Some, cases_order, eqb_tells, length-take, Contains, IsAt, IsChain, Chained, Vector, Label, At, Map, Side, HasSide, Sees, InOneSface, here, link, LabelledSide, sides_of, IsSide, SideSees, SeeOneWay, AreSfaces, number_of, side-has, side-number, number-one, Either, earlier, last, is-at_either, is-at_one, is-at_within, is-at_some, is-at_take, less-or-last, chain-here, chain-link, chain-trans, chain-turned, Vertex, Complex, VertexSide, AreTied, Cell, Tie, LinkInSface, Adds, Any, side_cell, IsCellOf, AreTiedSides, AreTiesOf, tie_within, IsFirstPlace, IsTieNumbered, AreInOneSface, IsTieInSface, AddsInSfaces, at-one, adds-one, adds-none}
 use Rattle.nef_classes.proofs.Cutting.{take-at}
-use Rattle.nef_classes.specs.Tables.{AreTied}
-use Rattle.nef_classes.specs.declared.table.Cell.{Cell}
-use Rattle.nef_classes.specs.declared.table.Tie.{Tie}
-use Rattle.law_links.specs.Links.{LinkInSface}
-use Rattle.nef_facets.specs.Ties.{Adds, Any}
-use Rattle.nef_volumes.specs.Ties.{side_cell, IsCellOf, AreTiedSides, AreTiesOf}
-use Rattle.nef_volumes.specs.Ties.{tie_within, IsFirstPlace, IsTieNumbered, AreInOneSface, IsTieInSface, AddsInSfaces}
-use Rattle.law_sphere.proofs.Lists.{at-one}
-use Rattle.nef_facets.proofs.Adding.{adds-one, adds-none}
 use Rattle.nef_volumes.proofs.SideCells.{tie-chain, more-tied, cell-is, cell-numbered}
 
 -- ---- chains of numbers and of sides

@@ -1,31 +1,11 @@
 -- The gathered lists are the shells, and the rows those of each volume.
-use Rattle.std.proofs.Common.{◌≡◌, ℕ, zero, suc, ◌+◌, ◌<◌, inl, inr, List, length, arith, refl, ap, sym, ◌∙◌, subst}
-use Rattle.std.proofs.lemmas.Int.{ints}
-use Rattle.nef_space.specs.Lists.{IsAt, Chained, IsInTable}
-use Rattle.nef_space.specs.declared.label.Label.{Label}
-use Rattle.law_sphere.specs.Least.{InOrder}
-use Rattle.law_sphere.specs.Maps.{At}
-use Rattle.law_complex.specs.Complexes.{Complex}
-use Rattle.law_complex.specs.Rays.{VertexSide}
-use Rattle.law_links.specs.Links.{VolumeLink}
-use Rattle.nef_smap.proofs.SideLists.{side-has, at-from_get, get-from_at}
-use Rattle.nef_smap.proofs.Lists.{at-map, map-at}
-use Rattle.nef_classes.proofs.Chains.{chain-link, chain-map}
-use Rattle.nef_classes.proofs.ClassLists.{is-at_one, is-at_within}
-use Rattle.nef_complex.specs.Sides.{IsSideNumber}
-use Rattle.nef_complex.specs.Numbers.{IsVolumeOf, VolumeNumbers, shell_sides}
-use Rattle.nef_complex.specs.Shells.{ShellLink, IsNamed, IsNameBelow, IsListed, IsShell, IsShellBelow, Shells}
-use Rattle.nef_complex.specs.declared.parts.Shell.{Shell}
+use Rattle.nef_volumes.proofs.Prelude.{◌≡◌, ℕ, zero, suc, ◌+◌, ◌<◌, inl, inr, List, length, arith, refl, ap, sym, ◌∙◌, subst, ints, IsAt, Chained, IsInTable, Label, InOrder, At, Complex, VertexSide, VolumeLink, side-has, at-from_get, get-from_at, at-map, map-at, chain-link, chain-map, is-at_one, is-at_within, IsSideNumber, IsVolumeOf, VolumeNumbers, shell_sides, ShellLink, IsNamed, IsNameBelow, IsListed, IsShell, IsShellBelow, Shells, Shell, AreVolumeLabels, side_cell, AreShellRows, IsShellOf, AreGathered, AreShellsOf, HaveVolumes, Cell}
 use Rattle.nef_complex.specs.declared.parts.Side.{Side}
-use Rattle.nef_volumes.specs.Labels.{AreVolumeLabels}
-use Rattle.nef_volumes.specs.Ties.{side_cell}
-use Rattle.nef_volumes.specs.Shells.{AreShellRows, IsShellOf, AreGathered, AreShellsOf, HaveVolumes}
 use Rattle.nef_volumes.proofs.AllTies.{shell-volume}
 use Rattle.nef_volumes.proofs.RowNumbers.{number-cell}
 use Rattle.nef_volumes.proofs.ShellRows.{rows-named, shell-side, shell-number, shell-chain}
 use Rattle.nef_volumes.proofs.SideCells.{one-cell}
 use Rattle.nef_volumes.proofs.VolumeLabels.{numbered-side}
-use Rattle.nef_classes.specs.declared.table.Cell.{Cell}
 
 below-trans : (r s t : Side) → IsNameBelow r s → IsNameBelow s t → IsNameBelow r t
 below-trans r s t (inl h) (inl g) = inl (omega (arith, ints, h, g))

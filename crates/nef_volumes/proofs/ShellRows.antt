@@ -1,17 +1,6 @@
 -- The table of the numbers of shells.
-use Rattle.std.proofs.Common.{◌≡◌, ℕ, zero, suc, ◌+◌, ◌<◌, ◌≤◌, inl, inr, List, [], ◌∷◌, length, arith, refl, ap, subst, ◌↔◌}
-use Rattle.std.proofs.lemmas.Int.{ints}
-use Rattle.nef_space.specs.Lists.{IsAt, IsChain, Chained, IsInTable}
-use Rattle.law_complex.specs.Complexes.{Complex}
-use Rattle.law_complex.specs.Rays.{VertexSide}
-use Rattle.nef_classes.proofs.ClassLists.{is-at_within}
-use Rattle.nef_classes.specs.Tables.{AreTied, IsCellBelow, IsCellNumber}
-use Rattle.nef_classes.specs.declared.table.Cell.{Cell}
-use Rattle.nef_complex.specs.Shells.{ShellLink, IsNamed, IsNameBelow}
+use Rattle.nef_volumes.proofs.Prelude.{◌≡◌, ℕ, zero, suc, ◌+◌, ◌<◌, ◌≤◌, inl, inr, List, [], ◌∷◌, length, arith, refl, ap, subst, ◌↔◌, ints, IsAt, IsChain, Chained, IsInTable, Complex, VertexSide, is-at_within, AreTied, IsCellBelow, IsCellNumber, Cell, ShellLink, IsNamed, IsNameBelow, AreNumbersBelow, AreShellRows, IsShellOf, AreNumberedNames, AreGathered, outside_cell, side_cell, row_counts, IsCellOf}
 use Rattle.nef_complex.specs.declared.parts.Side.{Side}
-use Rattle.nef_volumes.specs.Joining.{AreNumbersBelow}
-use Rattle.nef_volumes.specs.Shells.{AreShellRows, IsShellOf, AreNumberedNames, AreGathered}
-use Rattle.nef_volumes.specs.Ties.{outside_cell, side_cell, row_counts, IsCellOf}
 use Rattle.nef_volumes.proofs.Joining.{cell-number_there}
 use Rattle.nef_volumes.proofs.RowNumbers.{number-cell, in-first, side-at, outside-number}
 use Rattle.nef_volumes.proofs.SideCells.{contains-at, not-outside, end-within, shell-chains}

@@ -1,27 +1,5 @@
 -- Sides and their elements; lists of ties put together.
-use Rattle.std.proofs.Common.{◌≡◌, ℕ, suc, ◌+◌, inl, inr, ⊎_elim, List, ◌++◌, map, arith, refl, ap, sym, ◌∙◌, subst, ◌↔◌}
-use Rattle.std.specs.List.{Contains}
-use Rattle.std.proofs.lemmas.List.Elements.{Contains-append_cases}
-use Rattle.nef_space.specs.Lists.{IsAt, Chained}
-use Rattle.nef_space.specs.declared.label.Label.{Label}
-use Rattle.law_sphere.specs.Maps.{At, Side, HasSide}
-use Rattle.law_sphere.proofs.Lists.{at-one}
-use Rattle.nef_smap.specs.Sides.{LabelledSide, sides_of, IsSide}
-use Rattle.nef_smap.specs.SideNumbers.{number_of}
-use Rattle.nef_smap.proofs.Lists.{map-at}
-use Rattle.nef_smap.proofs.SideLists.{get-from_at}
-use Rattle.nef_smap.proofs.SideNumbers.{side-number}
-use Rattle.nef_classes.proofs.ClassLists.{is-at_one, is-at_within, is-at_get, is-at_is}
-use Rattle.nef_classes.proofs.Chains.{chain-here, chain-link, chain-map}
-use Rattle.law_complex.specs.Complexes.{Vertex, Complex}
-use Rattle.law_complex.specs.Rays.{VertexSide}
-use Rattle.nef_classes.specs.Tables.{IsCellIn, AreTied, AreTiedWithin}
-use Rattle.nef_classes.specs.declared.table.Cell.{Cell}
-use Rattle.nef_classes.specs.declared.table.Tie.{Tie}
-use Rattle.law_links.specs.Links.{VolumeLink}
-use Rattle.nef_complex.specs.Numbers.{count_sides}
-use Rattle.nef_complex.specs.Shells.{ShellLink}
-use Rattle.nef_volumes.specs.Ties.{outside_cell, side_cell, row_counts, IsCellOf, IsEndOf, AreLinks, AreTiedSides, AreTiesTo, AreTiesOf, AreTiesWithOutside}
+use Rattle.nef_volumes.proofs.Prelude.{◌≡◌, ℕ, suc, ◌+◌, inl, inr, ⊎_elim, List, ◌++◌, map, arith, refl, ap, sym, ◌∙◌, subst, ◌↔◌, Contains, Contains-append_cases, IsAt, Chained, Label, At, Side, HasSide, at-one, LabelledSide, sides_of, IsSide, number_of, map-at, get-from_at, side-number, is-at_one, is-at_within, is-at_get, is-at_is, chain-here, chain-link, chain-map, Vertex, Complex, VertexSide, IsCellIn, AreTied, AreTiedWithin, Cell, Tie, VolumeLink, count_sides, ShellLink, outside_cell, side_cell, row_counts, IsCellOf, IsEndOf, AreLinks, AreTiedSides, AreTiesTo, AreTiesOf, AreTiesWithOutside}
 use Rattle.nef_volumes.proofs.Agree.{chains-agree}
 
 -- ---- ties of a list

@@ -1,32 +1,7 @@
 -- The sides of a volume have one label.
-use Rattle.std.proofs.Common.{◌≡◌, ℕ, refl, subst}
-use Rattle.nef_space.specs.Lists.{Chained, IsAt}
-use Rattle.nef_space.specs.Local.{HasLabel}
-use Rattle.nef_space.specs.Place.{Place}
-use Rattle.nef_space.specs.Sets.{Set}
-use Rattle.nef_space.specs.Vectors.{zero_vector}
-use Rattle.nef_space.specs.declared.label.Label.{Label}
-use Rattle.law_near.proofs.Decisions.{ahead, near-ahead}
-use Rattle.law_near.proofs.Germs.{label-one}
-use Rattle.law_near.proofs.Rays.{Germ-zero}
-use Rattle.law_near.proofs.Topology.{near-germ_zero}
-use Rattle.law_near.proofs.Even.{joined-germs, labels-by_germs}
-use Rattle.law_sphere.specs.Maps.{At, item_normal, seen}
-use Rattle.nef_smap.specs.Maps.{IsSmall, IsLeastMap}
-use Rattle.nef_smap.proofs.Lists.{at-map}
-use Rattle.nef_smap.proofs.SideLists.{get-from_at}
-use Rattle.law_complex.proofs.Cones.{label-germ}
-use Rattle.law_complex.specs.Complexes.{Vertex, Complex}
-use Rattle.law_complex.specs.Shows.{Shows}
-use Rattle.law_complex.specs.Rays.{VertexSide, HasSideLabel}
-use Rattle.nef_complex.specs.Complexes.{vertex_of, complex_of, ShowsSet}
+use Rattle.nef_volumes.proofs.Prelude.{◌≡◌, ℕ, refl, subst, Chained, IsAt, HasLabel, Place, Set, zero_vector, Label, ahead, near-ahead, label-one, Germ-zero, near-germ_zero, joined-germs, labels-by_germs, At, item_normal, seen, IsSmall, IsLeastMap, at-map, get-from_at, label-germ, Vertex, Complex, Shows, VertexSide, HasSideLabel, vertex_of, complex_of, ShowsSet, VolumeLink, IsAtSide, IsUpright, side-sees, at-side, sides-joined}
 use Rattle.nef_complex.specs.declared.complex.Complex.{Complex as ProgramComplex}
 use Rattle.nef_complex.specs.declared.complex.Vertex.{Vertex as ProgramVertex}
-use Rattle.law_links.specs.Links.{VolumeLink}
-use Rattle.law_links.specs.Components.{IsAtSide, IsUpright}
-use Rattle.law_links.proofs.SideSight.{side-sees}
-use Rattle.law_links.proofs.SidePoints.{at-side}
-use Rattle.law_links.proofs.SidesJoined.{sides-joined}
 use Rattle.nef_locate.proofs.Upward.{up-above}
 
 -- the maps of the program's complex are least, and within their limits

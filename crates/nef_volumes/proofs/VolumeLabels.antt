@@ -1,27 +1,6 @@
 -- The labels of volumes: one for each number, that of all sides with the number.
-use Rattle.std.proofs.Common.{◌≡◌, ℕ, zero, suc, ◌+◌, ◌<◌, ◌≤◌, pos, ◌⊎◌, inl, inr, ⊎_elim, List, [], ◌∷◌, ◌++◌, length, length-append, arith, refl, ap, sym, ◌∙◌, subst}
-use Rattle.std.proofs.lemmas.Bool.{cases_order}
-use Rattle.std.proofs.lemmas.Int.{ints}
-use Rattle.nef_space.specs.Lists.{IsAt, IsInTable}
-use Rattle.nef_space.specs.Numbers.{IsBelow}
-use Rattle.nef_space.specs.Sets.{Set}
-use Rattle.nef_space.specs.declared.label.Label.{Label}
-use Rattle.nef_space.specs.declared.label.Label.TheVariants.{Out}
-use Rattle.law_sphere.specs.Maps.{At, Map, Side}
-use Rattle.law_sphere.proofs.Lists.{at-one}
-use Rattle.nef_smap.specs.Sides.{sides_of, IsSide}
-use Rattle.nef_smap.specs.SideNumbers.{number_of}
-use Rattle.nef_smap.proofs.Lists.{at-within}
-use Rattle.nef_smap.proofs.SideLists.{side-has}
-use Rattle.nef_smap.proofs.SideNumbers.{side-number, number-one as number-is}
-use Rattle.nef_classes.proofs.ClassLists.{is-at_one, is-at_within, is-at_some, is-at_left, is-at_last, less-or-last}
-use Rattle.law_complex.specs.Complexes.{Vertex, Complex}
-use Rattle.law_complex.specs.Rays.{VertexSide, HasSideLabel}
-use Rattle.nef_complex.specs.Complexes.{complex_of, ShowsSet}
+use Rattle.nef_volumes.proofs.Prelude.{◌≡◌, ℕ, zero, suc, ◌+◌, ◌<◌, ◌≤◌, pos, ◌⊎◌, inl, inr, ⊎_elim, List, [], ◌∷◌, ◌++◌, length, length-append, arith, refl, ap, sym, ◌∙◌, subst, cases_order, ints, IsAt, IsInTable, IsBelow, Set, Label, Out, At, Map, Side, at-one, sides_of, IsSide, number_of, at-within, side-has, side-number, number-one as number-is, is-at_one, is-at_within, is-at_some, is-at_left, is-at_last, less-or-last, Vertex, Complex, VertexSide, HasSideLabel, complex_of, ShowsSet, IsSideNumber, IsVolumeOf, VolumeNumbers, HasAppeared, AreLabelsTo, AreLabelsOf, AreVolumeLabels}
 use Rattle.nef_complex.specs.declared.complex.Complex.{Complex as ProgramComplex}
-use Rattle.nef_complex.specs.Sides.{IsSideNumber}
-use Rattle.nef_complex.specs.Numbers.{IsVolumeOf, VolumeNumbers}
-use Rattle.nef_volumes.specs.Labels.{HasAppeared, AreLabelsTo, AreLabelsOf, AreVolumeLabels}
 use Rattle.nef_volumes.proofs.SideLabels.{upright, chain-label}
 use Rattle.nef_volumes.proofs.OutsideSide.{out-side}
 

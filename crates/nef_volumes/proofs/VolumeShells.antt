@@ -1,10 +1,6 @@
 -- One shell more in the row of its volume.
-use Rattle.std.proofs.Common.{◌≡◌, ℕ, ◌⊎◌, inl, inr, List, [], ◌∷◌, ◌++◌, length, set, ap, subst}
-use Rattle.nef_space.specs.Lists.{IsAt, IsInTable}
-use Rattle.nef_classes.proofs.ClassLists.{Either, earlier, last, is-at_either, is-at_one, is-at_within, is-at_left, is-at_last}
-use Rattle.nef_complex.specs.declared.parts.Shell.{Shell}
+use Rattle.nef_volumes.proofs.Prelude.{◌≡◌, ℕ, ◌⊎◌, inl, inr, List, [], ◌∷◌, ◌++◌, length, set, ap, subst, IsAt, IsInTable, Either, earlier, last, is-at_either, is-at_one, is-at_within, is-at_left, is-at_last, Shell, IsOfVolume, IsOneOf, StandsBefore, AreShellsOf}
 use Rattle.nef_complex.specs.declared.parts.Side.{Side}
-use Rattle.nef_volumes.specs.Shells.{IsOfVolume, IsOneOf, StandsBefore, AreShellsOf}
 use Rattle.nef_volumes.proofs.Held.{held-none, held-as, held-more}
 use Rattle.nef_volumes.proofs.Joining.{cell-one_number}
 

@@ -1,16 +1,10 @@
 -- Facets and volumes as components: points at items and sides are joined exactly where these have one number; the parts in which points lie; and the numbers of parts as numbers of components.
-use Rattle.std.specs.Prelude.{◌≡◌, ℕ, length, ◌↔◌}
-use Rattle.nef_space.specs.Local.{Joined}
-use Rattle.nef_space.specs.Place.{Place}
-use Rattle.nef_space.specs.Sets.{Set}
-use Rattle.law_complex.specs.Complexes.{Complex as PlainComplex, Corner}
-use Rattle.law_complex.specs.Skeleton.{IsVertexPoint, IsEdgePoint, HasCorner}
-use Rattle.law_complex.specs.Rays.{VertexSide, HasVolumeSide}
+use Rattle.std.specs.Prelude.{◌≡◌, ◌↔◌}
+use Rattle.nef_complex.specs.Prelude.{ℕ, length, Joined, Place, Set, IsVertexPoint, IsEdgePoint, HasCorner, complex_of, ShowsSet, IsFacetOf, IsVolumeOf}
+use Rattle.law_complex.specs.Prelude.{Complex as PlainComplex, Corner, VertexSide, HasVolumeSide}
 use Rattle.law_links.specs.Components.{IsAtItem, IsAtSide}
 use Rattle.nef_conn.specs.Components.{HasComponents}
-use Rattle.nef_complex.specs.Complexes.{complex_of, ShowsSet}
 use Rattle.nef_complex.specs.declared.complex.Complex.{Complex}
-use Rattle.nef_complex.specs.Numbers.{IsFacetOf, IsVolumeOf}
 use Rattle.nef_complex.specs.declared.parts.Parts.{Parts}
 use Rattle.nef_volumes.specs.declared.all.Part.{Part}
 use Rattle.nef_volumes.specs.declared.all.Part.TheVariants as part

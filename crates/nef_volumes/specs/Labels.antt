@@ -1,13 +1,10 @@
 -- The labels of volumes, as they are found in the order of their numbers.
-use Rattle.std.specs.Prelude.{◌≡◌, ℕ, ◌<◌, ◌≤◌, List, length}
+use Rattle.std.specs.Prelude.{◌≡◌, ◌<◌, ◌≤◌}
+use Rattle.nef_complex.specs.Prelude.{ℕ, List, length, Label, Out, IsVolumeOf}
 use Rattle.nef_space.specs.Lists.{IsAt, IsInTable}
-use Rattle.nef_space.specs.declared.label.Label.{Label}
-use Rattle.nef_space.specs.declared.label.Label.TheVariants.{Out}
 use Rattle.law_sphere.specs.Maps.{Map, Side}
 use Rattle.nef_smap.specs.Sides.{IsSide}
-use Rattle.law_complex.specs.Complexes.{Complex}
-use Rattle.law_complex.specs.Rays.{VertexSide, HasSideLabel}
-use Rattle.nef_complex.specs.Numbers.{IsVolumeOf}
+use Rattle.law_complex.specs.Prelude.{Complex, VertexSide, HasSideLabel}
 
 -- before each number of the row, those that are smaller, from low on, have appeared in it
 abbrev pub HasAppeared : ℕ → List ℕ → Type 0

@@ -1,3 +1,4 @@
+pub mod Prelude
 pub mod Ties
 pub mod Joining
 pub mod Held

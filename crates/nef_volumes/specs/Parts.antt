@@ -1,21 +1,16 @@
 -- Facets with the numbers of the volumes beside them, and volumes.
-use Rattle.std.specs.Prelude.{◌≡◌, ℕ, List, length, Bool}
-use Rattle.nef_space.specs.Lists.{IsAt}
-use Rattle.nef_space.specs.declared.label.Label.{Label}
-use Rattle.nef_geo.specs.declared.plane.Plane.{Plane}
-use Rattle.law_complex.specs.Complexes.{Complex, Corner}
+use Rattle.std.specs.Prelude.{◌≡◌}
+use Rattle.nef_complex.specs.Prelude.{ℕ, List, length, Bool, Label}
+use Rattle.nef_facets.specs.Prelude.{IsAt, Plane, Complex, Corner, corner_of, IsFacetParts, HasItem}
 use Rattle.law_complex.specs.Rays.{VertexSide}
-use Rattle.nef_complex.specs.Complexes.{corner_of}
 use Rattle.nef_complex.specs.declared.complex.Corner.{Corner as ProgramCorner}
 use Rattle.nef_classes.specs.declared.table.Tie.{Tie}
-use Rattle.nef_facets.specs.Facets.{IsFacetParts}
 use Rattle.nef_facets.specs.declared.parts.FacetParts.{FacetParts}
 use Rattle.nef_complex.specs.Numbers.{IsVolumeOf, VolumeNumbers, shell_sides, pos_of, neg_of}
 use Rattle.nef_complex.specs.Shells.{SfaceNumbers, Shells}
 use Rattle.nef_complex.specs.declared.parts.Cycle.{Cycle}
 use Rattle.nef_complex.specs.declared.parts.Facet.{Facet}
 use Rattle.nef_complex.specs.declared.parts.Shell.{Shell}
-use Rattle.nef_facets.specs.Carriers.{HasItem}
 use Rattle.nef_volumes.specs.declared.ties.FacetPieces.{FacetPieces}
 use Rattle.nef_volumes.specs.Ties.{side_at, AreItemTies, AreTiesDown}
 use Rattle.nef_volumes.specs.Labels.{AreVolumeLabels}

@@ -1,16 +1,13 @@
 -- Sides as elements of a table, and which ties join them.
-use Rattle.std.specs.Prelude.{◌≡◌, ℕ, ◌+◌, ◌<◌, ◌≤◌, List, ◌∷◌, ◌++◌, length, map, Bool, true, false, cond, Option, Some, MatchOption, ◌⊎◌}
+use Rattle.std.specs.Prelude.{◌≡◌, ◌+◌, ◌<◌, ◌≤◌, ◌∷◌, ◌++◌, ◌⊎◌, ℕ, List, length, map, Bool, true, false, cond, Option, Some, MatchOption}
 use Rattle.std.specs.List.{Contains}
-use Rattle.nef_space.specs.Lists.{IsAt, Chained}
-use Rattle.nef_space.specs.declared.label.Label.{Label}
+use Rattle.nef_geo.specs.Prelude.{IsAt, Chained, Label}
 use Rattle.nef_space.specs.declared.label.Label.TheVariants.{Out}
 use Rattle.law_sphere.specs.Maps.{At, MapVertex, Side, around_svertex, pos_item, neg_item, HasSide}
 use Rattle.nef_smap.specs.Sides.{sides_of, IsSide, SeeOneWay, AreSfaces}
 use Rattle.nef_smap.specs.SideNumbers.{number_of}
-use Rattle.law_complex.specs.Complexes.{Vertex, Edge, Complex, Corner}
-use Rattle.law_complex.specs.Rays.{VertexSide, HasSideLabel, RayDown}
-use Rattle.nef_classes.specs.Tables.{AreTied}
-use Rattle.nef_facets.specs.Ties.{cell_of}
+use Rattle.law_complex.specs.Prelude.{Vertex, Edge, Complex, Corner, VertexSide, HasSideLabel, RayDown}
+use Rattle.nef_facets.specs.Prelude.{AreTied, cell_of}
 use Rattle.nef_classes.specs.declared.table.Cell.{Cell}
 use Rattle.nef_classes.specs.declared.table.Tie.{Tie}
 use Rattle.law_links.specs.Links.{IsSideOf, LinkAlong, LinkAcross, LinkDown, VolumeLink}

@@ -1,15 +1,7 @@
 //! All parts of a complex, and whether two points are joined.
 
 ghost use Rattle.std.specs.Prelude.{◌≡◌, ◌↔◌};
-ghost use Rattle.nef_complex.specs.Prelude.{ℕ, List as Sequence, length, IfOk, OnOk, IsTrue, IsAt, Set, Joined, InFrame, place_of, complex_of, corner_of, ShowsSet, IsVolumeOf, VolumeNumbers, IsParts, SfaceNumbers};
-ghost use Rattle.nef_complex.specs.declared.parts.Cycle.{Cycle as PlainCycle};
-ghost use Rattle.nef_smap.specs.Maps.{map_of};
-ghost use Rattle.nef_smap.specs.Sides.{sides_of};
-ghost use Rattle.nef_facets.specs.Carriers.{HasItem};
-ghost use Rattle.nef_volumes.specs.Joins.{FacetsAreComponents, VolumesAreComponents, AreCounted, IsPartAt};
-ghost use Rattle.nef_volumes.specs.Ties.{AreItemTies, AreTiesDown};
-ghost use Rattle.nef_volumes.specs.Labels.{HasAppeared, AreLabelsTo, AreVolumeLabels};
-ghost use Rattle.nef_volumes.specs.Parts.{side_beside, HasFirst, AreFacetsOf, AreVolumesOf, ArePieces};
+ghost use Rattle.nef_volumes.specs.Prelude.{ℕ, List as Sequence, length, IfOk, OnOk, IsTrue, IsAt, Set, Joined, InFrame, place_of, complex_of, corner_of, ShowsSet, IsVolumeOf, VolumeNumbers, IsParts, SfaceNumbers, Cycle as PlainCycle, map_of, sides_of, HasItem, FacetsAreComponents, VolumesAreComponents, AreCounted, IsPartAt, AreItemTies, AreTiesDown, HasAppeared, AreLabelsTo, AreVolumeLabels, side_beside, HasFirst, AreFacetsOf, AreVolumesOf, ArePieces};
 
 use crate::OutOfMemory;
 use crate::numbers::{gathered, shell_rows, volume_numbers, volume_shells};

@@ -1,12 +1,7 @@
 //! The numbers of shells and of volumes, and the shells of each volume.
 
 ghost use Rattle.std.specs.Prelude.{◌≡◌, ◌++◌, ◌<◌, ◌+◌, ◌≤◌};
-ghost use Rattle.nef_complex.specs.Prelude.{ℕ, List as Sequence, IfOk, length, OnOk, IsAt, Set, complex_of, ShowsSet, VolumeNumbers, SfaceNumbers};
-ghost use Rattle.nef_classes.specs.Tables.{AreTiedWithin, HasCounts, AreNumbers};
-ghost use Rattle.nef_classes.specs.declared.table.Tie.{Tie as PlainTie};
-ghost use Rattle.nef_volumes.specs.Joining.{AreNumbersBelow, HaveNumbers, AreNumberLinks, IsRenumbered, AreRenumbered};
-ghost use Rattle.nef_volumes.specs.Shells.{AreShellRows, AreNumberedNames, AreGathered, AreShellsOf, HaveVolumes, IsPut};
-ghost use Rattle.nef_volumes.specs.Ties.{row_counts, AreItemTies, AreTiesDown, AreTiesOf, Finds, HasSvertex, IsAroundCell, IsTieOfEnds, LinkOfEnds};
+ghost use Rattle.nef_volumes.specs.Prelude.{ℕ, List as Sequence, IfOk, length, OnOk, IsAt, Set, complex_of, ShowsSet, VolumeNumbers, SfaceNumbers, AreTiedWithin, HasCounts, AreNumbers, Tie as PlainTie, AreNumbersBelow, HaveNumbers, AreNumberLinks, IsRenumbered, AreRenumbered, AreShellRows, AreNumberedNames, AreGathered, AreShellsOf, HaveVolumes, IsPut, row_counts, AreItemTies, AreTiesDown, AreTiesOf, Finds, HasSvertex, IsAroundCell, IsTieOfEnds, LinkOfEnds};
 
 use crate::OutOfMemory;
 use crate::ties::{cell, outside_ties, sface_ties};

@@ -1,15 +1,8 @@
 //! The ties of sides: of one sface, of linked items, of the outside, and down the rays from vertices; with the numbers of
 //! sfaces, and the facets from whose ties those of items come.
 
-ghost use Rattle.nef_complex.specs.Prelude.{length, IsTrue, IfOk, OnOk, ℕ, map, Out, Set, IsAt, Side, Corner, complex_of, ShowsSet, SfaceNumbers, count_items};
-ghost use Rattle.std.specs.Prelude.{MatchOption, ◌≡◌, ◌<◌, ◌↔◌, ◌≤◌};
-ghost use Rattle.law_links.specs.Links.{LinkOutside, LinkInSface, FacetLink};
-ghost use Rattle.nef_classes.specs.Tables.{IsCellIn, AreTied, AreTiedWithin};
-ghost use Rattle.nef_smap.specs.Maps.{map_of};
-ghost use Rattle.nef_smap.specs.Sides.{IsSide, sides_of};
-ghost use Rattle.nef_facets.specs.Ties.{Adds, Any, cell_of};
-ghost use Rattle.nef_volumes.specs.Ties.{side_cell, AreTiesWithOutside, AreTiedOutside, IsTieOutside, HasNoLinkDown, IsTieDown, AreDownBetween, AreTiesOf, HasSfaces, IsFirstPlace, AddsInSfaces, AreItemTies, IsItemSide, IsSideTie};
-ghost use Rattle.nef_volumes.specs.Parts.{AreFacetPieces};
+ghost use Rattle.nef_volumes.specs.Prelude.{length, IsTrue, IfOk, OnOk, ℕ, map, Out, Set, IsAt, Side, Corner, complex_of, ShowsSet, SfaceNumbers, count_items, MatchOption, LinkOutside, LinkInSface, FacetLink, IsCellIn, AreTied, AreTiedWithin, map_of, IsSide, sides_of, Adds, Any, cell_of, side_cell, AreTiesWithOutside, AreTiedOutside, IsTieOutside, HasNoLinkDown, IsTieDown, AreDownBetween, AreTiesOf, HasSfaces, IsFirstPlace, AddsInSfaces, AreItemTies, IsItemSide, IsSideTie, AreFacetPieces};
+ghost use Rattle.std.specs.Prelude.{◌≡◌, ◌<◌, ◌↔◌, ◌≤◌};
 
 use crate::OutOfMemory;
 use nef_classes::{Cell, Tie};

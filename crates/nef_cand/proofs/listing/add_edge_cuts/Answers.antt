@@ -1,17 +1,4 @@
-use Rattle.std.proofs.Common.{◌<◌, pos, get_or, rules, ap, sym, ◌∙◌, subst, arith, length}
-use Rattle.law_sphere.proofs.Lists.{at-one}
-use Rattle.nef_classes.proofs.ClassLists.{is-at_get}
-use Rattle.nef_smap.proofs.Lists.{at-contains}
-use Rattle.nef_complex.specs.declared.complex.Edge.{Edge}
-use Rattle.nef_complex.specs.declared.spans.Bounds.{Bounds}
-use Rattle.nef_complex.specs.declared.spans.Span.{Span}
-use Rattle.nef_complex.specs.Complexes.{complex_of}
-use Rattle.nef_geo.specs.declared.plane.Plane.{Plane}
-use Rattle.nef_complex.proofs.Ends.{low-within, high-within}
-use Rattle.nef_complex.proofs.Reading.{got-at, read-at}
-use Rattle.nef_cand.specs.Names.{IsNamedBetween}
-use Rattle.nef_cand.specs.Points.{AddsAll}
-use Rattle.nef_cand.specs.Near.{IsSpannedIn, CutsEdgeBy, CutsEdgeHeld}
+use Rattle.nef_cand.proofs.Prelude.{◌<◌, pos, get_or, rules, ap, sym, ◌∙◌, subst, arith, length, at-one, is-at_get, at-contains, Edge, Bounds, Span, complex_of, Plane, low-within, high-within, got-at, read-at, IsNamedBetween, AddsAll, IsSpannedIn, CutsEdgeBy, CutsEdgeHeld}
 use Rattle.nef_cand.proofs.Adding.{adds-none, adds-one, any-more, any-all}
 use Rattle.nef_cand.proofs.Beside.{edge-reaches}
 use Rattle.nef_cand.proofs.NearCuts.{ends-spanned, held-spanned, edge-apart}

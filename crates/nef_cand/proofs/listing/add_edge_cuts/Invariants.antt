@@ -1,9 +1,4 @@
-use Rattle.nef_space.specs.Lists.{IsAt}
-use Rattle.nef_complex.specs.declared.complex.Edge.{Edge}
-use Rattle.nef_complex.specs.Complexes.{complex_of}
-use Rattle.nef_cand.specs.Names.{IsNamedBetween}
-use Rattle.nef_cand.specs.Points.{AddsAll}
-use Rattle.nef_cand.specs.Near.{CutsEdgeBy, CutsEdgeHeld}
+use Rattle.nef_cand.proofs.Prelude.{IsAt, Edge, complex_of, IsNamedBetween, AddsAll, CutsEdgeBy, CutsEdgeHeld}
 use Rattle.nef_cand.proofs.Adding.{AnyFirst}
 use Rattle.nef_cand.proofs.listing.add_edge_cuts.Given as goal
 

@@ -1,10 +1,4 @@
-use Rattle.std.proofs.Common.{◌<◌, length, arith}
-use Rattle.nef_classes.proofs.ClassLists.{is-at_some}
-use Rattle.nef_complex.specs.Complexes.{complex_of}
-use Rattle.nef_smap.proofs.SideLists.{get-from_at}
-use Rattle.nef_complex.proofs.Reading.{got-at}
-use Rattle.nef_cand.specs.Names.{IsNamedBetween}
-use Rattle.nef_cand.specs.Near.{CutsEdgeByOne, CutsEdgeHeldOne}
+use Rattle.nef_cand.proofs.Prelude.{◌<◌, length, arith, is-at_some, complex_of, get-from_at, got-at, IsNamedBetween, CutsEdgeByOne, CutsEdgeHeldOne}
 use Rattle.nef_cand.proofs.Adding.{adds-none, any-next, any-until, any-all}
 use Rattle.nef_cand.proofs.NearCuts.{near-all, edge-passed}
 use Rattle.nef_cand.proofs.listing.add_near_cuts.Goals as goal

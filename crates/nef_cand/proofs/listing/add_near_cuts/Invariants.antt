@@ -1,7 +1,4 @@
-use Rattle.nef_complex.specs.Complexes.{complex_of}
-use Rattle.nef_cand.specs.Names.{IsNamedBetween}
-use Rattle.nef_cand.specs.Points.{AddsAll}
-use Rattle.nef_cand.specs.Near.{CutsEdgeByOne, CutsEdgeHeldOne}
+use Rattle.nef_cand.proofs.Prelude.{complex_of, IsNamedBetween, AddsAll, CutsEdgeByOne, CutsEdgeHeldOne}
 use Rattle.nef_cand.proofs.Adding.{AnyFirst}
 use Rattle.nef_cand.proofs.listing.add_near_cuts.Given as goal
 

@@ -1,9 +1,4 @@
-use Rattle.std.proofs.Common.{◌<◌, length, arith, ap, sym, ◌∙◌, subst}
-use Rattle.nef_classes.proofs.ClassLists.{is-at_some}
-use Rattle.nef_complex.specs.Complexes.{complex_of}
-use Rattle.nef_complex.proofs.Reading.{got-at}
-use Rattle.nef_cand.specs.Names.{IsNamedIn}
-use Rattle.nef_cand.specs.Points.{Adds, CutsEdge}
+use Rattle.nef_cand.proofs.Prelude.{◌<◌, length, arith, ap, sym, ◌∙◌, subst, is-at_some, complex_of, got-at, IsNamedIn, Adds, CutsEdge}
 use Rattle.nef_cand.proofs.Adding.{adds-none, adds-one, any-next, any-all}
 use Rattle.nef_cand.proofs.Held.{cut-named, cuts-all}
 use Rattle.nef_cand.proofs.listing.add_plane_cuts.Goals.{in-Some+in_ok-push, in_default}

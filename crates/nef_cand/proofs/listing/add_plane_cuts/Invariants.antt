@@ -1,6 +1,4 @@
-use Rattle.nef_complex.specs.Complexes.{complex_of}
-use Rattle.nef_cand.specs.Names.{IsNamedIn}
-use Rattle.nef_cand.specs.Points.{Adds, CutsEdge}
+use Rattle.nef_cand.proofs.Prelude.{complex_of, IsNamedIn, Adds, CutsEdge}
 use Rattle.nef_cand.proofs.Adding.{AnyFirst}
 use Rattle.nef_cand.proofs.listing.add_plane_cuts.Given as goal
 

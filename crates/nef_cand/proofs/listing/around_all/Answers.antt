@@ -1,11 +1,4 @@
-use Rattle.std.proofs.Common.{List, get_or, arith, sym}
-use Rattle.nef_classes.proofs.ClassLists.{is-at_within, is-at_get, is-at_is}
-use Rattle.nef_complex.specs.Spans.{IsNarrower}
-use Rattle.nef_complex.specs.declared.spans.Span.{Span}
-use Rattle.nef_complex.proofs.Outside.{no_span}
-use Rattle.nef_complex.proofs.Reading.{all-more, got-at}
-use Rattle.nef_complex.proofs.Spanning.{narrower-still}
-use Rattle.nef_smap.proofs.SideLists.{get-from_at}
+use Rattle.nef_cand.proofs.Prelude.{List, get_or, arith, sym, is-at_within, is-at_get, is-at_is, IsNarrower, Span, no_span, all-more, got-at, narrower-still, get-from_at}
 use Rattle.nef_cand.proofs.listing.around_all.Goals as goal
 
 pub loop-span-init : goal.loop-span-init

@@ -1,7 +1,4 @@
-use Rattle.std.proofs.Common.{ℕ, ◌<◌}
-use Rattle.nef_space.specs.Lists.{IsAt}
-use Rattle.nef_complex.specs.declared.spans.Span.{Span}
-use Rattle.nef_complex.specs.Spans.{IsNarrower}
+use Rattle.nef_cand.proofs.Prelude.{ℕ, ◌<◌, IsAt, Span, IsNarrower}
 use Rattle.nef_cand.proofs.listing.around_all.Given as goal
 
 abbrev pub invariant-loop-span : goal.invariant-loop-span

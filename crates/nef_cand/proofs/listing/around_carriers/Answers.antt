@@ -1,8 +1,4 @@
-use Rattle.std.proofs.Common.{List, [], ◌∷◌, ◌++◌, take, sym, subst}
-use Rattle.std.proofs.lemmas.List.{take_all}
-use Rattle.nef_classes.proofs.ClassLists.{take-more}
-use Rattle.nef_cand.specs.declared.listing.Spanned.{Spanned}
-use Rattle.nef_cand.specs.Near.{AreWithinSpan}
+use Rattle.nef_cand.proofs.Prelude.{List, [], ◌∷◌, ◌++◌, take, sym, subst, take_all, take-more, Spanned, AreWithinSpan}
 use Rattle.nef_cand.proofs.NearCuts.{around-none, around-more}
 use Rattle.nef_cand.proofs.listing.around_carriers.Goals as goal
 

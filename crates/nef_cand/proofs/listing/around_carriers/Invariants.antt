@@ -1,5 +1,4 @@
-use Rattle.std.proofs.Common.{take}
-use Rattle.nef_cand.specs.Near.{AreWithinSpan}
+use Rattle.nef_cand.proofs.Prelude.{take, AreWithinSpan}
 use Rattle.nef_cand.proofs.listing.around_carriers.Given as goal
 
 abbrev pub invariant-loop-carrier : goal.invariant-loop-carrier

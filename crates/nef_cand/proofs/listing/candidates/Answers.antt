@@ -1,12 +1,4 @@
-use Rattle.std.proofs.Common.{◌≡◌, ◌∙◌, List, [], map, ap, sym, subst}
-use Rattle.nef_geo.specs.declared.plane.Plane.{Plane}
-use Rattle.nef_geo.specs.declared.point.Point.{Point}
-use Rattle.nef_complex.specs.Complexes.{complex_of}
-use Rattle.nef_cand.specs.declared.named.Named.{Named}
-use Rattle.nef_cand.specs.declared.named.Operand.TheVariants.{First, Second}
-use Rattle.nef_cand.specs.Candidates.{IsListed, AreCandidates, AreFramed}
-use Rattle.nef_cand.specs.Names.{named_point, IsNamedIn}
-use Rattle.nef_cand.specs.Points.{Adds, CutsOne}
+use Rattle.nef_cand.proofs.Prelude.{◌≡◌, ◌∙◌, List, [], map, ap, sym, subst, Plane, Point, complex_of, Named, First, Second, IsListed, AreCandidates, AreFramed, named_point, IsNamedIn, Adds, CutsOne}
 use Rattle.nef_cand.proofs.Complete.{lists-candidates}
 use Rattle.nef_cand.proofs.listing.candidates.Goals as goal
 

@@ -1,8 +1,4 @@
-use Rattle.std.proofs.Common.{◌+◌, List, [], ◌∷◌, ◌++◌, take, rules, ap, sym, subst, ◌∙◌}
-use Rattle.std.proofs.lemmas.List.{take_all}
-use Rattle.nef_classes.proofs.ClassLists.{take-more}
-use Rattle.nef_cand.specs.declared.listing.Spanned.{Spanned}
-use Rattle.nef_cand.specs.Near.{AreThoseNear}
+use Rattle.nef_cand.proofs.Prelude.{◌+◌, List, [], ◌∷◌, ◌++◌, take, rules, ap, sym, subst, ◌∙◌, take_all, take-more, Spanned, AreThoseNear}
 use Rattle.nef_cand.proofs.NearCuts.{near-none, near-more, near-passed}
 use Rattle.nef_cand.proofs.listing.carriers_near.Goals.{then-may_meet+in_ok-push, else-may_meet}
 use Rattle.nef_cand.proofs.listing.carriers_near.Goals as goal

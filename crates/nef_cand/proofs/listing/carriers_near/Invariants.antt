@@ -1,5 +1,4 @@
-use Rattle.std.proofs.Common.{take}
-use Rattle.nef_cand.specs.Near.{AreThoseNear}
+use Rattle.nef_cand.proofs.Prelude.{take, AreThoseNear}
 use Rattle.nef_cand.proofs.listing.carriers_near.Given as goal
 
 abbrev pub invariant-loop-carrier : goal.invariant-loop-carrier

@@ -1,10 +1,4 @@
-use Rattle.std.proofs.Common.{◌≡◌, true, false, None, get_or, arith, sym, ◌∙◌}
-use Rattle.nef_space.specs.Place.{form_at}
-use Rattle.nef_geo.specs.Shapes.{place_of, form_of}
-use Rattle.nef_classes.proofs.ClassLists.{is-at_get}
-use Rattle.nef_complex.proofs.Ends.{low-within, high-within}
-use Rattle.nef_complex.proofs.ListedHolders.{holders-within}
-use Rattle.nef_complex.proofs.Reading.{got-at}
+use Rattle.nef_cand.proofs.Prelude.{◌≡◌, true, false, None, get_or, arith, sym, ◌∙◌, form_at, place_of, form_of, is-at_get, low-within, high-within, holders-within, got-at}
 use Rattle.nef_cand.proofs.EdgeLines.{two-listed, first-two}
 use Rattle.nef_cand.proofs.Held.{edge-held, carriers-ordered, uncrossed, crossed, crossing-same}
 use Rattle.nef_cand.proofs.listing.crossing.Goals as goal

@@ -1,11 +1,4 @@
-use Rattle.std.proofs.Common.{◌∙◌, List, ◌++◌, map, ap, sym, subst}
-use Rattle.nef_geo.specs.Shapes.{form_of}
-use Rattle.nef_complex.specs.Complexes.{complex_of}
-use Rattle.nef_cand.specs.declared.named.Named.{Named}
-use Rattle.nef_cand.specs.declared.named.Operand.TheVariants.{First}
-use Rattle.nef_cand.specs.Candidates.{IsCutBy, AreCutCandidates}
-use Rattle.nef_cand.specs.Names.{named_point, IsNamedIn}
-use Rattle.nef_cand.specs.Points.{Adds, HasBoth}
+use Rattle.nef_cand.proofs.Prelude.{◌∙◌, List, ◌++◌, map, ap, sym, subst, form_of, complex_of, Named, First, IsCutBy, AreCutCandidates, named_point, IsNamedIn, Adds, HasBoth}
 use Rattle.nef_cand.proofs.Apart.{adds-after, once-after}
 use Rattle.nef_cand.proofs.Both.{two-together}
 use Rattle.nef_cand.proofs.Halves.{cut-all, half-listed}

@@ -1,10 +1,4 @@
-use Rattle.std.proofs.Common.{refl, sym, subst}
-use Rattle.nef_geo.specs.Shapes.{place_of, form_of, hit_place}
-use Rattle.law_near.proofs.Rays.{same-place_sym}
-use Rattle.nef_classes.proofs.ClassLists.{is-at_some}
-use Rattle.nef_complex.proofs.Reading.{got-at}
-use Rattle.nef_plane.proofs.Meeting.{level-same}
-use Rattle.nef_cand.specs.Near.{IsHeldCutOf}
+use Rattle.nef_cand.proofs.Prelude.{refl, sym, subst, place_of, form_of, hit_place, same-place_sym, is-at_some, got-at, level-same, IsHeldCutOf}
 use Rattle.nef_cand.proofs.NearCuts.{never-held, nothing-held, held-named}
 use Rattle.nef_cand.proofs.listing.held_cut.Goals as goal
 

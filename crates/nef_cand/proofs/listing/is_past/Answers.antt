@@ -1,9 +1,4 @@
-use Rattle.std.proofs.Common.{◌<◌, length, get_or, arith, rules}
-use Rattle.nef_classes.proofs.ClassLists.{is-at_get}
-use Rattle.nef_complex.specs.declared.spans.Span.{Span}
-use Rattle.nef_complex.proofs.Ends.{low-within}
-use Rattle.nef_complex.proofs.Outside.{no_span}
-use Rattle.nef_complex.proofs.Reading.{got-at}
+use Rattle.nef_cand.proofs.Prelude.{◌<◌, length, get_or, arith, rules, is-at_get, Span, low-within, no_span, got-at}
 use Rattle.nef_cand.proofs.Beside.{edge-past}
 use Rattle.nef_cand.proofs.listing.is_past.Goals as goal
 

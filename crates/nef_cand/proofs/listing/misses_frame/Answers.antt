@@ -1,10 +1,5 @@
-use Rattle.std.proofs.Common.{nat_abs, ap, sym, ◌∙◌, lit≤}
-use Rattle.std.proofs.lemmas.Bool.{leb-true, le-leb}
-use Rattle.nef_space.specs.Limits.{half_side}
-use Rattle.nef_space.specs.Place.{normal_of}
-use Rattle.nef_geo.specs.Shapes.{form_of}
+use Rattle.nef_cand.proofs.Prelude.{nat_abs, ap, sym, ◌∙◌, lit≤, leb-true, le-leb, half_side, normal_of, form_of, normal-direction}
 use Rattle.nef_geo.proofs.Products.{kept}
-use Rattle.law_sphere.proofs.Vectors.{normal-direction}
 use Rattle.nef_cand.proofs.Missing.{misses, outweighs, number-fits, lengthened}
 use Rattle.nef_cand.proofs.MissedFrame.{missing}
 use Rattle.nef_cand.proofs.listing.misses_frame.Goals as goal

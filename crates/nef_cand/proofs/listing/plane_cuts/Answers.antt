@@ -1,12 +1,4 @@
-use Rattle.std.proofs.Common.{List, [], arith, sym, subst}
-use Rattle.nef_space.specs.Place.{Place}
-use Rattle.nef_geo.specs.Shapes.{form_of}
-use Rattle.nef_geo.specs.declared.plane.Plane.{Plane}
-use Rattle.nef_complex.specs.Complexes.{complex_of}
-use Rattle.nef_cand.specs.declared.named.Named.{Named}
-use Rattle.nef_cand.specs.Candidates.{IsCutBy}
-use Rattle.nef_cand.specs.Names.{IsNamedIn}
-use Rattle.nef_cand.specs.Points.{Adds}
+use Rattle.nef_cand.proofs.Prelude.{List, [], arith, sym, subst, Place, form_of, Plane, complex_of, Named, IsCutBy, IsNamedIn, Adds}
 use Rattle.nef_cand.proofs.Adding.{AnyFirst, adds-none, any-more, any-all}
 use Rattle.nef_cand.proofs.listing.plane_cuts.Goals as goal
 

@@ -1,11 +1,4 @@
-use Rattle.std.proofs.Common.{[]}
-use Rattle.nef_space.specs.Place.{Place}
-use Rattle.nef_geo.specs.Shapes.{form_of}
-use Rattle.nef_geo.specs.declared.plane.Plane.{Plane}
-use Rattle.nef_complex.specs.Complexes.{complex_of}
-use Rattle.nef_cand.specs.Candidates.{IsCutBy}
-use Rattle.nef_cand.specs.Names.{IsNamedIn}
-use Rattle.nef_cand.specs.Points.{Adds}
+use Rattle.nef_cand.proofs.Prelude.{[], Place, form_of, Plane, complex_of, IsCutBy, IsNamedIn, Adds}
 use Rattle.nef_cand.proofs.Adding.{AnyFirst}
 use Rattle.nef_cand.proofs.listing.plane_cuts.Given as goal
 

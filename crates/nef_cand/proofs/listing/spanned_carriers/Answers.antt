@@ -1,8 +1,4 @@
-use Rattle.std.proofs.Common.{◌≡◌, ℕ, ◌+◌, List, length, get_or, arith, rules, ap, sym, ◌∙◌, subst}
-use Rattle.nef_classes.proofs.ClassLists.{is-at_get}
-use Rattle.nef_complex.specs.declared.spans.Span.{Span}
-use Rattle.nef_complex.proofs.Outside.{no_span}
-use Rattle.nef_cand.specs.Near.{AreSpannedCarriers}
+use Rattle.nef_cand.proofs.Prelude.{◌≡◌, ℕ, ◌+◌, List, length, get_or, arith, rules, ap, sym, ◌∙◌, subst, is-at_get, Span, no_span, AreSpannedCarriers}
 use Rattle.nef_cand.proofs.NearCuts.{spanned-none, spanned-same, spanned-more}
 use Rattle.nef_cand.proofs.listing.spanned_carriers.Goals.{then-not-misses_frame+in_ok-push, else-not-misses_frame}
 use Rattle.nef_cand.proofs.listing.spanned_carriers.Goals as goal

@@ -1,4 +1,4 @@
-use Rattle.nef_cand.specs.Near.{AreSpannedCarriers}
+use Rattle.nef_cand.proofs.Prelude.{AreSpannedCarriers}
 use Rattle.nef_cand.proofs.listing.spanned_carriers.Given as goal
 
 abbrev pub invariant-loop-number : goal.invariant-loop-number

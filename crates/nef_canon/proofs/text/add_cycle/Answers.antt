@@ -1,7 +1,5 @@
-use Rattle.std.proofs.Common.{List, ℕ, codes, decimal, get_or}
-use Rattle.std.specs.List.{flat_map}
+use Rattle.nef_canon.proofs.Prelude.{List, ℕ, codes, decimal, get_or, flat_map, corner_words}
 use Rattle.nef_complex.specs.declared.complex.Corner.{Corner}
-use Rattle.nef_complex.specs.Text.{corner_words}
 use Rattle.nef_canon.proofs.Lines.{line-begun, more-elements, all-elements, both-words, line-ended}
 use Rattle.nef_canon.proofs.text.add_cycle.Goals as goal
 

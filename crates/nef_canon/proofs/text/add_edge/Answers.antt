@@ -1,5 +1,4 @@
-use Rattle.std.proofs.Common.{List, ℕ, [], ◌∷◌, ◌++◌, codes, decimal}
-use Rattle.nef_complex.specs.Text.{label_word}
+use Rattle.nef_canon.proofs.Prelude.{List, ℕ, [], ◌∷◌, ◌++◌, codes, decimal, label_word}
 use Rattle.nef_canon.proofs.Lines.{line-begun, more-words, line-ended}
 use Rattle.nef_canon.proofs.text.add_edge.Goals as goal
 

@@ -1,7 +1,4 @@
-use Rattle.std.proofs.Common.{◌≡◌, List, ℕ, [], ◌∷◌, ◌+◌, ◌++◌, get_or, take, codes, decimal, ap, sym, ◌∙◌}
-use Rattle.std.proofs.lemmas.List.{take_more, take_all, map-append}
-use Rattle.nef_complex.specs.Text.{Word, numbers}
-use Rattle.nef_canon.specs.Words.{blanked}
+use Rattle.nef_canon.proofs.Prelude.{◌≡◌, List, ℕ, [], ◌∷◌, ◌+◌, ◌++◌, get_or, take, codes, decimal, ap, sym, ◌∙◌, take_more, take_all, map-append, Word, numbers, blanked}
 use Rattle.nef_canon.proofs.Lines.{line-begun, more-words, line-ended}
 use Rattle.nef_canon.proofs.text.add_faces.Goals as goal
 

@@ -1,8 +1,5 @@
-use Rattle.std.proofs.Common.{◌≡◌, List, ℕ, [], ◌∷◌, ◌++◌, codes, decimal, ap, ◌∙◌, append_assoc}
-use Rattle.std.proofs.lemmas.Result.{on_ok_weaker}
-use Rattle.std.specs.List.{flat_map}
+use Rattle.nef_canon.proofs.Prelude.{◌≡◌, List, ℕ, [], ◌∷◌, ◌++◌, codes, decimal, ap, ◌∙◌, append_assoc, on_ok_weaker, flat_map, label_word, plane_words, cycle_line, facet_line}
 use Rattle.nef_complex.specs.declared.parts.Cycle.{Cycle}
-use Rattle.nef_complex.specs.Text.{label_word, plane_words, cycle_line, facet_line}
 use Rattle.nef_canon.proofs.Lines.{line-begun, more-words, line-ended}
 use Rattle.nef_canon.proofs.text.add_facet.Goals as goal
 

@@ -1,8 +1,4 @@
-use Rattle.std.proofs.Common.{◌≡◌, List, ℕ, [], ◌∷◌, ◌++◌, length, codes, decimal, ap, sym, ◌∙◌, append_assoc}
-use Rattle.std.proofs.lemmas.List.{append-nil}
-use Rattle.nef_core.specs.declared.work.TextVersion.{TextVersion}
-use Rattle.nef_complex.specs.Text.{Word, version_word}
-use Rattle.nef_canon.specs.Words.{blanked}
+use Rattle.nef_canon.proofs.Prelude.{◌≡◌, List, ℕ, [], ◌∷◌, ◌++◌, length, codes, decimal, ap, sym, ◌∙◌, append_assoc, append-nil, TextVersion, Word, version_word, blanked}
 use Rattle.nef_canon.proofs.Lines.{more-words, counted, line-ended}
 use Rattle.nef_canon.proofs.text.add_first.Goals.{in-One, in-Two}
 use Rattle.nef_canon.proofs.text.add_first.Goals as goal

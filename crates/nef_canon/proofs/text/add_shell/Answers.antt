@@ -1,7 +1,5 @@
-use Rattle.std.proofs.Common.{List, ℕ, codes, decimal, get_or}
-use Rattle.std.specs.List.{flat_map}
+use Rattle.nef_canon.proofs.Prelude.{List, ℕ, codes, decimal, get_or, flat_map, side_words}
 use Rattle.nef_complex.specs.declared.parts.Side.{Side}
-use Rattle.nef_complex.specs.Text.{side_words}
 use Rattle.nef_canon.proofs.Lines.{line-begun, more-elements, all-elements, both-words, line-ended}
 use Rattle.nef_canon.proofs.text.add_shell.Goals as goal
 

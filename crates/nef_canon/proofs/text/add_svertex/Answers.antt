@@ -1,5 +1,4 @@
-use Rattle.std.proofs.Common.{List, ℕ, [], ◌∷◌, ◌++◌, codes}
-use Rattle.nef_complex.specs.Text.{label_word, option_word, dir_words}
+use Rattle.nef_canon.proofs.Prelude.{List, ℕ, [], ◌∷◌, ◌++◌, codes, label_word, option_word, dir_words}
 use Rattle.nef_canon.proofs.Lines.{line-begun, more-words, line-ended}
 use Rattle.nef_canon.proofs.text.add_svertex.Goals as goal
 

@@ -1,10 +1,7 @@
-use Rattle.std.proofs.Common.{◌≡◌, List, ℕ, [], ◌∷◌, ◌++◌, codes, ap, ◌∙◌}
-use Rattle.std.proofs.lemmas.Result.{on_ok_weaker}
-use Rattle.std.specs.List.{flat_map}
+use Rattle.nef_canon.proofs.Prelude.{◌≡◌, List, ℕ, [], ◌∷◌, ◌++◌, codes, ap, ◌∙◌, on_ok_weaker, flat_map, label_word, option_word, point_words, vertex_line, svertex_line, arc_line, sloop_line}
 use Rattle.nef_smap.specs.declared.map.SVertex.{SVertex}
 use Rattle.nef_smap.specs.declared.map.SArc.{SArc}
 use Rattle.nef_smap.specs.declared.map.SLoop.{SLoop}
-use Rattle.nef_complex.specs.Text.{label_word, option_word, point_words, vertex_line, svertex_line, arc_line, sloop_line}
 use Rattle.nef_canon.proofs.Lines.{line-begun, more-words, line-ended, four-pieces, as-list}
 use Rattle.nef_canon.proofs.text.add_vertex.Goals as goal
 

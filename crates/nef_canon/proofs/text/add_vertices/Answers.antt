@@ -1,5 +1,4 @@
-use Rattle.std.proofs.Common.{List, ℕ, ◌++◌, arith, ap, ◌∙◌}
-use Rattle.nef_complex.specs.Text.{vertex_text, sface_line}
+use Rattle.nef_canon.proofs.Prelude.{List, ℕ, ◌++◌, arith, ap, ◌∙◌, vertex_text, sface_line}
 use Rattle.nef_canon.proofs.Lines.{versioned, row-more, rows-all, first-version, second-version, vertices-all}
 use Rattle.nef_canon.proofs.text.add_vertices.Goals as goal
 use Rattle.nef_canon.proofs.text.add_vertices.Goals.{in-One, in-Two+in_ok-add_faces-in-Two}

@@ -1,6 +1,4 @@
-use Rattle.std.proofs.Common.{◌≡◌, ◌++◌, take}
-use Rattle.std.specs.List.{flat_map}
-use Rattle.nef_complex.specs.Text.{vertex_text, sface_line, with_rows}
+use Rattle.nef_canon.proofs.Prelude.{◌≡◌, ◌++◌, take, flat_map, vertex_text, sface_line, with_rows}
 use Rattle.nef_canon.proofs.Lines.{versioned}
 use Rattle.nef_canon.proofs.text.add_vertices.Given as goal
 

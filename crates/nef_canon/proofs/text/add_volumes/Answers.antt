@@ -1,7 +1,5 @@
-use Rattle.std.proofs.Common.{◌≡◌, List, ℕ, [], ◌∷◌, ◌++◌, codes, arith, ap, ◌∙◌}
-use Rattle.std.specs.List.{flat_map}
+use Rattle.nef_canon.proofs.Prelude.{◌≡◌, List, ℕ, [], ◌∷◌, ◌++◌, codes, arith, ap, ◌∙◌, flat_map, label_word, volume_line, shell_line}
 use Rattle.nef_complex.specs.declared.parts.Shell.{Shell}
-use Rattle.nef_complex.specs.Text.{label_word, volume_line, shell_line}
 use Rattle.nef_canon.proofs.Lines.{line-begun, more-words, line-ended, versioned, row-more, rows-all, first-version, second-version, volumes-all}
 use Rattle.nef_canon.proofs.text.add_volumes.Goals as goal
 use Rattle.nef_canon.proofs.text.add_volumes.Goals.{in-One, in-Two+in_ok-add_each-in-Two}

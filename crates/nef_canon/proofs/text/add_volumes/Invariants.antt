@@ -1,6 +1,4 @@
-use Rattle.std.proofs.Common.{◌≡◌, ◌++◌, take}
-use Rattle.std.specs.List.{flat_map}
-use Rattle.nef_complex.specs.Text.{volume_line, shell_line, with_rows}
+use Rattle.nef_canon.proofs.Prelude.{◌≡◌, ◌++◌, take, flat_map, volume_line, shell_line, with_rows}
 use Rattle.nef_canon.proofs.Lines.{versioned}
 use Rattle.nef_canon.proofs.text.add_volumes.Given as goal
 

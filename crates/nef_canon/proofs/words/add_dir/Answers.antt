@@ -1,7 +1,4 @@
-use Rattle.std.proofs.Common.{◌≡◌, List, ℕ, ℤ, [], ◌∷◌, ◌++◌, to_z, of_z, w64, ◌∙◌, ap}
-use Rattle.std.proofs.lemmas.Int.{to_z-of_z}
-use Rattle.std.specs.Fmt.{signed_decimal}
-use Rattle.nef_canon.specs.Words.{blanked}
+use Rattle.nef_canon.proofs.Prelude.{◌≡◌, List, ℕ, ℤ, [], ◌∷◌, ◌++◌, to_z, of_z, w64, ◌∙◌, ap, to_z-of_z, signed_decimal, blanked}
 use Rattle.nef_canon.proofs.Lines.{pair_more, paired}
 use Rattle.nef_canon.proofs.words.add_dir.Goals as goal
 

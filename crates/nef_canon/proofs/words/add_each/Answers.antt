@@ -1,6 +1,4 @@
-use Rattle.std.proofs.Common.{List, ℕ, [], ◌∷◌, ◌++◌, take, ap, sym, ◌∙◌}
-use Rattle.std.proofs.lemmas.List.{append-nil, take_more, take_all, flat_map_more}
-use Rattle.std.specs.List.{flat_map}
+use Rattle.nef_canon.proofs.Prelude.{List, ℕ, [], ◌∷◌, ◌++◌, take, ap, sym, ◌∙◌, append-nil, take_more, take_all, flat_map_more, flat_map}
 use Rattle.nef_canon.proofs.words.add_each.Goals as goal
 
 pub loop-item-init : goal.loop-item-init

@@ -1,5 +1,4 @@
-use Rattle.std.proofs.Common.{◌≡◌, ℕ, List, ◌++◌, take, OnOk}
-use Rattle.std.specs.List.{flat_map}
+use Rattle.nef_canon.proofs.Prelude.{◌≡◌, ℕ, List, ◌++◌, take, OnOk, flat_map}
 use Rattle.nef_canon.proofs.words.add_each.Given as goal
 
 -- for each line that the calls add

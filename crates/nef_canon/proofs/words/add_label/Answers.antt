@@ -1,7 +1,4 @@
-use Rattle.std.proofs.Common.{◌≡◌, List, ℕ, [], ◌∷◌, ◌++◌, ap, sym, ◌∙◌, append_assoc}
-use Rattle.nef_complex.specs.Prelude.{Label}
-use Rattle.nef_complex.specs.Text.{Word, label_word}
-use Rattle.nef_canon.specs.Words.{blanked}
+use Rattle.nef_canon.proofs.Prelude.{◌≡◌, List, ℕ, [], ◌∷◌, ◌++◌, ap, sym, ◌∙◌, append_assoc, Label, Word, label_word, blanked}
 use Rattle.nef_canon.proofs.words.add_label.Goals.{in-Out, in-Not, in-In}
 use Rattle.nef_canon.proofs.words.add_label.Goals as goal
 

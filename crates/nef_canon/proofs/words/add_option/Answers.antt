@@ -1,7 +1,4 @@
-use Rattle.std.proofs.Common.{◌≡◌, ℕ, List, [], ◌∷◌, ◌++◌, Option, Result, Ok, Err, OnOk, is_ok, if◌then◌else◌, codes, sym, subst}
-use Rattle.nef_complex.specs.Prelude.{Label}
-use Rattle.nef_complex.specs.Text.{option_word}
-use Rattle.nef_canon.specs.Words.{blanked}
+use Rattle.nef_canon.proofs.Prelude.{◌≡◌, ℕ, List, [], ◌∷◌, ◌++◌, Option, Result, Ok, Err, OnOk, is_ok, if◌then◌else◌, codes, sym, subst, Label, option_word, blanked}
 use Rattle.nef_canon.proofs.words.add_option.Goals as goal
 
 appended : {T E : Type 0} (r : Result T E) (s a b : List ℕ) → s ≡ (if is_ok r then a else b) → OnOk r (s ≡ a)

@@ -1,6 +1,4 @@
-use Rattle.std.proofs.Common.{◌≡◌, List, ℕ, to_z, of_z, w64, ◌∙◌}
-use Rattle.std.proofs.lemmas.Int.{to_z-of_z}
-use Rattle.std.specs.Fmt.{signed_decimal}
+use Rattle.nef_canon.proofs.Prelude.{◌≡◌, List, ℕ, to_z, of_z, w64, ◌∙◌, to_z-of_z, signed_decimal}
 use Rattle.nef_canon.proofs.Lines.{two_pairs, paired}
 use Rattle.nef_canon.proofs.words.add_point.Goals as goal
 

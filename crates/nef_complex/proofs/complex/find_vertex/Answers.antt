@@ -1,8 +1,4 @@
-use Rattle.std.proofs.Common.{rules, subst, length, List}
-use Rattle.std.proofs.lemmas.Fn.{always_returns_same}
-use Rattle.std.specs.List.Sorted.{IsBinarySearchResult, IsSearchInRange}
-use Rattle.nef_geo.specs.Shapes.{place_of}
-use Rattle.nef_complex.specs.declared.complex.Vertex.{Vertex}
+use Rattle.nef_complex.proofs.Prelude.{rules, subst, length, List, always_returns_same, IsBinarySearchResult, IsSearchInRange, place_of, Vertex}
 use Rattle.nef_complex.proofs.Order.{IsOrder, one-order, place-ordered}
 use Rattle.nef_complex.proofs.Sorted.{order_to, found-at, found-before, found-after}
 use Rattle.nef_complex.proofs.complex.find_vertex.Goals as goal

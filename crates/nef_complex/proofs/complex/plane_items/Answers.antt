@@ -1,9 +1,4 @@
-use Rattle.std.proofs.Common.{List, arith, sym, ◌∙◌, subst}
-use Rattle.std.proofs.lemmas.Option.{slice_get_within}
-use Rattle.nef_arc.proofs.SignNumbers.{not_true}
-use Rattle.nef_space.specs.Lists.{IsAt}
-use Rattle.nef_geo.specs.declared.plane.Plane.{Plane}
-use Rattle.nef_complex.specs.Index.{AreInOrder}
+use Rattle.nef_complex.proofs.Prelude.{List, arith, sym, ◌∙◌, subst, slice_get_within, not_true, IsAt, Plane, AreInOrder}
 use Rattle.nef_complex.proofs.PlaneSearch.{planes-rise, plane-there, no-plane}
 use Rattle.nef_complex.proofs.complex.plane_items.Goals as goal
 

@@ -1,4 +1,4 @@
-use Rattle.std.proofs.Common.{arith}
+use Rattle.nef_complex.proofs.Prelude.{arith}
 use Rattle.nef_complex.proofs.Sorted.{none-there}
 use Rattle.nef_complex.proofs.complex.vertex_at.Goals as goal
 

@@ -1,5 +1,4 @@
-use Rattle.std.specs.Slice.Iter.{chunks_rest}
-use Rattle.nef_complex.specs.Index.{IsInGroup}
+use Rattle.nef_complex.proofs.Prelude.{chunks_rest, IsInGroup}
 use Rattle.nef_complex.proofs.Grouped.{AreTaken, IsGroupWithin}
 use Rattle.nef_complex.proofs.groups.cluster_of.Given as goal
 

@@ -1,10 +1,4 @@
-use Rattle.std.proofs.Common.{◌≡◌, ℕ, List, [], sym, ◌∙◌, ap, subst}
-use Rattle.std.proofs.lemmas.List.{nil_from_length}
-use Rattle.std.specs.Slice.Iter.{chunks_rest}
-use Rattle.nef_classes.proofs.ClassLists.{is-at_left}
-use Rattle.nef_complex.specs.declared.spans.Span.{Span}
-use Rattle.nef_complex.specs.declared.groups.Cluster.{Cluster}
-use Rattle.nef_complex.specs.Index.{StandsIn, IsInCluster}
+use Rattle.nef_complex.proofs.Prelude.{◌≡◌, ℕ, List, [], sym, ◌∙◌, ap, subst, nil_from_length, chunks_rest, is-at_left, Span, Cluster, StandsIn, IsInCluster}
 use Rattle.nef_complex.proofs.Grouped.{AreTaken, AreWide, taken-none, taken-more, taken-all}
 use Rattle.nef_complex.proofs.groups.clusters_of.Goals as goal
 

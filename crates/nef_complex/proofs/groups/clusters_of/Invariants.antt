@@ -1,7 +1,4 @@
-use Rattle.std.proofs.Common.{ℕ, List, length}
-use Rattle.std.specs.Slice.Iter.{chunks_rest}
-use Rattle.nef_complex.specs.Index.{IsInCluster}
-use Rattle.nef_complex.specs.Indexing.{AreKeyed}
+use Rattle.nef_complex.proofs.Prelude.{ℕ, List, length, chunks_rest, IsInCluster, AreKeyed}
 use Rattle.nef_complex.proofs.Grouped.{AreTaken, AreWide}
 use Rattle.nef_complex.proofs.groups.clusters_of.Given as goal
 

@@ -1,7 +1,4 @@
-use Rattle.std.proofs.Common.{ℕ, pos, ◌+◌, List, get_or, arith, sym, ◌∙◌, subst}
-use Rattle.nef_classes.proofs.ClassLists.{is-at_get, is-at_within}
-use Rattle.nef_complex.specs.declared.spans.Bounds.{Bounds}
-use Rattle.nef_complex.specs.declared.spans.Span.{Span}
+use Rattle.nef_complex.proofs.Prelude.{ℕ, pos, ◌+◌, List, get_or, arith, sym, ◌∙◌, subst, is-at_get, is-at_within, Bounds, Span}
 use Rattle.nef_complex.proofs.Grouped.{IsGroupTo, group-none, group-more}
 use Rattle.nef_complex.proofs.groups.group_of.Goals as goal
 

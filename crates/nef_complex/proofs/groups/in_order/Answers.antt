@@ -1,5 +1,4 @@
-use Rattle.std.proofs.Common.{◌≡◌, ℕ, List, ◌+◌, length, arith, sym, subst}
-use Rattle.nef_complex.specs.Indexing.{AreKeyed}
+use Rattle.nef_complex.proofs.Prelude.{◌≡◌, ℕ, List, ◌+◌, length, arith, sym, subst, AreKeyed}
 use Rattle.nef_complex.proofs.Grouped.{keyed-none, keyed-more, keyed-moved}
 use Rattle.nef_complex.proofs.groups.in_order.Goals as goal
 

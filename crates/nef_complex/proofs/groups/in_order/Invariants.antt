@@ -1,4 +1,4 @@
-use Rattle.nef_complex.specs.Indexing.{AreKeyed}
+use Rattle.nef_complex.proofs.Prelude.{AreKeyed}
 use Rattle.nef_complex.proofs.groups.in_order.Given as goal
 
 abbrev pub invariant-loop-number : goal.invariant-loop-number

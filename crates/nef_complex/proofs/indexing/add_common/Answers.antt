@@ -1,6 +1,4 @@
-use Rattle.std.proofs.Common.{◌≡◌, ℕ, List, [], ◌∷◌, ◌++◌, append_assoc, get_or, arith, ap, sym, ◌∙◌}
-use Rattle.std.proofs.lemmas.List.{append-nil}
-use Rattle.nef_classes.proofs.ClassLists.{is-at_get}
+use Rattle.nef_complex.proofs.Prelude.{◌≡◌, ℕ, List, [], ◌∷◌, ◌++◌, append_assoc, get_or, arith, ap, sym, ◌∙◌, append-nil, is-at_get}
 use Rattle.nef_complex.proofs.CommonRows.{common-none, common-first, common-second, common-both, common-all-first, common-all-second}
 use Rattle.nef_complex.proofs.indexing.add_common.Goals as goal
 

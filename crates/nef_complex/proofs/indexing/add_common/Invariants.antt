@@ -1,5 +1,4 @@
-use Rattle.std.proofs.Common.{length, ◌+◌, ◌-◌, ◌≤◌}
-use Rattle.nef_complex.specs.Common.{HasAdded}
+use Rattle.nef_complex.proofs.Prelude.{length, ◌+◌, ◌-◌, ◌≤◌, HasAdded}
 use Rattle.nef_complex.proofs.CommonRows.{AreCommonTo}
 use Rattle.nef_complex.proofs.indexing.add_common.Given as goal
 

@@ -1,9 +1,4 @@
-use Rattle.std.proofs.Common.{◌≡◌, ℕ, ◌+◌, List, length, get_or, arith, ap, sym, subst}
-use Rattle.nef_space.specs.declared.label.Label.TheVariants.{Out}
-use Rattle.nef_classes.proofs.ClassLists.{is-at_get, is-at_one}
-use Rattle.nef_complex.specs.declared.complex.Edge.{Edge}
-use Rattle.nef_complex.specs.Common.{AreCommon, AreCommonAlong, AreCommonRows}
-use Rattle.nef_complex.specs.Tables.{rows_of, AreEnds}
+use Rattle.nef_complex.proofs.Prelude.{◌≡◌, ℕ, ◌+◌, List, length, get_or, arith, ap, sym, subst, Out, is-at_get, is-at_one, Edge, AreCommon, AreCommonAlong, AreCommonRows, rows_of, AreEnds}
 use Rattle.nef_complex.proofs.Rows.{ends-written, rows-written}
 use Rattle.nef_complex.proofs.Numbered.{AreRowsTo, rows-none, rows-more}
 use Rattle.nef_complex.proofs.indexing.edge_rows.Goals as goal

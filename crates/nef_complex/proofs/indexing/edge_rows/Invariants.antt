@@ -1,6 +1,5 @@
 use Rattle.std.specs.Prelude.{length}
-use Rattle.nef_complex.specs.Common.{AreCommonAlong}
-use Rattle.nef_complex.specs.Tables.{rows_of, AreEnds}
+use Rattle.nef_complex.proofs.Prelude.{AreCommonAlong, rows_of, AreEnds}
 use Rattle.nef_complex.proofs.Numbered.{AreRowsTo}
 use Rattle.nef_complex.proofs.indexing.edge_rows.Given as goal
 

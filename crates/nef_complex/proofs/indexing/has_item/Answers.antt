@@ -1,12 +1,4 @@
-use Rattle.std.proofs.Common.{◌≡◌, ℕ, true, false, is_some, rules, length, get_or, arith, refl, sym, ◌∙◌, subst, ⊎_elim}
-use Rattle.std.proofs.lemmas.Option.{slice_get_read}
-use Rattle.nef_arc.proofs.SignNumbers.{not_true}
-use Rattle.nef_space.specs.Lists.{IsAt}
-use Rattle.nef_geo.specs.Shapes.{form_of, vector_of}
-use Rattle.nef_smap.specs.Maps.{map_of}
-use Rattle.nef_classes.proofs.ClassLists.{less-or-last, is-at_get, is-at_one, is-at_within}
-use Rattle.nef_complex.specs.declared.complex.Vertex.{Vertex}
-use Rattle.nef_complex.specs.Indexing.{HasNormal}
+use Rattle.nef_complex.proofs.Prelude.{◌≡◌, ℕ, true, false, is_some, rules, length, get_or, arith, refl, sym, ◌∙◌, subst, ⊎_elim, slice_get_read, not_true, IsAt, form_of, vector_of, map_of, less-or-last, is-at_get, is-at_one, is-at_within, Vertex, HasNormal}
 use Rattle.nef_complex.proofs.IndexSteps.{with-normal, without-normal, item-in, no-item}
 use Rattle.nef_complex.proofs.indexing.has_item.Goals as goal
 

@@ -1,9 +1,4 @@
-use Rattle.std.proofs.Common.{ℕ, ◌<◌}
-use Rattle.nef_space.specs.Lists.{IsAt}
-use Rattle.nef_geo.specs.Shapes.{vector_of}
-use Rattle.nef_smap.specs.Maps.{map_of}
-use Rattle.nef_complex.specs.declared.complex.Vertex.{Vertex}
-use Rattle.nef_complex.specs.Indexing.{HasNormal}
+use Rattle.nef_complex.proofs.Prelude.{ℕ, ◌<◌, IsAt, vector_of, map_of, Vertex, HasNormal}
 use Rattle.nef_complex.proofs.indexing.has_item.Given as goal
 
 abbrev pub invariant-loop-number : goal.invariant-loop-number

@@ -1,5 +1,4 @@
-use Rattle.std.proofs.Common.{◌≡◌, ◌∙◌, ◌+◌, [], length, arith, refl, sym, subst}
-use Rattle.std.proofs.lemmas.Option.{slice_get_read}
+use Rattle.nef_complex.proofs.Prelude.{◌≡◌, ◌∙◌, ◌+◌, [], length, arith, refl, sym, subst, slice_get_read}
 use Rattle.nef_complex.proofs.IndexSteps.{AreFlagsTo, flags-none, flags-more}
 use Rattle.nef_complex.proofs.indexing.item_flags.Goals as goal
 

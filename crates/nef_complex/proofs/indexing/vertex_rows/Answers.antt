@@ -1,8 +1,4 @@
-use Rattle.std.proofs.Common.{ℕ, ◌+◌, List, length, arith, refl, sym, subst}
-use Rattle.std.proofs.lemmas.Option.{slice_get_read}
-use Rattle.nef_geo.specs.Shapes.{place_of}
-use Rattle.nef_complex.specs.declared.complex.Vertex.{Vertex}
-use Rattle.nef_complex.specs.Index.{AreHolders}
+use Rattle.nef_complex.proofs.Prelude.{ℕ, ◌+◌, List, length, arith, refl, sym, subst, slice_get_read, place_of, Vertex, AreHolders}
 use Rattle.nef_complex.proofs.Numbered.{AreRowsTo, rows-none, rows-more}
 use Rattle.nef_complex.proofs.indexing.vertex_rows.Goals as goal
 

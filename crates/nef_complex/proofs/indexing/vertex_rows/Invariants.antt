@@ -1,7 +1,5 @@
 use Rattle.std.specs.Prelude.{ℕ, List}
-use Rattle.nef_geo.specs.Shapes.{place_of}
-use Rattle.nef_complex.specs.declared.complex.Vertex.{Vertex}
-use Rattle.nef_complex.specs.Index.{AreHolders}
+use Rattle.nef_complex.proofs.Prelude.{place_of, Vertex, AreHolders}
 use Rattle.nef_complex.proofs.Numbered.{AreRowsTo}
 use Rattle.nef_complex.proofs.indexing.vertex_rows.Given as goal
 

@@ -1,4 +1,4 @@
-use Rattle.std.proofs.Common.{arith}
+use Rattle.nef_complex.proofs.Prelude.{arith}
 use Rattle.nef_complex.proofs.Peaked.{end-none}
 use Rattle.nef_complex.proofs.peaks.greatest_end.Goals as goal
 

@@ -1,5 +1,5 @@
 use Rattle.std.specs.Prelude.{◌+◌}
-use Rattle.nef_complex.specs.Peaks.{EndBelow}
+use Rattle.nef_complex.proofs.Prelude.{EndBelow}
 use Rattle.nef_complex.proofs.peaks.greatest_end.Given as goal
 
 abbrev pub invariant-loop-place : goal.invariant-loop-place

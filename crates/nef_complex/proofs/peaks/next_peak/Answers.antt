@@ -1,6 +1,4 @@
-use Rattle.std.proofs.Common.{◌≡◌, sym, subst, ℕ, ◌+◌, ◌-◌, ◌*◌, ◌<◌, length, get_or, arith}
-use Rattle.nef_classes.proofs.ClassLists.{is-at_get}
-use Rattle.nef_complex.specs.Peaks.{block_start, EndBelow}
+use Rattle.nef_complex.proofs.Prelude.{◌≡◌, sym, subst, ℕ, ◌+◌, ◌-◌, ◌*◌, ◌<◌, length, get_or, arith, is-at_get, block_start, EndBelow}
 use Rattle.nef_complex.proofs.Peaked.{end-within, end-either}
 use Rattle.nef_complex.proofs.peaks.next_peak.Goals as goal
 

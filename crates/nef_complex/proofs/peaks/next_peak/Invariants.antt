@@ -1,6 +1,5 @@
 use Rattle.std.specs.Prelude.{ℕ, ◌+◌, ◌*◌, ◌≤◌, List, length}
-use Rattle.nef_complex.specs.declared.complex.Edge.{Edge}
-use Rattle.nef_complex.specs.Peaks.{EndBelow, ArePeaks}
+use Rattle.nef_complex.proofs.Prelude.{Edge, EndBelow, ArePeaks}
 use Rattle.nef_complex.proofs.peaks.next_peak.Given as goal
 
 abbrev pub invariant-loop-first : goal.invariant-loop-first

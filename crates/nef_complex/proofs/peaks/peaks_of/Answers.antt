@@ -1,6 +1,4 @@
-use Rattle.std.proofs.Common.{ℕ, ◌≤◌, List, length, arith, sym, subst}
-use Rattle.nef_complex.specs.declared.complex.Edge.{Edge}
-use Rattle.nef_complex.specs.Peaks.{ArePeaks}
+use Rattle.nef_complex.proofs.Prelude.{ℕ, ◌≤◌, List, length, arith, sym, subst, Edge, ArePeaks}
 use Rattle.nef_complex.proofs.Peaked.{have-none, have-more}
 use Rattle.nef_complex.proofs.peaks.peaks_of.Goals as goal
 

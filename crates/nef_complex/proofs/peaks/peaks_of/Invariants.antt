@@ -1,5 +1,5 @@
 use Rattle.std.specs.Prelude.{◌≤◌, length}
-use Rattle.nef_complex.specs.Peaks.{HavePeaks}
+use Rattle.nef_complex.proofs.Prelude.{HavePeaks}
 use Rattle.nef_complex.proofs.peaks.peaks_of.Given as goal
 
 abbrev pub invariant-loop-number : goal.invariant-loop-number

@@ -1,6 +1,4 @@
-use Rattle.std.proofs.Common.{◌≡◌, ℕ, ◌+◌, ◌*◌, List, [], ◌∷◌, ◌++◌, length, length-append, arith, ap, sym, subst, ◌∙◌}
-use Rattle.nef_complex.specs.declared.complex.Edge.{Edge}
-use Rattle.nef_complex.specs.Peaks.{ArePeaks}
+use Rattle.nef_complex.proofs.Prelude.{◌≡◌, ℕ, ◌+◌, ◌*◌, List, [], ◌∷◌, ◌++◌, length, length-append, arith, ap, sym, subst, ◌∙◌, Edge, ArePeaks}
 use Rattle.nef_complex.proofs.Peaked.{end-at, peaks-more}
 use Rattle.nef_complex.proofs.peaks.put_peaks.Goals as goal
 

@@ -1,5 +1,5 @@
 use Rattle.std.specs.Prelude.{◌≡◌, length}
-use Rattle.nef_complex.specs.Peaks.{ArePeaks}
+use Rattle.nef_complex.proofs.Prelude.{ArePeaks}
 use Rattle.nef_complex.proofs.peaks.put_peaks.Given as goal
 
 abbrev pub invariant-loop-block : goal.invariant-loop-block

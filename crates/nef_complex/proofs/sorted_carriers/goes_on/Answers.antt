@@ -1,7 +1,4 @@
-use Rattle.std.proofs.Common.{ℕ, ◌+◌, List, length, refl, sym}
-use Rattle.std.proofs.lemmas.Bool.{ltb-true}
-use Rattle.std.proofs.lemmas.Option.{slice_get_read}
-use Rattle.nef_geo.specs.declared.plane.Plane.{Plane}
+use Rattle.nef_complex.proofs.Prelude.{ℕ, ◌+◌, List, length, refl, sym, ltb-true, slice_get_read, Plane}
 use Rattle.nef_complex.proofs.sorted_carriers.goes_on.Goals as goal
 
 pub returns-in-Some : goal.returns-in-Some

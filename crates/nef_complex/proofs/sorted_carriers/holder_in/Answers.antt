@@ -1,8 +1,4 @@
-use Rattle.std.proofs.Common.{arith, rules, length, refl}
-use Rattle.std.proofs.lemmas.Fn.{always_returns_same}
-use Rattle.std.proofs.lemmas.Option.{slice_get_read}
-use Rattle.std.specs.List.Sorted.{IsBinarySearchResult}
-use Rattle.nef_geo.specs.Shapes.{place_of}
+use Rattle.nef_complex.proofs.Prelude.{arith, rules, length, refl, always_returns_same, slice_get_read, IsBinarySearchResult, place_of}
 use Rattle.nef_complex.proofs.Parallel.{side_order, run_of, found-alone, missed-alone, found-in-run, missed-in-run}
 use Rattle.nef_complex.proofs.sorted_carriers.holder_in.Goals as goal
 

@@ -1,8 +1,4 @@
-use Rattle.std.proofs.Common.{◌≡◌, IsTrue, rules, sym, ap, ◌∙◌}
-use Rattle.nef_space.specs.Place.{form_at}
-use Rattle.nef_geo.specs.Shapes.{form_of, place_of}
-use Rattle.nef_geo.specs.Signs.{sign_of}
-use Rattle.nef_geo.specs.declared.sign.Sign.TheVariants.{Zero}
+use Rattle.nef_complex.proofs.Prelude.{◌≡◌, IsTrue, rules, sym, ap, ◌∙◌, form_at, form_of, place_of, sign_of, Zero}
 use Rattle.nef_geo.proofs.Signs.{zero_sign}
 use Rattle.nef_complex.proofs.sorted_carriers.holds.Goals as goal
 

@@ -1,5 +1,4 @@
-use Rattle.std.proofs.Common.{ℕ, ◌+◌, List, arith, sym, ap, subst, ◌∙◌, Vec, Global}
-use Rattle.nef_geo.specs.declared.plane.Plane.{Plane}
+use Rattle.nef_complex.proofs.Prelude.{ℕ, ◌+◌, List, arith, sym, ap, subst, ◌∙◌, Vec, Global, Plane}
 use Rattle.nef_complex.proofs.Parallel.{IsInRun, in-run_none, in-run_on, in-run_end, in-run_all}
 use Rattle.nef_complex.proofs.sorted_carriers.run_ends.Goals.{then-not-goes_on+in_ok-push, else-not-goes_on}
 use Rattle.nef_complex.proofs.sorted_carriers.run_ends.Goals as goal

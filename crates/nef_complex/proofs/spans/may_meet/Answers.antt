@@ -1,5 +1,4 @@
-use Rattle.std.proofs.Common.{IsTrue, rules}
-use Rattle.law_complex.specs.Spans.{coordinate_x, coordinate_y, coordinate_z}
+use Rattle.nef_complex.proofs.Prelude.{IsTrue, rules, coordinate_x, coordinate_y, coordinate_z}
 use Rattle.nef_complex.proofs.Spanned.{within-both}
 use Rattle.nef_complex.proofs.spans.may_meet.Goals as goal
 

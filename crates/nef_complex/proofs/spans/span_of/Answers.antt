@@ -1,7 +1,4 @@
-use Rattle.std.proofs.Common.{ℕ, pos, List, get_or, arith}
-use Rattle.nef_classes.proofs.ClassLists.{is-at_get}
-use Rattle.nef_complex.specs.declared.spans.Bounds.{Bounds}
-use Rattle.nef_complex.specs.declared.spans.Span.{Span}
+use Rattle.nef_complex.proofs.Prelude.{ℕ, pos, List, get_or, arith, is-at_get, Bounds, Span}
 use Rattle.nef_complex.proofs.Spanning.{narrower-more}
 use Rattle.nef_complex.proofs.spans.span_of.Goals as goal
 

@@ -1,4 +1,4 @@
-use Rattle.nef_complex.specs.Indexing.{AreNarrowerListed}
+use Rattle.nef_complex.proofs.Prelude.{AreNarrowerListed}
 use Rattle.nef_complex.proofs.spans.span_of.Given as goal
 
 abbrev pub invariant-loop-number : goal.invariant-loop-number

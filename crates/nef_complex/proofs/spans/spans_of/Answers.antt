@@ -1,5 +1,4 @@
-use Rattle.std.proofs.Common.{◌≡◌, ℕ, ◌+◌, List, length, sym, subst}
-use Rattle.nef_complex.specs.declared.spans.Span.{Span}
+use Rattle.nef_complex.proofs.Prelude.{◌≡◌, ℕ, ◌+◌, List, length, sym, subst, Span}
 use Rattle.nef_complex.proofs.Spanning.{AreSpansOf, spans-more, spans-as-many}
 use Rattle.nef_complex.proofs.spans.spans_of.Goals as goal
 

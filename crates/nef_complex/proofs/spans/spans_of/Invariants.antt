@@ -1,7 +1,5 @@
 use Rattle.std.specs.Prelude.{◌≡◌, ℕ, List, length}
-use Rattle.nef_space.specs.Lists.{IsAt}
-use Rattle.nef_complex.specs.declared.spans.Span.{Span}
-use Rattle.nef_complex.specs.Indexing.{AreNarrowerListed}
+use Rattle.nef_complex.proofs.Prelude.{IsAt, Span, AreNarrowerListed}
 use Rattle.nef_complex.proofs.spans.spans_of.Given as goal
 
 abbrev pub invariant-loop-number : goal.invariant-loop-number

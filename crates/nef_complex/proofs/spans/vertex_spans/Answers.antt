@@ -1,6 +1,4 @@
-use Rattle.std.proofs.Common.{◌≡◌, ◌+◌, List, length, arith, refl, sym, subst}
-use Rattle.std.proofs.lemmas.Option.{slice_get_read}
-use Rattle.nef_complex.specs.declared.spans.Span.{Span}
+use Rattle.nef_complex.proofs.Prelude.{◌≡◌, ◌+◌, List, length, arith, refl, sym, subst, slice_get_read, Span}
 use Rattle.nef_complex.proofs.Spanning.{AreEachAlone, alone-more, spans-as-many}
 use Rattle.nef_complex.proofs.spans.vertex_spans.Goals as goal
 

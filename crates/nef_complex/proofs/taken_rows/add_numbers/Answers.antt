@@ -1,6 +1,4 @@
-use Rattle.std.proofs.Common.{◌≡◌, ℕ, ◌+◌, List, length, get_or, arith, sym, subst}
-use Rattle.nef_classes.proofs.ClassLists.{is-at_get}
-use Rattle.nef_complex.specs.Taken.{AreAdded}
+use Rattle.nef_complex.proofs.Prelude.{◌≡◌, ℕ, ◌+◌, List, length, get_or, arith, sym, subst, is-at_get, AreAdded}
 use Rattle.nef_complex.proofs.Walking.{added-none, added-more}
 use Rattle.nef_complex.proofs.taken_rows.add_numbers.Goals as goal
 

@@ -1,4 +1,4 @@
-use Rattle.nef_complex.specs.Taken.{AreAdded}
+use Rattle.nef_complex.proofs.Prelude.{AreAdded}
 use Rattle.nef_complex.proofs.taken_rows.add_numbers.Given as goal
 
 abbrev pub invariant-loop-place : goal.invariant-loop-place

@@ -1,6 +1,4 @@
-use Rattle.std.proofs.Common.{ℕ, List, length, refl, sym, ◌∙◌}
-use Rattle.std.proofs.lemmas.Option.{slice_get_read}
-use Rattle.nef_complex.specs.declared.complex.Vertex.{Vertex}
+use Rattle.nef_complex.proofs.Prelude.{ℕ, List, length, refl, sym, ◌∙◌, slice_get_read, Vertex}
 use Rattle.nef_complex.proofs.SamePoints.{points-tested}
 use Rattle.nef_complex.proofs.taken_rows.number_at.Goals as goal
 

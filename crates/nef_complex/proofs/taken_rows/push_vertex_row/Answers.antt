@@ -1,18 +1,6 @@
-use Rattle.std.proofs.Common.{◌≡◌, ◌<◌, ℕ, List, [], ◌∷◌, ◌++◌, length, arith, refl, sym, ◌∙◌, subst}
-use Rattle.std.specs.Vec.{vec_len}
-use Rattle.std.proofs.lemmas.Bool.{eqb-true}
+use Rattle.nef_complex.proofs.Prelude.{◌≡◌, ◌<◌, ℕ, List, [], ◌∷◌, ◌++◌, length, arith, refl, sym, ◌∙◌, subst, vec_len, eqb-true, slice_get_read, eqb, IsAt, place_of, Plane, is-at_one, Vertex, AreWithin, AreHolders, AreRead, AreAdded, IsRowAdded}
 use Rattle.std.proofs.lemmas.List.Filters.{dedup_is}
-use Rattle.std.proofs.lemmas.Option.{slice_get_read}
 use Rattle.std.proofs.lemmas.Result.{on_ok_weaker}
-use Rattle.std.proofs.Math.Dec.{eqb}
-use Rattle.nef_space.specs.Lists.{IsAt}
-use Rattle.nef_geo.specs.Shapes.{place_of}
-use Rattle.nef_geo.specs.declared.plane.Plane.{Plane}
-use Rattle.nef_classes.proofs.ClassLists.{is-at_one}
-use Rattle.nef_complex.specs.declared.complex.Vertex.{Vertex}
-use Rattle.nef_complex.specs.Index.{AreWithin, AreHolders}
-use Rattle.nef_complex.specs.Tables.{AreRead}
-use Rattle.nef_complex.specs.Taken.{AreAdded, IsRowAdded}
 use Rattle.nef_complex.proofs.TakenRows.{holders-places, row-once, row-read}
 use Rattle.nef_complex.proofs.taken_rows.push_vertex_row.Goals as goal
 

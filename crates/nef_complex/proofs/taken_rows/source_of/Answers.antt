@@ -1,8 +1,4 @@
-use Rattle.std.proofs.Common.{◌≡◌, ◌≤◌, ℕ, ◌+◌, List, [], length, arith, refl, sym, ap, subst, ◌∙◌, Vec, Global}
-use Rattle.std.proofs.lemmas.Option.{slice_get_read}
-use Rattle.nef_space.specs.Lists.{IsAt}
-use Rattle.nef_geo.specs.declared.plane.Plane.{Plane}
-use Rattle.nef_complex.specs.Taken.{AreTaken}
+use Rattle.nef_complex.proofs.Prelude.{◌≡◌, ◌≤◌, ℕ, ◌+◌, List, [], length, arith, refl, sym, ap, subst, ◌∙◌, Vec, Global, slice_get_read, IsAt, Plane, AreTaken}
 use Rattle.nef_complex.proofs.Walking.{walked-none, walked-same, walked-taken, walked-other, taken-all}
 use Rattle.nef_complex.proofs.taken_rows.source_of.Goals.{then-stands_at+in_ok-push, else-stands_at+in_ok-push-2+in_ok-push-3}
 use Rattle.nef_complex.proofs.taken_rows.source_of.Goals as goal

@@ -1,11 +1,5 @@
-use Rattle.std.proofs.Common.{◌≡◌, ℕ, List, length, true, refl, sym, subst, ◌∙◌}
+use Rattle.nef_complex.proofs.Prelude.{◌≡◌, ℕ, List, length, true, refl, sym, subst, ◌∙◌, MatchOrdering, is_eq, false≢true, ltb-true, slice_get_read, IsAt, Plane, plane-ordered}
 use Rattle.std.proofs.Common.{Ordering, Less, Equal, Greater}
-use Rattle.std.specs.Ordering.{MatchOrdering, is_eq}
-use Rattle.std.proofs.lemmas.Bool.{false≢true, ltb-true}
-use Rattle.std.proofs.lemmas.Option.{slice_get_read}
-use Rattle.nef_space.specs.Lists.{IsAt}
-use Rattle.nef_geo.specs.declared.plane.Plane.{Plane}
-use Rattle.nef_geo.proofs.Orders.{plane-ordered}
 use Rattle.nef_complex.proofs.taken_rows.stands_at.Goals as goal
 
 if-equal : (A B C : Type 0) (o : Ordering) → MatchOrdering o A B C → is_eq o ≡ true → B

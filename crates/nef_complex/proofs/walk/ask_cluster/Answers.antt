@@ -1,11 +1,4 @@
-use Rattle.std.proofs.Common.{length, refl, ◌+◌, List, arith, sym, ◌∙◌, subst}
-use Rattle.std.proofs.lemmas.Option.{slice_get_read}
-use Rattle.nef_space.specs.Lists.{IsAt}
-use Rattle.nef_arc.proofs.SignNumbers.{not_true}
-use Rattle.nef_complex.specs.declared.spans.Span.{Span}
-use Rattle.nef_complex.specs.Index.{StandsIn, IsInGroup}
-use Rattle.nef_complex.specs.declared.groups.Group.{Group}
-use Rattle.nef_complex.specs.Complexes.{LiesOutside}
+use Rattle.nef_complex.proofs.Prelude.{length, refl, ◌+◌, List, arith, sym, ◌∙◌, subst, slice_get_read, IsAt, not_true, Span, StandsIn, IsInGroup, Group, LiesOutside}
 use Rattle.nef_complex.proofs.Reading.{HaveAll, next-numbers, all-numbers}
 use Rattle.nef_complex.proofs.Outside.{all-outside}
 use Rattle.nef_complex.proofs.walk.ask_cluster.Goals.{then-may_meet, else-may_meet}

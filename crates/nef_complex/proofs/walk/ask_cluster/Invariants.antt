@@ -1,5 +1,4 @@
-use Rattle.std.proofs.Common.{ℕ}
-use Rattle.nef_complex.specs.Index.{IsInGroup}
+use Rattle.nef_complex.proofs.Prelude.{ℕ, IsInGroup}
 use Rattle.nef_complex.proofs.Reading.{HaveAll}
 use Rattle.nef_complex.proofs.walk.ask_cluster.Given as goal
 

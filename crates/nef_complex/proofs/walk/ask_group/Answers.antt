@@ -1,12 +1,4 @@
-use Rattle.std.proofs.Common.{ℕ, ◌+◌, ◌<◌, List, length, arith, rules, get_or, sym, ◌∙◌, subst}
-use Rattle.law_sphere.specs.Maps.{At}
-use Rattle.nef_space.specs.Lists.{IsAt}
-use Rattle.nef_arc.proofs.SignNumbers.{not_true}
-use Rattle.nef_classes.proofs.ClassLists.{is-at_get, is-at_within}
-use Rattle.nef_smap.proofs.SideLists.{at-from_get}
-use Rattle.nef_complex.specs.declared.spans.Span.{Span}
-use Rattle.nef_complex.specs.Index.{AreWithin}
-use Rattle.nef_complex.specs.Complexes.{LiesOutside}
+use Rattle.nef_complex.proofs.Prelude.{ℕ, ◌+◌, ◌<◌, List, length, arith, rules, get_or, sym, ◌∙◌, subst, At, IsAt, not_true, is-at_get, is-at_within, at-from_get, Span, AreWithin, LiesOutside}
 use Rattle.nef_complex.proofs.Reading.{next-all}
 use Rattle.nef_complex.proofs.Outside.{no_span, carrier-outside}
 use Rattle.nef_complex.proofs.walk.ask_group.Goals.{then-may_meet, else-may_meet}

@@ -1,5 +1,4 @@
-use Rattle.std.proofs.Common.{ℕ, ◌<◌}
-use Rattle.law_sphere.specs.Maps.{At}
+use Rattle.nef_complex.proofs.Prelude.{ℕ, ◌<◌, At}
 use Rattle.nef_complex.proofs.walk.ask_group.Given as goal
 
 abbrev pub invariant-loop-number : goal.invariant-loop-number

@@ -1,10 +1,4 @@
-use Rattle.std.proofs.Common.{length, refl, ◌+◌, List, arith, sym, ◌∙◌, subst}
-use Rattle.std.proofs.lemmas.Option.{slice_get_read}
-use Rattle.nef_arc.proofs.SignNumbers.{not_true}
-use Rattle.nef_complex.specs.declared.spans.Span.{Span}
-use Rattle.nef_complex.specs.declared.groups.Cluster.{Cluster}
-use Rattle.nef_complex.specs.Index.{IsInCluster}
-use Rattle.nef_complex.specs.Complexes.{LiesOutside}
+use Rattle.nef_complex.proofs.Prelude.{length, refl, ◌+◌, List, arith, sym, ◌∙◌, subst, slice_get_read, not_true, Span, Cluster, IsInCluster, LiesOutside}
 use Rattle.nef_complex.proofs.Reading.{HaveAll, next-numbers, all-numbers}
 use Rattle.nef_complex.proofs.Outside.{all-outside}
 use Rattle.nef_complex.proofs.walk.search_carriers.Goals.{then-may_meet, else-may_meet}

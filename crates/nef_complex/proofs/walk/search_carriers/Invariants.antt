@@ -1,4 +1,4 @@
-use Rattle.nef_complex.specs.Index.{IsInCluster}
+use Rattle.nef_complex.proofs.Prelude.{IsInCluster}
 use Rattle.nef_complex.proofs.Reading.{HaveAll}
 use Rattle.nef_complex.proofs.walk.search_carriers.Given as goal
 

@@ -1,4 +1,4 @@
-use Rattle.std.proofs.Common.{rules}
+use Rattle.nef_edges.proofs.Prelude.{rules}
 use Rattle.nef_edges.proofs.Ways.{along-stepped}
 use Rattle.nef_edges.proofs.along.is_along_step.Goals as goal
 

@@ -1,4 +1,4 @@
-use Rattle.std.proofs.Common.{rules}
+use Rattle.nef_edges.proofs.Prelude.{rules}
 use Rattle.nef_edges.proofs.Ways.{along-read}
 use Rattle.nef_edges.proofs.along.is_along_way.Goals as goal
 

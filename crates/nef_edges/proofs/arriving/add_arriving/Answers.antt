@@ -1,9 +1,4 @@
-use Rattle.std.proofs.Common.{◌≡◌, ◌+◌, ◌<◌, ◌≤◌, length, List, sym, ap, subst, ◌∙◌, get_or, Vec, Global}
-use Rattle.nef_space.specs.Vectors.{opposite, IsNormal}
-use Rattle.nef_geo.specs.Shapes.{vector_of}
-use Rattle.nef_smap.specs.declared.map.SVertex.{SVertex}
-use Rattle.nef_edges.specs.declared.edge_end.EdgeEnd.{EdgeEnd}
-use Rattle.nef_edges.specs.EdgeEnds.{AreArriving, IsBefore}
+use Rattle.nef_edges.proofs.Prelude.{◌≡◌, ◌+◌, ◌<◌, ◌≤◌, length, List, sym, ap, subst, ◌∙◌, get_or, Vec, Global, opposite, IsNormal, vector_of, SVertex, EdgeEnd, AreArriving, IsBefore}
 use Rattle.nef_edges.proofs.Arrivals.{before-row, arriving-weaken, arriving-pass, arriving-end, arriving-add, IsTrue-false}
 use Rattle.nef_edges.proofs.Places.{read-at}
 use Rattle.nef_edges.proofs.arriving.add_arriving.Goals.{then-is_normal+in_ok-push, else-is_normal}

@@ -1,4 +1,4 @@
-use Rattle.nef_edges.specs.EdgeEnds.{AreArriving, IsBefore}
+use Rattle.nef_edges.proofs.Prelude.{AreArriving, IsBefore}
 use Rattle.nef_edges.proofs.arriving.add_arriving.Given as goal
 
 abbrev pub invariant-loop-k : goal.invariant-loop-k

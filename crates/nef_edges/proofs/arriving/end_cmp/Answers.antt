@@ -1,7 +1,4 @@
-use Rattle.std.proofs.Common.{rules, ap, ◌∙◌, Ordering}
-use Rattle.std.specs.Ordering.{ordering_then, nat_cmp}
-use Rattle.nef_geo.proofs.Orders.{then-both}
-use Rattle.nef_edges.specs.Order.{dir_order, moment_order}
+use Rattle.nef_edges.proofs.Prelude.{rules, ap, ◌∙◌, Ordering, ordering_then, nat_cmp, then-both, dir_order, moment_order}
 use Rattle.nef_edges.proofs.arriving.end_cmp.Goals as goal
 
 pub returns : goal.returns

@@ -1,8 +1,4 @@
-use Rattle.std.proofs.Common.{ℕ, List, length, sym, ap, ◌∙◌}
-use Rattle.std.specs.Ordering.{is_gt}
-use Rattle.std.proofs.lemmas.Bool.{ltb-true}
-use Rattle.nef_edges.specs.declared.edge_end.EdgeEnd.{EdgeEnd}
-use Rattle.nef_edges.specs.Order.{end_order}
+use Rattle.nef_edges.proofs.Prelude.{ℕ, List, length, sym, ap, ◌∙◌, is_gt, ltb-true, EdgeEnd, end_order}
 use Rattle.nef_edges.proofs.Next.{gt-greater}
 use Rattle.nef_edges.proofs.Places.{read-at}
 use Rattle.nef_edges.proofs.arriving.is_after.Goals as goal

@@ -1,4 +1,4 @@
-use Rattle.std.proofs.Common.{rules}
+use Rattle.nef_edges.proofs.Prelude.{rules}
 use Rattle.nef_edges.proofs.Lines.{line-tied}
 use Rattle.nef_edges.proofs.arriving.is_one_line.Goals as goal
 

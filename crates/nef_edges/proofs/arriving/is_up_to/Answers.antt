@@ -1,7 +1,4 @@
-use Rattle.std.proofs.Common.{◌≡◌, ◌+◌, ◌-◌, ◌<◌, ℕ, List, length, arith, sym, ap, ◌∙◌, subst}
-use Rattle.std.specs.Ordering.{is_le}
-use Rattle.nef_edges.specs.declared.edge_end.EdgeEnd.{EdgeEnd}
-use Rattle.nef_edges.specs.EdgeEnds.{NoneAfter}
+use Rattle.nef_edges.proofs.Prelude.{◌≡◌, ◌+◌, ◌-◌, ◌<◌, ℕ, List, length, arith, sym, ap, ◌∙◌, subst, is_le, EdgeEnd, NoneAfter}
 use Rattle.nef_edges.proofs.Next.{none-up_to}
 use Rattle.nef_edges.proofs.Places.{read-at}
 use Rattle.nef_edges.proofs.arriving.is_up_to.Goals as goal

@@ -1,7 +1,4 @@
-use Rattle.std.proofs.Common.{◌≡◌, rules, ap, sym, ◌∙◌, Ordering}
-use Rattle.std.specs.Ordering.{int_cmp, ordering_then}
-use Rattle.nef_geo.proofs.Orders.{then-is}
-use Rattle.nef_edges.specs.Order.{dir_order, moment_order}
+use Rattle.nef_edges.proofs.Prelude.{◌≡◌, rules, ap, sym, ◌∙◌, Ordering, int_cmp, ordering_then, then-is, dir_order, moment_order}
 use Rattle.nef_edges.proofs.Lines.{then-equal}
 use Rattle.nef_edges.proofs.arriving.line_cmp.Goals as goal
 

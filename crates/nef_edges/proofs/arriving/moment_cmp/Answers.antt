@@ -1,6 +1,4 @@
-use Rattle.std.proofs.Common.{ap, ◌∙◌, Ordering}
-use Rattle.std.specs.Ordering.{ordering_then}
-use Rattle.nef_edges.specs.Order.{moment_of, ratio_order}
+use Rattle.nef_edges.proofs.Prelude.{ap, ◌∙◌, Ordering, ordering_then, moment_of, ratio_order}
 use Rattle.nef_edges.proofs.Products.{ratio-is}
 use Rattle.nef_edges.proofs.arriving.moment_cmp.Goals as goal
 

@@ -1,8 +1,4 @@
-use Rattle.std.proofs.Common.{rules, ◌<◌, length}
-use Rattle.std.specs.Ordering.{is_le}
-use Rattle.std.proofs.lemmas.List.Sorted.{IsPartitionPoint-from_clause}
-use Rattle.nef_edges.specs.declared.edge_end.EdgeEnd.{EdgeEnd}
-use Rattle.nef_edges.specs.Order.{end_order}
+use Rattle.nef_edges.proofs.Prelude.{rules, ◌<◌, length, is_le, IsPartitionPoint-from_clause, EdgeEnd, end_order}
 use Rattle.nef_edges.proofs.Next.{parted, none-before, all-from, all-after, next-within, next-is}
 use Rattle.nef_edges.proofs.Places.{at-within, read-at}
 use Rattle.nef_edges.proofs.arriving.next_after.Goals as goal

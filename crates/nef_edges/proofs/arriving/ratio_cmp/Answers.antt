@@ -1,5 +1,4 @@
-use Rattle.std.proofs.Common.{◌*ℤ◌, ap, ◌∙◌}
-use Rattle.std.specs.Ordering.{int_cmp}
+use Rattle.nef_edges.proofs.Prelude.{◌*ℤ◌, ap, ◌∙◌, int_cmp}
 use Rattle.nef_edges.proofs.Products.{cmp-exact, scaled-fits, weight-small}
 use Rattle.nef_edges.proofs.arriving.ratio_cmp.Goals as goal
 

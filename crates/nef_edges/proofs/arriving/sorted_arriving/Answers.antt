@@ -1,7 +1,4 @@
-use Rattle.std.proofs.Common.{◌≡◌, ℕ, length, arith, rules, subst}
-use Rattle.std.proofs.lemmas.List.Sorted.{answers_always}
-use Rattle.nef_edges.specs.EdgeEnds.{IsBefore, AreArriving}
-use Rattle.nef_edges.specs.Order.{end_lt}
+use Rattle.nef_edges.proofs.Prelude.{◌≡◌, ℕ, length, arith, rules, subst, answers_always, IsBefore, AreArriving, end_lt}
 use Rattle.nef_edges.proofs.Next.{weak, sorted-kept}
 use Rattle.nef_edges.proofs.arriving.sorted_arriving.Goals as goal
 

@@ -1,4 +1,4 @@
-use Rattle.nef_edges.specs.EdgeEnds.{AreArriving, IsBefore}
+use Rattle.nef_edges.proofs.Prelude.{AreArriving, IsBefore}
 use Rattle.nef_edges.proofs.arriving.sorted_arriving.Given as goal
 
 abbrev pub invariant-loop-i : goal.invariant-loop-i

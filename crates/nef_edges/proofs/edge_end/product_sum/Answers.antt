@@ -1,10 +1,5 @@
-use Rattle.std.proofs.Common.{◌≡◌, ℤ, pos, ◌+ℤ◌, ◌*ℤ◌, [], ◌∷◌, refl, ◌∙◌}
+use Rattle.nef_edges.proofs.Prelude.{◌≡◌, ℤ, pos, ◌+ℤ◌, ◌*ℤ◌, [], ◌∷◌, refl, ◌∙◌, Code, load, const, wrap, ◌⊞◌, ◌⊠◌, fits_of, Dir, Point, product_of, sum_of, moment_limit}
 use mir.Syntax.{w128}
-use Rattle.nef_space.proofs.Machine.{Code, load, const, wrap, ◌⊞◌, ◌⊠◌, fits_of}
-use Rattle.nef_geo.specs.declared.dir.Dir.{Dir}
-use Rattle.nef_geo.specs.declared.point.Point.{Point}
-use Rattle.nef_edges.specs.Moments.{product_of, sum_of}
-use Rattle.nef_edges.specs.Widths.{moment_limit}
 use Rattle.nef_edges.proofs.Products.{weighed-exact}
 use Rattle.nef_edges.proofs.edge_end.product_sum.Goals as goal
 

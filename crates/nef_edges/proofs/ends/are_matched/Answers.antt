@@ -1,5 +1,4 @@
-use Rattle.std.proofs.Common.{refl}
-use Rattle.nef_edges.specs.Laid.{edge_between}
+use Rattle.nef_edges.proofs.Prelude.{refl, edge_between}
 use Rattle.nef_edges.proofs.Checked.{ends-matched}
 use Rattle.nef_edges.proofs.ends.are_matched.Goals as goal
 

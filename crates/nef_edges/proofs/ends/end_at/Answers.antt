@@ -1,6 +1,4 @@
-use Rattle.std.proofs.Common.{List, subst}
-use Rattle.law_sphere.specs.Maps.{At}
-use Rattle.nef_smap.specs.declared.map.SVertex.{SVertex}
+use Rattle.nef_edges.proofs.Prelude.{List, subst, At, SVertex}
 use Rattle.nef_edges.proofs.Places.{read-at}
 use Rattle.nef_edges.proofs.ends.end_at.Goals as goal
 

@@ -1,4 +1,4 @@
-use Rattle.std.proofs.Common.{rules}
+use Rattle.nef_edges.proofs.Prelude.{rules}
 use Rattle.nef_edges.proofs.Checked.{matched-ends}
 use Rattle.nef_edges.proofs.ends.is_matched.Goals as goal
 

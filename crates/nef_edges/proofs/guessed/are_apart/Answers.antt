@@ -1,9 +1,4 @@
-use Rattle.std.proofs.Common.{◌≡◌, ◌<◌, ℕ, List, length, arith, get_or, rules, sym, subst, true}
-use Rattle.std.specs.Bool.{IsTrue}
-use Rattle.nef_space.specs.declared.label.Label.TheVariants.{Out}
-use Rattle.law_sphere.specs.Maps.{At}
-use Rattle.nef_complex.specs.declared.complex.Edge.{Edge}
-use Rattle.nef_edges.specs.Matched.{AreApart, slot_of}
+use Rattle.nef_edges.proofs.Prelude.{◌≡◌, ◌<◌, ℕ, List, length, arith, get_or, rules, sym, subst, true, IsTrue, Out, At, Edge, AreApart, slot_of}
 use Rattle.nef_edges.proofs.Places.{get-at}
 use Rattle.nef_edges.proofs.Walked.{apart-none, taken-none, apart-more, taken-more}
 use Rattle.nef_edges.proofs.guessed.are_apart.Goals as goal

@@ -1,4 +1,4 @@
-use Rattle.nef_edges.specs.Matched.{AreApart, AreTaken}
+use Rattle.nef_edges.proofs.Prelude.{AreApart, AreTaken}
 use Rattle.nef_edges.proofs.guessed.are_apart.Given as goal
 
 abbrev pub invariant-loop-k : goal.invariant-loop-k

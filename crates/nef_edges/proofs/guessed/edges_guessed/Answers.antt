@@ -1,8 +1,4 @@
-use Rattle.std.proofs.Common.{List, ℕ, length, rules, sym, subst}
-use Rattle.nef_complex.specs.declared.complex.Edge.{Edge}
-use Rattle.nef_edges.specs.EdgeEnds.{IsBefore}
-use Rattle.nef_edges.specs.Laid.{AreLaid}
-use Rattle.nef_edges.specs.Matched.{AreApart}
+use Rattle.nef_edges.proofs.Prelude.{List, ℕ, length, rules, sym, subst, Edge, IsBefore, AreLaid, AreApart}
 use Rattle.nef_edges.proofs.Walked.{laid-part, laid-are_edges}
 use Rattle.nef_edges.proofs.guessed.edges_guessed.Goals as goal
 

@@ -1,6 +1,4 @@
-use Rattle.std.proofs.Common.{List, subst}
-use Rattle.law_sphere.specs.Maps.{At}
-use Rattle.nef_complex.specs.declared.complex.Edge.{Edge}
+use Rattle.nef_edges.proofs.Prelude.{List, subst, At, Edge}
 use Rattle.nef_edges.proofs.guessed.join.Goals as goal
 
 pub returns-in-Some : goal.returns-in-Some

@@ -1,5 +1,4 @@
-use Rattle.std.proofs.Common.{◌<◌, ◌≤◌, ℕ, List, length, arith, get_or, rules}
-use Rattle.nef_edges.specs.EdgeEnds.{IsBefore}
+use Rattle.nef_edges.proofs.Prelude.{◌<◌, ◌≤◌, ℕ, List, length, arith, get_or, rules, IsBefore}
 use Rattle.nef_edges.proofs.Places.{get-at}
 use Rattle.nef_edges.proofs.Walked.{laid-joined, laid-whole}
 use Rattle.nef_edges.proofs.guessed.join_loose.Goals as goal

@@ -1,6 +1,4 @@
-use Rattle.std.proofs.Common.{length}
-use Rattle.nef_edges.specs.EdgeEnds.{IsBefore}
-use Rattle.nef_edges.specs.Laid.{AreLaid}
+use Rattle.nef_edges.proofs.Prelude.{length, IsBefore, AreLaid}
 use Rattle.nef_edges.proofs.guessed.join_loose.Given as goal
 
 abbrev pub invariant-loop-j : goal.invariant-loop-j

@@ -1,5 +1,4 @@
-use Rattle.std.proofs.Common.{List, rules}
-use Rattle.nef_complex.specs.declared.complex.Edge.{Edge}
+use Rattle.nef_edges.proofs.Prelude.{List, rules, Edge}
 use Rattle.nef_edges.proofs.Places.{read-at}
 use Rattle.nef_edges.proofs.guessed.joined_edge.Goals as goal
 

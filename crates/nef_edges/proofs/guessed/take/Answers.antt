@@ -1,5 +1,4 @@
-use Rattle.std.proofs.Common.{ℕ, ◌<◌, true, sym, subst, ◌∙◌}
-use Rattle.std.proofs.lemmas.Bool.{false≢true}
+use Rattle.nef_edges.proofs.Prelude.{ℕ, ◌<◌, true, sym, subst, ◌∙◌, false≢true}
 use Rattle.nef_edges.proofs.Places.{at-read}
 use Rattle.nef_edges.proofs.Walked.{set-one, set-kept}
 use Rattle.nef_edges.proofs.guessed.take.Goals as goal

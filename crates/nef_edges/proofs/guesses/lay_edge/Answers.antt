@@ -1,7 +1,4 @@
-use Rattle.std.proofs.Common.{◌+◌, ℕ, List, refl, inl, sym, subst}
-use Rattle.nef_complex.specs.declared.complex.Edge.{Edge}
-use Rattle.nef_edges.specs.EdgeEnds.{IsBefore}
-use Rattle.nef_edges.specs.Laid.{AreLaid, edge_between}
+use Rattle.nef_edges.proofs.Prelude.{◌+◌, ℕ, List, refl, inl, sym, subst, Edge, IsBefore, AreLaid, edge_between}
 use Rattle.nef_edges.proofs.Walked.{part-same, laid-add}
 use Rattle.nef_edges.proofs.guesses.lay_edge.Goals as goal
 

@@ -1,6 +1,4 @@
-use Rattle.std.proofs.Common.{◌≡◌, ℕ, length, arith, subst}
-use Rattle.nef_edges.specs.EdgeEnds.{IsBefore}
-use Rattle.nef_edges.specs.Laid.{AreLaid}
+use Rattle.nef_edges.proofs.Prelude.{◌≡◌, ℕ, length, arith, subst, IsBefore, AreLaid}
 use Rattle.nef_edges.proofs.guesses.lay_edges.Goals as goal
 
 pub returns : goal.returns

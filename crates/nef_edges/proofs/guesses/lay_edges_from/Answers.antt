@@ -1,11 +1,5 @@
-use Rattle.std.proofs.Common.{◌≡◌, ◌+◌, ◌<◌, ◌≤◌, length, List, sym, subst, get_or, Vec, Global}
-use Rattle.nef_space.specs.Vectors.{IsNormal}
-use Rattle.nef_geo.specs.Shapes.{vector_of}
-use Rattle.nef_smap.specs.declared.map.SVertex.{SVertex}
-use Rattle.nef_complex.specs.declared.complex.Edge.{Edge}
+use Rattle.nef_edges.proofs.Prelude.{◌≡◌, ◌+◌, ◌<◌, ◌≤◌, length, List, sym, subst, get_or, Vec, Global, IsNormal, vector_of, SVertex, Edge, IsBefore, AreLaid}
 use Rattle.nef_edges.specs.declared.loose.Loose.{Loose}
-use Rattle.nef_edges.specs.EdgeEnds.{IsBefore}
-use Rattle.nef_edges.specs.Laid.{AreLaid}
 use Rattle.nef_edges.proofs.Arrivals.{IsTrue-false}
 use Rattle.nef_edges.proofs.Places.{read-at}
 use Rattle.nef_edges.proofs.Walked.{laid-pass, laid-row}

@@ -1,5 +1,4 @@
-use Rattle.nef_edges.specs.EdgeEnds.{IsBefore}
-use Rattle.nef_edges.specs.Laid.{AreLaid}
+use Rattle.nef_edges.proofs.Prelude.{IsBefore, AreLaid}
 use Rattle.nef_edges.proofs.guesses.lay_edges_from.Given as goal
 
 abbrev pub invariant-loop-k : goal.invariant-loop-k

@@ -1,8 +1,4 @@
-use Rattle.std.proofs.Common.{◌≡◌, ◌+◌, ℕ, List, length, refl, inr, sym, subst, ◌∙◌}
-use Rattle.law_sphere.specs.Maps.{At}
-use Rattle.nef_complex.specs.declared.complex.Edge.{Edge}
-use Rattle.nef_edges.specs.EdgeEnds.{IsBefore}
-use Rattle.nef_edges.specs.Laid.{AreLaid, edge_between}
+use Rattle.nef_edges.proofs.Prelude.{◌≡◌, ◌+◌, ℕ, List, length, refl, inr, sym, subst, ◌∙◌, At, Edge, IsBefore, AreLaid, edge_between}
 use Rattle.nef_edges.proofs.Places.{at-last}
 use Rattle.nef_edges.proofs.Walked.{part-more, laid-add}
 use Rattle.nef_edges.proofs.guesses.lay_loose.Goals as goal

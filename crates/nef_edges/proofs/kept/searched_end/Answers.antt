@@ -1,4 +1,4 @@
-use Rattle.std.proofs.Common.{rules}
+use Rattle.nef_edges.proofs.Prelude.{rules}
 use Rattle.nef_edges.proofs.kept.searched_end.Goals as goal
 
 pub returns : goal.returns

@@ -1,4 +1,4 @@
-use Rattle.std.proofs.Common.{refl}
+use Rattle.nef_edges.proofs.Prelude.{refl}
 use Rattle.nef_edges.proofs.Walked.{part-same, part-trans}
 use Rattle.nef_edges.proofs.loose.part_edges.Goals as goal
 

@@ -1,4 +1,4 @@
-use Rattle.nef_edges.specs.Laid.{IsPart}
+use Rattle.nef_edges.proofs.Prelude.{IsPart}
 use Rattle.nef_edges.proofs.loose.part_edges.Given as goal
 
 abbrev pub invariant-loop-k : goal.invariant-loop-k

@@ -1,5 +1,4 @@
-use Rattle.nef_edges.specs.EdgeEnds.{IsBefore}
-use Rattle.nef_edges.specs.Pairs.{AreEdges}
+use Rattle.nef_edges.proofs.Prelude.{IsBefore, AreEdges}
 use Rattle.nef_edges.proofs.pairing.add_edges.Given as goal
 
 abbrev pub invariant-loop-k : goal.invariant-loop-k

@@ -1,6 +1,4 @@
-use Rattle.std.proofs.Common.{◌≡◌, ℕ, length, arith, subst}
-use Rattle.nef_edges.specs.EdgeEnds.{IsBefore}
-use Rattle.nef_edges.specs.Pairs.{AreEdges}
+use Rattle.nef_edges.proofs.Prelude.{◌≡◌, ℕ, length, arith, subst, IsBefore, AreEdges}
 use Rattle.nef_edges.proofs.Added.{edges-all}
 use Rattle.nef_edges.proofs.pairing.edges_of.Goals as goal
 

@@ -1,5 +1,4 @@
-use Rattle.nef_edges.specs.EdgeEnds.{IsBefore}
-use Rattle.nef_edges.specs.Pairs.{AreEdges}
+use Rattle.nef_edges.proofs.Prelude.{IsBefore, AreEdges}
 use Rattle.nef_edges.proofs.pairing.edges_of.Given as goal
 
 abbrev pub invariant-loop-i : goal.invariant-loop-i

@@ -1,12 +1,5 @@
-use Rattle.std.proofs.Common.{List, map, IfOk, sym, subst, ◌∙◌}
-use Rattle.nef_space.specs.Sets.{Set}
-use Rattle.nef_geo.specs.declared.plane.Plane.{Plane}
-use Rattle.law_complex.specs.Complexes.{Edges}
-use Rattle.nef_complex.specs.Complexes.{vertex_of, edge_of, AreVerticesOf, ShowsSet}
-use Rattle.nef_complex.specs.Index.{AreVertexHolders}
+use Rattle.nef_edges.proofs.Prelude.{List, map, IfOk, sym, subst, ◌∙◌, Set, Plane, Edges, vertex_of, edge_of, AreVerticesOf, ShowsSet, AreVertexHolders, Vertex, AreJoined}
 use Rattle.nef_complex.specs.declared.complex.Complex.{Complex}
-use Rattle.nef_complex.specs.declared.complex.Vertex.{Vertex}
-use Rattle.nef_edges.specs.Pairs.{AreJoined}
 use Rattle.nef_edges.proofs.Joined.{are-joined, carriers-ordered}
 use Rattle.nef_edges.proofs.pairing.pair.Goals as goal
 

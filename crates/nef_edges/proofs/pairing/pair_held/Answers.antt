@@ -1,7 +1,4 @@
-use Rattle.std.proofs.Common.{List, map, Result, Ok, Err, IfOk, sym, subst}
-use Rattle.law_complex.specs.Complexes.{Edges}
-use Rattle.nef_complex.specs.Complexes.{vertex_of, edge_of}
-use Rattle.nef_complex.specs.declared.complex.Edge.{Edge}
+use Rattle.nef_edges.proofs.Prelude.{List, map, Result, Ok, Err, IfOk, sym, subst, Edges, vertex_of, edge_of, Edge}
 use Rattle.nef_edges.proofs.Joined.{carriers-ordered, all-held, have-ends, shows-set}
 use Rattle.nef_edges.proofs.pairing.pair_held.Goals as goal
 

@@ -1,8 +1,4 @@
-use Rattle.std.proofs.Common.{List, map, sym, subst}
-use Rattle.law_complex.specs.Complexes.{Edges}
-use Rattle.nef_complex.specs.Complexes.{vertex_of, edge_of}
-use Rattle.nef_complex.specs.declared.complex.Vertex.{Vertex}
-use Rattle.nef_edges.specs.Pairs.{AreJoined}
+use Rattle.nef_edges.proofs.Prelude.{List, map, sym, subst, Edges, vertex_of, edge_of, Vertex, AreJoined}
 use Rattle.nef_edges.proofs.Joined.{are-joined}
 use Rattle.nef_edges.proofs.pairing.pair_rows.Goals as goal
 

@@ -1,5 +1,4 @@
-use Rattle.std.proofs.Common.{true, false}
-use Rattle.nef_geo.specs.Shapes.{place_of}
+use Rattle.nef_expr.proofs.Prelude.{true, false, place_of}
 use Rattle.nef_expr.proofs.Holding.{half-minus, half-zero, half-plus, half-told, empty-told, full-told, and-told, or-told, diff-told, xor-told, not-told}
 use Rattle.nef_expr.proofs.plain.node_holds.Goals as goal
 

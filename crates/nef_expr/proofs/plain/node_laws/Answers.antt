@@ -1,8 +1,5 @@
-use Rattle.std.proofs.Common.{sym, subst}
-use Rattle.nef_space.specs.Sets.{Set, Holds}
-use Rattle.law_turns.specs.Turned.{turned_place}
+use Rattle.nef_expr.proofs.Prelude.{sym, subst, Set, Holds, turned_place, node_set}
 use Rattle.law_turns.proofs.Meaning.{holds-turned}
-use Rattle.nef_expr.specs.Nodes.{node_set}
 use Rattle.nef_expr.proofs.Turns.{node-turned}
 use Rattle.nef_expr.proofs.Sets.{earlier-sets_stay, new-set, each-set}
 use Rattle.nef_expr.proofs.plain.node_laws.Goals as goal

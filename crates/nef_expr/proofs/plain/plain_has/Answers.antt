@@ -1,6 +1,4 @@
-use Rattle.std.proofs.Common.{arith, sym, ◌∙◌}
-use Rattle.std.proofs.lemmas.Bool.{false≢true}
-use Rattle.nef_geo.specs.Shapes.{place_of}
+use Rattle.nef_expr.proofs.Prelude.{arith, sym, ◌∙◌, false≢true, place_of}
 use Rattle.nef_expr.proofs.Holding.{tells_each-push, told-in_list}
 use Rattle.nef_expr.proofs.plain.plain_has.Goals as goal
 

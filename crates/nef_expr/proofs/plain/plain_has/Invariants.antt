@@ -1,7 +1,4 @@
-use Rattle.std.proofs.Common.{◌≡◌, [], length}
-use Rattle.nef_geo.specs.Shapes.{place_of}
-use Rattle.nef_expr.specs.Nodes.{sets_after}
-use Rattle.nef_expr.specs.Plain.{TellsEach}
+use Rattle.nef_expr.proofs.Prelude.{◌≡◌, [], length, place_of, sets_after, TellsEach}
 use Rattle.nef_expr.proofs.plain.plain_has.Given as goal
 
 abbrev pub invariant-loop-i : goal.invariant-loop-i

@@ -1,7 +1,6 @@
 -- The opposite numbers of a plane in normal form that was given the other way.
-use Rattle.std.proofs.Common.{sym, arith, ◌∙◌}
+use Rattle.nef_expr.proofs.Prelude.{sym, arith, ◌∙◌, same-form}
 use Rattle.nef_expr.proofs.Halves.{minus-word, given-flipped}
-use Rattle.law_turns.proofs.Carriers.{same-form}
 use Rattle.nef_expr.proofs.table.given.Goals as goal
 
 pub returns-then-flipped : goal.returns-then-flipped

@@ -1,9 +1,5 @@
-use Rattle.std.proofs.Common.{◌≡◌, ◌+◌, ◌-◌, [], ◌∷◌, drop, length, true, arith, ap, sym, subst, ◌∙◌, length-append, Some, refl}
-use Rattle.std.specs.Prelude.{slice_get}
-use Rattle.std.proofs.Math.Seq.{take-append_seam}
-use Rattle.std.proofs.lemmas.Option.{slice_get_read, slice_get-get_or}
+use Rattle.nef_expr.proofs.Prelude.{◌≡◌, ◌+◌, ◌-◌, [], ◌∷◌, drop, length, true, arith, ap, sym, subst, ◌∙◌, length-append, Some, refl, slice_get, take-append_seam, slice_get_read, slice_get-get_or, IsMarked}
 use Rattle.nef_expr.specs.declared.nodes.Node.TheVariants as node
-use Rattle.nef_expr.specs.Copying.{IsMarked}
 use Rattle.nef_expr.proofs.Operands.{names-wider}
 use Rattle.nef_expr.proofs.Marks.{MarksFrom, marks-start, marks-more, marks-passed, marks-end, marked-last}
 use Rattle.nef_expr.proofs.table.needed_nodes.Goals as goal

@@ -1,9 +1,5 @@
 -- The image is read as it is given.
-use Rattle.std.proofs.Common.{◌∙◌, ap, sym, subst, arith}
-use Rattle.nef_space.specs.Place.{Form, normal_of}
-use Rattle.nef_space.specs.Vectors.{IsDirection}
-use Rattle.nef_geo.specs.Reading.{IsInRange, IsPositiveMultiple}
-use Rattle.nef_geo.specs.Shapes.{given_form}
+use Rattle.nef_expr.proofs.Prelude.{◌∙◌, ap, sym, subst, arith, Form, normal_of, IsDirection, IsInRange, IsPositiveMultiple, given_form}
 use Rattle.nef_expr.proofs.Halves.{half-small, half-in_range, half-some, half-words, half-read, word, word-small}
 use Rattle.nef_expr.proofs.table.turned_half.Goals as goal
 

@@ -1,9 +1,5 @@
-use Rattle.std.proofs.Common.{ap, sym, subst}
-use Rattle.nef_space.specs.Place.{Form}
-use Rattle.nef_space.specs.Sets.{Set}
+use Rattle.nef_expr.proofs.Prelude.{ap, sym, subst, Form, Set, Shape, IsTurnedNode}
 use Rattle.nef_expr.specs.declared.nodes.Node.TheVariants as node
-use Rattle.nef_expr.specs.Nodes.{Shape}
-use Rattle.nef_expr.specs.Copying.{IsTurnedNode}
 use Rattle.nef_expr.proofs.table.turned_node.Goals as goal
 
 pub returns-in-Half : goal.returns-in-Half

@@ -1,10 +1,4 @@
-use Rattle.std.proofs.Common.{ℕ, ◌+◌, List, length, set, arith, refl, ap, sym, ◌∙◌, subst, Vec, Global}
-use Rattle.std.proofs.Math.ListN.{length-set, length-map}
-use Rattle.nef_smap.specs.Maps.{arc_of}
-use Rattle.nef_smap.proofs.Found.{read}
-use Rattle.nef_edges.proofs.Places.{some-at, at-map}
-use Rattle.nef_complex.specs.declared.complex.Corner.{Corner}
-use Rattle.nef_complex.specs.Complexes.{vertex_of, complex_of, corner_of}
+use Rattle.nef_facets.proofs.Prelude.{ℕ, ◌+◌, List, length, set, arith, refl, ap, sym, ◌∙◌, subst, Vec, Global, length-set, length-map, is-at_within, arc_of, read, some-at, at-map, Corner, vertex_of, complex_of, corner_of}
 use Rattle.nef_facets.proofs.CornerLists.{corner}
 use Rattle.nef_facets.proofs.Nexts.{AreAdded, from-within, to-within, into, here-item, there-item, follows, added-pass, added-next, added-all}
 use Rattle.nef_facets.proofs.cycles.add_next.Goals.{then-arc-from, else-arc-from}
@@ -51,6 +45,11 @@ position-following-requires-clause-listed c =
     c.requires.corners.all (corner_of (corner to.vertex c.arc_into-item.result))
     (there-item S.0 C S.1.shows E.0 E.1 E.2 from.vertex from.svertex to.vertex to.svertex E.3 u w (some-at C.vertices from.vertex u c.at.ensures.element) (some-at C.vertices to.vertex w c.at-then-arc-from.ensures.element)
     n r l c.if-arc-from.true c.arc_into-item.result c.arc_into-item.ensures.arc)
+
+pub index_mut-requires : goal.index_mut-requires
+index_mut-requires c =
+    let l = is-at_within c.args.corners.now c.position-place.result (corner c.args.from.now.vertex c.loop-number.number) c.position-place.ensures.position in
+    let e = c.loop-number.invariant.as_many in let o = c.loop-number.next.ok.0 in omega (arith, l, e, o)
 
 pub loop-number-preserved : goal.loop-number-preserved
 loop-number-preserved c =

@@ -1,4 +1,4 @@
-use Rattle.nef_complex.specs.Complexes.{complex_of}
+use Rattle.nef_facets.proofs.Prelude.{complex_of}
 use Rattle.nef_facets.proofs.Nexts.{AreAdded}
 use Rattle.nef_facets.proofs.cycles.add_next.Given as goal
 

@@ -1,11 +1,4 @@
-use Rattle.std.proofs.Common.{◌≡◌, length, arith, ap, sym, ◌∙◌}
-use Rattle.nef_arc.proofs.SignNumbers.{not_true}
-use Rattle.nef_space.specs.Vectors.{SameDirection}
-use Rattle.nef_geo.specs.Shapes.{vector_of}
-use Rattle.law_sphere.specs.Maps.{Arc}
-use Rattle.nef_smap.specs.Maps.{arc_of}
-use Rattle.nef_smap.proofs.Found.{read, next-none, all-none}
-use Rattle.nef_edges.proofs.Places.{some-at, at-map}
+use Rattle.nef_facets.proofs.Prelude.{◌≡◌, length, arith, ap, sym, ◌∙◌, not_true, SameDirection, vector_of, Arc, arc_of, read, next-none, all-none, some-at, at-map}
 use Rattle.nef_facets.proofs.cycles.arc_into.Goals.{else-arc-svertex-via-then-arc-svertex+else-is_same, else-arc-svertex-via-else-arc-svertex}
 use Rattle.nef_facets.proofs.cycles.arc_into.Goals as goal
 

@@ -1,8 +1,4 @@
-use Rattle.std.proofs.Common.{◌≡◌, ℕ, ◌<◌}
-use Rattle.nef_space.specs.Vectors.{SameDirection}
-use Rattle.nef_geo.specs.Shapes.{vector_of}
-use Rattle.law_sphere.specs.Maps.{At, Arc}
-use Rattle.nef_smap.specs.Maps.{map_of}
+use Rattle.nef_facets.proofs.Prelude.{◌≡◌, ℕ, ◌<◌, SameDirection, vector_of, At, Arc, map_of}
 use Rattle.nef_facets.proofs.cycles.arc_into.Given as goal
 
 abbrev pub invariant-loop-number : goal.invariant-loop-number

@@ -1,6 +1,4 @@
-use Rattle.std.proofs.Common.{ℕ}
-use Rattle.nef_space.specs.Lists.{IsAt}
-use Rattle.nef_complex.specs.declared.complex.Corner.{Corner}
+use Rattle.nef_facets.proofs.Prelude.{ℕ, IsAt, Corner}
 use Rattle.nef_facets.proofs.Lists.{AreEach}
 use Rattle.nef_facets.proofs.cycles.cycle_of.Given as goal
 

@@ -1,8 +1,4 @@
-use Rattle.std.proofs.Common.{ℕ, List, length, sym, subst}
-use Rattle.std.specs.Prelude.{IfOk}
-use Rattle.nef_complex.specs.Complexes.{complex_of}
-use Rattle.nef_complex.specs.declared.parts.Cycle.{Cycle}
-use Rattle.nef_facets.specs.Orbits.{IsStep, AreOrbits, AreNumbered, AreGrouped}
+use Rattle.nef_facets.proofs.Prelude.{ℕ, List, length, sym, subst, IfOk, complex_of, Cycle, IsStep, AreOrbits, AreNumbered, AreGrouped}
 use Rattle.nef_facets.proofs.CyclesOf.{next-step, are-numbered, cycles-ok}
 use Rattle.nef_facets.proofs.cycles.facet_cycles.Goals as goal
 

@@ -1,10 +1,4 @@
-use Rattle.std.proofs.Common.{ℕ, ◌+◌, List, get_or, set, arith, refl, sym, ◌∙◌, subst}
-use Rattle.std.proofs.Math.ListN.{length-set}
-use Rattle.nef_smap.proofs.Found.{read}
-use Rattle.nef_classes.proofs.ClassLists.{is-at_get}
-use Rattle.nef_complex.specs.declared.complex.Corner.{Corner}
-use Rattle.nef_complex.specs.declared.parts.Cycle.{Cycle}
-use Rattle.nef_facets.specs.Orbits.{AreCornersOf, IsCycleOf, AreGrouped}
+use Rattle.nef_facets.proofs.Prelude.{ℕ, ◌+◌, List, get_or, set, arith, refl, sym, ◌∙◌, subst, length-set, read, is-at_get, Corner, Cycle, AreCornersOf, IsCycleOf, AreGrouped}
 use Rattle.nef_facets.proofs.Grouping.{grouped-more}
 use Rattle.nef_facets.proofs.cycles.grouped.Goals as goal
 

@@ -1,5 +1,4 @@
-use Rattle.std.proofs.Common.{◌≡◌, length}
-use Rattle.nef_facets.specs.Orbits.{AreGrouped}
+use Rattle.nef_facets.proofs.Prelude.{◌≡◌, length, AreGrouped}
 use Rattle.nef_facets.proofs.cycles.grouped.Given as goal
 
 abbrev pub invariant-loop-orbit : goal.invariant-loop-orbit

@@ -1,12 +1,6 @@
-use Rattle.std.proofs.Common.{◌≡◌, ℕ, ◌<◌, List, length, get_or, arith, refl, ap, inl, inr, subst}
-use Rattle.nef_space.specs.Lists.{IsAt}
-use Rattle.nef_space.specs.declared.label.Label.TheVariants.{Out}
-use Rattle.law_sphere.specs.Maps.{At}
-use Rattle.nef_classes.proofs.ClassLists.{is-at_get}
-use Rattle.nef_edges.proofs.Places.{some-at, at-map, map-at, at-within}
+use Rattle.nef_facets.proofs.Prelude.{◌≡◌, ℕ, ◌<◌, List, length, get_or, arith, refl, ap, inl, inr, subst, IsAt, Out, At, is-at_get, some-at, at-map, map-at, at-within, edge_of, complex_of}
 use Rattle.nef_complex.specs.declared.complex.Edge.{Edge}
 use Rattle.nef_complex.specs.declared.complex.Complex.{Complex}
-use Rattle.nef_complex.specs.Complexes.{edge_of, complex_of}
 use Rattle.nef_facets.proofs.Nexts.{next-none, next-more, next-all}
 use Rattle.nef_facets.proofs.cycles.next_corners.Goals as goal
 

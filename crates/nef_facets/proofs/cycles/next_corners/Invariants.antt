@@ -1,4 +1,4 @@
-use Rattle.nef_complex.specs.Complexes.{complex_of}
+use Rattle.nef_facets.proofs.Prelude.{complex_of}
 use Rattle.nef_facets.proofs.Nexts.{AreNextTo}
 use Rattle.nef_facets.proofs.cycles.next_corners.Given as goal
 

@@ -1,6 +1,4 @@
-use Rattle.std.proofs.Common.{ℕ, ◌+◌, ◌++◌, ◌∷◌, [], List, Bool, arith, refl, sym, ◌∙◌, subst, Vec, Global}
-use Rattle.nef_space.specs.Lists.{IsAt}
-use Rattle.nef_smap.proofs.Found.{read}
+use Rattle.nef_facets.proofs.Prelude.{ℕ, ◌+◌, ◌++◌, ◌∷◌, [], List, Bool, arith, refl, sym, ◌∙◌, subst, Vec, Global, IsAt, read}
 use Rattle.nef_facets.proofs.Walks.{AreOrbitsTo, orbits-begun, orbits-pass, orbits-more, orbits-all}
 use Rattle.nef_facets.proofs.cycles.orbits.Goals.{then-not-index+in_ok-walk+in_ok-push, else-not-index}
 use Rattle.nef_facets.proofs.cycles.orbits.Goals as goal

@@ -1,7 +1,4 @@
-use Rattle.std.proofs.Common.{ℕ, ◌+◌, List, arith, sym, ap, ◌∙◌, subst}
-use Rattle.nef_space.specs.Lists.{IsAt}
-use Rattle.nef_classes.proofs.ClassLists.{is-at_within, is-at_is}
-use Rattle.nef_complex.specs.declared.complex.Corner.{Corner}
+use Rattle.nef_facets.proofs.Prelude.{ℕ, ◌+◌, List, arith, sym, ap, ◌∙◌, subst, IsAt, is-at_within, is-at_is, Corner}
 use Rattle.nef_facets.proofs.cycles.position.Goals as goal
 
 pub bounds-starts-k : goal.bounds-starts-k

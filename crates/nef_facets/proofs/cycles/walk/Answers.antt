@@ -1,7 +1,4 @@
-use Rattle.std.proofs.Common.{ℕ, List, get_or, set, Bool, true, false, arith, refl, sym, subst}
-use Rattle.nef_space.specs.Lists.{IsAt}
-use Rattle.nef_classes.proofs.ClassLists.{is-at_get}
-use Rattle.nef_smap.proofs.Found.{read}
+use Rattle.nef_facets.proofs.Prelude.{ℕ, List, get_or, set, Bool, true, false, arith, refl, sym, subst, IsAt, is-at_get, read}
 use Rattle.nef_facets.proofs.Walks.{IsWalk, fewer, walk-more, walk-back}
 use Rattle.nef_facets.proofs.cycles.walk.Goals as goal
 

@@ -1,5 +1,4 @@
-use Rattle.std.proofs.Common.{◌≡◌, ◌++◌, ◌≤◌}
-use Rattle.nef_facets.specs.Corners.{corners_at}
+use Rattle.nef_facets.proofs.Prelude.{◌≡◌, ◌++◌, ◌≤◌, corners_at}
 use Rattle.nef_facets.proofs.parts.add_corners.Given as goal
 
 abbrev pub invariant-loop-item : goal.invariant-loop-item

@@ -1,11 +1,5 @@
-use Rattle.std.proofs.Common.{◌≡◌, ℕ, List, [], ◌∷◌, ◌++◌, length, ◌+◌, arith, ap, sym, ◌∙◌, subst, length-append}
-use Rattle.law_sphere.specs.Maps.{At}
-use Rattle.nef_smap.proofs.Found.{read}
-use Rattle.nef_edges.proofs.Places.{some-at, at-map, map-at, at-within}
-use Rattle.nef_complex.specs.declared.complex.Corner.{Corner}
-use Rattle.nef_complex.specs.Complexes.{vertex_of, complex_of}
+use Rattle.nef_facets.proofs.Prelude.{◌≡◌, ℕ, List, [], ◌∷◌, ◌++◌, length, ◌+◌, arith, ap, sym, ◌∙◌, subst, length-append, At, read, some-at, at-map, map-at, at-within, Corner, vertex_of, complex_of, corners_at, StandFrom}
 use Rattle.nef_facets.proofs.CornerLists.{AreCornersTo, no-corners, corners-next, starts-none, starts-next, all-corners}
-use Rattle.nef_facets.specs.Corners.{corners_at, StandFrom}
 use Rattle.nef_facets.proofs.parts.corners.Goals as goal
 
 pub loop-number-init : goal.loop-number-init

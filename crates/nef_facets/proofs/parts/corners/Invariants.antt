@@ -1,6 +1,4 @@
-use Rattle.std.proofs.Common.{◌≡◌, length}
-use Rattle.nef_facets.specs.Corners.{StandFrom}
-use Rattle.nef_complex.specs.Complexes.{complex_of}
+use Rattle.nef_facets.proofs.Prelude.{◌≡◌, length, StandFrom, complex_of}
 use Rattle.nef_facets.proofs.CornerLists.{AreCornersTo}
 use Rattle.nef_facets.proofs.parts.corners.Given as goal
 

@@ -1,10 +1,5 @@
-use Rattle.std.proofs.Common.{◌≡◌, ℕ, ◌≤◌, List, length, map, take, ap, sym, ◌∙◌, subst}
-use Rattle.std.proofs.lemmas.List.{take_all}
-use Rattle.std.specs.Prelude.{IfOk}
+use Rattle.nef_facets.proofs.Prelude.{◌≡◌, ℕ, ◌≤◌, List, length, map, take, ap, sym, ◌∙◌, subst, take_all, IfOk, vertex_of, complex_of, count_items, AreTiedWithin, HasCounts}
 use Rattle.nef_complex.specs.declared.complex.Vertex.{Vertex}
-use Rattle.nef_complex.specs.Complexes.{vertex_of, complex_of}
-use Rattle.nef_complex.specs.Numbers.{count_items}
-use Rattle.nef_classes.specs.Tables.{AreTiedWithin, HasCounts}
 use Rattle.nef_facets.proofs.Numbering.{numbers-ok}
 use Rattle.nef_facets.proofs.parts.facet_numbers.Goals as goal
 

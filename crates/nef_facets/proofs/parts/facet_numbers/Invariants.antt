@@ -1,6 +1,4 @@
-use Rattle.std.proofs.Common.{◌≡◌, map, take}
-use Rattle.nef_complex.specs.Complexes.{vertex_of}
-use Rattle.nef_complex.specs.Numbers.{count_items}
+use Rattle.nef_facets.proofs.Prelude.{◌≡◌, map, take, vertex_of, count_items}
 use Rattle.nef_facets.proofs.parts.facet_numbers.Given as goal
 
 abbrev pub invariant-loop-vertex : goal.invariant-loop-vertex

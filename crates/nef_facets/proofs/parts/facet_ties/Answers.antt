@@ -1,7 +1,4 @@
-use Rattle.std.proofs.Common.{◌++◌, List, map, ap, ◌∙◌}
-use Rattle.nef_complex.specs.Complexes.{complex_of}
-use Rattle.nef_complex.specs.Numbers.{count_items}
-use Rattle.nef_classes.specs.declared.table.Tie.{Tie}
+use Rattle.nef_facets.proofs.Prelude.{◌++◌, List, map, ap, ◌∙◌, complex_of, count_items, Tie}
 use Rattle.nef_facets.proofs.Numbering.{both-within, both-links}
 use Rattle.nef_facets.proofs.parts.facet_ties.Goals as goal
 

@@ -1,11 +1,5 @@
-use Rattle.std.proofs.Common.{List, map, sym, subst, ◌↔◌}
+use Rattle.nef_facets.proofs.Prelude.{List, map, sym, subst, ◌↔◌, complex_of, FacetLink, count_items, Tie, AreTied, AreTiedWithin, cell_of}
 use Rattle.law_complex.specs.Complexes.{Corner}
-use Rattle.nef_complex.specs.Complexes.{complex_of}
-use Rattle.law_links.specs.Links.{FacetLink}
-use Rattle.nef_complex.specs.Numbers.{count_items}
-use Rattle.nef_classes.specs.declared.table.Tie.{Tie}
-use Rattle.nef_classes.specs.Tables.{AreTied, AreTiedWithin}
-use Rattle.nef_facets.specs.Ties.{cell_of}
 use Rattle.nef_facets.proofs.parts.facets.Goals as goal
 
 pub facets_of_ties-requires-clause-within : goal.facets_of_ties-requires-clause-within

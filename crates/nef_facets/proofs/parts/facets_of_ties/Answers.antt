@@ -1,9 +1,4 @@
-use Rattle.std.proofs.Common.{◌≡◌, ℕ, List, length, arith, sym, ap, ◌∙◌, subst}
-use Rattle.nef_space.specs.Lists.{IsAt}
-use Rattle.nef_complex.specs.declared.complex.Corner.{Corner}
-use Rattle.nef_complex.specs.Complexes.{complex_of}
-use Rattle.nef_facets.specs.Corners.{StandFrom}
-use Rattle.nef_facets.specs.Facets.{AreFirsts}
+use Rattle.nef_facets.proofs.Prelude.{◌≡◌, ℕ, List, length, arith, sym, ap, ◌∙◌, subst, IsAt, Corner, complex_of, StandFrom, AreFirsts}
 use Rattle.nef_facets.proofs.PartsOf.{facet-parts}
 use Rattle.nef_facets.proofs.parts.facets_of_ties.Goals as goal
 

@@ -1,8 +1,4 @@
-use Rattle.std.proofs.Common.{◌≡◌, ℕ, ◌+◌, List, length, get_or, arith, ap, sym, ◌∙◌, subst, Vec, Global}
-use Rattle.nef_space.specs.Lists.{IsAt}
-use Rattle.nef_classes.proofs.ClassLists.{is-at_get}
-use Rattle.nef_complex.specs.declared.complex.Corner.{Corner}
-use Rattle.nef_complex.specs.Complexes.{corner_of}
+use Rattle.nef_facets.proofs.Prelude.{◌≡◌, ℕ, ◌+◌, List, length, get_or, arith, ap, sym, ◌∙◌, subst, Vec, Global, IsAt, is-at_get, Corner, corner_of}
 use Rattle.nef_facets.proofs.FirstCorners.{AreFirstsTo, firsts-same, firsts-new, firsts-all, item-facet}
 use Rattle.nef_facets.proofs.parts.first_corners.Goals.{then-number_at-len+in_ok-push, else-number_at-len}
 use Rattle.nef_facets.proofs.parts.first_corners.Goals as goal

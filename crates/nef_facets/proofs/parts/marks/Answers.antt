@@ -1,12 +1,4 @@
-use Rattle.std.proofs.Common.{◌≡◌, List, ◌+◌, get_or, sym, subst}
-use Rattle.nef_space.specs.declared.label.Label.{Label}
-use Rattle.law_sphere.specs.Maps.{item_mark}
-use Rattle.nef_classes.proofs.ClassLists.{is-at_get}
-use Rattle.nef_smap.specs.Items.{item_of}
-use Rattle.nef_edges.proofs.Places.{some-at}
-use Rattle.nef_complex.specs.declared.complex.Corner.{Corner}
-use Rattle.nef_complex.specs.Complexes.{complex_of, corner_of}
-use Rattle.nef_facets.specs.Facets.{IsMarkAt}
+use Rattle.nef_facets.proofs.Prelude.{◌≡◌, List, ◌+◌, get_or, sym, subst, Label, item_mark, is-at_get, item_of, some-at, Corner, complex_of, corner_of, IsMarkAt}
 use Rattle.nef_facets.proofs.ItemCarriers.{vertex-within, item-within, of-item}
 use Rattle.nef_facets.proofs.Lists.{AreEach, each-more}
 use Rattle.nef_facets.proofs.parts.marks.Goals as goal

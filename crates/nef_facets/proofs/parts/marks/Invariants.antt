@@ -1,7 +1,4 @@
-use Rattle.nef_space.specs.declared.label.Label.{Label}
-use Rattle.nef_complex.specs.declared.complex.Corner.{Corner}
-use Rattle.nef_complex.specs.Complexes.{complex_of, corner_of}
-use Rattle.nef_facets.specs.Facets.{IsMarkAt}
+use Rattle.nef_facets.proofs.Prelude.{Label, Corner, complex_of, corner_of, IsMarkAt}
 use Rattle.nef_facets.proofs.Lists.{AreEach}
 use Rattle.nef_facets.proofs.parts.marks.Given as goal
 

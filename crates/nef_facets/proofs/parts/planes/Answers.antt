@@ -1,9 +1,4 @@
-use Rattle.std.proofs.Common.{List, ◌+◌, get_or, sym, subst}
-use Rattle.nef_classes.proofs.ClassLists.{is-at_get, is-at_within}
-use Rattle.nef_geo.specs.declared.plane.Plane.{Plane}
-use Rattle.nef_complex.specs.declared.complex.Corner.{Corner}
-use Rattle.nef_complex.specs.Complexes.{complex_of, corner_of}
-use Rattle.nef_facets.specs.Facets.{IsPlaneAt}
+use Rattle.nef_facets.proofs.Prelude.{List, ◌+◌, get_or, sym, subst, is-at_get, is-at_within, Plane, Corner, complex_of, corner_of, IsPlaneAt}
 use Rattle.nef_facets.proofs.ItemCarriers.{carrier-plane}
 use Rattle.nef_facets.proofs.Lists.{AreEach, each-more}
 use Rattle.nef_facets.proofs.parts.planes.Goals as goal

@@ -1,7 +1,4 @@
-use Rattle.nef_geo.specs.declared.plane.Plane.{Plane}
-use Rattle.nef_complex.specs.declared.complex.Corner.{Corner}
-use Rattle.nef_complex.specs.Complexes.{complex_of, corner_of}
-use Rattle.nef_facets.specs.Facets.{IsPlaneAt}
+use Rattle.nef_facets.proofs.Prelude.{Plane, Corner, complex_of, corner_of, IsPlaneAt}
 use Rattle.nef_facets.proofs.Lists.{AreEach}
 use Rattle.nef_facets.proofs.parts.planes.Given as goal
 

@@ -1,15 +1,5 @@
-use Rattle.std.proofs.Common.{◌≡◌, pos, Option, None, refl, sym, ◌∙◌, subst}
-use Rattle.nef_space.specs.Place.{normal_of}
-use Rattle.nef_space.specs.Vectors.{Vector, dot}
-use Rattle.nef_arc.proofs.SignNumbers.{not_true}
-use Rattle.nef_classes.proofs.ClassLists.{is-at_within}
-use Rattle.nef_geo.specs.Shapes.{form_of, vector_of}
-use Rattle.nef_edges.proofs.Places.{some-at}
-use Rattle.nef_complex.specs.declared.complex.Corner.{Corner}
-use Rattle.nef_complex.specs.Complexes.{complex_of, corner_of, vertex_of, meet_of}
+use Rattle.nef_facets.proofs.Prelude.{◌≡◌, pos, Option, None, refl, sym, ◌∙◌, subst, normal_of, Vector, dot, not_true, is-at_within, form_of, vector_of, some-at, Corner, complex_of, corner_of, vertex_of, meet_of, level-back, IsLinkedFrom}
 use Rattle.nef_locate.proofs.ItemsFound.{met-listed}
-use Rattle.nef_locate.proofs.SamePlanes.{level-back}
-use Rattle.nef_facets.specs.Ties.{IsLinkedFrom}
 use Rattle.nef_facets.proofs.ItemCarriers.{vertex-within, item-within, corner-at, carrier-plane}
 use Rattle.nef_facets.proofs.WayInward.{level-inward, not-on, none-along, linked-from, small-back, vertex-some, named-met}
 use Rattle.nef_facets.proofs.ties.across.Goals as goal

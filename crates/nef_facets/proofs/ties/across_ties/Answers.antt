@@ -1,8 +1,4 @@
-use Rattle.std.proofs.Common.{[], map, arith}
-use Rattle.nef_complex.specs.Complexes.{complex_of}
-use Rattle.law_links.specs.Links.{LinkAcross}
-use Rattle.nef_complex.specs.Numbers.{count_items}
-use Rattle.nef_facets.specs.Ties.{IsTieAcross, Any, Adds}
+use Rattle.nef_facets.proofs.Prelude.{[], map, arith, complex_of, LinkAcross, count_items, IsTieAcross, Any, Adds}
 use Rattle.nef_facets.proofs.Adding.{any-next, any-all}
 use Rattle.nef_facets.proofs.TiedLinks.{tied, tied-within, across-in, across-to, across-from}
 use Rattle.nef_facets.proofs.WayInward.{vertex-below}

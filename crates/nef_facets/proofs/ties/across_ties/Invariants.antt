@@ -1,6 +1,4 @@
-use Rattle.std.proofs.Common.{[]}
-use Rattle.nef_complex.specs.Complexes.{complex_of}
-use Rattle.nef_facets.specs.Ties.{IsTieAcross, Any, Adds}
+use Rattle.nef_facets.proofs.Prelude.{[], complex_of, IsTieAcross, Any, Adds}
 use Rattle.nef_facets.proofs.Adding.{AnyBelow}
 use Rattle.nef_facets.proofs.ties.across_ties.Given as goal
 

@@ -1,6 +1,4 @@
-use Rattle.nef_smap.specs.Maps.{map_of}
-use Rattle.nef_complex.specs.Complexes.{edge_of}
-use Rattle.nef_facets.specs.Ties.{IsTieOfEdge, Adds}
+use Rattle.nef_facets.proofs.Prelude.{map_of, edge_of, IsTieOfEdge, Adds}
 use Rattle.nef_facets.proofs.Adding.{AnyBelow}
 use Rattle.nef_facets.proofs.ties.add_edge_ties.Given as goal
 

@@ -1,8 +1,4 @@
-use Rattle.std.proofs.Common.{List, arith, sym, ap, ◌∙◌, subst}
-use Rattle.nef_classes.specs.declared.table.Tie.{Tie}
-use Rattle.nef_edges.proofs.Places.{some-at}
-use Rattle.nef_complex.specs.Complexes.{complex_of}
-use Rattle.nef_facets.specs.Ties.{IsTieAcross, Adds}
+use Rattle.nef_facets.proofs.Prelude.{List, arith, sym, ap, ◌∙◌, subst, Tie, some-at, complex_of, IsTieAcross, Adds}
 use Rattle.nef_facets.proofs.Adding.{adds-none, any-next, any-all}
 use Rattle.nef_facets.proofs.AcrossLinks.{tie-added, tie-none}
 use Rattle.nef_facets.proofs.ItemCarriers.{has-item}

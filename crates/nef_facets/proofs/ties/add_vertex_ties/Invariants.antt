@@ -1,5 +1,4 @@
-use Rattle.nef_complex.specs.Complexes.{complex_of}
-use Rattle.nef_facets.specs.Ties.{IsTieAcross, Adds}
+use Rattle.nef_facets.proofs.Prelude.{complex_of, IsTieAcross, Adds}
 use Rattle.nef_facets.proofs.Adding.{AnyBelow}
 use Rattle.nef_facets.proofs.ties.add_vertex_ties.Given as goal
 

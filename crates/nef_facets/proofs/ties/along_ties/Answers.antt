@@ -1,9 +1,4 @@
-use Rattle.std.proofs.Common.{[], map, get_or}
-use Rattle.nef_complex.specs.Complexes.{complex_of, edge_of}
-use Rattle.nef_complex.proofs.Ends.{low-within, high-within}
-use Rattle.law_links.specs.Links.{LinkAlong}
-use Rattle.nef_complex.specs.Numbers.{count_items}
-use Rattle.nef_facets.specs.Ties.{IsTieAlong, Any, Adds}
+use Rattle.nef_facets.proofs.Prelude.{[], map, get_or, complex_of, edge_of, low-within, high-within, LinkAlong, count_items, IsTieAlong, Any, Adds}
 use Rattle.nef_facets.proofs.Adding.{any-next, any-all}
 use Rattle.nef_facets.proofs.EdgeTies.{image-below, at-slice, edge-read}
 use Rattle.nef_facets.proofs.TiedLinks.{tied, tied-within, along-in, along-to, along-from}

@@ -1,6 +1,4 @@
-use Rattle.std.proofs.Common.{[]}
-use Rattle.nef_complex.specs.Complexes.{complex_of}
-use Rattle.nef_facets.specs.Ties.{IsTieAlong, Adds}
+use Rattle.nef_facets.proofs.Prelude.{[], complex_of, IsTieAlong, Adds}
 use Rattle.nef_facets.proofs.Adding.{AnyBelow}
 use Rattle.nef_facets.proofs.ties.along_ties.Given as goal
 

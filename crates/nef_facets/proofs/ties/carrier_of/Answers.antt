@@ -1,17 +1,6 @@
-use Rattle.std.proofs.Common.{◌≡◌, ◌↔◌, ℕ, pos, get_or, arith, sym, ◌∙◌, subst}
-use Rattle.nef_arc.proofs.SignNumbers.{not_true}
-use Rattle.nef_space.specs.Place.{form_at, normal_of}
-use Rattle.nef_space.specs.Vectors.{Vector, SameDirection}
-use Rattle.nef_geo.specs.Shapes.{form_of, place_of, vector_of}
-use Rattle.nef_geo.specs.declared.plane.Plane.{Plane}
-use Rattle.law_sphere.specs.Maps.{At, item_normal}
-use Rattle.law_sphere.proofs.Compare.{SameDirection-turned, SameDirection-trans}
-use Rattle.law_sphere.proofs.Lists.{at-one}
-use Rattle.nef_smap.specs.Items.{item_of}
+use Rattle.nef_facets.proofs.Prelude.{◌≡◌, ◌↔◌, ℕ, pos, get_or, arith, sym, ◌∙◌, subst, not_true, form_at, normal_of, Vector, SameDirection, form_of, place_of, vector_of, Plane, At, item_normal, at-one, item_of, none-more, some-at, at-some, at-read, at-within, corner_of, SameDirection-turned, SameDirection-trans}
 use Rattle.nef_complex.specs.declared.complex.Vertex.{Vertex}
-use Rattle.nef_complex.proofs.Reading.{none-more}
-use Rattle.nef_edges.proofs.Places.{some-at, at-some, at-read, get-at, at-within}
-use Rattle.nef_complex.specs.Complexes.{corner_of}
+use Rattle.nef_edges.proofs.Places.{get-at}
 use Rattle.nef_facets.proofs.ItemCarriers.{CarriesWith, none-carried, none-held}
 use Rattle.nef_facets.proofs.ItemCarriers.{vertex-within, item-within, of-item}
 use Rattle.nef_facets.proofs.ties.carrier_of.Goals as goal

@@ -1,6 +1,4 @@
-use Rattle.std.proofs.Common.{ℕ, ◌<◌}
-use Rattle.nef_geo.specs.Shapes.{place_of, vector_of}
-use Rattle.law_sphere.specs.Maps.{At}
+use Rattle.nef_facets.proofs.Prelude.{ℕ, ◌<◌, place_of, vector_of, At}
 use Rattle.nef_complex.specs.declared.complex.Vertex.{Vertex}
 use Rattle.nef_facets.proofs.ItemCarriers.{CarriesWith}
 use Rattle.nef_facets.proofs.ties.carrier_of.Given as goal

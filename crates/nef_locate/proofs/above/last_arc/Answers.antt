@@ -1,7 +1,4 @@
-use Rattle.std.proofs.Common.{◌≡◌, ℕ, length, arith, subst}
-use Rattle.law_sphere.specs.Maps.{dir_of}
-use Rattle.nef_smap.specs.Maps.{map_of}
-use Rattle.nef_locate.specs.Ends.{IsLast}
+use Rattle.nef_locate.proofs.Prelude.{◌≡◌, ℕ, length, arith, subst, dir_of, map_of, IsLast}
 use Rattle.nef_locate.proofs.above.last_arc.Goals as goal
 
 pub loop-number-init : goal.loop-number-init

@@ -1,6 +1,4 @@
-use Rattle.law_sphere.specs.Maps.{dir_of}
-use Rattle.nef_smap.specs.Maps.{map_of}
-use Rattle.nef_locate.specs.Ends.{IsLast}
+use Rattle.nef_locate.proofs.Prelude.{dir_of, map_of, IsLast}
 use Rattle.nef_locate.proofs.above.last_arc.Given as goal
 
 abbrev pub invariant-loop-number : goal.invariant-loop-number

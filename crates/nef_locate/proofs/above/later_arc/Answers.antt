@@ -1,10 +1,4 @@
-use Rattle.std.proofs.Common.{◌≡◌, ◌≢◌, sym, ◌∙◌, rules, subst}
-use Rattle.nef_space.specs.Vectors.{triple, up}
-use Rattle.nef_geo.specs.Shapes.{vector_of}
-use Rattle.nef_geo.specs.declared.sign.Sign.TheVariants.{Plus}
-use Rattle.law_sphere.specs.Maps.{dir_of}
-use Rattle.nef_smap.specs.Maps.{map_of, arc_of}
-use Rattle.nef_locate.specs.Ends.{end_of, IsLast}
+use Rattle.nef_locate.proofs.Prelude.{◌≡◌, ◌≢◌, sym, ◌∙◌, rules, subst, triple, up, vector_of, Plus, dir_of, map_of, arc_of, end_of, IsLast}
 use Rattle.nef_locate.proofs.LastArcs.{last-skip, last-first, last-kept, last-taken}
 use Rattle.nef_locate.proofs.Marks.{image-within, image-read}
 use Rattle.nef_locate.proofs.UpwardSides.{some-svertex, arc-upward, turn-read, turn-plus, plus-turn}

@@ -1,14 +1,6 @@
-use Rattle.std.proofs.Common.{refl, sym, subst}
-use Rattle.nef_space.specs.Vectors.{Vector}
-use Rattle.law_sphere.specs.Maps.{items, IsFree}
+use Rattle.nef_locate.proofs.Prelude.{refl, sym, subst, Vector, items, IsFree, map_of, SideSees, at-within, vertex_of, edge_of, complex_of, corner_of, IsPlaceIn, IsSideAbove}
 use Rattle.nef_locate.proofs.UpwardSides.{up-free}
-use Rattle.nef_smap.specs.Maps.{map_of}
-use Rattle.nef_smap.specs.Sides.{SideSees}
-use Rattle.nef_smap.proofs.Lists.{at-within}
-use Rattle.nef_complex.specs.Complexes.{vertex_of, edge_of, complex_of, corner_of}
 use Rattle.nef_locate.specs.declared.point.Place.{Place}
-use Rattle.nef_locate.specs.Places.{IsPlaceIn}
-use Rattle.nef_locate.specs.Rays.{IsSideAbove}
 use Rattle.nef_locate.proofs.EdgeFound.{low-within, low-svertex}
 use Rattle.nef_locate.proofs.Located.{above-vertex, above-edge, above-facet, above-volume}
 use Rattle.nef_locate.proofs.Marks.{image-within, corner-read}

@@ -1,7 +1,4 @@
-use Rattle.law_sphere.specs.Maps.{arc_item, items}
-use Rattle.law_sphere.proofs.Arcs.{at-arc}
-use Rattle.nef_smap.specs.Maps.{map_of}
-use Rattle.nef_smap.proofs.Lists.{at-within}
+use Rattle.nef_locate.proofs.Prelude.{arc_item, items, at-arc, map_of, at-within}
 use Rattle.nef_locate.proofs.UpwardSides.{some-svertex, near-begin, near-end, near-alone}
 use Rattle.nef_locate.proofs.above.side_near.Goals as goal
 

@@ -1,8 +1,4 @@
-use Rattle.std.proofs.Common.{Option, IfSome, subst}
-use Rattle.nef_geo.specs.Shapes.{vector_of, place_of}
-use Rattle.nef_complex.specs.Complexes.{complex_of}
-use Rattle.nef_locate.specs.declared.beam.Met.{Met}
-use Rattle.nef_locate.specs.Rays.{IsMet, IsNotBefore}
+use Rattle.nef_locate.proofs.Prelude.{Option, IfSome, subst, vector_of, place_of, complex_of, Met, IsMet, IsNotBefore}
 use Rattle.nef_locate.proofs.RayMeets.{first-some, first-none}
 use Rattle.nef_locate.proofs.beam.first_hit.Goals as goal
 

@@ -1,11 +1,4 @@
-use Rattle.std.proofs.Common.{Option, IfSome, IsTrue, Bool, subst, sym, ◌≡◌, ◌∙◌, ◌↔◌, Ordering, Less, Equal, Greater}
-use Rattle.std.specs.Ordering.{MatchOrdering, is_lt}
-use Rattle.std.proofs.lemmas.Bool.{false≢true}
-use Rattle.nef_space.specs.Place.{Place, SamePlace, IsAhead}
-use Rattle.nef_space.specs.Vectors.{Vector}
-use Rattle.nef_geo.specs.Shapes.{hit_place}
-use Rattle.nef_locate.specs.declared.beam.Met.{Met}
-use Rattle.nef_locate.specs.Rays.{IsReachedMet, IsSooner}
+use Rattle.nef_locate.proofs.Prelude.{Option, IfSome, IsTrue, Bool, subst, sym, ◌≡◌, ◌∙◌, ◌↔◌, Ordering, Less, Equal, Greater, MatchOrdering, is_lt, false≢true, Place, SamePlace, IsAhead, Vector, hit_place, Met, IsReachedMet, IsSooner}
 use Rattle.nef_locate.proofs.RayMeets.{never-same, never-both}
 use Rattle.nef_locate.proofs.beam.is_sooner.Goals as goal
 

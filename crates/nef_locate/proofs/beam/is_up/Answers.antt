@@ -1,5 +1,4 @@
-use Rattle.std.proofs.Common.{ℤ, pos, ◌<ℤ◌, sym, subst, rules}
-use Rattle.nef_geo.specs.Shapes.{vector_of}
+use Rattle.nef_locate.proofs.Prelude.{ℤ, pos, ◌<ℤ◌, sym, subst, rules, vector_of}
 use Rattle.nef_locate.proofs.Windows.{points-up, up-positive}
 use Rattle.nef_locate.proofs.beam.is_up.Goals as goal
 

@@ -1,4 +1,4 @@
-use Rattle.std.proofs.Common.{IsTrue, rules}
+use Rattle.nef_locate.proofs.Prelude.{IsTrue, rules}
 use Rattle.nef_locate.proofs.Windows.{reaches-y, reaches-z}
 use Rattle.nef_locate.proofs.beam.may_lead_into.Goals as goal
 

@@ -1,6 +1,4 @@
-use Rattle.std.proofs.Common.{refl, None}
-use Rattle.nef_geo.specs.Shapes.{vector_of, place_of}
-use Rattle.nef_complex.specs.Complexes.{complex_of}
+use Rattle.nef_locate.proofs.Prelude.{refl, None, vector_of, place_of, complex_of}
 use Rattle.nef_locate.proofs.RayMeets.{on-carrier, found}
 use Rattle.nef_locate.proofs.beam.met_on.Goals as goal
 

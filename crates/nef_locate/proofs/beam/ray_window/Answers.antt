@@ -1,10 +1,4 @@
-use Rattle.std.proofs.Common.{pos, neg_ℤ, w64, to_z, of_z, arith, refl, sym, ◌∙◌, subst}
-use Rattle.std.proofs.lemmas.Int.{ints, to_z-of_z}
-use Rattle.nef_arc.proofs.SignNumbers.{not_true}
-use Rattle.nef_space.specs.Limits.{half_side}
-use Rattle.nef_space.specs.Place.{IsAhead}
-use Rattle.nef_space.specs.Vectors.{Vector}
-use Rattle.nef_geo.specs.Shapes.{place_of, vector_of}
+use Rattle.nef_locate.proofs.Prelude.{pos, neg_ℤ, w64, to_z, of_z, arith, refl, sym, ◌∙◌, subst, ints, to_z-of_z, not_true, half_side, IsAhead, Vector, place_of, vector_of}
 use Rattle.nef_locate.proofs.Windows.{points-down, in-window_up, in-window_down, amid_up, amid_down}
 use Rattle.nef_locate.proofs.beam.ray_window.Goals as goal
 

@@ -1,6 +1,4 @@
-use Rattle.std.proofs.Common.{◌≡◌, ◌-◌, ◌+◌, ◌<◌, IsTrue, length, get_or, arith, rules}
-use Rattle.nef_geo.specs.Shapes.{hit_place}
-use Rattle.nef_classes.proofs.ClassLists.{is-at_get}
+use Rattle.nef_locate.proofs.Prelude.{◌≡◌, ◌-◌, ◌+◌, ◌<◌, IsTrue, length, get_or, arith, rules, hit_place, is-at_get}
 use Rattle.nef_plane.proofs.Rising.{edges-within}
 use Rattle.nef_locate.proofs.EdgeOrder.{number-edge, none-beyond, none-below, none-more}
 use Rattle.nef_locate.proofs.carrier.edge_among.Goals as goal

@@ -1,9 +1,4 @@
-use Rattle.std.proofs.Common.{◌≡◌, ℕ, ◌+◌, ◌≤◌}
-use Rattle.nef_space.specs.Lists.{IsAt}
-use Rattle.nef_geo.specs.Shapes.{hit_place}
-use Rattle.law_complex.specs.Skeleton.{IsEdgePoint}
-use Rattle.nef_complex.specs.declared.complex.Edge.{Edge}
-use Rattle.nef_complex.specs.Complexes.{complex_of}
+use Rattle.nef_locate.proofs.Prelude.{◌≡◌, ℕ, ◌+◌, ◌≤◌, IsAt, hit_place, IsEdgePoint, Edge, complex_of}
 use Rattle.nef_locate.proofs.carrier.edge_among.Given as goal
 
 abbrev pub invariant-loop-place : goal.invariant-loop-place

@@ -1,7 +1,4 @@
-use Rattle.std.proofs.Common.{ℕ, ◌+◌, ◌-◌, ◌<◌, length, ◌/◌, arith, get_or, sym, subst}
-use Rattle.nef_geo.specs.Shapes.{hit_place}
-use Rattle.nef_classes.proofs.ClassLists.{is-at_get}
-use Rattle.nef_locate.specs.Orders.{PartsOn}
+use Rattle.nef_locate.proofs.Prelude.{ℕ, ◌+◌, ◌-◌, ◌<◌, length, ◌/◌, arith, get_or, sym, subst, hit_place, is-at_get, PartsOn}
 use Rattle.nef_locate.proofs.HitOrder.{before-up_to, after-from, is-vertex, parts-at, parts-past}
 use Rattle.nef_locate.proofs.carrier.find_among.Goals as goal
 

@@ -1,5 +1,4 @@
-use Rattle.std.proofs.Common.{◌-◌, ◌≤◌, length}
-use Rattle.nef_geo.specs.Shapes.{hit_place}
+use Rattle.nef_locate.proofs.Prelude.{◌-◌, ◌≤◌, length, hit_place}
 use Rattle.nef_locate.proofs.HitOrder.{AreBefore, AreAfter}
 use Rattle.nef_locate.proofs.carrier.find_among.Given as goal
 

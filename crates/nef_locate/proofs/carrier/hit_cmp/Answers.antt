@@ -1,6 +1,4 @@
-use Rattle.std.proofs.Common.{inl, inr, sym}
-use Rattle.std.proofs.Common.{Less, Equal, Greater}
-use Rattle.nef_geo.specs.Shapes.{place_of, hit_place}
+use Rattle.nef_locate.proofs.Prelude.{inl, inr, sym, Less, Equal, Greater, place_of, hit_place}
 use Rattle.nef_locate.proofs.HitOrder.{ranks-x, ranks-y, ranks-z, order-from_last}
 use Rattle.nef_locate.proofs.carrier.hit_cmp.Goals as goal
 

@@ -1,9 +1,4 @@
-use Rattle.std.proofs.Common.{◌≡◌, ◌<◌, IsTrue, length, get_or, arith, rules}
-use Rattle.nef_geo.specs.Shapes.{hit_place}
-use Rattle.nef_classes.proofs.ClassLists.{is-at_get}
-use Rattle.nef_smap.proofs.SideLists.{at-from_get}
-use Rattle.nef_complex.proofs.Ends.{low-within, high-within}
-use Rattle.nef_complex.proofs.Outside.{no_span}
+use Rattle.nef_locate.proofs.Prelude.{◌≡◌, ◌<◌, IsTrue, length, get_or, arith, rules, hit_place, is-at_get, at-from_get, low-within, high-within, no_span}
 use Rattle.nef_locate.proofs.EdgeOrder.{told-spanned, told-line}
 use Rattle.nef_locate.proofs.carrier.is_along.Goals as goal
 

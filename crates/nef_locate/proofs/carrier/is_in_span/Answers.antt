@@ -1,11 +1,5 @@
-use Rattle.std.proofs.Common.{pos, nat_abs, IsTrue, rules, FitsSigned, sym, ◌∙◌}
+use Rattle.nef_locate.proofs.Prelude.{pos, nat_abs, IsTrue, rules, FitsSigned, sym, ◌∙◌, Place, InClosedFrame, not_true, hit_place, Span, IsInSpan, pos-abs}
 use mir.Syntax.{w128}
-use Rattle.nef_space.specs.Place.{Place, InClosedFrame}
-use Rattle.nef_arc.proofs.SignNumbers.{not_true}
-use Rattle.nef_geo.specs.Shapes.{hit_place}
-use Rattle.nef_geo.proofs.Places.{pos_size}
-use Rattle.nef_complex.specs.declared.spans.Span.{Span}
-use Rattle.nef_complex.specs.Spans.{IsInSpan}
 use Rattle.nef_locate.proofs.FramedBounds.{LiesBetween, read}
 use Rattle.nef_locate.proofs.carrier.is_in_span.Goals as goal
 
@@ -27,7 +21,7 @@ returns-then-not-lies_between c =
     let q = c.args.q.now in let s = c.args.span.now in
     let f : FitsSigned w128 c.x.result = search rules in let g : FitsSigned w128 c.w.result = search rules in
     let off : IsTrue c.lies_between.result → ⊥ = search rules in
-    let r = read (IsTrue c.lies_between.result) s.x.low s.x.high c.x.result q.x c.w.result (pos (nat_abs q.w)) f g c.x.ensures.x (c.w.ensures.w ∙ sym (pos_size q.w q.proper)) c.lies_between.ensures.between in
+    let r = read (IsTrue c.lies_between.result) s.x.low s.x.high c.x.result q.x c.w.result (pos (nat_abs q.w)) f g c.x.ensures.x (c.w.ensures.w ∙ sym (pos-abs q.w q.proper)) c.lies_between.ensures.between in
     record { spanned = (λ t. absurd (not_true t), λ i. absurd (off (r.1 (part-x s (hit_place q) i)))) }
 
 pub returns-then-not-lies_between-2 : goal.returns-then-not-lies_between-2
@@ -35,7 +29,7 @@ returns-then-not-lies_between-2 c =
     let q = c.args.q.now in let s = c.args.span.now in
     let f : FitsSigned w128 c.y.result = search rules in let g : FitsSigned w128 c.w-2.result = search rules in
     let off : IsTrue c.lies_between-2.result → ⊥ = search rules in
-    let r = read (IsTrue c.lies_between-2.result) s.y.low s.y.high c.y.result q.y c.w-2.result (pos (nat_abs q.w)) f g c.y.ensures.y (c.w-2.ensures.w ∙ sym (pos_size q.w q.proper)) c.lies_between-2.ensures.between in
+    let r = read (IsTrue c.lies_between-2.result) s.y.low s.y.high c.y.result q.y c.w-2.result (pos (nat_abs q.w)) f g c.y.ensures.y (c.w-2.ensures.w ∙ sym (pos-abs q.w q.proper)) c.lies_between-2.ensures.between in
     record { spanned = (λ t. absurd (not_true t), λ i. absurd (off (r.1 (part-y s (hit_place q) i)))) }
 
 pub returns : goal.returns
@@ -44,7 +38,7 @@ returns c =
     let fx : FitsSigned w128 c.x.result = search rules in let fw : FitsSigned w128 c.w.result = search rules in
     let fy : FitsSigned w128 c.y.result = search rules in let fv : FitsSigned w128 c.w-2.result = search rules in
     let fz : FitsSigned w128 c.z.result = search rules in let fu : FitsSigned w128 c.w-3.result = search rules in
-    let p = sym (pos_size q.w q.proper) in
+    let p = sym (pos-abs q.w q.proper) in
     let x = read (IsTrue c.lies_between.result) s.x.low s.x.high c.x.result q.x c.w.result (pos (nat_abs q.w)) fx fw c.x.ensures.x (c.w.ensures.w ∙ p) c.lies_between.ensures.between in
     let y = read (IsTrue c.lies_between-2.result) s.y.low s.y.high c.y.result q.y c.w-2.result (pos (nat_abs q.w)) fy fv c.y.ensures.y (c.w-2.ensures.w ∙ p) c.lies_between-2.ensures.between in
     let z = read (IsTrue c.lies_between-3.result) s.z.low s.z.high c.z.result q.z c.w-3.result (pos (nat_abs q.w)) fz fu c.z.ensures.z (c.w-3.ensures.w ∙ p) c.lies_between-3.ensures.between in

@@ -1,11 +1,5 @@
-use Rattle.std.proofs.Common.{◌≡◌, ℕ, ℤ, ◌+◌, ◌*ℤ◌, ◌<ℤ◌, ◌≤ℤ◌, ◌≤◌, nat_abs, FitsSigned, w64, List, [], ◌∷◌, arith, rules, sym, ◌∙◌, subst}
-use Rattle.std.proofs.lemmas.Int.{ints, to_z-of_z}
+use Rattle.nef_locate.proofs.Prelude.{◌≡◌, ℕ, ℤ, ◌+◌, ◌*ℤ◌, ◌<ℤ◌, ◌≤ℤ◌, ◌≤◌, nat_abs, FitsSigned, w64, List, [], ◌∷◌, arith, rules, sym, ◌∙◌, subst, ints, to_z-of_z, not_true, true_of, half_side, Code, load, wrap, ◌⊠◌, Limited, exact_of, fits_of, upright_weight_limit, IsFramedLow, IsFramedHigh}
 use mir.Syntax.{w128}
-use Rattle.nef_arc.proofs.SignNumbers.{not_true, true_of}
-use Rattle.nef_space.specs.Limits.{half_side}
-use Rattle.nef_space.proofs.Machine.{Code, load, wrap, ◌⊠◌, Limited, exact_of, fits_of}
-use Rattle.nef_geo.specs.Widths.{upright_weight_limit}
-use Rattle.nef_locate.specs.Frames.{IsFramedLow, IsFramedHigh}
 use Rattle.nef_locate.proofs.FramedBounds.{low-small, high-small, to-low, to-high, from-both}
 use Rattle.nef_locate.proofs.carrier.lies_between.Goals as goal
 

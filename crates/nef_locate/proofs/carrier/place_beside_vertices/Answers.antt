@@ -1,7 +1,4 @@
-use Rattle.std.proofs.Common.{⊎_elim, refl}
-use Rattle.nef_geo.specs.Shapes.{form_of, hit_place}
-use Rattle.nef_classes.proofs.ClassLists.{is-at_within}
-use Rattle.nef_complex.specs.Complexes.{complex_of}
+use Rattle.nef_locate.proofs.Prelude.{⊎_elim, refl, form_of, hit_place, is-at_within, complex_of}
 use Rattle.nef_locate.proofs.EdgeOrder.{parts-off}
 use Rattle.nef_locate.proofs.Listed.{unmet}
 use Rattle.nef_locate.proofs.Located.{corner-at, edge-at}

@@ -1,11 +1,4 @@
-use Rattle.std.proofs.Common.{List, IsTrue, get_or, arith, rules}
-use Rattle.nef_geo.specs.Shapes.{form_of, hit_place}
-use Rattle.nef_classes.proofs.ClassLists.{is-at_get, is-at_within}
-use Rattle.nef_complex.specs.declared.spans.Span.{Span}
-use Rattle.nef_complex.specs.Complexes.{complex_of}
-use Rattle.nef_complex.proofs.Framed.{skeleton-framed}
-use Rattle.nef_complex.proofs.Outside.{no_span}
-use Rattle.nef_complex.proofs.Spanned.{spanned}
+use Rattle.nef_locate.proofs.Prelude.{List, IsTrue, get_or, arith, rules, form_of, hit_place, is-at_get, is-at_within, Span, complex_of, skeleton-framed, no_span, spanned}
 use Rattle.nef_locate.proofs.Located.{vertex-at}
 use Rattle.nef_locate.proofs.carrier.place_on.Goals as goal
 

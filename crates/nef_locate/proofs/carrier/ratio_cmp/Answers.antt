@@ -1,10 +1,5 @@
-use Rattle.std.proofs.Common.{ℕ, ℤ, ◌*ℤ◌, ◌≤◌, nat_abs, List, [], ◌∷◌, w64, ap, ◌∙◌, to_z, of_z}
+use Rattle.nef_locate.proofs.Prelude.{ℕ, ℤ, ◌*ℤ◌, ◌≤◌, nat_abs, List, [], ◌∷◌, w64, ap, ◌∙◌, to_z, of_z, int_cmp, int_ranked, point_limit, weight_limit, Code, load, wrap, ◌⊠◌, Limited, exact_of, fits_of, upright_limit, upright_weight_limit}
 use mir.Syntax.{w128}
-use Rattle.std.specs.Ordering.{int_cmp}
-use Rattle.std.proofs.lemmas.Cmp.{int_ranked}
-use Rattle.nef_space.specs.Limits.{point_limit, weight_limit}
-use Rattle.nef_space.proofs.Machine.{Code, load, wrap, ◌⊠◌, Limited, exact_of, fits_of}
-use Rattle.nef_geo.specs.Widths.{upright_limit, upright_weight_limit}
 use Rattle.nef_locate.proofs.carrier.ratio_cmp.Goals as goal
 
 -- the bounds of x, w, y, v

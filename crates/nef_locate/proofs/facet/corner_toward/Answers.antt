@@ -1,9 +1,5 @@
-use Rattle.std.proofs.Common.{sym, subst}
-use Rattle.nef_geo.specs.Shapes.{form_of, vector_of}
-use Rattle.law_complex.specs.Skeleton.{IsCornerAt}
+use Rattle.nef_locate.proofs.Prelude.{sym, subst, form_of, vector_of, IsCornerAt, vertex_of, edge_of, complex_of, meet_of, HasMet}
 use Rattle.nef_complex.specs.declared.complex.PlaneMeet.{PlaneMeet}
-use Rattle.nef_complex.specs.Complexes.{vertex_of, edge_of, complex_of, meet_of}
-use Rattle.nef_locate.specs.Facets.{HasMet}
 use Rattle.nef_locate.proofs.EdgeFound.{low-within, low-svertex}
 use Rattle.nef_locate.proofs.FacetFound.{as-none}
 use Rattle.nef_locate.proofs.ItemsFound.{vertex-some, vertex-none, edge-some, edge-none}

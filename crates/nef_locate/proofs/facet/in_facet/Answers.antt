@@ -1,10 +1,4 @@
-use Rattle.std.proofs.Common.{◌≡◌, pos, inl, inr, refl, sym, subst}
-use Rattle.nef_space.specs.Place.{normal_of}
-use Rattle.nef_space.specs.Vectors.{Vector, dot, plane_axis}
-use Rattle.nef_geo.specs.Shapes.{form_of, vector_of, hit_place}
-use Rattle.law_sphere.proofs.Compare.{SameDirection-turned}
-use Rattle.law_complex.specs.Skeleton.{meets_vertex, meets_edge}
-use Rattle.nef_complex.specs.Complexes.{complex_of, corner_of, meet_of}
+use Rattle.nef_locate.proofs.Prelude.{◌≡◌, pos, inl, inr, refl, sym, subst, normal_of, Vector, dot, plane_axis, form_of, vector_of, hit_place, meets_vertex, meets_edge, complex_of, corner_of, meet_of, SameDirection-turned}
 use Rattle.nef_locate.proofs.Behind.{corner-normal}
 use Rattle.nef_locate.proofs.FacetFound.{some-then, none-then, none-met, found-flat, found-corner, none-found}
 use Rattle.nef_locate.proofs.ItemsFound.{met-listed}

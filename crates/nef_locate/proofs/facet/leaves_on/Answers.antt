@@ -1,6 +1,4 @@
-use Rattle.std.proofs.Common.{◌≡◌, sym, ◌∙◌, inl, inr, ⊎_elim, IsTrue, ◌↔◌, nat_eq, rules}
-use Rattle.nef_arc.proofs.SignNumbers.{not_true}
-use Rattle.nef_geo.specs.declared.sign.Sign.TheVariants.{Minus, Zero, Plus}
+use Rattle.nef_locate.proofs.Prelude.{◌≡◌, sym, ◌∙◌, inl, inr, ⊎_elim, IsTrue, ◌↔◌, nat_eq, rules, not_true, Minus, Zero, Plus}
 use Rattle.nef_locate.proofs.facet.leaves_on.Goals as goal
 
 plus-minus : Plus ≡ Minus → ⊥

@@ -1,6 +1,4 @@
-use Rattle.std.proofs.Common.{◌*◌, length, refl}
-use Rattle.nef_smap.specs.Maps.{svertex_of}
-use Rattle.nef_complex.specs.Complexes.{edge_of}
+use Rattle.nef_locate.proofs.Prelude.{◌*◌, length, refl, svertex_of, edge_of}
 use Rattle.nef_locate.proofs.Marks.{image-read, image-within}
 use Rattle.nef_locate.proofs.EdgeFound.{low-within, low-map, low-svertex, edge-least, edge-cone}
 use Rattle.nef_locate.proofs.maps.edge_map.Goals as goal

@@ -1,19 +1,7 @@
-use Rattle.std.proofs.Common.{◌≡◌, ℕ, refl, sym, subst, ◌∙◌}
-use Rattle.nef_space.specs.Limits.{normal_limit}
-use Rattle.nef_space.specs.Vectors.{IsNormal, IsAtMost}
-use Rattle.nef_geo.specs.Shapes.{vector_of}
-use Rattle.law_sphere.specs.Maps.{At, Item, items, item_normal, item_pos, item_mark, item_neg}
-use Rattle.law_sphere.proofs.Lists.{at-one}
+use Rattle.nef_locate.proofs.Prelude.{◌≡◌, ℕ, refl, sym, subst, ◌∙◌, normal_limit, IsNormal, IsAtMost, vector_of, At, Item, items, item_normal, item_pos, item_mark, item_neg, at-one, SLoop, SphereMap, item_of, map_of, sloop_of, at-within, vertex_of, complex_of, corner_of, IsPlaneOf}
 use Rattle.nef_smap.specs.declared.item.Item.{Item as MapItem}
-use Rattle.nef_smap.specs.declared.map.SLoop.{SLoop}
-use Rattle.nef_smap.specs.declared.map.SphereMap.{SphereMap}
-use Rattle.nef_smap.specs.Items.{item_of}
-use Rattle.nef_smap.specs.Maps.{map_of, sloop_of}
-use Rattle.nef_smap.proofs.Lists.{at-within}
-use Rattle.nef_complex.specs.Complexes.{vertex_of, complex_of, corner_of}
 use Rattle.nef_locate.proofs.Marks.{image-within, corner-read}
 use Rattle.nef_locate.proofs.Cones.{cone-of_corner}
-use Rattle.nef_locate.specs.Places.{IsPlaneOf}
 use Rattle.nef_locate.proofs.maps.facet_map.Goals as goal
 
 -- the plane of the item that is read is that of the item there

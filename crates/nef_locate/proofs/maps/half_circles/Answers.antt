@@ -1,8 +1,4 @@
-use Rattle.std.proofs.Common.{◌≡◌, ◌+◌, ◌*◌, List, length, Vec, Global, arith, sym, ap, subst, ◌∙◌}
-use Rattle.law_sphere.specs.Maps.{At}
-use Rattle.nef_smap.specs.declared.map.SArc.{SArc}
-use Rattle.nef_spair.proofs.Places.{index-at}
-use Rattle.nef_locate.specs.Halves.{AreHalves}
+use Rattle.nef_locate.proofs.Prelude.{◌≡◌, ◌+◌, ◌*◌, List, length, Vec, Global, arith, sym, ap, subst, ◌∙◌, At, SArc, index-at, AreHalves}
 use Rattle.nef_locate.proofs.EdgeHalves.{halves-none, halves-past, halves-more}
 use Rattle.nef_locate.proofs.maps.half_circles.Goals as goal
 use Rattle.nef_locate.proofs.maps.half_circles.Goals.{then-arc-svertex+in_ok-push, else-arc-svertex, then-arc-svertex-2+in_ok-push-2, else-arc-svertex-2}

@@ -1,5 +1,4 @@
-use Rattle.std.proofs.Common.{◌*◌}
-use Rattle.nef_locate.specs.Halves.{AreHalves}
+use Rattle.nef_locate.proofs.Prelude.{◌*◌, AreHalves}
 use Rattle.nef_locate.proofs.maps.half_circles.Given as goal
 
 abbrev pub invariant-loop-arc : goal.invariant-loop-arc

@@ -1,5 +1,4 @@
-use Rattle.std.proofs.lemmas.Result.{IfOk-weaker}
-use Rattle.nef_geo.specs.Shapes.{place_of}
+use Rattle.nef_locate.proofs.Prelude.{IfOk-weaker, place_of}
 use Rattle.nef_locate.proofs.maps.local_map.Goals as goal
 
 pub returns-clause-cone : goal.returns-clause-cone

@@ -1,12 +1,4 @@
-use Rattle.std.proofs.Common.{◌≡◌, sym, subst}
-use Rattle.std.proofs.lemmas.Result.{IfOk-weaker}
-use Rattle.law_sphere.specs.Least.{Cone}
-use Rattle.law_sphere.proofs.Lists.{at-one}
-use Rattle.nef_smap.specs.declared.map.SphereMap.{SphereMap}
-use Rattle.nef_smap.specs.Maps.{map_of, IsLeastMap}
-use Rattle.law_complex.specs.Complexes.{Vertex as PlainVertex}
-use Rattle.nef_complex.specs.Complexes.{vertex_of, complex_of}
-use Rattle.nef_locate.specs.Places.{IsPlaceIn, IsPlaceAt}
+use Rattle.nef_locate.proofs.Prelude.{◌≡◌, sym, subst, IfOk-weaker, Cone, at-one, SphereMap, map_of, IsLeastMap, Vertex as PlainVertex, vertex_of, complex_of, IsPlaceIn, IsPlaceAt}
 use Rattle.nef_locate.proofs.Marks.{image-within, image-read}
 use Rattle.nef_locate.proofs.VolumeLabels.{volume-flat}
 use Rattle.nef_locate.proofs.Cones.{cone-same, cone-flat}

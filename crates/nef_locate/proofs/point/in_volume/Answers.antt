@@ -1,9 +1,4 @@
-use Rattle.std.proofs.Common.{refl, inr, ap, ◌∙◌, sym, subst}
-use Rattle.nef_space.specs.Place.{IsAhead}
-use Rattle.nef_space.specs.Vectors.{Vector, opposite}
-use Rattle.nef_geo.specs.Shapes.{place_of}
-use Rattle.nef_complex.specs.Complexes.{complex_of}
-use Rattle.nef_locate.specs.Places.{IsFirstHit}
+use Rattle.nef_locate.proofs.Prelude.{refl, inr, ap, ◌∙◌, sym, subst, IsAhead, Vector, opposite, place_of, complex_of, IsFirstHit}
 use Rattle.nef_locate.proofs.Located.{volume-in, volume-at, some-below}
 use Rattle.nef_locate.proofs.point.in_volume.Goals as goal
 

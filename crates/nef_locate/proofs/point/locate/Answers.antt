@@ -1,4 +1,4 @@
-use Rattle.nef_geo.specs.Shapes.{place_of}
+use Rattle.nef_locate.proofs.Prelude.{place_of}
 use Rattle.nef_locate.proofs.Located.{dimension}
 use Rattle.nef_locate.proofs.point.locate.Goals as goal
 

@@ -1,10 +1,4 @@
-use Rattle.nef_geo.specs.Shapes.{place_of, hit_place}
-use Rattle.law_near.proofs.Rays.{same-place_sym}
-use Rattle.nef_smap.proofs.Lists.{at-within}
-use Rattle.nef_smap.proofs.SideLists.{get-from_at}
-use Rattle.law_complex.proofs.EqualPoints.{point-same, closed-same}
-use Rattle.nef_complex.specs.Complexes.{complex_of}
-use Rattle.nef_complex.proofs.Spanned.{span-same}
+use Rattle.nef_locate.proofs.Prelude.{place_of, hit_place, same-place_sym, at-within, get-from_at, point-same, closed-same, complex_of, span-same}
 use Rattle.nef_locate.proofs.CarrierPoints.{skeleton-carrier}
 use Rattle.nef_locate.proofs.EdgeOrder.{parts-all}
 use Rattle.nef_locate.proofs.Located.{same-found, vertices-sorted, vertex-at}

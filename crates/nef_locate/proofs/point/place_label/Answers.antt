@@ -1,14 +1,5 @@
-use Rattle.std.proofs.Common.{◌≡◌, refl, sym, subst}
-use Rattle.law_sphere.specs.Maps.{Item, items, item_mark}
-use Rattle.nef_smap.specs.Items.{item_of}
-use Rattle.nef_smap.specs.Sides.{IsSide, sides_of}
-use Rattle.nef_smap.specs.Maps.{map_of}
-use Rattle.nef_smap.proofs.Lists.{at-within}
-use Rattle.law_sphere.proofs.Lists.{at-one}
-use Rattle.law_complex.specs.Complexes.{Vertex as PlainVertex}
-use Rattle.nef_complex.specs.Complexes.{vertex_of, edge_of, complex_of, corner_of}
+use Rattle.nef_locate.proofs.Prelude.{◌≡◌, refl, sym, subst, Item, items, item_mark, item_of, IsSide, sides_of, map_of, at-within, at-one, Vertex as PlainVertex, vertex_of, edge_of, complex_of, corner_of, IsPlaceIn, IsPlaceLabel}
 use Rattle.nef_locate.specs.declared.point.Place.{Place}
-use Rattle.nef_locate.specs.Places.{IsPlaceIn, IsPlaceLabel}
 use Rattle.nef_locate.proofs.Marks.{image-within, image-read, side-within, corner-read, label-holds}
 use Rattle.nef_locate.proofs.point.place_label.Goals as goal
 

@@ -1,10 +1,4 @@
-use Rattle.std.proofs.Common.{◌≡◌, ℕ, pos, length, get_or, arith, rules, refl}
-use Rattle.std.proofs.lemmas.Option.{slice_get_read}
-use Rattle.nef_space.specs.Place.{slope}
-use Rattle.nef_geo.specs.Shapes.{form_of, place_of, vector_of}
-use Rattle.nef_geo.specs.declared.plane.Plane.{Plane}
-use Rattle.nef_classes.proofs.ClassLists.{is-at_get}
-use Rattle.nef_complex.proofs.ListedHolders.{listed-more, holder-holds, all-holders}
+use Rattle.nef_plane.proofs.Prelude.{◌≡◌, ℕ, pos, length, get_or, arith, rules, refl, slice_get_read, slope, form_of, place_of, vector_of, Plane, is-at_get, listed-more, holder-holds, all-holders}
 use Rattle.nef_plane.proofs.Reached.{across-through, across-none}
 use Rattle.nef_plane.proofs.along.crossed_at.Goals as goal
 

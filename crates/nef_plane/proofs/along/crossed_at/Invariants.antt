@@ -1,8 +1,5 @@
 use Rattle.std.specs.Prelude.{◌≡◌, pos}
-use Rattle.nef_space.specs.Place.{slope}
-use Rattle.nef_geo.specs.Shapes.{form_of, vector_of}
-use Rattle.nef_geo.specs.declared.plane.Plane.{Plane}
-use Rattle.nef_complex.proofs.ListedHolders.{AllListed}
+use Rattle.nef_plane.proofs.Prelude.{slope, form_of, vector_of, Plane, AllListed}
 use Rattle.nef_plane.proofs.along.crossed_at.Given as goal
 
 abbrev pub invariant-loop-number : goal.invariant-loop-number

@@ -1,12 +1,5 @@
-use Rattle.std.proofs.Common.{inl}
-use Rattle.nef_space.specs.Place.{Place, IsAhead}
-use Rattle.nef_geo.specs.Shapes.{form_of, place_of, vector_of}
-use Rattle.nef_smap.proofs.Lists.{map-at}
-use Rattle.law_complex.specs.Skeleton.{PlaneMeet as PlainMeet, Meets, IsFirstInPlane}
-use Rattle.law_complex.proofs.Ways.{same-itself}
-use Rattle.nef_complex.specs.Complexes.{complex_of, meet_of, vertex_of}
-use Rattle.nef_complex.proofs.Reading.{got-at}
-use Rattle.nef_plane.specs.Meets.{near_met_of}
+use Rattle.nef_plane.proofs.Prelude.{inl, Place, IsAhead, form_of, place_of, vector_of, map-at, Meets, IsFirstInPlane, same-itself, complex_of, meet_of, vertex_of, got-at, near_met_of}
+use Rattle.law_complex.specs.Skeleton.{PlaneMeet as PlainMeet}
 use Rattle.nef_plane.proofs.Found.{from-vertex, first-some, first-none}
 use Rattle.nef_plane.proofs.along.first_along_dir.Goals as goal
 

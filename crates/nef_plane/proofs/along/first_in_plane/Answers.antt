@@ -1,13 +1,7 @@
-use Rattle.std.proofs.Common.{subst}
-use Rattle.std.specs.Prelude.{Option, Some, None, IfSome}
-use Rattle.nef_space.specs.Place.{SamePlace}
-use Rattle.nef_geo.specs.Shapes.{form_of, hit_place, vector_of}
-use Rattle.law_near.proofs.Rays.{same-place_sym}
-use Rattle.law_sphere.proofs.Lists.{at-one}
+use Rattle.nef_plane.proofs.Prelude.{subst, IfSome, SamePlace, form_of, hit_place, vector_of, same-place_sym, at-one, same-place_trans, complex_of, meet_of}
+use Rattle.std.specs.Prelude.{Option, Some, None}
 use Rattle.law_complex.specs.Complexes.{Vertex}
 use Rattle.law_complex.proofs.EqualPoints.{ahead-from, first-same}
-use Rattle.law_complex.proofs.Ways.{same-place_trans}
-use Rattle.nef_complex.specs.Complexes.{complex_of, meet_of}
 use Rattle.nef_plane.proofs.AxisSizes.{within-small}
 use Rattle.nef_plane.proofs.Listed.{are-items}
 use Rattle.nef_plane.proofs.along.first_in_plane.Goals as goal

@@ -1,6 +1,4 @@
-use Rattle.std.proofs.Common.{refl, rules}
-use Rattle.nef_geo.specs.Shapes.{form_of}
-use Rattle.nef_plane.specs.Asked.{AreItems}
+use Rattle.nef_plane.proofs.Prelude.{refl, rules, form_of, AreItems}
 use Rattle.nef_plane.proofs.Choosing.{some-at}
 use Rattle.nef_plane.proofs.along.first_met.Goals as goal
 

@@ -1,9 +1,4 @@
-use Rattle.std.proofs.Common.{◌≡◌, IsTrue, rules, sym, ap, ◌∙◌}
-use Rattle.nef_space.specs.Place.{slope}
-use Rattle.nef_geo.specs.Shapes.{form_of, vector_of}
-use Rattle.nef_geo.specs.Signs.{sign_of}
-use Rattle.nef_geo.specs.declared.sign.Sign.TheVariants.{Zero}
-use Rattle.nef_geo.proofs.Signs.{zero_sign}
+use Rattle.nef_plane.proofs.Prelude.{◌≡◌, IsTrue, rules, sym, ap, ◌∙◌, slope, form_of, vector_of, sign_of, Zero, zero_sign}
 use Rattle.nef_plane.proofs.along.is_along.Goals as goal
 
 zero-if : (c : goal.After-eq) → IsTrue c.eq.result → c.dir_side.result ≡ Zero

@@ -1,12 +1,4 @@
-use Rattle.std.proofs.Common.{◌≡◌, ◌⊎◌, ◌↔◌, rules, sym, subst, inl, inr, ⊎_elim}
-use Rattle.nef_space.specs.Place.{normal_of}
-use Rattle.nef_space.specs.Vectors.{Vector, opposite, plane_axis, SameDirection}
-use Rattle.nef_geo.specs.Shapes.{form_of, vector_of}
-use Rattle.nef_geo.specs.declared.dir.Dir.{Dir}
-use Rattle.nef_geo.specs.declared.plane.Plane.{Plane}
-use Rattle.law_sphere.proofs.Compare.{SameDirection-turned, SameDirection-trans}
-use Rattle.law_complex.proofs.Ways.{opposite-same}
-use Rattle.nef_plane.specs.Meets.{IsAlongAxis}
+use Rattle.nef_plane.proofs.Prelude.{◌≡◌, ◌⊎◌, ◌↔◌, rules, sym, subst, inl, inr, ⊎_elim, normal_of, Vector, opposite, plane_axis, SameDirection, form_of, vector_of, Dir, Plane, IsAlongAxis, SameDirection-turned, SameDirection-trans, opposite-same}
 use Rattle.nef_plane.proofs.along.is_along_axis.Goals as goal
 
 -- a direction is along the axis exactly where it is that of the axis or of its opposite

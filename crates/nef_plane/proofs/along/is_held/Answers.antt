@@ -1,8 +1,4 @@
-use Rattle.std.proofs.Common.{◌≡◌, rules, sym, ◌∙◌}
-use Rattle.nef_space.specs.Place.{form_at}
-use Rattle.nef_geo.specs.Shapes.{form_of, place_of}
-use Rattle.nef_geo.specs.declared.sign.Sign.TheVariants.{Zero}
-use Rattle.nef_geo.proofs.Signs.{zero_sign}
+use Rattle.nef_plane.proofs.Prelude.{◌≡◌, rules, sym, ◌∙◌, form_at, form_of, place_of, Zero, zero_sign}
 use Rattle.nef_plane.proofs.along.is_held.Goals as goal
 
 pub returns-then-eq : goal.returns-then-eq

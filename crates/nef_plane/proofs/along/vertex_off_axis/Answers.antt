@@ -1,7 +1,4 @@
-use Rattle.std.proofs.Common.{ℕ, ⊎_elim, arith, rules, refl, below_more}
-use Rattle.law_complex.specs.Skeleton.{meets_vertex, IsVertexPoint}
-use Rattle.nef_geo.specs.Shapes.{hit_place}
-use Rattle.nef_complex.specs.Complexes.{complex_of}
+use Rattle.nef_plane.proofs.Prelude.{ℕ, ⊎_elim, arith, rules, refl, below_more, meets_vertex, IsVertexPoint, hit_place, complex_of}
 use Rattle.nef_plane.proofs.Found.{vertex-within}
 use Rattle.nef_plane.proofs.along.vertex_off_axis.Goals as goal
 

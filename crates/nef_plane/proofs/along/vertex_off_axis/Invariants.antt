@@ -1,7 +1,5 @@
 use Rattle.std.specs.Prelude.{ℕ, ◌<◌}
-use Rattle.nef_geo.specs.Shapes.{hit_place}
-use Rattle.law_complex.specs.Skeleton.{IsVertexPoint}
-use Rattle.nef_complex.specs.Complexes.{complex_of}
+use Rattle.nef_plane.proofs.Prelude.{hit_place, IsVertexPoint, complex_of}
 use Rattle.nef_plane.proofs.along.vertex_off_axis.Given as goal
 
 abbrev pub invariant-loop-number : goal.invariant-loop-number

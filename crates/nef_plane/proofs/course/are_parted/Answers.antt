@@ -1,7 +1,4 @@
-use Rattle.std.proofs.Common.{rules}
-use Rattle.nef_space.specs.Place.{form_at}
-use Rattle.nef_geo.specs.Shapes.{place_of}
-use Rattle.nef_plane.specs.Parting.{ray_form}
+use Rattle.nef_plane.proofs.Prelude.{rules, form_at, place_of, ray_form}
 use Rattle.nef_plane.proofs.course.are_parted.Goals as goal
 
 pub returns : goal.returns

@@ -1,8 +1,4 @@
-use Rattle.std.proofs.Common.{ℤ, w64, inl, inr, refl, rules, subst}
-use Rattle.std.proofs.lemmas.Int.{to_z-of_z}
-use Rattle.nef_geo.specs.Shapes.{form_of, place_of}
-use Rattle.nef_plane.specs.Courses.{shifted_form}
-use Rattle.nef_plane.specs.Levels.{AreShortBelow, AreFarFrom}
+use Rattle.nef_plane.proofs.Prelude.{ℤ, w64, inl, inr, refl, rules, subst, to_z-of_z, form_of, place_of, shifted_form, AreShortBelow, AreFarFrom}
 use Rattle.nef_plane.proofs.Close.{shifted-swept}
 use Rattle.nef_plane.proofs.course.number_beside.Goals as goal
 

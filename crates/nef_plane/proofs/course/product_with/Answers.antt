@@ -1,10 +1,5 @@
-use Rattle.std.proofs.Common.{◌≡◌, ℕ, ℤ, ◌+ℤ◌, ◌*ℤ◌, List, [], ◌∷◌, refl, ◌∙◌, w64}
+use Rattle.nef_plane.proofs.Prelude.{◌≡◌, ℕ, ℤ, ◌+ℤ◌, ◌*ℤ◌, List, [], ◌∷◌, refl, ◌∙◌, w64, direction_limit, point_limit, Code, load, wrap, ◌⊞◌, ◌⊠◌, Limited, exact_of, fits_of, size_of, Dir, Point, product_limit}
 use mir.Syntax.{w128}
-use Rattle.nef_space.specs.Limits.{direction_limit, point_limit}
-use Rattle.nef_space.proofs.Machine.{Code, load, wrap, ◌⊞◌, ◌⊠◌, Limited, exact_of, fits_of, size_of}
-use Rattle.nef_geo.specs.declared.dir.Dir.{Dir}
-use Rattle.nef_geo.specs.declared.point.Point.{Point}
-use Rattle.nef_plane.specs.Parting.{product_limit}
 use Rattle.nef_plane.proofs.course.product_with.Goals as goal
 
 -- the bounds of the direction's numbers and of the point's

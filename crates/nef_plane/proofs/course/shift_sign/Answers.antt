@@ -1,8 +1,5 @@
-use Rattle.std.proofs.Common.{ℕ, ℤ, ◌≤◌, nat_abs, List, [], ◌∷◌, w64, ap, ◌∙◌}
+use Rattle.nef_plane.proofs.Prelude.{ℕ, ℤ, ◌≤◌, nat_abs, List, [], ◌∷◌, w64, ap, ◌∙◌, point_limit, weight_limit, Code, load, wrap, ◌⊟◌, ◌⊠◌, Limited, exact_of, fits_of, sign_of}
 use mir.Syntax.{w128}
-use Rattle.nef_space.specs.Limits.{point_limit, weight_limit}
-use Rattle.nef_space.proofs.Machine.{Code, load, wrap, ◌⊟◌, ◌⊠◌, Limited, exact_of, fits_of}
-use Rattle.nef_geo.specs.Signs.{sign_of}
 use Rattle.nef_plane.proofs.course.shift_sign.Goals as goal
 
 -- the bounds of n, w, k, v, by

@@ -1,10 +1,5 @@
-use Rattle.std.proofs.Common.{◌≡◌, ℕ, ℤ, ◌≤◌, nat_abs, List, [], ◌∷◌, w64, ap, ◌∙◌, subst, sym}
+use Rattle.nef_plane.proofs.Prelude.{◌≡◌, ℕ, ℤ, ◌≤◌, nat_abs, List, [], ◌∷◌, w64, ap, ◌∙◌, subst, sym, weight_limit, Code, load, wrap, ◌⊟◌, ◌⊠◌, Limited, exact_of, fits_of, sign_of, Point, product_limit}
 use mir.Syntax.{w128}
-use Rattle.nef_space.specs.Limits.{weight_limit}
-use Rattle.nef_space.proofs.Machine.{Code, load, wrap, ◌⊟◌, ◌⊠◌, Limited, exact_of, fits_of}
-use Rattle.nef_geo.specs.Signs.{sign_of}
-use Rattle.nef_geo.specs.declared.point.Point.{Point}
-use Rattle.nef_plane.specs.Parting.{product_limit}
 use Rattle.nef_plane.proofs.RayPlanes.{side-is}
 use Rattle.nef_plane.proofs.course.side_through.Goals as goal
 

@@ -1,5 +1,4 @@
-use Rattle.std.proofs.Common.{IsTrue, rules, inl, inr}
-use Rattle.nef_geo.specs.Shapes.{vector_of}
+use Rattle.nef_plane.proofs.Prelude.{IsTrue, rules, inl, inr, vector_of}
 use Rattle.nef_plane.proofs.Close.{close-first, close-second, outweighed}
 use Rattle.nef_plane.proofs.course.stays_close.Goals as goal
 use Rattle.nef_plane.proofs.course.stays_close.Goals.{else-c-eq0-via-then-c-eq0+else-b-eq0, else-c-eq0-via-else-c-eq0}

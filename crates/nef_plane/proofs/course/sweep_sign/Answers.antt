@@ -1,4 +1,4 @@
-use Rattle.std.proofs.Common.{rules}
+use Rattle.nef_plane.proofs.Prelude.{rules}
 use Rattle.nef_plane.proofs.Sweep.{way-sign, way-second}
 use Rattle.nef_plane.proofs.course.sweep_sign.Goals as goal
 use Rattle.nef_plane.proofs.course.sweep_sign.Goals.{else-c-eq0-via-then-c-eq0+else-b-eq0, else-c-eq0-via-else-c-eq0}

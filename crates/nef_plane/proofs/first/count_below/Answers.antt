@@ -1,5 +1,4 @@
-use Rattle.std.proofs.Common.{rules}
-use Rattle.std.proofs.lemmas.List.Sorted.{IsPartitionPoint-from_clause}
+use Rattle.nef_plane.proofs.Prelude.{rules, IsPartitionPoint-from_clause}
 use Rattle.std.specs.Prelude.{ℕ, ltb}
 use Rattle.nef_plane.proofs.Below.{below-parted, below-point, beyond-point}
 use Rattle.nef_plane.proofs.first.count_below.Goals as goal

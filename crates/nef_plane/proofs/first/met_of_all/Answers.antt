@@ -1,5 +1,4 @@
-use Rattle.nef_complex.specs.Complexes.{complex_of}
-use Rattle.nef_plane.specs.Meets.{AtSomeVertex, AtSomeEdge, met_of}
+use Rattle.nef_plane.proofs.Prelude.{complex_of, AtSomeVertex, AtSomeEdge, met_of}
 use Rattle.nef_plane.proofs.Nearest.{nearest-either}
 use Rattle.nef_plane.proofs.first.met_of_all.Goals as goal
 

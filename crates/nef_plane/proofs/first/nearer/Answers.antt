@@ -1,5 +1,4 @@
-use Rattle.std.proofs.Common.{inl, inr, rules}
-use Rattle.nef_plane.specs.Meets.{IsReachedMet, met_of}
+use Rattle.nef_plane.proofs.Prelude.{inl, inr, rules, IsReachedMet, met_of}
 use Rattle.nef_plane.proofs.Choosing.{some-at, take-first, take-second, keep-first, keep-second}
 use Rattle.nef_plane.proofs.first.nearer.Goals as goal
 

@@ -1,13 +1,4 @@
-use Rattle.std.proofs.Common.{◌≡◌, ℕ, ◌-◌, ◌+◌, ◌<◌, length, get_or, arith, rules, refl, sym, subst, ⊎_elim, Option}
-use Rattle.std.specs.Prelude.{IfSome}
-use Rattle.std.proofs.lemmas.Bool.{cases_lt}
-use Rattle.nef_classes.proofs.ClassLists.{is-at_get}
-use Rattle.nef_complex.specs.Complexes.{complex_of}
-use Rattle.nef_complex.specs.declared.complex.PlaneMeet.TheVariants.{AtEdge}
-use Rattle.nef_complex.specs.Spans.{IsInSpan}
-use Rattle.nef_complex.specs.declared.spans.Span.{Span}
-use Rattle.nef_plane.specs.Meets.{AtEdgeNumber, IsNearest, met_of}
-use Rattle.nef_plane.specs.Windows.{HoldsBefore}
+use Rattle.nef_plane.proofs.Prelude.{◌≡◌, ℕ, ◌-◌, ◌+◌, ◌<◌, length, get_or, arith, rules, refl, sym, subst, ⊎_elim, Option, IfSome, cases_lt, is-at_get, complex_of, AtEdge, IsInSpan, Span, AtEdgeNumber, IsNearest, met_of, HoldsBefore}
 use Rattle.nef_plane.proofs.Listed.{met-lies}
 use Rattle.nef_plane.proofs.Nearest.{From, asked-none, asked-before, asked-apart, asked-over, asked-each}
 use Rattle.nef_plane.proofs.Windowed.{best-has, best-held}

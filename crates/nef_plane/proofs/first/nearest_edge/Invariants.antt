@@ -1,9 +1,5 @@
-use Rattle.std.specs.Prelude.{ℕ, ◌≤◌, length, IfSome}
-use Rattle.nef_space.specs.Lists.{IsAt}
-use Rattle.nef_complex.specs.Complexes.{complex_of}
-use Rattle.nef_complex.specs.Spans.{IsInSpan}
-use Rattle.nef_plane.specs.Meets.{IsNearest, met_of, AtEdgeNumber}
-use Rattle.nef_plane.specs.Windows.{HoldsBefore}
+use Rattle.nef_plane.proofs.Prelude.{IfSome, IsAt, complex_of, IsInSpan, IsNearest, met_of, AtEdgeNumber, HoldsBefore}
+use Rattle.std.specs.Prelude.{ℕ, ◌≤◌, length}
 use Rattle.nef_plane.proofs.first.nearest_edge.Given as goal
 
 abbrev pub invariant-loop-place : goal.invariant-loop-place

@@ -1,8 +1,4 @@
-use Rattle.std.proofs.Common.{ℕ, ◌<◌, arith, rules, sym, subst}
-use Rattle.nef_complex.specs.Complexes.{complex_of}
-use Rattle.nef_complex.specs.declared.complex.PlaneMeet.{PlaneMeet}
-use Rattle.nef_plane.specs.Asked.{meet_at}
-use Rattle.nef_plane.specs.Meets.{AtMeet, IsMissed, IsNearest, met_of}
+use Rattle.nef_plane.proofs.Prelude.{ℕ, ◌<◌, arith, rules, sym, subst, complex_of, PlaneMeet, meet_at, AtMeet, IsMissed, IsNearest, met_of}
 use Rattle.nef_plane.proofs.Listed.{serves-has, met-serves, has-count, count-has}
 use Rattle.nef_plane.proofs.Nearest.{all-more, all-past, all-met}
 use Rattle.nef_plane.proofs.first.nearest_of_all.Goals.{then-can_tell, else-can_tell}

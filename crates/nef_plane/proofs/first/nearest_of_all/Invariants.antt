@@ -1,7 +1,5 @@
 use Rattle.std.specs.Prelude.{ℕ, ◌<◌}
-use Rattle.nef_complex.specs.Complexes.{complex_of}
-use Rattle.nef_plane.specs.Asked.{meet_at}
-use Rattle.nef_plane.specs.Meets.{IsNearest, met_of, AtMeet}
+use Rattle.nef_plane.proofs.Prelude.{complex_of, meet_at, IsNearest, met_of, AtMeet}
 use Rattle.nef_plane.proofs.first.nearest_of_all.Given as goal
 
 abbrev pub invariant-loop-number : goal.invariant-loop-number

@@ -1,8 +1,4 @@
-use Rattle.std.proofs.Common.{◌<◌, length, get_or, arith, rules, refl}
-use Rattle.nef_classes.proofs.ClassLists.{is-at_get}
-use Rattle.nef_complex.specs.Complexes.{complex_of}
-use Rattle.nef_complex.specs.declared.complex.PlaneMeet.TheVariants.{AtVertex}
-use Rattle.nef_plane.specs.Meets.{AtVertexNumber, met_of}
+use Rattle.nef_plane.proofs.Prelude.{◌<◌, length, get_or, arith, rules, refl, is-at_get, complex_of, AtVertex, AtVertexNumber, met_of}
 use Rattle.nef_plane.proofs.Listed.{met-lies}
 use Rattle.nef_plane.proofs.Nearest.{asked-more, asked-past, asked-all}
 use Rattle.nef_plane.proofs.first.nearest_vertex.Goals.{then-may_meet, else-may_meet}

@@ -1,7 +1,5 @@
 use Rattle.std.specs.Prelude.{ℕ, ◌<◌}
-use Rattle.nef_space.specs.Lists.{IsAt}
-use Rattle.nef_complex.specs.Complexes.{complex_of}
-use Rattle.nef_plane.specs.Meets.{IsNearest, met_of, AtVertexNumber}
+use Rattle.nef_plane.proofs.Prelude.{IsAt, complex_of, IsNearest, met_of, AtVertexNumber}
 use Rattle.nef_plane.proofs.first.nearest_vertex.Given as goal
 
 abbrev pub invariant-loop-place : goal.invariant-loop-place

@@ -1,15 +1,4 @@
-use Rattle.std.proofs.Common.{◌≡◌, ◌∙◌, ℕ, pos, length, get_or, arith, rules, refl, ap, sym}
-use Rattle.std.proofs.lemmas.Option.{slice_get_read}
-use Rattle.nef_space.specs.Place.{form_at}
-use Rattle.nef_geo.specs.Shapes.{hit_place, form_of}
-use Rattle.nef_geo.specs.Signs.{sign_of}
-use Rattle.nef_geo.specs.declared.plane.Plane.{Plane}
-use Rattle.nef_geo.specs.declared.sign.Sign.TheVariants.{Zero}
-use Rattle.nef_geo.proofs.Signs.{zero_sign}
-use Rattle.nef_arc.proofs.SignNumbers.{not_true}
-use Rattle.nef_classes.proofs.ClassLists.{is-at_get}
-use Rattle.nef_complex.proofs.ListedHolders.{listed-more, holder-holds, all-holders}
-use Rattle.nef_complex.proofs.Reading.{got-at}
+use Rattle.nef_plane.proofs.Prelude.{◌≡◌, ◌∙◌, ℕ, pos, length, get_or, arith, rules, refl, ap, sym, slice_get_read, form_at, hit_place, form_of, sign_of, Plane, Zero, zero_sign, not_true, is-at_get, listed-more, holder-holds, all-holders, got-at}
 use Rattle.nef_plane.proofs.places.are_through.Goals as goal
 
 pub returns-then-ne : goal.returns-then-ne

@@ -1,8 +1,5 @@
 use Rattle.std.specs.Prelude.{◌≡◌, pos}
-use Rattle.nef_space.specs.Place.{form_at}
-use Rattle.nef_geo.specs.Shapes.{hit_place, form_of}
-use Rattle.nef_geo.specs.declared.plane.Plane.{Plane}
-use Rattle.nef_complex.proofs.ListedHolders.{AllListed}
+use Rattle.nef_plane.proofs.Prelude.{form_at, hit_place, form_of, Plane, AllListed}
 use Rattle.nef_plane.proofs.places.are_through.Given as goal
 
 abbrev pub invariant-loop-number : goal.invariant-loop-number

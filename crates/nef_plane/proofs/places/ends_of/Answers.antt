@@ -1,5 +1,4 @@
-use Rattle.nef_complex.proofs.Ends.{low-within, high-within}
-use Rattle.nef_complex.proofs.Reading.{got-at}
+use Rattle.nef_plane.proofs.Prelude.{low-within, high-within, got-at}
 use Rattle.nef_plane.proofs.places.ends_of.Goals as goal
 
 pub returns-in-AtEdge-clause-low : goal.returns-in-AtEdge-clause-low

@@ -1,8 +1,4 @@
-use Rattle.std.proofs.Common.{◌↔◌, IsTrue, sym, subst}
-use Rattle.nef_geo.specs.Shapes.{hit_place}
-use Rattle.nef_complex.specs.Complexes.{complex_of}
-use Rattle.nef_complex.specs.declared.complex.PlaneMeet.{PlaneMeet}
-use Rattle.nef_plane.specs.Meets.{IsMeetPoint}
+use Rattle.nef_plane.proofs.Prelude.{◌↔◌, IsTrue, sym, subst, hit_place, complex_of, PlaneMeet, IsMeetPoint}
 use Rattle.nef_plane.proofs.places.is_at.Goals as goal
 
 pub returns-in-AtEdge : goal.returns-in-AtEdge

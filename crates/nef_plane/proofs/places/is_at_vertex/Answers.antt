@@ -1,9 +1,4 @@
-use Rattle.std.proofs.Common.{List, sym, subst}
-use Rattle.nef_geo.specs.Shapes.{place_of, hit_place}
-use Rattle.nef_geo.specs.declared.plane.Plane.{Plane}
-use Rattle.nef_complex.proofs.ListedHolders.{holders-within}
-use Rattle.nef_complex.proofs.Reading.{got-at}
-use Rattle.nef_plane.specs.Amid.{AllSideWith}
+use Rattle.nef_plane.proofs.Prelude.{List, sym, subst, place_of, hit_place, Plane, holders-within, got-at, AllSideWith}
 use Rattle.nef_plane.proofs.Amid.{vertex-amid, amid-vertex}
 use Rattle.nef_plane.proofs.Holding.{vertex-held}
 use Rattle.nef_plane.proofs.places.is_at_vertex.Goals as goal

@@ -1,11 +1,4 @@
-use Rattle.std.proofs.Common.{List, subst, sym}
-use Rattle.nef_geo.specs.Shapes.{place_of, hit_place}
-use Rattle.nef_geo.specs.declared.plane.Plane.{Plane}
-use Rattle.nef_classes.proofs.ClassLists.{is-at_some}
-use Rattle.nef_complex.proofs.Ends.{low-within, high-within}
-use Rattle.nef_complex.proofs.ListedHolders.{holders-within}
-use Rattle.nef_complex.proofs.Reading.{got-at}
-use Rattle.nef_plane.specs.Amid.{AllThrough}
+use Rattle.nef_plane.proofs.Prelude.{List, subst, sym, place_of, hit_place, Plane, is-at_some, low-within, high-within, holders-within, got-at, AllThrough}
 use Rattle.nef_plane.proofs.Holding.{edge-held}
 use Rattle.nef_plane.proofs.places.is_in_line.Goals as goal
 

@@ -1,11 +1,4 @@
-use Rattle.std.proofs.Common.{sym, ◌∙◌, rules}
-use Rattle.nef_arc.proofs.SignNumbers.{not_true}
-use Rattle.nef_geo.specs.Shapes.{form_of, place_of, hit_place}
-use Rattle.nef_classes.proofs.ClassLists.{is-at_some}
-use Rattle.nef_complex.proofs.Ends.{low-within, high-within, edge-inside}
-use Rattle.nef_complex.proofs.Parted.{held-between}
-use Rattle.nef_complex.proofs.Reading.{got-at}
-use Rattle.nef_complex.proofs.ListedHolders.{holders-within}
+use Rattle.nef_plane.proofs.Prelude.{sym, ◌∙◌, rules, not_true, form_of, place_of, hit_place, is-at_some, low-within, high-within, edge-inside, held-between, got-at, holders-within}
 use Rattle.nef_plane.proofs.Amid.{sides-edge, edge-low, edge-high}
 use Rattle.nef_plane.proofs.Holding.{vertex-held}
 use Rattle.nef_plane.proofs.places.is_on_edge.Goals as goal

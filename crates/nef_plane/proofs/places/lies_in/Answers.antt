@@ -1,5 +1,4 @@
-use Rattle.std.proofs.Common.{rules}
-use Rattle.nef_geo.specs.Shapes.{form_of}
+use Rattle.nef_plane.proofs.Prelude.{rules, form_of}
 use Rattle.nef_plane.proofs.Either.{ends-held, ends-lie}
 use Rattle.nef_plane.proofs.places.lies_in.Goals as goal
 

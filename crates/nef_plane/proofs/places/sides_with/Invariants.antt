@@ -1,9 +1,5 @@
 use Rattle.std.specs.Prelude.{◌≡◌}
-use Rattle.nef_space.specs.Place.{form_at}
-use Rattle.nef_geo.specs.Shapes.{place_of, hit_place, form_of}
-use Rattle.nef_geo.specs.Signs.{sign_of}
-use Rattle.nef_geo.specs.declared.plane.Plane.{Plane}
-use Rattle.nef_complex.proofs.ListedHolders.{AllListed}
+use Rattle.nef_plane.proofs.Prelude.{form_at, place_of, hit_place, form_of, sign_of, Plane, AllListed}
 use Rattle.nef_plane.proofs.places.sides_with.Given as goal
 
 abbrev pub invariant-loop-number : goal.invariant-loop-number

@@ -1,7 +1,5 @@
-use Rattle.std.proofs.Common.{IsTrue, ◌↔◌, arith, rules}
+use Rattle.nef_plane.proofs.Prelude.{IsTrue, ◌↔◌, arith, rules, form_of, place_of, hit_place, sweep_form, AreOpposite}
 use Rattle.std.proofs.lemmas.Grind.{common_steps}
-use Rattle.nef_geo.specs.Shapes.{form_of, place_of, hit_place}
-use Rattle.nef_plane.specs.Meets.{sweep_form, AreOpposite}
 use Rattle.nef_plane.proofs.plane.are_parted.Goals as goal
 
 opposite : (c : goal.After-eq) → IsTrue c.eq.result ↔ AreOpposite (sweep_form (form_of c.args.ray.now.plane.now) (hit_place c.args.ray.now.start.now)) (place_of c.args.a.now) (place_of c.args.b.now)

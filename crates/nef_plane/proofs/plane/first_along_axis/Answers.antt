@@ -1,7 +1,4 @@
-use Rattle.std.proofs.Common.{rules, sym, subst}
-use Rattle.nef_geo.specs.Shapes.{form_of, hit_place, vector_of}
-use Rattle.nef_plane.specs.Asked.{AreItems}
-use Rattle.nef_plane.specs.Meets.{IsNearest, far_met_of}
+use Rattle.nef_plane.proofs.Prelude.{rules, sym, subst, form_of, hit_place, vector_of, AreItems, IsNearest, far_met_of}
 use Rattle.nef_plane.proofs.Axes.{along-parallel, axis-level}
 use Rattle.nef_plane.proofs.AxisSizes.{axis-small}
 use Rattle.nef_plane.proofs.Choosing.{some-at}

@@ -1,7 +1,4 @@
-use Rattle.std.proofs.Common.{ℕ, rules, ◌+◌, ◌-◌, ◌<◌, length, ◌/◌, arith, get_or, sym, subst}
-use Rattle.nef_geo.specs.Shapes.{form_of}
-use Rattle.nef_classes.proofs.ClassLists.{is-at_get}
-use Rattle.nef_plane.specs.Levels.{AreShortBelow, AreFarFrom}
+use Rattle.nef_plane.proofs.Prelude.{ℕ, rules, ◌+◌, ◌-◌, ◌<◌, length, ◌/◌, arith, get_or, sym, subst, form_of, is-at_get, AreShortBelow, AreFarFrom}
 use Rattle.nef_plane.proofs.Leveled.{short-up_to, far-from, short-below, far-above, all-short, none-far}
 use Rattle.nef_plane.proofs.plane.first_far.Goals as goal
 

@@ -1,4 +1,4 @@
-use Rattle.std.proofs.Common.{◌-◌, ◌≤◌, length}
+use Rattle.nef_plane.proofs.Prelude.{◌-◌, ◌≤◌, length}
 use Rattle.nef_plane.proofs.Leveled.{AreShort, AreFar}
 use Rattle.nef_plane.proofs.plane.first_far.Given as goal
 

@@ -1,11 +1,4 @@
-use Rattle.std.proofs.Common.{ℕ, length, get_or, arith, refl}
-use Rattle.std.proofs.lemmas.Option.{slice_get_read}
-use Rattle.nef_space.specs.Place.{Place}
-use Rattle.nef_geo.specs.Hits.{IsCrossing}
-use Rattle.nef_geo.specs.Shapes.{form_of, hit_place, vector_of}
-use Rattle.nef_geo.specs.declared.plane.Plane.{Plane}
-use Rattle.nef_classes.proofs.ClassLists.{is-at_get}
-use Rattle.nef_complex.proofs.ListedHolders.{listed-more, holder-holds, all-holders}
+use Rattle.nef_plane.proofs.Prelude.{ℕ, length, get_or, arith, refl, slice_get_read, Place, IsCrossing, form_of, hit_place, vector_of, Plane, is-at_get, listed-more, holder-holds, all-holders}
 use Rattle.nef_plane.proofs.plane.hit_through.Goals as goal
 
 pub returns-in-Some : goal.returns-in-Some

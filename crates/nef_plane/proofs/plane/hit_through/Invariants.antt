@@ -1,8 +1,4 @@
-use Rattle.nef_space.specs.Place.{Place}
-use Rattle.nef_geo.specs.Hits.{IsCrossing}
-use Rattle.nef_geo.specs.Shapes.{form_of, hit_place, vector_of}
-use Rattle.nef_geo.specs.declared.plane.Plane.{Plane}
-use Rattle.nef_complex.proofs.ListedHolders.{AllListed}
+use Rattle.nef_plane.proofs.Prelude.{Place, IsCrossing, form_of, hit_place, vector_of, Plane, AllListed}
 use Rattle.nef_plane.proofs.plane.hit_through.Given as goal
 
 abbrev pub invariant-loop-number : goal.invariant-loop-number

@@ -1,6 +1,4 @@
-use Rattle.std.proofs.Common.{sym, ◌∙◌}
-use Rattle.nef_space.specs.Place.{form_at}
-use Rattle.nef_geo.specs.Shapes.{place_of}
+use Rattle.nef_plane.proofs.Prelude.{sym, ◌∙◌, form_at, place_of}
 use Rattle.nef_plane.proofs.Leveled.{minus-short, zero-short, plus-short}
 use Rattle.nef_plane.proofs.plane.is_short.Goals as goal
 

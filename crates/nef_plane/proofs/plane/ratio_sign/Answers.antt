@@ -1,9 +1,5 @@
-use Rattle.std.proofs.Common.{ℕ, ℤ, ◌≤◌, nat_abs, List, [], ◌∷◌, w64, ap, ◌∙◌, subst}
+use Rattle.nef_plane.proofs.Prelude.{ℕ, ℤ, ◌≤◌, nat_abs, List, [], ◌∷◌, w64, ap, ◌∙◌, subst, point_limit, weight_limit, Code, load, wrap, ◌⊟◌, ◌⊠◌, Limited, exact_of, fits_of, size_of, sign_of, upright_limit, upright_weight_limit, ratio_limit}
 use mir.Syntax.{w128}
-use Rattle.nef_space.specs.Limits.{point_limit, weight_limit}
-use Rattle.nef_space.proofs.Machine.{Code, load, wrap, ◌⊟◌, ◌⊠◌, Limited, exact_of, fits_of, size_of}
-use Rattle.nef_geo.specs.Signs.{sign_of}
-use Rattle.nef_geo.specs.Widths.{upright_limit, upright_weight_limit, ratio_limit}
 use Rattle.nef_plane.proofs.plane.ratio_sign.Goals as goal
 
 -- the bounds of x, w, y, v

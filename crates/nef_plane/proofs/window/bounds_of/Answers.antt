@@ -1,9 +1,6 @@
-use Rattle.std.proofs.Common.{◌≡◌, ℤ, pos, ◌+ℤ◌, ◌*ℤ◌, ◌<ℤ◌, ◌≤ℤ◌, arith, rules, sym, ◌∙◌, subst}
-use Rattle.std.proofs.lemmas.Int.{ints, to_z-of_z}
-use Rattle.std.specs.Int.{int_div_euclid}
+use Rattle.nef_plane.proofs.Prelude.{◌≡◌, ℤ, pos, ◌+ℤ◌, ◌*ℤ◌, ◌<ℤ◌, ◌≤ℤ◌, arith, rules, sym, ◌∙◌, subst, ints, to_z-of_z, int_div_euclid, euclid-below, euclid-above}
 use mir.Syntax.{w128, w64}
 use mir.Val.{to_z, of_z}
-use Rattle.nef_complex.proofs.Spanning.{euclid-below, euclid-above}
 use Rattle.nef_plane.proofs.window.bounds_of.Goals as goal
 
 floor : (x w q : ℤ) → q ≡ int_div_euclid (to_z w128 (of_z w128 x)) (to_z w128 (of_z w128 w)) → to_z w128 (of_z w128 x) ≡ x → to_z w128 (of_z w128 w) ≡ w → q ≡ int_div_euclid x w

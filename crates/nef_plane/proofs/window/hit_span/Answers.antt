@@ -1,9 +1,6 @@
-use Rattle.std.proofs.Common.{arith, ◌≡◌, ◌<◌, ◌≤◌, ◌^◌, ℤ, pos, ◌*ℤ◌, ◌≤ℤ◌, nat_abs, ap, ◌∙◌, sym, subst}
-use Rattle.std.proofs.lemmas.Int.{to_z-of_z, fits_signed_from_abs}
+use Rattle.nef_plane.proofs.Prelude.{arith, ◌≡◌, ◌<◌, ◌≤◌, ◌^◌, ℤ, pos, ◌*ℤ◌, ◌≤ℤ◌, nat_abs, ap, ◌∙◌, sym, subst, to_z-of_z, fits_signed_from_abs, hit_limit, hit_weight_limit, pos-abs}
 use mir.Syntax.{w128}
 use mir.Val.{to_z, of_z}
-use Rattle.nef_geo.specs.Widths.{hit_limit, hit_weight_limit}
-use Rattle.nef_geo.proofs.Places.{pos_size}
 use Rattle.nef_plane.proofs.window.hit_span.Goals as goal
 
 -- a number of the hit, as it was read
@@ -26,7 +23,7 @@ below m x y w v l e f g = subst (λ (r : ℤ). y ≤ℤ (m *ℤ r)) (sym g) (sub
 pub returns : goal.returns
 returns c =
     let q = c.args.q.now in
-    let g = pos_size q.w q.proper in
+    let g = pos-abs q.w q.proper in
     let x = coordinate c.x.result q.x c.x.ensures.x q.x_small in
     let y = coordinate c.y.result q.y c.y.ensures.y q.y_small in
     let z = coordinate c.z.result q.z c.z.ensures.z q.z_small in

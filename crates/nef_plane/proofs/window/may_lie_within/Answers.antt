@@ -1,7 +1,5 @@
-use Rattle.std.proofs.Common.{◌≡◌, Some, rules, sym, subst}
+use Rattle.nef_plane.proofs.Prelude.{◌≡◌, Some, rules, sym, subst, Span, IsOutside}
 use Rattle.std.specs.Prelude.{Option}
-use Rattle.nef_complex.specs.declared.spans.Span.{Span}
-use Rattle.nef_plane.specs.Windows.{IsOutside}
 use Rattle.nef_plane.proofs.window.may_lie_within.Goals as goal
 
 pub returns-in-Some : goal.returns-in-Some

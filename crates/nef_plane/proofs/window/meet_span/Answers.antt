@@ -1,6 +1,4 @@
-use Rattle.std.proofs.Common.{get_or, arith}
-use Rattle.nef_classes.proofs.ClassLists.{is-at_get}
-use Rattle.nef_complex.specs.declared.spans.Span.{Span}
+use Rattle.nef_plane.proofs.Prelude.{get_or, arith, is-at_get, Span}
 use Rattle.nef_complex.proofs.Outside.{no_span}
 use Rattle.nef_plane.proofs.Windowed.{ends-spanned}
 use Rattle.nef_plane.proofs.window.meet_span.Goals as goal

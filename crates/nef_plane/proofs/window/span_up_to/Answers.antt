@@ -1,4 +1,4 @@
-use Rattle.nef_complex.proofs.Spanned.{span-between}
+use Rattle.nef_plane.proofs.Prelude.{span-between}
 use Rattle.nef_plane.proofs.window.span_up_to.Goals as goal
 
 pub returns : goal.returns

@@ -1,7 +1,4 @@
-use Rattle.std.proofs.Common.{◌≡◌, rules, IsTrue, subst}
-use Rattle.nef_space.specs.Local.{HasLabel, Germ}
-use Rattle.nef_geo.specs.Shapes.{vector_of, place_of, hit_place}
-use Rattle.law_complex.proofs.EqualPoints.{closed-same}
+use Rattle.nef_ray.proofs.Prelude.{◌≡◌, rules, IsTrue, subst, HasLabel, Germ, vector_of, place_of, hit_place, closed-same}
 use Rattle.nef_ray.proofs.Nearest.{crossings-same, unchanged-same}
 use Rattle.nef_ray.proofs.change.change_on.Goals as goal
 

@@ -1,5 +1,4 @@
-use Rattle.std.proofs.Common.{ℤ, pos, nat_abs, arith, ap, ◌∙◌}
-use Rattle.nef_geo.specs.Shapes.{place_of}
+use Rattle.nef_ray.proofs.Prelude.{ℤ, pos, nat_abs, arith, ap, ◌∙◌, place_of}
 use Rattle.nef_ray.proofs.Steps.{crossed-at, kept, size-small}
 use Rattle.nef_ray.proofs.change.crossing.Goals as goal
 

@@ -1,6 +1,4 @@
-use Rattle.std.proofs.Common.{[], ◌∷◌, refl, ◌∙◌, w64}
-use Rattle.nef_space.proofs.Machine.{wrap, exact_of, fits_of, size_of}
-use Rattle.nef_ray.specs.Widths.{start_form_limit}
+use Rattle.nef_ray.proofs.Prelude.{[], ◌∷◌, refl, ◌∙◌, w64, wrap, exact_of, fits_of, size_of, start_form_limit}
 use Rattle.nef_ray.proofs.Steps.{form_sizes, form-limits, form-is, times, two, three, four}
 use Rattle.nef_ray.proofs.change.form.Goals as goal
 

@@ -1,8 +1,4 @@
-use Rattle.std.proofs.Common.{subst}
-use Rattle.nef_space.specs.Local.{Germ}
-use Rattle.nef_geo.specs.Shapes.{vector_of, place_of}
-use Rattle.nef_smap.specs.Maps.{map_of}
-use Rattle.law_sphere.proofs.Labels.{label-unique}
+use Rattle.nef_ray.proofs.Prelude.{subst, Germ, vector_of, place_of, map_of, label-unique}
 use Rattle.nef_ray.proofs.change.label_after.Goals as goal
 
 pub returns : goal.returns

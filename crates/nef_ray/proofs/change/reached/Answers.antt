@@ -1,8 +1,4 @@
-use Rattle.std.proofs.Common.{ℤ, pos, ◌*ℤ◌, ◌<ℤ◌, [], ◌∷◌, sym, ◌∙◌, ap, refl, subst, w64}
-use Rattle.nef_space.proofs.Machine.{wrap, exact_of, fits_of, size_of}
-use Rattle.nef_space.proofs.Order.{mul_pos}
-use Rattle.nef_space.specs.Limits.{point_limit, weight_limit}
-use Rattle.nef_geo.specs.Shapes.{place_of}
+use Rattle.nef_ray.proofs.Prelude.{ℤ, pos, ◌*ℤ◌, ◌<ℤ◌, [], ◌∷◌, sym, ◌∙◌, ap, refl, subst, w64, wrap, exact_of, fits_of, size_of, mul_pos, point_limit, weight_limit, place_of}
 use Rattle.nef_ray.proofs.Steps.{step_sizes, step-limits, step-is, step_code, weight_sizes, weight-limits, times, same-at}
 use Rattle.nef_ray.proofs.change.reached.Goals as goal
 

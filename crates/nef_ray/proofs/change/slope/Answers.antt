@@ -1,6 +1,4 @@
-use Rattle.std.proofs.Common.{[], ◌∷◌, refl, ◌∙◌, w64}
-use Rattle.nef_space.proofs.Machine.{wrap, exact_of, fits_of, size_of}
-use Rattle.nef_ray.specs.Widths.{ray_slope_limit}
+use Rattle.nef_ray.proofs.Prelude.{[], ◌∷◌, refl, ◌∙◌, w64, wrap, exact_of, fits_of, size_of, ray_slope_limit}
 use Rattle.nef_ray.proofs.Steps.{slope_sizes, slope-limits, slope-is, first_two, all_three}
 use Rattle.nef_ray.proofs.change.slope.Goals as goal
 

@@ -1,14 +1,4 @@
-use Rattle.std.proofs.Common.{inl, subst, arith, rules, IfSome, IsNone, Option}
-use Rattle.nef_space.specs.Sets.{Set}
-use Rattle.nef_space.specs.Place.{SamePlace}
-use Rattle.nef_geo.specs.Shapes.{place_of, vector_of, hit_place}
-use Rattle.nef_smap.proofs.Lists.{at-within}
-use Rattle.nef_complex.proofs.Reading.{read-at}
-use Rattle.nef_complex.specs.Complexes.{ShowsSet}
-use Rattle.nef_ray.specs.declared.ray.Crossed.{Crossed}
-use Rattle.nef_ray.specs.declared.ray.RayEnd.{RayEnd}
-use Rattle.nef_ray.specs.declared.ray.RayStart.{RayStart}
-use Rattle.nef_ray.specs.Changes.{IsHitOf, IsUnchangedOn, IsChangeOf}
+use Rattle.nef_ray.proofs.Prelude.{inl, subst, arith, rules, IfSome, IsNone, Option, Set, SamePlace, place_of, vector_of, hit_place, at-within, read-at, ShowsSet, Crossed, RayEnd, RayStart, IsHitOf, IsUnchangedOn, IsChangeOf}
 use Rattle.nef_ray.proofs.Found.{all-seen, ordered-seen, end-some, end-none}
 use Rattle.nef_ray.proofs.Listed.{next-read, one-listed}
 use Rattle.nef_ray.proofs.ray.ray_end.Goals as goal

@@ -1,9 +1,4 @@
-use Rattle.std.proofs.Common.{ℕ, ◌<◌}
-use Rattle.nef_space.specs.Sets.{Set}
-use Rattle.law_sphere.specs.Maps.{At}
-use Rattle.nef_complex.specs.Complexes.{ShowsSet}
-use Rattle.nef_ray.specs.declared.ray.Crossed.{Crossed}
-use Rattle.nef_ray.specs.Changes.{IsUnchangedOn}
+use Rattle.nef_ray.proofs.Prelude.{ℕ, ◌<◌, Set, At, ShowsSet, Crossed, IsUnchangedOn}
 use Rattle.nef_ray.proofs.ray.ray_end.Given as goal
 
 -- at the crossings so far nothing changes

@@ -1,11 +1,4 @@
-use Rattle.std.proofs.Common.{◌≡◌, ◌+◌, ◌*ℤ◌, ◌<ℤ◌, ◌++◌, [], ◌∷◌, All, arith, rules, refl, subst, sym, ap, ◌∙◌}
-use Rattle.std.proofs.lemmas.List.Elements.{All-push}
-use Rattle.std.proofs.lemmas.List.Sorted.{answers_always, All-permutation}
-use Rattle.std.specs.Ordering.{MatchOrdering}
-use Rattle.nef_smap.proofs.Lists.{at-within}
-use Rattle.nef_complex.proofs.Reading.{next-all}
-use Rattle.nef_ray.specs.declared.ray.Crossed.{Crossed}
-use Rattle.nef_ray.specs.Changes.{IsHitOf, crossed_lt}
+use Rattle.nef_ray.proofs.Prelude.{◌≡◌, ◌+◌, ◌*ℤ◌, ◌<ℤ◌, ◌++◌, [], ◌∷◌, All, arith, rules, refl, subst, sym, ap, ◌∙◌, All-push, answers_always, All-permutation, MatchOrdering, at-within, next-all, Crossed, IsHitOf, crossed_lt}
 use Rattle.nef_ray.proofs.Listed.{AreFirstCrossed, CrossedListed, listed-more, listed-last, sorted-kept}
 use Rattle.nef_ray.proofs.Nearness.{steps_weak, answers-step}
 use Rattle.nef_ray.proofs.ray.sorted_crossed.Goals as goal

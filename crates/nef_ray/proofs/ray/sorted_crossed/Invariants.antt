@@ -1,5 +1,4 @@
-use Rattle.std.proofs.Common.{All}
-use Rattle.nef_ray.specs.Changes.{IsHitOf}
+use Rattle.nef_ray.proofs.Prelude.{All, IsHitOf}
 use Rattle.nef_ray.proofs.Listed.{AreFirstCrossed}
 use Rattle.nef_ray.proofs.ray.sorted_crossed.Given as goal
 

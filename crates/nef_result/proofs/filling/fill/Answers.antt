@@ -1,11 +1,6 @@
-use Rattle.std.proofs.Common.{refl, sym, subst}
-use Rattle.law_sphere.proofs.Lists.{at-one}
-use Rattle.nef_complex.specs.declared.complex.Vertex.{Vertex}
-use Rattle.nef_smap.specs.Maps.{IsLeastMap}
+use Rattle.nef_result.proofs.Prelude.{refl, sym, subst, at-one, Vertex, IsLeastMap, MapSource, vertex_at, HasNamed, IsFilledAt}
 use Rattle.nef_smap.proofs.SideLists.{at-some as element-at}
 use Rattle.nef_edges.proofs.Places.{at-within}
-use Rattle.nef_result.specs.declared.parting.Source.{Source}
-use Rattle.nef_result.specs.Begun.{vertex_at, HasNamed, IsFilledAt}
 use Rattle.nef_result.proofs.filling.fill.Goals as goal
 
 pub swap_with-requires : goal.swap_with-requires
@@ -27,13 +22,13 @@ turn_map-requires-clause-least c = λ w b.
 
 pub returns-in-Here-clause-filled : goal.returns-in-Here-clause-filled
 returns-in-Here-clause-filled c = λ v a.
-    subst (λ (f : Source). IsFilledAt c.args.first.now.items c.args.second.now.items f c.args.number v c.args.vertices.now.items) (sym c.in-Here.is) (v, a, refl, refl)
+    subst (λ (f : MapSource). IsFilledAt c.args.first.now.items c.args.second.now.items f c.args.number v c.args.vertices.now.items) (sym c.in-Here.is) (v, a, refl, refl)
 
 pub returns-in-Kept-clause-filled : goal.returns-in-Kept-clause-filled
 returns-in-Kept-clause-filled c = λ v a.
     let us = c.args.first.now.items in let vs = c.args.second.now.items in
     let h = subst (HasNamed us vs) c.in-Kept.is c.requires.named in
-    subst (λ (f : Source). IsFilledAt us vs f c.args.number v c.swap_with.new.vertices.items) (sym c.in-Kept.is)
+    subst (λ (f : MapSource). IsFilledAt us vs f c.args.number v c.swap_with.new.vertices.items) (sym c.in-Kept.is)
     (vertex_at v.point h.0.map, c.swap_with.ensures.swapped v h.0 a h.1, refl, (h.0, h.1, refl))
 
 pub returns-in-Turned-clause-filled : goal.returns-in-Turned-clause-filled
@@ -41,5 +36,5 @@ returns-in-Turned-clause-filled c = λ v a.
     let us = c.args.first.now.items in let vs = c.args.second.now.items in
     let h = subst (HasNamed us vs) c.in-Turned.is c.requires.named in
     let t = c.turn_map.ensures.turned (vertex_at v.point h.0.map) (c.swap_with-in-Turned.ensures.swapped v h.0 a h.1) in
-    subst (λ (f : Source). IsFilledAt us vs f c.args.number v c.turn_map.new.vertices.items) (sym c.in-Turned.is)
+    subst (λ (f : MapSource). IsFilledAt us vs f c.args.number v c.turn_map.new.vertices.items) (sym c.in-Turned.is)
     (vertex_at v.point t.0, t.1, refl, (h.0, h.1, t.2))

@@ -1,4 +1,4 @@
-use Rattle.nef_result.specs.Begun.{AreFilledTo, AreLeft}
+use Rattle.nef_result.proofs.Prelude.{AreFilledTo, AreLeft}
 use Rattle.nef_result.proofs.filling.fill_all.Given as goal
 
 abbrev pub invariant-loop-number : goal.invariant-loop-number

@@ -1,4 +1,4 @@
-use Rattle.law_sphere.proofs.Lists.{at-one}
+use Rattle.nef_result.proofs.Prelude.{at-one}
 use Rattle.nef_edges.proofs.Places.{read-at}
 use Rattle.nef_result.proofs.Filled.{swapped-here, set-other}
 use Rattle.nef_result.proofs.filling.swap_maps.Goals as goal

@@ -1,14 +1,5 @@
-use Rattle.std.proofs.Common.{◌∙◌, ap, sym, subst, set}
-use Rattle.nef_space.specs.Place.{Place}
-use Rattle.nef_space.specs.Sets.{Set}
-use Rattle.law_sphere.specs.Least.{Cone}
-use Rattle.law_sphere.specs.Maps.{At}
-use Rattle.law_sphere.proofs.Lists.{at-one}
-use Rattle.nef_complex.specs.declared.complex.Vertex.{Vertex}
-use Rattle.nef_smap.specs.Maps.{map_of, IsLeastMap}
-use Rattle.nef_smap.specs.declared.map.SphereMap.{SphereMap}
+use Rattle.nef_result.proofs.Prelude.{◌∙◌, ap, sym, subst, set, Place, Set, Cone, At, at-one, Vertex, map_of, IsLeastMap, SphereMap, vertex_at}
 use Rattle.nef_edges.proofs.Places.{read-at}
-use Rattle.nef_result.specs.Begun.{vertex_at}
 use Rattle.nef_result.proofs.Filled.{set-here, set-other}
 use Rattle.nef_result.proofs.filling.turn_map.Goals as goal
 

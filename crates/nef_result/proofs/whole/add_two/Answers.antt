@@ -1,5 +1,4 @@
-use Rattle.std.proofs.Common.{◌++◌, ◌∷◌, [], true, false, sym, subst}
-use Rattle.nef_result.specs.Ends.{ends, AreCorners}
+use Rattle.nef_result.proofs.Prelude.{◌++◌, ◌∷◌, [], true, false, sym, subst, ends, AreCorners}
 use Rattle.nef_result.proofs.InOrder.{corners-more}
 use Rattle.nef_result.proofs.whole.add_two.Goals as goal
 

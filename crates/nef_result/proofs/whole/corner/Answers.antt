@@ -1,8 +1,4 @@
-use Rattle.std.proofs.Common.{pos, ◌<ℤ◌, arith, refl, sym, subst, inl, inr}
-use Rattle.std.proofs.lemmas.Int.{ints}
-use Rattle.nef_space.specs.Signs.{Lies}
-use Rattle.nef_space.specs.Vectors.{Vector}
-use Rattle.nef_result.specs.Ends.{axes, IsWall}
+use Rattle.nef_result.proofs.Prelude.{pos, ◌<ℤ◌, arith, refl, sym, subst, inl, inr, ints, Lies, Vector, axes, IsWall}
 use Rattle.nef_result.proofs.CornerMaps.{corner-of, corner-place}
 use Rattle.nef_result.proofs.whole.corner.Goals as goal
 

@@ -1,5 +1,4 @@
-use Rattle.std.proofs.Common.{Bool, true, false, List, [], ◌∷◌, ◌++◌, sym, subst}
-use Rattle.nef_result.specs.Ends.{Ends, ends, AreCorners}
+use Rattle.nef_result.proofs.Prelude.{Bool, true, false, List, [], ◌∷◌, ◌++◌, sym, subst, Ends, ends, AreCorners}
 use Rattle.nef_result.proofs.whole.corners.Goals as goal
 
 abbrev two : Bool → Bool → List Ends → List Ends

@@ -1,5 +1,4 @@
-use Rattle.std.proofs.Common.{sym, subst}
-use Rattle.nef_space.specs.Sets.{Set}
+use Rattle.nef_result.proofs.Prelude.{sym, subst, Set}
 use Rattle.nef_result.proofs.Walls.{IsWhole, full-whole, empty-whole}
 use Rattle.nef_result.proofs.Shown.{whole-vertices, whole-set}
 use Rattle.nef_result.proofs.whole.frame.Goals as goal

@@ -1,6 +1,4 @@
-use Rattle.nef_space.specs.Sets.{Set}
-use Rattle.nef_geo.specs.Shapes.{given_form, place_of}
-use Rattle.nef_smap.specs.Maps.{map_of}
+use Rattle.nef_result.proofs.Prelude.{Set, given_form, place_of, map_of}
 use Rattle.nef_result.proofs.HalfCones.{half-cone, below-cone, above-cone}
 use Rattle.nef_result.proofs.whole.half_map.Goals as goal
 

@@ -1,8 +1,4 @@
-use Rattle.std.proofs.Common.{subst}
-use Rattle.nef_space.specs.Place.{normal_of}
-use Rattle.nef_space.specs.Vectors.{SameDirection}
-use Rattle.nef_geo.specs.Shapes.{form_of, vector_of}
-use Rattle.nef_geo.specs.declared.plane.Plane.{Plane}
+use Rattle.nef_result.proofs.Prelude.{subst, normal_of, SameDirection, form_of, vector_of, Plane}
 use Rattle.nef_result.proofs.HalfCones.{plane-shown}
 use Rattle.nef_result.proofs.whole.map_of_plane.Goals as goal
 

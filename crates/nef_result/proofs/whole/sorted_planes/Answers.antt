@@ -1,6 +1,4 @@
-use Rattle.std.proofs.Common.{◌≡◌, ℕ, map, take, ap, subst, arith}
-use Rattle.nef_geo.specs.Shapes.{form_of}
-use Rattle.nef_result.specs.Planes.{sorted_sides}
+use Rattle.nef_result.proofs.Prelude.{◌≡◌, ℕ, map, take, ap, subst, arith, form_of, sorted_sides}
 use Rattle.nef_result.proofs.CornerMaps.{planes-more}
 use Rattle.nef_result.proofs.whole.sorted_planes.Goals as goal
 

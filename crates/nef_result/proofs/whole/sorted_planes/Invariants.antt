@@ -1,6 +1,4 @@
-use Rattle.std.proofs.Common.{◌≡◌, map, take}
-use Rattle.nef_geo.specs.Shapes.{form_of}
-use Rattle.nef_result.specs.Planes.{sorted_sides}
+use Rattle.nef_result.proofs.Prelude.{◌≡◌, map, take, form_of, sorted_sides}
 use Rattle.nef_result.proofs.whole.sorted_planes.Given as goal
 
 abbrev pub invariant-loop-k : goal.invariant-loop-k

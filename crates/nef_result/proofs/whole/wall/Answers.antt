@@ -1,6 +1,4 @@
-use Rattle.std.proofs.Common.{◌≡◌, Bool, cond, ap, sym, ◌∙◌}
-use Rattle.nef_space.specs.declared.label.Label.TheVariants.{Out}
-use Rattle.nef_geo.specs.Shapes.{vector_of}
+use Rattle.nef_result.proofs.Prelude.{◌≡◌, Bool, cond, ap, sym, ◌∙◌, Out, vector_of}
 use Rattle.nef_result.proofs.CornerMaps.{wall-of}
 use Rattle.nef_result.proofs.whole.wall.Goals.{then-high, else-high, then-high-2, else-high-2}
 use Rattle.nef_result.proofs.whole.wall.Goals as goal

@@ -1,12 +1,5 @@
 -- Each svertex has its image, at its place, and the sorted images are the turned svertices, in order.
-use Rattle.std.proofs.Common.{◌≡◌, ◌<◌, ◌≤◌, List, length, get_or, sym, subst, refl, ap, rules}
-use Rattle.std.proofs.lemmas.Fn.{always_returns_same}
-use Rattle.nef_space.specs.Vectors.{Vector}
-use Rattle.law_sphere.specs.Maps.{MapVertex}
-use Rattle.nef_smap.specs.declared.map.SVertex.{SVertex}
-use Rattle.nef_turn.specs.declared.maps.Moved.{Moved}
-use Rattle.nef_turn.specs.Images.{AreImages}
-use Rattle.nef_turn.specs.Turning.{IsMoved}
+use Rattle.nef_turn.proofs.Prelude.{◌≡◌, ◌<◌, ◌≤◌, List, length, get_or, sym, subst, refl, ap, rules, always_returns_same, Vector, MapVertex, SVertex, Moved, AreImages, IsMoved}
 use Rattle.nef_turn.proofs.Images.{images-none, images-step, images-end}
 use Rattle.nef_turn.proofs.MovedSvertices.{images-apart, moved-sorted}
 use Rattle.nef_turn.proofs.Orders.{moved-in_order}

@@ -1,5 +1,4 @@
-use Rattle.nef_turn.specs.Images.{AreImages}
-use Rattle.nef_turn.specs.Turning.{IsMoved}
+use Rattle.nef_turn.proofs.Prelude.{AreImages, IsMoved}
 use Rattle.nef_turn.proofs.maps.moved_svertices.Given as goal
 
 abbrev pub invariant-loop-old : goal.invariant-loop-old

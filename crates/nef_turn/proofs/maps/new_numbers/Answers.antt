@@ -1,7 +1,5 @@
 -- Each old number gets its new one.
-use Rattle.std.proofs.Common.{arith, ◌∙◌}
-use Rattle.std.proofs.Math.ListN.{length-set}
-use Rattle.nef_edges.proofs.Places.{read-at}
+use Rattle.nef_turn.proofs.Prelude.{arith, ◌∙◌, length-set, read-at}
 use Rattle.nef_turn.proofs.MovedSvertices.{numbers-none, numbers-step, numbers-end}
 use Rattle.nef_turn.proofs.maps.new_numbers.Goals as goal
 

@@ -1,5 +1,4 @@
-use Rattle.std.proofs.Common.{◌≡◌, length}
-use Rattle.nef_turn.specs.Turning.{AreNumbers}
+use Rattle.nef_turn.proofs.Prelude.{◌≡◌, length, AreNumbers}
 use Rattle.nef_turn.proofs.maps.new_numbers.Given as goal
 
 abbrev pub invariant-loop-new : goal.invariant-loop-new

@@ -1,9 +1,5 @@
 -- Each arc has its image, at its place, and the sorted images are the turned arcs, in order.
-use Rattle.std.proofs.Common.{◌≡◌, ◌<◌, ◌≤◌, List, length, get_or, sym, subst}
-use Rattle.nef_smap.specs.declared.map.SArc.{SArc}
-use Rattle.nef_edges.proofs.Places.{read-at}
-use Rattle.nef_turn.specs.Images.{AreImages}
-use Rattle.nef_turn.specs.Turning.{IsArcImage}
+use Rattle.nef_turn.proofs.Prelude.{◌≡◌, ◌<◌, ◌≤◌, List, length, get_or, sym, subst, SArc, read-at, AreImages, IsArcImage}
 use Rattle.nef_turn.proofs.Images.{images-none, images-step, images-end}
 use Rattle.nef_turn.proofs.TurnedArcs.{ends-within, arcs-apart, arcs-sorted}
 use Rattle.nef_turn.proofs.maps.turned_arcs.Goals as goal

@@ -1,5 +1,4 @@
-use Rattle.nef_turn.specs.Images.{AreImages}
-use Rattle.nef_turn.specs.Turning.{IsArcImage}
+use Rattle.nef_turn.proofs.Prelude.{AreImages, IsArcImage}
 use Rattle.nef_turn.proofs.maps.turned_arcs.Given as goal
 
 abbrev pub invariant-loop-arc : goal.invariant-loop-arc

@@ -1,15 +1,5 @@
 -- The turned map, from its parts.
-use Rattle.std.proofs.Common.{◌≡◌, ℕ, List, [], map, length, Option, Some, None, refl, sym, subst}
-use Rattle.std.specs.Prelude.{IfSome}
-use Rattle.nef_space.specs.Vectors.{IsNormal}
-use Rattle.nef_geo.specs.Shapes.{vector_of}
-use Rattle.nef_smap.specs.declared.map.SVertex.{SVertex}
-use Rattle.nef_smap.specs.declared.map.SArc.{SArc}
-use Rattle.nef_smap.specs.declared.map.SLoop.{SLoop}
-use Rattle.nef_smap.specs.declared.map.SphereMap.{SphereMap}
-use Rattle.nef_turn.specs.declared.maps.Moved.{Moved}
-use Rattle.nef_turn.specs.Images.{AreImages, AreApart}
-use Rattle.nef_turn.specs.Turning.{AreWithin, AreNumbers, HaveSameNumber, svertex_in, IsOfMoved, Renumbers, AreTurnedArcs}
+use Rattle.nef_turn.proofs.Prelude.{◌≡◌, ℕ, List, [], map, length, Option, Some, None, refl, sym, subst, IfSome, IsNormal, vector_of, SVertex, SArc, SLoop, SphereMap, Moved, AreImages, AreApart, AreWithin, AreNumbers, HaveSameNumber, svertex_in, IsOfMoved, Renumbers, AreTurnedArcs}
 use Rattle.nef_turn.proofs.MovedSvertices.{images-mapped, moved-within, renumbers}
 use Rattle.nef_turn.proofs.MadeMaps.{IsMade, made-lists, made-ordered}
 use Rattle.nef_turn.proofs.maps.turned_map.Goals as goal

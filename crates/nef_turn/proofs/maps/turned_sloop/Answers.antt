@@ -1,8 +1,5 @@
 -- The turned circle has the sides in the order that its normal form asks for.
-use Rattle.std.proofs.Common.{Option, Some, option_map, refl, sym, subst}
-use Rattle.nef_smap.specs.Maps.{sloop_of}
-use Rattle.nef_smap.specs.declared.map.SLoop.{SLoop}
-use Rattle.law_turns.specs.Maps.{IsTurnedOption}
+use Rattle.nef_turn.proofs.Prelude.{Option, Some, option_map, refl, sym, subst, sloop_of, SLoop, IsTurnedOption}
 use Rattle.nef_turn.proofs.maps.turned_sloop.Goals as goal
 
 pub returns : goal.returns

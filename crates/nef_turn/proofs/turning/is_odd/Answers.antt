@@ -1,8 +1,7 @@
 -- The two tables hold the values of the definitions.
-use Rattle.std.proofs.Common.{◌≡◌, ◌/◌, ◌%◌, ◌<◌, Bool, false, true, not, arith, refl}
+use Rattle.nef_turn.proofs.Prelude.{◌≡◌, ◌/◌, ◌%◌, ◌<◌, Bool, false, true, not, arith, refl, differ, is_exchange, negates_odd}
 use mathlib.Core.Bool.{beq}
 use Rattle.nef_case.proofs.TurnTables.{value-from_start}
-use Rattle.law_turns.specs.Turned.{differ, is_exchange, negates_odd}
 use Rattle.nef_turn.proofs.turning.is_odd.Goals as goal
 
 unequal-differ : (p q : Bool) → not (beq p q) ≡ differ p q

@@ -1,11 +1,5 @@
 -- The turned carriers and vertices, paired, show the turned set.
-use Rattle.std.proofs.Common.{List, sym, subst}
-use Rattle.nef_geo.specs.declared.plane.Plane.{Plane}
-use Rattle.nef_complex.specs.Complexes.{AreSorted}
-use Rattle.nef_complex.specs.Index.{AreInOrder}
-use Rattle.nef_complex.specs.declared.complex.Vertex.{Vertex}
-use Rattle.law_turns.specs.Turned.{turned_set}
-use Rattle.nef_turn.specs.Turning.{HaveLeastMaps}
+use Rattle.nef_turn.proofs.Prelude.{List, sym, subst, Plane, AreSorted, AreInOrder, Vertex, turned_set, HaveLeastMaps}
 use Rattle.nef_turn.proofs.Steps.{carriers-in_order, vertices-sorted, maps-least, ready}
 use Rattle.nef_turn.proofs.turning.turn_complex.Goals as goal
 

@@ -1,9 +1,5 @@
 -- A turned plane has one normal form.
-use Rattle.std.proofs.Common.{ap, sym, subst, ◌∙◌}
-use Rattle.nef_space.specs.Place.{Form, normal_of}
-use Rattle.nef_space.specs.Vectors.{IsDirection}
-use Rattle.nef_geo.specs.Reading.{IsInRange, IsPositiveMultiple}
-use Rattle.nef_geo.specs.Shapes.{form_of, given_form}
+use Rattle.nef_turn.proofs.Prelude.{ap, sym, subst, ◌∙◌, Form, normal_of, IsDirection, IsInRange, IsPositiveMultiple, form_of, given_form}
 use Rattle.nef_turn.proofs.Exact.{plane-words, plane-in_range, plane-some, plane-one}
 use Rattle.nef_turn.proofs.turning.turned_carrier.Goals as goal
 

@@ -1,10 +1,5 @@
 -- Each plane has its image, at its place, and the sorted images are the turned planes.
-use Rattle.std.proofs.Common.{List, map, sym, subst}
-use Rattle.nef_geo.specs.Shapes.{form_of}
-use Rattle.nef_geo.specs.declared.plane.Plane.{Plane}
-use Rattle.law_turns.specs.Complexes.{AreTurnedPlanes}
-use Rattle.nef_turn.specs.Images.{AreImages}
-use Rattle.nef_turn.specs.Turning.{IsTurnedCarrier}
+use Rattle.nef_turn.proofs.Prelude.{List, map, sym, subst, form_of, Plane, AreTurnedPlanes, AreImages, IsTurnedCarrier}
 use Rattle.nef_turn.proofs.Images.{images-none, images-step, images-end}
 use Rattle.nef_turn.proofs.TurnedCarriers.{carriers-turned}
 use Rattle.nef_turn.proofs.turning.turned_carriers.Goals as goal

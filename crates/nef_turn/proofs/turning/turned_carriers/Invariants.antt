@@ -1,5 +1,4 @@
-use Rattle.nef_turn.specs.Images.{AreImages}
-use Rattle.nef_turn.specs.Turning.{IsTurnedCarrier}
+use Rattle.nef_turn.proofs.Prelude.{AreImages, IsTurnedCarrier}
 use Rattle.nef_turn.proofs.turning.turned_carriers.Given as goal
 
 abbrev pub invariant-loop-plane : goal.invariant-loop-plane

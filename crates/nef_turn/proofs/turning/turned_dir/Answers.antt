@@ -1,8 +1,5 @@
 -- A turned direction is in lowest terms.
-use Rattle.std.proofs.Common.{sym, subst}
-use Rattle.nef_space.specs.Limits.{direction_limit}
-use Rattle.nef_space.specs.Vectors.{Vector, IsAtMost, IsDirection, SameDirection}
-use Rattle.nef_geo.specs.Shapes.{vector_of}
+use Rattle.nef_turn.proofs.Prelude.{sym, subst, direction_limit, Vector, IsAtMost, IsDirection, SameDirection, vector_of}
 use Rattle.nef_turn.proofs.Exact.{dir-words, dir-small, dir-some, dir-one}
 use Rattle.nef_turn.proofs.turning.turned_dir.Goals as goal
 

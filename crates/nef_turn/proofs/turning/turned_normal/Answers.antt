@@ -1,7 +1,5 @@
 -- What is no normal form is opposite to one.
-use Rattle.std.proofs.Common.{sym, subst, ◌∙◌}
-use Rattle.std.proofs.lemmas.Bool.{false≢true}
-use Rattle.nef_space.specs.Vectors.{IsNormal}
+use Rattle.nef_turn.proofs.Prelude.{sym, subst, ◌∙◌, false≢true, IsNormal}
 use Rattle.nef_geo.proofs.Normals.{IsNormal-opposite}
 use Rattle.nef_turn.proofs.turning.turned_normal.Goals as goal
 

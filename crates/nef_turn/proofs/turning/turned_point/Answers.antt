@@ -1,9 +1,5 @@
 -- A turned point has the turned numbers.
-use Rattle.std.proofs.Common.{◌≡◌, ℤ, nat_abs, pos, ◌<ℤ◌, arith, ap, sym, subst}
-use Rattle.nef_space.specs.Limits.{point_limit}
-use Rattle.nef_space.specs.Vectors.{Vector, IsAtMost}
-use Rattle.nef_geo.specs.Shapes.{place_of}
-use Rattle.law_turns.specs.Turned.{turned_place}
+use Rattle.nef_turn.proofs.Prelude.{◌≡◌, ℤ, nat_abs, pos, ◌<ℤ◌, arith, ap, sym, subst, point_limit, Vector, IsAtMost, place_of, turned_place}
 use Rattle.nef_turn.proofs.Exact.{word, word-is, point-words, point-small, same-numbers}
 use Rattle.nef_turn.proofs.turning.turned_point.Goals as goal
 

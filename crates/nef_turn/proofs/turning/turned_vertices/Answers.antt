@@ -1,18 +1,7 @@
 -- Each vertex has its image, at its place, and the sorted images are the turned vertices.
-use Rattle.std.proofs.Common.{List, map, sym, subst, rules}
-use Rattle.std.proofs.lemmas.List.Sorted.{ranks_by, answers_always}
-use Rattle.std.specs.Ordering.{is_lt}
-use Rattle.nef_geo.specs.Shapes.{place_of}
-use Rattle.nef_smap.specs.Maps.{map_of}
-use Rattle.nef_complex.specs.Complexes.{vertex_of}
-use Rattle.nef_complex.specs.declared.complex.Vertex.{Vertex}
-use Rattle.nef_complex.proofs.Order.{IsOrder}
-use Rattle.nef_edges.proofs.Places.{read-at}
+use Rattle.nef_turn.proofs.Prelude.{List, map, sym, subst, rules, ranks_by, answers_always, is_lt, place_of, map_of, vertex_of, Vertex, IsOrder, read-at, AreTurnedVertices, AreImages, IsVertexImage}
 use Rattle.nef_cand.proofs.Order.{answers-less}
-use Rattle.law_turns.specs.Complexes.{AreTurnedVertices}
 use Rattle.law_turns.proofs.TurnedLists.{lists-turned}
-use Rattle.nef_turn.specs.Images.{AreImages}
-use Rattle.nef_turn.specs.Turning.{IsVertexImage}
 use Rattle.nef_turn.proofs.Images.{images-none, images-step, images-end}
 use Rattle.nef_turn.proofs.Orders.{vertex_order, vertex_total, vertices-in_order}
 use Rattle.nef_turn.proofs.TurnedVertices.{vertices-apart, vertices-turned}

@@ -1,5 +1,4 @@
-use Rattle.nef_turn.specs.Images.{AreImages}
-use Rattle.nef_turn.specs.Turning.{IsVertexImage}
+use Rattle.nef_turn.proofs.Prelude.{AreImages, IsVertexImage}
 use Rattle.nef_turn.proofs.turning.turned_vertices.Given as goal
 
 abbrev pub invariant-loop-vertex : goal.invariant-loop-vertex

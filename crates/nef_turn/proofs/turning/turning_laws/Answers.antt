@@ -1,7 +1,5 @@
 -- A set that is turned back is the set, and one that is turned twice is turned by the composition.
-use Rattle.std.proofs.Common.{sym, subst}
-use Rattle.nef_space.specs.Sets.{Set}
-use Rattle.nef_complex.specs.Complexes.{ShowsSet}
+use Rattle.nef_turn.proofs.Prelude.{sym, subst, Set, ShowsSet}
 use Rattle.law_turns.proofs.Twice.{set-back, set-twice}
 use Rattle.nef_turn.proofs.turning.turning_laws.Goals as goal
 

@@ -1,6 +1,4 @@
-use Rattle.std.proofs.Common.{List, ap, map}
-use Rattle.nef_complex.specs.declared.complex.Vertex.{Vertex}
-use Rattle.nef_complex.specs.Complexes.{vertex_of, complex_of}
+use Rattle.nef_unique.proofs.Prelude.{List, ap, map, Vertex, vertex_of, complex_of}
 use Rattle.nef_unique.proofs.Sets.{vertices-set}
 use Rattle.nef_unique.proofs.Vertices.{set-vertices}
 use Rattle.nef_unique.proofs.comparison.compare.Goals as goal

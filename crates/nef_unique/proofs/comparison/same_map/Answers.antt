@@ -1,7 +1,4 @@
-use Rattle.std.proofs.Common.{◌≡◌, ap, sym, ◌∙◌, true, false}
-use Rattle.std.specs.Bool.{Decides}
-use Rattle.std.proofs.lemmas.Bool.Decides.{Decides-at}
-use Rattle.nef_smap.specs.declared.map.SphereMap.{SphereMap}
+use Rattle.nef_unique.proofs.Prelude.{◌≡◌, ap, sym, ◌∙◌, true, false, Decides, Decides-at, SphereMap}
 use Rattle.nef_unique.proofs.Injective.{map-equal}
 use Rattle.nef_unique.proofs.Decides.{label_test, svertex_test, arc_test, sloop_test, label-decides, svertex-decides, arc-decides, sloop-decides, option-decides, lists-decide, both-decide, first-fails}
 use Rattle.nef_unique.proofs.comparison.same_map.Goals as goal

@@ -1,5 +1,4 @@
-use Rattle.std.proofs.Common.{ap, sym}
-use Rattle.nef_complex.specs.declared.complex.Vertex.{Vertex}
+use Rattle.nef_unique.proofs.Prelude.{ap, sym, Vertex}
 use Rattle.nef_unique.proofs.Decides.{point-decides}
 use Rattle.nef_unique.proofs.Injective.{vertex-equal}
 use Rattle.nef_unique.proofs.comparison.same_vertex.Goals as goal

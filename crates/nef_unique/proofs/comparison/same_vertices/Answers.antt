@@ -1,5 +1,5 @@
-use Rattle.std.proofs.Common.{◌≡◌, ℕ, length, take, sym, ◌∙◌, refl, subst, rules, arith}
-use Rattle.std.proofs.lemmas.List.{take_all, take_more_same, length_push}
+use Rattle.nef_unique.proofs.Prelude.{◌≡◌, ℕ, length, take, sym, ◌∙◌, refl, subst, rules, arith, take_all}
+use Rattle.std.proofs.lemmas.List.{take_more_same, length_push}
 use Rattle.std.proofs.lemmas.Slice.Zip.{zip_turn, zip_end}
 use Rattle.nef_unique.proofs.comparison.same_vertices.Goals as goal
 

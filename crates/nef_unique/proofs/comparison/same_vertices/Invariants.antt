@@ -1,4 +1,4 @@
-use Rattle.std.proofs.Common.{◌≡◌, length, take}
+use Rattle.nef_unique.proofs.Prelude.{◌≡◌, length, take}
 use Rattle.nef_unique.proofs.comparison.same_vertices.Given as goal
 
 abbrev pub invariant-loop-v : goal.invariant-loop-v

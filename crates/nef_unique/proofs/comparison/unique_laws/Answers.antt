@@ -1,7 +1,5 @@
 -- The laws of what is unique, from the lemmas.
-use Rattle.law_sphere.proofs.Equal.{least-unique}
-use Rattle.law_sphere.proofs.Labels.{label-direction}
-use Rattle.nef_smap.specs.Maps.{map_of}
+use Rattle.nef_unique.proofs.Prelude.{least-unique, label-direction, map_of}
 use Rattle.nef_unique.proofs.Injective.{map_of-one}
 use Rattle.nef_unique.proofs.Vertices.{set-vertices}
 use Rattle.nef_unique.proofs.Sets.{vertices-set}

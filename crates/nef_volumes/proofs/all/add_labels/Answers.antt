@@ -1,8 +1,4 @@
-use Rattle.std.proofs.Common.{◌≡◌, ◌+◌, ◌<◌, List, length, get_or, arith, sym, ap, ◌∙◌, subst}
-use Rattle.nef_space.specs.declared.label.Label.{Label}
-use Rattle.nef_smap.specs.Maps.{map_of}
-use Rattle.nef_classes.proofs.ClassLists.{is-at_get}
-use Rattle.nef_volumes.specs.Labels.{AreLabelsTo}
+use Rattle.nef_volumes.proofs.Prelude.{◌≡◌, ◌+◌, ◌<◌, List, length, get_or, arith, sym, ap, ◌∙◌, subst, Label, map_of, is-at_get, AreLabelsTo}
 use Rattle.nef_volumes.proofs.VolumeLabels.{labels-start, labels-more, labels-pass, labels-all}
 use Rattle.nef_volumes.proofs.all.add_labels.Goals as goal
 use Rattle.nef_volumes.proofs.all.add_labels.Goals.{then-number-len+in_ok-push, else-number-len}

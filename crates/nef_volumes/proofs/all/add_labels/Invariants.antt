@@ -1,5 +1,4 @@
-use Rattle.nef_smap.specs.Maps.{map_of}
-use Rattle.nef_volumes.specs.Labels.{AreLabelsTo}
+use Rattle.nef_volumes.proofs.Prelude.{map_of, AreLabelsTo}
 use Rattle.nef_volumes.proofs.all.add_labels.Given as goal
 
 abbrev pub invariant-loop-side : goal.invariant-loop-side

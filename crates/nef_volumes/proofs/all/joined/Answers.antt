@@ -1,5 +1,4 @@
-use Rattle.std.proofs.lemmas.Bool.Decides.{Decides-at}
-use Rattle.nef_geo.specs.Shapes.{place_of}
+use Rattle.nef_volumes.proofs.Prelude.{Decides-at, place_of}
 use Rattle.nef_volumes.proofs.JoinedParts.{joined-parts, part-decides}
 use Rattle.nef_volumes.proofs.all.joined.Goals as goal
 

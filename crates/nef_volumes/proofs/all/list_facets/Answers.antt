@@ -1,12 +1,4 @@
-use Rattle.std.proofs.Common.{ℕ, List, [], ◌∷◌, ◌++◌, length, refl, sym, subst, rules}
-use Rattle.std.proofs.lemmas.Iterator.Adapters.{YieldsList-from_vec}
-use Rattle.std.proofs.lemmas.Iterator.Consumers.{YieldsList-turn}
-use Rattle.nef_space.specs.Lists.{IsAt}
-use Rattle.nef_classes.proofs.ClassLists.{is-at_get}
-use Rattle.nef_complex.specs.Complexes.{complex_of}
-use Rattle.nef_complex.specs.declared.parts.Cycle.{Cycle}
-use Rattle.nef_complex.specs.declared.parts.Facet.{Facet}
-use Rattle.nef_volumes.specs.Parts.{AreFacetsOf}
+use Rattle.nef_volumes.proofs.Prelude.{ℕ, List, [], ◌∷◌, ◌++◌, length, refl, sym, subst, rules, YieldsList-from_vec, YieldsList-turn, IsAt, is-at_get, complex_of, Cycle, Facet, AreFacetsOf}
 use Rattle.nef_volumes.proofs.AllParts.{some-cycle, some-corner, first-item, beside-first}
 use Rattle.nef_volumes.proofs.FacetLists.{facets-more}
 use Rattle.nef_volumes.proofs.all.list_facets.Goals as goal

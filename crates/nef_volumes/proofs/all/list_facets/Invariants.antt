@@ -1,5 +1,4 @@
-use Rattle.nef_complex.specs.Complexes.{complex_of}
-use Rattle.nef_volumes.specs.Parts.{AreFacetsOf}
+use Rattle.nef_volumes.proofs.Prelude.{complex_of, AreFacetsOf}
 use Rattle.nef_volumes.proofs.all.list_facets.Given as goal
 
 abbrev pub invariant-loop-own : goal.invariant-loop-own

@@ -1,5 +1,4 @@
-use Rattle.nef_geo.specs.Shapes.{place_of}
-use Rattle.nef_complex.specs.Complexes.{complex_of, corner_of}
+use Rattle.nef_volumes.proofs.Prelude.{place_of, complex_of, corner_of}
 use Rattle.nef_volumes.proofs.PartNumbers.{frame-closed, item-facet, side-volume, volume-part}
 use Rattle.nef_volumes.proofs.all.part_at.Goals as goal
 

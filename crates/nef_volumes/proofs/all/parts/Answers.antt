@@ -1,7 +1,4 @@
-use Rattle.std.proofs.Common.{ℕ, subst}
-use Rattle.std.proofs.lemmas.Result.{IfOk-weaker}
-use Rattle.nef_complex.specs.Complexes.{complex_of}
-use Rattle.nef_volumes.specs.Ties.{AreDownBetween}
+use Rattle.nef_volumes.proofs.Prelude.{ℕ, subst, IfOk-weaker, complex_of, AreDownBetween}
 use Rattle.nef_volumes.proofs.Components.{facets-are_components, volumes-are_components, are-counted}
 use Rattle.nef_volumes.proofs.DownTies.{down-all}
 use Rattle.nef_volumes.proofs.all.parts.Goals as goal

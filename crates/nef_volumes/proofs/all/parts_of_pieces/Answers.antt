@@ -1,5 +1,4 @@
-use Rattle.std.proofs.Common.{sym, ◌∙◌}
-use Rattle.nef_complex.specs.Complexes.{complex_of}
+use Rattle.nef_volumes.proofs.Prelude.{sym, ◌∙◌, complex_of}
 use Rattle.nef_volumes.proofs.AllParts.{all-first, parts-are}
 use Rattle.nef_volumes.proofs.all.parts_of_pieces.Goals as goal
 

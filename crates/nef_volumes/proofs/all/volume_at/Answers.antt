@@ -1,4 +1,4 @@
-use Rattle.nef_complex.specs.Complexes.{corner_of}
+use Rattle.nef_volumes.proofs.Prelude.{corner_of}
 use Rattle.nef_volumes.proofs.FacetLists.{corner-within, item-within, side-within, volume-is}
 use Rattle.nef_volumes.proofs.all.volume_at.Goals as goal
 

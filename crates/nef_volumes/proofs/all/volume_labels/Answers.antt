@@ -1,9 +1,4 @@
-use Rattle.std.proofs.Common.{ℕ, List, length, arith, sym, ap, ◌∙◌, subst}
-use Rattle.std.proofs.lemmas.List.{length-map}
-use Rattle.nef_space.specs.declared.label.Label.{Label}
-use Rattle.nef_smap.specs.Maps.{map_of}
-use Rattle.nef_complex.specs.Complexes.{vertex_of, complex_of}
-use Rattle.nef_volumes.specs.Labels.{HasAppeared, AreLabelsTo, AreVolumeLabels}
+use Rattle.nef_volumes.proofs.Prelude.{ℕ, List, length, arith, sym, ap, ◌∙◌, subst, length-map, Label, map_of, vertex_of, complex_of, HasAppeared, AreLabelsTo, AreVolumeLabels}
 use Rattle.nef_volumes.proofs.ReadVertex.{vertex-there}
 use Rattle.nef_volumes.proofs.VolumeLabels.{as-long, row-appeared, row-added, labels-of_volumes}
 use Rattle.nef_volumes.proofs.all.volume_labels.Goals as goal

@@ -1,5 +1,4 @@
-use Rattle.nef_complex.specs.Complexes.{complex_of}
-use Rattle.nef_volumes.specs.Labels.{AreLabelsOf}
+use Rattle.nef_volumes.proofs.Prelude.{complex_of, AreLabelsOf}
 use Rattle.nef_volumes.proofs.all.volume_labels.Given as goal
 
 abbrev pub invariant-loop-vertex : goal.invariant-loop-vertex

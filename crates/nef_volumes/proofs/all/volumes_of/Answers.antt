@@ -1,6 +1,4 @@
-use Rattle.std.proofs.Common.{arith, ℕ, subst, sym, ◌∙◌}
-use Rattle.nef_complex.specs.Complexes.{complex_of}
-use Rattle.nef_volumes.specs.Shells.{HaveVolumes}
+use Rattle.nef_volumes.proofs.Prelude.{arith, ℕ, subst, sym, ◌∙◌, complex_of, HaveVolumes}
 use Rattle.nef_volumes.proofs.ShellRows.{some-rows, rows-named, shells-below}
 use Rattle.nef_volumes.proofs.ShellParts.{have-volumes, row-shells}
 use Rattle.nef_volumes.proofs.all.volumes_of.Goals as goal

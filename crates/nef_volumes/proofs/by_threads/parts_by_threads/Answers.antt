@@ -1,20 +1,10 @@
-use Rattle.std.proofs.lemmas.Result.{IfOk-weaker}
+use Rattle.nef_volumes.proofs.Prelude.{IfOk-weaker}
 use Rattle.nef_volumes.proofs.Components.{facets-are_components, volumes-are_components, are-counted}
 use Rattle.nef_volumes.proofs.by_threads.parts_by_threads.Goals as goal
 
-pub returns-then-crew-eq2 : goal.returns-then-crew-eq2
-returns-then-crew-eq2 g c =
-    let d = c.args.c.now in let r = c.parts_by_two.result in let P = c.parts_by_two.ensures.parts in
-    record {
-      parts = P;
-      items_joined = IfOk-weaker r _ _ (λ p I. facets-are_components d p I) P;
-      sides_joined = IfOk-weaker r _ _ (λ p I. volumes-are_components d p I) P;
-      counted = IfOk-weaker r _ _ (λ p I. are-counted d p I) P;
-    }
-
-pub returns-else-crew-eq2 : goal.returns-else-crew-eq2
-returns-else-crew-eq2 g c =
-    let d = c.args.c.now in let r = c.parts_by_four.result in let P = c.parts_by_four.ensures.parts in
+pub returns : goal.returns
+returns g c =
+    let d = c.args.c.now in let r = c.parts_by.result in let P = c.parts_by.ensures.parts in
     record {
       parts = P;
       items_joined = IfOk-weaker r _ _ (λ p I. facets-are_components d p I) P;

@@ -1,5 +1,4 @@
-use Rattle.std.proofs.Common.{◌≡◌, ℕ, suc, ◌+◌, ◌-◌, arith, subst}
-use Rattle.nef_space.specs.Lists.{IsInTable}
+use Rattle.nef_volumes.proofs.Prelude.{◌≡◌, ℕ, suc, ◌+◌, ◌-◌, arith, subst, IsInTable}
 use Rattle.nef_volumes.proofs.Gathering.{next-number, gathered-more, gathered-row}
 use Rattle.nef_volumes.proofs.numbers.add_vertex.Goals as goal
 

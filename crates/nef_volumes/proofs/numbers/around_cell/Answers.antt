@@ -1,9 +1,4 @@
-use Rattle.std.proofs.Common.{arith, ap, ◌∙◌}
-use Rattle.nef_smap.specs.Maps.{svertex_of}
-use Rattle.nef_smap.proofs.Lists.{map-at}
-use Rattle.nef_smap.proofs.SideLists.{at-from_get}
-use Rattle.nef_complex.specs.Complexes.{vertex_of}
-use Rattle.nef_volumes.specs.Ties.{side_cell}
+use Rattle.nef_volumes.proofs.Prelude.{arith, ap, ◌∙◌, svertex_of, map-at, at-from_get, vertex_of, side_cell}
 use Rattle.nef_volumes.proofs.ReadVertex.{vertex-there}
 use Rattle.nef_volumes.proofs.EndsFound.{svertex-within, none-around}
 use Rattle.nef_volumes.proofs.numbers.around_cell.Goals as goal

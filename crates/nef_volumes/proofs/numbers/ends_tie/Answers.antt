@@ -1,5 +1,4 @@
-use Rattle.nef_complex.specs.Complexes.{edge_of}
-use Rattle.nef_locate.proofs.FacetFound.{as-none}
+use Rattle.nef_volumes.proofs.Prelude.{edge_of, as-none}
 use Rattle.nef_volumes.proofs.ReadVertex.{edge-there}
 use Rattle.nef_volumes.proofs.EndsFound.{low-there, high-there, low-end, high-end, none-low, none-high}
 use Rattle.nef_volumes.proofs.numbers.ends_tie.Goals as goal

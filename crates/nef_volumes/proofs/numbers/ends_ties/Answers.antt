@@ -1,9 +1,4 @@
-use Rattle.std.proofs.Common.{List, [], arith, sym, ap, ◌∙◌, subst}
-use Rattle.nef_classes.specs.declared.table.Tie.{Tie}
-use Rattle.nef_complex.specs.Complexes.{complex_of}
-use Rattle.nef_facets.specs.Ties.{Adds}
-use Rattle.nef_facets.proofs.Adding.{AnyBelow, any-start, any-next, any-all, adds-one, adds-none}
-use Rattle.nef_volumes.specs.Ties.{IsTieOfEnds}
+use Rattle.nef_volumes.proofs.Prelude.{List, [], arith, sym, ap, ◌∙◌, subst, Tie, complex_of, Adds, AnyBelow, any-start, any-next, any-all, adds-one, adds-none, IsTieOfEnds}
 use Rattle.nef_volumes.proofs.ReadVertex.{edge-within}
 use Rattle.nef_volumes.proofs.ItemTies.{ends-one, ends-tied}
 use Rattle.nef_volumes.proofs.numbers.ends_ties.Goals as goal

@@ -1,4 +1,4 @@
-use Rattle.std.proofs.Common.{arith}
+use Rattle.nef_volumes.proofs.Prelude.{arith}
 use Rattle.nef_volumes.proofs.Gathering.{gathered-all}
 use Rattle.nef_volumes.proofs.numbers.gathered.Goals as goal
 

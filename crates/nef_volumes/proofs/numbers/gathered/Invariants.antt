@@ -1,4 +1,4 @@
-use Rattle.nef_volumes.specs.Shells.{AreGathered}
+use Rattle.nef_volumes.proofs.Prelude.{AreGathered}
 use Rattle.nef_volumes.proofs.numbers.gathered.Given as goal
 
 abbrev pub invariant-loop-vertex : goal.invariant-loop-vertex

@@ -1,9 +1,4 @@
-use Rattle.std.proofs.Common.{◌≡◌, ℕ, List, length, ap, sym, ◌∙◌, subst}
-use Rattle.std.specs.Prelude.{IfOk}
-use Rattle.nef_classes.specs.Classes.{AreWithin, AreClasses, AreNumbered}
-use Rattle.nef_classes.specs.Forest.{AreRoots}
-use Rattle.nef_classes.specs.declared.forest.Link.{Link}
-use Rattle.nef_volumes.specs.Joining.{AreNumbersBelow, AreRenumbered}
+use Rattle.nef_volumes.proofs.Prelude.{◌≡◌, ℕ, List, length, ap, sym, ◌∙◌, subst, IfOk, AreWithin, AreClasses, AreNumbered, AreRoots, Link, AreNumbersBelow, AreRenumbered}
 use Rattle.nef_volumes.proofs.Joining.{links-below, joined-counts_ok, joined-numbers_ok}
 use Rattle.nef_volumes.proofs.numbers.join_numbers.Goals as goal
 

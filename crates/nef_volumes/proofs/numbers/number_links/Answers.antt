@@ -1,9 +1,4 @@
-use Rattle.std.proofs.Common.{List, ◌+◌, get_or, sym, subst}
-use Rattle.nef_classes.specs.Tables.{IsCellNumber}
-use Rattle.nef_classes.specs.declared.forest.Link.{Link}
-use Rattle.nef_classes.specs.declared.table.Tie.{Tie}
-use Rattle.nef_classes.proofs.ClassLists.{is-at_get}
-use Rattle.nef_facets.proofs.Lists.{AreEach, each-more}
+use Rattle.nef_volumes.proofs.Prelude.{List, ◌+◌, get_or, sym, subst, IsCellNumber, Link, Tie, is-at_get, AreEach, each-more}
 use Rattle.nef_volumes.proofs.numbers.number_links.Goals as goal
 
 pub number_at-requires : goal.number_at-requires

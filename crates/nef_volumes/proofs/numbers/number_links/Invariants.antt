@@ -1,7 +1,4 @@
-use Rattle.nef_classes.specs.declared.forest.Link.{Link}
-use Rattle.nef_classes.specs.declared.table.Tie.{Tie}
-use Rattle.nef_classes.specs.Tables.{IsCellNumber}
-use Rattle.nef_facets.proofs.Lists.{AreEach}
+use Rattle.nef_volumes.proofs.Prelude.{Link, Tie, IsCellNumber, AreEach}
 use Rattle.nef_volumes.proofs.numbers.number_links.Given as goal
 
 abbrev pub invariant-loop-tie : goal.invariant-loop-tie

@@ -1,8 +1,4 @@
-use Rattle.std.proofs.Common.{ℕ, List, ◌+◌, refl, sym, subst}
-use Rattle.nef_space.specs.Lists.{IsAt}
-use Rattle.nef_smap.proofs.Found.{read}
-use Rattle.nef_facets.proofs.Lists.{AreEach, each-more}
-use Rattle.nef_volumes.specs.Joining.{IsRenumbered}
+use Rattle.nef_volumes.proofs.Prelude.{ℕ, List, ◌+◌, refl, sym, subst, IsAt, read, AreEach, each-more, IsRenumbered}
 use Rattle.nef_volumes.proofs.numbers.renumbered.Goals as goal
 
 pub renumbered_row-requires : goal.renumbered_row-requires

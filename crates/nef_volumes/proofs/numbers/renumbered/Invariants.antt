@@ -1,5 +1,4 @@
-use Rattle.nef_facets.proofs.Lists.{AreEach}
-use Rattle.nef_volumes.specs.Joining.{IsRenumbered}
+use Rattle.nef_volumes.proofs.Prelude.{AreEach, IsRenumbered}
 use Rattle.nef_volumes.proofs.numbers.renumbered.Given as goal
 
 abbrev pub invariant-loop-row : goal.invariant-loop-row

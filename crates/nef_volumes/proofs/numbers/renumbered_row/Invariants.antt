@@ -1,6 +1,4 @@
-use Rattle.std.proofs.Common.{ℕ}
-use Rattle.nef_space.specs.Lists.{IsAt}
-use Rattle.nef_facets.proofs.Lists.{AreEach}
+use Rattle.nef_volumes.proofs.Prelude.{ℕ, IsAt, AreEach}
 use Rattle.nef_volumes.proofs.numbers.renumbered_row.Given as goal
 
 abbrev pub invariant-loop-number : goal.invariant-loop-number

@@ -1,13 +1,4 @@
-use Rattle.std.proofs.Common.{◌≡◌, ℕ, List, ◌++◌, sym, ap, ◌∙◌, subst, Result, Ok, Err}
-use Rattle.std.specs.Prelude.{IfOk}
-use Rattle.law_complex.specs.Complexes.{Complex}
-use Rattle.law_links.specs.Links.{LinkInSface}
-use Rattle.nef_classes.specs.Tables.{AreTiedWithin, HasCounts, AreNumbers}
-use Rattle.nef_classes.specs.declared.table.Tie.{Tie}
-use Rattle.nef_complex.specs.Complexes.{complex_of}
-use Rattle.nef_complex.specs.Shells.{ShellLink}
-use Rattle.nef_volumes.specs.Shells.{AreShellRows}
-use Rattle.nef_volumes.specs.Ties.{row_counts, AreTiesOf, AreItemTies, LinkOfEnds}
+use Rattle.nef_volumes.proofs.Prelude.{◌≡◌, ℕ, List, ◌++◌, sym, ap, ◌∙◌, subst, Result, Ok, Err, IfOk, Complex, LinkInSface, AreTiedWithin, HasCounts, AreNumbers, Tie, complex_of, ShellLink, AreShellRows, row_counts, AreTiesOf, AreItemTies, LinkOfEnds}
 use Rattle.nef_volumes.proofs.AllTies.{shell-tied}
 use Rattle.nef_volumes.proofs.SideCells.{cells-within}
 use Rattle.nef_volumes.proofs.numbers.shell_rows.Goals as goal

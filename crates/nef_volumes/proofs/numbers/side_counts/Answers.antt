@@ -1,8 +1,5 @@
-use Rattle.std.proofs.Common.{◌≤◌, List, ◌∷◌, length, map, ap, ◌∙◌, subst}
-use Rattle.std.proofs.lemmas.List.{take_all}
-use Rattle.nef_complex.specs.Complexes.{vertex_of}
+use Rattle.nef_volumes.proofs.Prelude.{◌≤◌, List, ◌∷◌, length, map, ap, ◌∙◌, subst, take_all, vertex_of, count_sides}
 use Rattle.nef_complex.specs.declared.complex.Vertex.{Vertex}
-use Rattle.nef_complex.specs.Numbers.{count_sides}
 use Rattle.nef_volumes.proofs.numbers.side_counts.Goals as goal
 
 pub returns : goal.returns

@@ -1,6 +1,4 @@
-use Rattle.std.proofs.Common.{◌≡◌, ◌∷◌, map, take}
-use Rattle.nef_complex.specs.Complexes.{vertex_of}
-use Rattle.nef_complex.specs.Numbers.{count_sides}
+use Rattle.nef_volumes.proofs.Prelude.{◌≡◌, ◌∷◌, map, take, vertex_of, count_sides}
 use Rattle.nef_volumes.proofs.numbers.side_counts.Given as goal
 
 abbrev pub invariant-loop-vertex : goal.invariant-loop-vertex

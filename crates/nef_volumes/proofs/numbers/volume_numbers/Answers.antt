@@ -1,14 +1,4 @@
-use Rattle.std.proofs.Common.{arith, ◌≡◌, ℕ, ◌+◌, List, ◌++◌, length, take, drop, ap, sym, ◌∙◌, subst}
-use Rattle.nef_space.specs.Sets.{Set}
-use Rattle.law_complex.specs.Complexes.{Complex}
-use Rattle.law_complex.specs.Shows.{Shows}
-use Rattle.nef_classes.specs.Tables.{AreNumbers}
-use Rattle.nef_classes.specs.declared.table.Tie.{Tie}
-use Rattle.nef_complex.specs.Complexes.{complex_of}
-use Rattle.law_links.specs.Links.{LinkOutside, VolumeLink}
-use Rattle.nef_complex.specs.Shells.{ShellLink}
-use Rattle.nef_volumes.specs.Joining.{HaveNumbers}
-use Rattle.nef_volumes.specs.Ties.{row_counts, AreTiesWithOutside, AreTiedOutside, AreTiesDown, AreVolumeTies}
+use Rattle.nef_volumes.proofs.Prelude.{arith, ◌≡◌, ℕ, ◌+◌, List, ◌++◌, length, take, drop, ap, sym, ◌∙◌, subst, Set, Complex, Shows, AreNumbers, Tie, complex_of, LinkOutside, VolumeLink, ShellLink, HaveNumbers, row_counts, AreTiesWithOutside, AreTiedOutside, AreTiesDown, AreVolumeTies}
 use Rattle.nef_volumes.proofs.AllTies.{volume-tied}
 use Rattle.nef_volumes.proofs.Joining.{numbers-there}
 use Rattle.nef_volumes.proofs.SideCells.{ties-within, cells-within}

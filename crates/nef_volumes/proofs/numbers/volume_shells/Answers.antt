@@ -1,13 +1,5 @@
-use Rattle.std.proofs.Common.{◌≡◌, ◌<◌, List, [], ◌∷◌, ◌++◌, length, set, arith, refl, sym, ◌∙◌, subst, rules}
-use Rattle.std.proofs.Math.ListN.{length-set}
-use Rattle.std.proofs.lemmas.Iterator.Adapters.{YieldsList-from_vec}
-use Rattle.std.proofs.lemmas.Iterator.Consumers.{YieldsList-turn}
-use Rattle.nef_space.specs.Lists.{IsAt, IsInTable}
-use Rattle.nef_classes.proofs.ClassLists.{is-at_one, is-at_get}
-use Rattle.nef_smap.proofs.Found.{read}
-use Rattle.nef_complex.specs.declared.parts.Shell.{Shell}
+use Rattle.nef_volumes.proofs.Prelude.{◌≡◌, ◌<◌, List, [], ◌∷◌, ◌++◌, length, set, arith, refl, sym, ◌∙◌, subst, rules, length-set, YieldsList-from_vec, YieldsList-turn, IsAt, IsInTable, is-at_one, is-at_get, read, Shell, AreShellsOf}
 use Rattle.nef_complex.specs.declared.parts.Side.{Side}
-use Rattle.nef_volumes.specs.Shells.{AreShellsOf}
 use Rattle.nef_volumes.proofs.Joining.{cell-one_number}
 use Rattle.nef_volumes.proofs.VolumeShells.{shells-more}
 use Rattle.nef_volumes.proofs.numbers.volume_shells.Goals as goal

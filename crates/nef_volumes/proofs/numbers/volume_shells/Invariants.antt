@@ -1,5 +1,4 @@
-use Rattle.std.proofs.Common.{◌≡◌, length}
-use Rattle.nef_volumes.specs.Shells.{AreShellsOf}
+use Rattle.nef_volumes.proofs.Prelude.{◌≡◌, length, AreShellsOf}
 use Rattle.nef_volumes.proofs.numbers.volume_shells.Given as goal
 
 abbrev pub invariant-loop-sides : goal.invariant-loop-sides

@@ -1,10 +1,4 @@
-use Rattle.std.proofs.Common.{List, arith, refl, sym, ap, ◌∙◌, subst}
-use Rattle.nef_arc.proofs.SignNumbers.{not_true}
-use Rattle.nef_classes.specs.declared.table.Tie.{Tie}
-use Rattle.nef_complex.specs.Complexes.{complex_of}
-use Rattle.nef_facets.specs.Ties.{Adds}
-use Rattle.nef_facets.proofs.Adding.{any-start, any-next, any-all}
-use Rattle.nef_volumes.specs.Ties.{outside_cell, IsTieOutside}
+use Rattle.nef_volumes.proofs.Prelude.{List, arith, refl, sym, ap, ◌∙◌, subst, not_true, Tie, complex_of, Adds, any-start, any-next, any-all, outside_cell, IsTieOutside}
 use Rattle.nef_volumes.proofs.OutsideTies.{outside-added, outside-none, outside-below}
 use Rattle.nef_volumes.proofs.ties.add_outside_sides.Goals as goal
 use Rattle.nef_volumes.proofs.ties.add_outside_sides.Goals.{then-is_outside+in_ok-push, else-is_outside}

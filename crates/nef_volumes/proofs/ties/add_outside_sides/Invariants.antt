@@ -1,7 +1,4 @@
-use Rattle.nef_complex.specs.Complexes.{complex_of}
-use Rattle.nef_facets.specs.Ties.{Adds}
-use Rattle.nef_facets.proofs.Adding.{AnyBelow}
-use Rattle.nef_volumes.specs.Ties.{IsTieOutside}
+use Rattle.nef_volumes.proofs.Prelude.{complex_of, Adds, AnyBelow, IsTieOutside}
 use Rattle.nef_volumes.proofs.ties.add_outside_sides.Given as goal
 
 abbrev pub invariant-loop-side : goal.invariant-loop-side

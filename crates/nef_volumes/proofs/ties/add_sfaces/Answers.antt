@@ -1,10 +1,4 @@
-use Rattle.std.proofs.Common.{List, get_or, arith, sym, ap, ◌∙◌, subst}
-use Rattle.nef_classes.specs.declared.table.Tie.{Tie}
-use Rattle.nef_classes.proofs.ClassLists.{is-at_get}
-use Rattle.nef_facets.specs.Ties.{Adds, Any}
-use Rattle.nef_facets.proofs.Adding.{any-start, any-next, any-all}
-use Rattle.nef_complex.specs.Complexes.{complex_of}
-use Rattle.nef_volumes.specs.Ties.{IsTieNumbered}
+use Rattle.nef_volumes.proofs.Prelude.{List, get_or, arith, sym, ap, ◌∙◌, subst, Tie, is-at_get, Adds, Any, any-start, any-next, any-all, complex_of, IsTieNumbered}
 use Rattle.nef_volumes.proofs.SfaceTies.{numbered-added, numbered-none, numbered-sface, numbered-below}
 use Rattle.nef_volumes.proofs.ties.add_sfaces.Goals as goal
 use Rattle.nef_volumes.proofs.ties.add_sfaces.Goals.{in-Some+in_ok-push, in_default}

@@ -1,6 +1,4 @@
-use Rattle.nef_facets.specs.Ties.{Adds, Any}
-use Rattle.nef_facets.proofs.Adding.{AnyBelow}
-use Rattle.nef_volumes.specs.Ties.{IsTieNumbered}
+use Rattle.nef_volumes.proofs.Prelude.{Adds, Any, AnyBelow, IsTieNumbered}
 use Rattle.nef_volumes.proofs.ties.add_sfaces.Given as goal
 
 abbrev pub invariant-loop-side : goal.invariant-loop-side

@@ -1,16 +1,4 @@
-use Rattle.std.proofs.Common.{◌≡◌, ℕ, inr, refl, ap, sym, ◌∙◌, subst}
-use Rattle.nef_space.specs.Place.{IsAhead}
-use Rattle.nef_space.specs.Vectors.{Vector, opposite, up}
-use Rattle.nef_arc.proofs.SignNumbers.{not_true}
-use Rattle.nef_geo.specs.Shapes.{place_of}
-use Rattle.law_sphere.specs.Maps.{IsFree}
-use Rattle.nef_smap.specs.Maps.{map_of}
-use Rattle.nef_smap.specs.Sides.{SideSees, sides_of}
-use Rattle.nef_smap.specs.declared.map.SphereMap.{SphereMap}
-use Rattle.nef_classes.proofs.ClassLists.{is-at_within}
-use Rattle.nef_complex.specs.Complexes.{complex_of}
-use Rattle.nef_locate.specs.Places.{IsFirstHit}
-use Rattle.nef_locate.proofs.FacetFound.{as-none}
+use Rattle.nef_volumes.proofs.Prelude.{◌≡◌, ℕ, inr, refl, ap, sym, ◌∙◌, subst, IsAhead, Vector, opposite, up, not_true, place_of, IsFree, map_of, SideSees, sides_of, SphereMap, is-at_within, complex_of, IsFirstHit, as-none}
 use Rattle.nef_volumes.proofs.Downward.{down-free, vertex-framed, above-within, cell-above, none-below, out-none, nothing-below, tie-down}
 use Rattle.nef_volumes.proofs.ties.down_tie.Goals as goal
 

@@ -1,7 +1,4 @@
-use Rattle.std.proofs.Common.{◌+◌, List, arith, sym, ap, ◌∙◌, subst}
-use Rattle.nef_classes.specs.declared.table.Tie.{Tie}
-use Rattle.nef_complex.specs.Complexes.{complex_of}
-use Rattle.nef_volumes.specs.Ties.{AreDownBetween}
+use Rattle.nef_volumes.proofs.Prelude.{◌+◌, List, arith, sym, ap, ◌∙◌, subst, Tie, complex_of, AreDownBetween}
 use Rattle.nef_volumes.proofs.DownTies.{down-start, down-more, down-pass, down-fewer}
 use Rattle.nef_volumes.proofs.ties.down_ties.Goals as goal
 use Rattle.nef_volumes.proofs.ties.down_ties.Goals.{in-Some+in_ok-push, in_default}

@@ -1,5 +1,4 @@
-use Rattle.nef_complex.specs.Complexes.{complex_of}
-use Rattle.nef_volumes.specs.Ties.{AreDownBetween}
+use Rattle.nef_volumes.proofs.Prelude.{complex_of, AreDownBetween}
 use Rattle.nef_volumes.proofs.ties.down_ties.Given as goal
 
 abbrev pub invariant-loop-vertex : goal.invariant-loop-vertex

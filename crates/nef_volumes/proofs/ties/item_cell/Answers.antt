@@ -1,10 +1,4 @@
-use Rattle.std.proofs.Common.{subst, ap, ◌∙◌}
-use Rattle.law_sphere.specs.Maps.{At, items}
-use Rattle.law_complex.specs.Complexes.{Vertex}
-use Rattle.nef_smap.specs.Maps.{map_of}
-use Rattle.nef_smap.proofs.Lists.{at-within}
-use Rattle.nef_complex.specs.Complexes.{vertex_of, complex_of}
-use Rattle.nef_volumes.specs.Ties.{side_cell}
+use Rattle.nef_volumes.proofs.Prelude.{subst, ap, ◌∙◌, At, items, Vertex, map_of, at-within, vertex_of, complex_of, side_cell}
 use Rattle.nef_volumes.proofs.ReadVertex.{vertex-there, vertex-read, vertex-within}
 use Rattle.nef_volumes.proofs.ItemTies.{item-there}
 use Rattle.nef_volumes.proofs.ties.item_cell.Goals as goal

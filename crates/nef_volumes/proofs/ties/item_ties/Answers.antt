@@ -1,10 +1,4 @@
-use Rattle.std.proofs.Common.{List, [], get_or, arith, sym, subst, true, false}
-use Rattle.nef_classes.specs.declared.table.Tie.{Tie}
-use Rattle.nef_classes.proofs.ClassLists.{is-at_get, is-at_within}
-use Rattle.nef_complex.specs.Complexes.{complex_of}
-use Rattle.nef_facets.specs.Ties.{Adds}
-use Rattle.nef_facets.proofs.Adding.{AnyBelow, any-start, any-next, any-all, adds-one}
-use Rattle.nef_volumes.specs.Ties.{IsSideTie, IsTieOfItems}
+use Rattle.nef_volumes.proofs.Prelude.{List, [], get_or, arith, sym, subst, true, false, Tie, is-at_get, is-at_within, complex_of, Adds, AnyBelow, any-start, any-next, any-all, adds-one, IsSideTie, IsTieOfItems}
 use Rattle.nef_volumes.proofs.AllTies.{items-linked}
 use Rattle.nef_volumes.proofs.ItemTies.{side_tie-one, both-added, items-tied}
 use Rattle.nef_volumes.proofs.ties.item_ties.Goals as goal

@@ -1,9 +1,4 @@
-use Rattle.std.proofs.Common.{List, [], arith, sym, subst}
-use Rattle.nef_classes.specs.declared.table.Tie.{Tie}
-use Rattle.nef_complex.specs.Complexes.{complex_of}
-use Rattle.nef_facets.specs.Ties.{Adds, Any}
-use Rattle.nef_facets.proofs.Adding.{AnyBelow, any-start, any-next, any-all}
-use Rattle.nef_volumes.specs.Ties.{IsTieOutside}
+use Rattle.nef_volumes.proofs.Prelude.{List, [], arith, sym, subst, Tie, complex_of, Adds, Any, AnyBelow, any-start, any-next, any-all, IsTieOutside}
 use Rattle.nef_volumes.proofs.OutsideTies.{outside-tied, outside-all}
 use Rattle.nef_volumes.proofs.ReadVertex.{vertex-within}
 use Rattle.nef_volumes.proofs.ties.outside_ties.Goals as goal

@@ -1,5 +1,4 @@
-use Rattle.std.proofs.Common.{ℕ, List, [], ◌∷◌, ◌+◌, ◌++◌, ap, sym, ◌∙◌, subst}
-use Rattle.nef_complex.specs.Complexes.{vertex_of, complex_of}
+use Rattle.nef_volumes.proofs.Prelude.{ℕ, List, [], ◌∷◌, ◌+◌, ◌++◌, ap, sym, ◌∙◌, subst, vertex_of, complex_of}
 use Rattle.nef_volumes.proofs.ReadVertex.{vertex-there}
 use Rattle.nef_volumes.proofs.SfaceTies.{AreSfacesTo, sfaces-more}
 use Rattle.nef_volumes.proofs.ties.sface_numbers.Goals as goal

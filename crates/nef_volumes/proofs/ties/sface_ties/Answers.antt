@@ -1,8 +1,4 @@
-use Rattle.std.proofs.Common.{List, ℕ, arith, sym, subst}
-use Rattle.std.proofs.lemmas.List.{length-map}
-use Rattle.nef_smap.proofs.SideLists.{at-some}
-use Rattle.nef_complex.specs.Complexes.{vertex_of, complex_of}
-use Rattle.nef_volumes.specs.Ties.{HasSfaces}
+use Rattle.nef_volumes.proofs.Prelude.{List, ℕ, arith, sym, subst, length-map, at-some, vertex_of, complex_of, HasSfaces}
 use Rattle.nef_volumes.proofs.SfaceTies.{below-none, below-more, sface-tied}
 use Rattle.nef_volumes.proofs.ReadVertex.{vertex-within}
 use Rattle.nef_volumes.proofs.ties.sface_ties.Goals as goal

@@ -1,4 +1,4 @@
-use Rattle.nef_complex.specs.Complexes.{complex_of}
+use Rattle.nef_volumes.proofs.Prelude.{complex_of}
 use Rattle.nef_volumes.proofs.SfaceTies.{AreTiedBelow}
 use Rattle.nef_volumes.proofs.ties.sface_ties.Given as goal
 

@@ -1,5 +1,4 @@
-use Rattle.std.proofs.Common.{◌+◌, ◌-◌, ◌<◌, ◌/◌, length, get_or, arith}
-use Rattle.nef_classes.proofs.ClassLists.{is-at_get}
+use Rattle.nef_complex.proofs.Prelude.{◌+◌, ◌-◌, ◌<◌, ◌/◌, length, get_or, arith, is-at_get}
 use Rattle.nef_complex.proofs.Rising.{begin-to, begin-from}
 use Rattle.nef_complex.proofs.complex.PlaneItems.edges_before.Goals as goal
 

@@ -1,4 +1,4 @@
-use Rattle.std.proofs.Common.{◌-◌, ◌≤◌, length}
+use Rattle.nef_complex.proofs.Prelude.{◌-◌, ◌≤◌, length}
 use Rattle.nef_complex.proofs.Rising.{BeginBefore, BeginFrom}
 use Rattle.nef_complex.proofs.complex.PlaneItems.edges_before.Given as goal
 

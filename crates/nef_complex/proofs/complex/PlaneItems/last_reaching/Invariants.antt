@@ -1,5 +1,4 @@
-use Rattle.std.proofs.Common.{◌≤◌}
-use Rattle.nef_complex.specs.Peaks.{EndBelow}
+use Rattle.nef_complex.proofs.Prelude.{◌≤◌, EndBelow}
 use Rattle.nef_complex.proofs.complex.PlaneItems.last_reaching.Given as goal
 
 abbrev pub invariant-loop-place : goal.invariant-loop-place

@@ -1,9 +1,4 @@
-use Rattle.std.proofs.Common.{ℕ, ◌+◌, ◌≡◌, List, length, get_or, drop, arith, refl, sym, ap, subst, ◌∙◌, Vec, Global}
-use Rattle.nef_geo.specs.Shapes.{place_of}
-use Rattle.nef_geo.specs.declared.plane.Plane.{Plane}
-use Rattle.nef_classes.proofs.ClassLists.{is-at_within}
-use Rattle.nef_complex.specs.Index.{IsHolder, AreNumbersWith}
-use Rattle.nef_complex.specs.Runs.{IsRun, AreRunsTo, IsHolderIn, IsOnlyHolder}
+use Rattle.nef_complex.proofs.Prelude.{ℕ, ◌+◌, ◌≡◌, List, length, get_or, drop, arith, refl, sym, ap, subst, ◌∙◌, Vec, Global, place_of, Plane, is-at_within, IsHolder, AreNumbersWith, IsRun, AreRunsTo, IsHolderIn, IsOnlyHolder}
 use Rattle.nef_complex.proofs.Numbered.{Before, numbers-none, numbers-in, numbers-past, numbers-all}
 use Rattle.nef_complex.proofs.Parallel.{runs-next, runs-all}
 use Rattle.nef_complex.proofs.sorted_carriers.SortedCarriers.holders.Goals.{in-Some+in_ok-push, in_default}

@@ -1,7 +1,5 @@
 use Rattle.std.specs.Prelude.{length, drop}
-use Rattle.nef_geo.specs.Shapes.{place_of}
-use Rattle.nef_complex.specs.Index.{IsHolder, AreNumbersWith}
-use Rattle.nef_complex.specs.Runs.{AreRunsTo}
+use Rattle.nef_complex.proofs.Prelude.{place_of, IsHolder, AreNumbersWith, AreRunsTo}
 use Rattle.nef_complex.proofs.Numbered.{Before}
 use Rattle.nef_complex.proofs.sorted_carriers.SortedCarriers.holders.Given as goal
 

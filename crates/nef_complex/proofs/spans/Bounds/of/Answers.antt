@@ -1,7 +1,5 @@
-use Rattle.std.proofs.Common.{arith, ◌≡◌, ◌<◌, ◌≤◌, ◌*◌, ◌-◌, ◌^◌, ℤ, negsuc, ◌<ℤ◌, ◌≤ℤ◌, ◌*ℤ◌, ◌+ℤ◌, pos, nat_abs, w64, to_z, of_z, ap, sym, ◌∙◌, subst}
-use Rattle.std.proofs.lemmas.Int.{ints, to_z-of_z, fits_signed_from_abs}
+use Rattle.nef_complex.proofs.Prelude.{arith, ◌≡◌, ◌<◌, ◌≤◌, ◌*◌, ◌-◌, ◌^◌, ℤ, negsuc, ◌<ℤ◌, ◌≤ℤ◌, ◌*ℤ◌, ◌+ℤ◌, pos, nat_abs, w64, to_z, of_z, ap, sym, ◌∙◌, subst, ints, to_z-of_z, fits_signed_from_abs, int_div_euclid}
 use lib.Signed.{mag}
-use Rattle.std.specs.Int.{int_div_euclid}
 use Rattle.nef_complex.proofs.Spanning.{euclid-small, euclid-below, euclid-above, euclid-times, euclid-next}
 use Rattle.nef_complex.proofs.spans.Bounds.of.Goals as goal
 

@@ -1,5 +1,4 @@
-use Rattle.std.proofs.Common.{arith}
-use Rattle.std.proofs.lemmas.Int.{ints}
+use Rattle.nef_complex.proofs.Prelude.{arith, ints}
 use Rattle.nef_complex.proofs.spans.Span.none.Goals as goal
 
 pub returns : goal.returns

@@ -1,7 +1,4 @@
-use Rattle.std.proofs.Common.{arith, ◌≡◌, ◌<◌, ◌≤◌, ◌^◌, ℤ, pos, ◌*ℤ◌, ◌≤ℤ◌, nat_abs, w64, to_z, of_z, ap, sym, ◌∙◌, subst}
-use Rattle.std.proofs.lemmas.Int.{to_z-of_z, fits_signed_from_abs}
-use Rattle.nef_space.specs.Limits.{point_limit, weight_limit}
-use Rattle.nef_geo.proofs.Places.{pos_size}
+use Rattle.nef_complex.proofs.Prelude.{arith, ◌≡◌, ◌<◌, ◌≤◌, ◌^◌, ℤ, pos, ◌*ℤ◌, ◌≤ℤ◌, nat_abs, w64, to_z, of_z, ap, sym, ◌∙◌, subst, to_z-of_z, fits_signed_from_abs, point_limit, weight_limit, pos-abs}
 use Rattle.nef_complex.proofs.spans.Span.of.Goals as goal
 
 -- a number of the point, as it was read
@@ -24,7 +21,7 @@ below m x y w v l e f g = subst (λ (r : ℤ). y ≤ℤ (m *ℤ r)) (sym g) (sub
 pub returns-clause-point : goal.returns-clause-point
 returns-clause-point c =
     let p = c.args.point.now in
-    let g = pos_size p.w p.proper in
+    let g = pos-abs p.w p.proper in
     let x = coordinate c.x.result p.x c.x.ensures.x p.x_small in
     let y = coordinate c.y.result p.y c.y.ensures.y p.y_small in
     let z = coordinate c.z.result p.z c.z.ensures.z p.z_small in

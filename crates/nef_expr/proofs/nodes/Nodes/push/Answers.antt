@@ -1,5 +1,4 @@
-use Rattle.std.proofs.Common.{length, sym, subst}
-use Rattle.nef_expr.specs.Nodes.{NamesBelow, IsOrdered}
+use Rattle.nef_expr.proofs.Prelude.{length, sym, subst, NamesBelow, IsOrdered}
 use Rattle.nef_expr.proofs.Tables.{ordered-push}
 use Rattle.nef_expr.proofs.nodes.Nodes.push.Goals as goal
 

@@ -1,9 +1,5 @@
 -- One node more.
-use Rattle.std.proofs.Common.{arith, ◌≡◌, ◌++◌, [], ◌∷◌, Some, length, ap, sym, subst, ◌∙◌}
-use Rattle.std.proofs.lemmas.Grind.{common_steps}
-use Rattle.std.specs.Ordering.{nat_cmp}
-use Rattle.std.specs.BTreeMap.{Updates}
-use Rattle.nef_expr.specs.Table.{Table, IsTable}
+use Rattle.nef_expr.proofs.Prelude.{arith, ◌≡◌, ◌++◌, [], ◌∷◌, Some, length, ap, sym, subst, ◌∙◌, common_steps, nat_cmp, Updates, Table, IsTable}
 use Rattle.nef_expr.proofs.Tables.{table-push}
 use Rattle.nef_expr.proofs.table.TurnedNodes.add.Goals as goal
 

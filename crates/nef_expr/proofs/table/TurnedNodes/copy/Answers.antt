@@ -1,12 +1,5 @@
 -- The copy of a node whose operands' copies are there.
-use Rattle.std.proofs.Common.{◌≡◌, ℕ, ◌<◌, ◌++◌, [], ◌∷◌, length, Some, refl, ap, sym, subst, ◌∙◌, arith}
-use Rattle.std.specs.Prelude.{slice_get, slice_index_or}
-use Rattle.std.proofs.lemmas.Option.{slice_get_read}
-use Rattle.nef_expr.specs.declared.nodes.Node.{Node}
-use Rattle.nef_expr.specs.declared.table.Origin.{Origin}
-use Rattle.nef_expr.specs.Nodes.{NamesBelow}
-use Rattle.nef_expr.specs.Turns.{TurnOf}
-use Rattle.nef_expr.specs.Table.{Table, IsTable, IsOfOrigin, HasOrigin, IsCopyOf, origin}
+use Rattle.nef_expr.proofs.Prelude.{◌≡◌, ℕ, ◌<◌, ◌++◌, [], ◌∷◌, length, Some, refl, ap, sym, subst, ◌∙◌, arith, slice_get, slice_index_or, slice_get_read, Node, Origin, NamesBelow, TurnOf, Table, IsTable, IsOfOrigin, HasOrigin, IsCopyOf, origin}
 use Rattle.nef_expr.proofs.Places.{slice_get-left, slice_get-seam, both_ok}
 use Rattle.nef_expr.proofs.Tables.{new-names, new-image, copy-there, copy-is, copy-image}
 use Rattle.nef_expr.proofs.table.TurnedNodes.copy.Goals as goal

@@ -1,7 +1,5 @@
 -- At most 48 nodes for each base.
-use Rattle.std.proofs.Common.{◌≤◌, ◌*◌, ◌∙◌, List, length, ap, sym, subst}
-use Rattle.nef_expr.specs.declared.nodes.Node.{Node}
-use Rattle.nef_expr.specs.Table.{Table, IsTable}
+use Rattle.nef_expr.proofs.Prelude.{◌≤◌, ◌*◌, ◌∙◌, List, length, ap, sym, subst, Node, Table, IsTable}
 use Rattle.nef_expr.proofs.Tables.{few-nodes}
 use Rattle.nef_expr.proofs.table.TurnedNodes.into_nodes.Goals as goal
 

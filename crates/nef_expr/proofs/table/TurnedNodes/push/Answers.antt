@@ -1,6 +1,5 @@
 -- One base more.
-use Rattle.std.proofs.Common.{◌≡◌, ℕ, ◌+◌, ◌++◌, [], ◌∷◌, length, ap, sym, subst}
-use Rattle.nef_expr.specs.Table.{Table, IsTable, IsOfOrigin, HasOrigin, origin}
+use Rattle.nef_expr.proofs.Prelude.{◌≡◌, ℕ, ◌+◌, ◌++◌, [], ◌∷◌, length, ap, sym, subst, Table, IsTable, IsOfOrigin, HasOrigin, origin}
 use Rattle.nef_expr.proofs.Tables.{base-new, base-image}
 use Rattle.nef_expr.proofs.table.TurnedNodes.push.Goals as goal
 

@@ -1,11 +1,5 @@
 -- The copies of all nodes that are needed, one after the other.
-use Rattle.std.proofs.Common.{◌≡◌, ℕ, ◌+◌, List, false, length, ap, sym, subst, ◌∙◌, arith}
-use Rattle.std.proofs.lemmas.Bool.{false≢true}
-use Rattle.std.proofs.lemmas.List.{get_or_read}
-use Rattle.nef_expr.specs.declared.nodes.Node.{Node}
-use Rattle.nef_expr.specs.Table.{Table, IsTable}
-use Rattle.nef_expr.specs.Turns.{TurnOf}
-use Rattle.nef_expr.specs.Copying.{Stays, AreNeeded, IsMarked, OperandsTurned}
+use Rattle.nef_expr.proofs.Prelude.{◌≡◌, ℕ, ◌+◌, List, false, length, ap, sym, subst, ◌∙◌, arith, false≢true, get_or_read, Node, Table, IsTable, TurnOf, Stays, AreNeeded, IsMarked, OperandsTurned}
 use Rattle.nef_expr.proofs.Places.{one_ok}
 use Rattle.nef_expr.proofs.Tables.{IsCopying, copying-start, copying-length, copying-operands, copying-more, stays-same, stays-twice}
 use Rattle.nef_expr.proofs.table.TurnedNodes.turn.Goals as goal

@@ -1,11 +1,4 @@
-use Rattle.std.proofs.Common.{ℕ, refl, rules, arith, IsTrue, List, Some, get_or, subst}
-use Rattle.nef_space.specs.Lists.{IsAt}
-use Rattle.nef_geo.specs.Shapes.{vector_of, place_of}
-use Rattle.nef_classes.proofs.ClassLists.{is-at_get}
-use Rattle.nef_complex.specs.Complexes.{complex_of}
-use Rattle.nef_complex.specs.declared.spans.Span.{Span}
-use Rattle.nef_complex.proofs.Outside.{no_span}
-use Rattle.nef_locate.specs.declared.beam.Met.{Met}
+use Rattle.nef_locate.proofs.Prelude.{ℕ, refl, rules, arith, IsTrue, List, Some, get_or, subst, IsAt, vector_of, place_of, is-at_get, complex_of, Span, no_span, Met}
 use Rattle.nef_locate.proofs.RayMeets.{on-carrier, reached-of, stays, taken, passed, found, kept-begun, span-passed}
 use Rattle.nef_locate.proofs.Upward.{upright-some}
 use Rattle.nef_locate.proofs.beam.BeamSearch.ask.Goals as goal

@@ -1,8 +1,4 @@
-use Rattle.std.proofs.Common.{◌≡◌, refl, rules, sym, ◌∙◌}
-use Rattle.nef_space.specs.Place.{form_at}
-use Rattle.nef_geo.specs.Shapes.{form_of, hit_place}
-use Rattle.nef_geo.specs.declared.sign.Sign.TheVariants.{Zero}
-use Rattle.nef_geo.proofs.Signs.{zero_sign}
+use Rattle.nef_locate.proofs.Prelude.{◌≡◌, refl, rules, sym, ◌∙◌, form_at, form_of, hit_place, Zero, zero_sign}
 use Rattle.nef_locate.proofs.RayMeets.{at-carrier}
 use Rattle.nef_locate.proofs.point.ProbeSearch.ask.Goals as goal
 

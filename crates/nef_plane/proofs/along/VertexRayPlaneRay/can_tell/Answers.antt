@@ -1,5 +1,4 @@
-use Rattle.std.proofs.Common.{refl}
-use Rattle.nef_geo.specs.Shapes.{form_of, vector_of}
+use Rattle.nef_plane.proofs.Prelude.{refl, form_of, vector_of}
 use Rattle.nef_plane.proofs.Listed.{lies-serves, vertex-serves, edge-serving, met-serves}
 use Rattle.nef_plane.proofs.along.VertexRayPlaneRay.can_tell.Goals as goal
 

@@ -1,10 +1,4 @@
-use Rattle.std.proofs.Common.{inl, inr, rules, subst}
-use Rattle.std.specs.Option.{MatchOption}
-use Rattle.nef_geo.specs.Shapes.{form_of, vector_of, place_of}
-use Rattle.nef_classes.proofs.ClassLists.{is-at_one}
-use Rattle.nef_complex.specs.declared.complex.Vertex.{Vertex}
-use Rattle.nef_plane.specs.Meets.{AreOpposite}
-use Rattle.nef_plane.specs.Parting.{ray_form}
+use Rattle.nef_plane.proofs.Prelude.{inl, inr, rules, subst, MatchOption, form_of, vector_of, place_of, is-at_one, Vertex, AreOpposite, ray_form}
 use Rattle.nef_plane.proofs.Listed.{lies-serves, lies-has}
 use Rattle.nef_plane.proofs.Passed.{off-course}
 use Rattle.nef_plane.proofs.along.VertexRayPlaneRay.may_meet.Goals as goal

@@ -1,9 +1,4 @@
-use Rattle.std.proofs.Common.{◌≡◌, List, None, refl, rules, sym, subst}
-use Rattle.nef_geo.specs.Shapes.{place_of, form_of, vector_of}
-use Rattle.nef_geo.specs.declared.plane.Plane.{Plane}
-use Rattle.nef_complex.specs.Complexes.{complex_of}
-use Rattle.nef_complex.proofs.ListedHolders.{holders-within}
-use Rattle.nef_plane.specs.Meets.{AllHold, AtMeet, IsNearest, near_met_of}
+use Rattle.nef_plane.proofs.Prelude.{◌≡◌, List, None, refl, rules, sym, subst, place_of, form_of, vector_of, Plane, complex_of, holders-within, AllHold, AtMeet, IsNearest, near_met_of}
 use Rattle.nef_plane.proofs.Either.{has-holders}
 use Rattle.nef_plane.proofs.Listed.{serves-has}
 use Rattle.nef_plane.proofs.Reached.{uncrossed, missed, reached}

@@ -1,5 +1,4 @@
-use Rattle.std.proofs.Common.{inl, inr}
-use Rattle.nef_geo.specs.Shapes.{vector_of}
+use Rattle.nef_plane.proofs.Prelude.{inl, inr, vector_of}
 use Rattle.nef_plane.proofs.Passed.{off-course}
 use Rattle.nef_plane.proofs.along.VertexRayPlaneRay.past.Goals as goal
 

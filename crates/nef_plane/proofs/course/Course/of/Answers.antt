@@ -1,9 +1,4 @@
-use Rattle.std.proofs.Common.{◌≡◌, ℕ, pos, negsuc, List, length, true, false, ◌⊎◌, inl, inr, sym, ◌∙◌, refl}
-use Rattle.nef_space.specs.Place.{Place, Form, InClosedFrame}
-use Rattle.nef_space.specs.Vectors.{Vector}
-use Rattle.nef_geo.specs.Shapes.{form_of, place_of, vector_of}
-use Rattle.nef_complex.specs.declared.complex.Vertex.{Vertex}
-use Rattle.nef_plane.specs.Courses.{IsFirst, IsPast, IsBeside, shifted_form}
+use Rattle.nef_plane.proofs.Prelude.{◌≡◌, ℕ, pos, negsuc, List, length, true, false, ◌⊎◌, inl, inr, sym, ◌∙◌, refl, Place, Form, InClosedFrame, Vector, form_of, place_of, vector_of, Vertex, IsFirst, IsPast, IsBeside, shifted_form}
 use Rattle.nef_plane.proofs.Close.{ahead-beyond, ahead-short, first-all, past-all}
 use Rattle.nef_plane.proofs.Passed.{start-framed, first-forward, past-back}
 use Rattle.nef_plane.proofs.course.Course.of.Goals as goal

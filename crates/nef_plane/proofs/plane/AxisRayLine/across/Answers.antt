@@ -1,4 +1,4 @@
-use Rattle.std.proofs.Common.{rules}
+use Rattle.nef_plane.proofs.Prelude.{rules}
 use Rattle.nef_plane.proofs.Sweep.{second-sign, first-sign}
 use Rattle.nef_plane.proofs.plane.AxisRayLine.across.Goals as goal
 use Rattle.nef_plane.proofs.plane.AxisRayLine.across.Goals.{else-c-eq0-via-then-c-eq0+else-b-eq0, else-c-eq0-via-else-c-eq0}

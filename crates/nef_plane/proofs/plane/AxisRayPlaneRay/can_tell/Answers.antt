@@ -1,4 +1,4 @@
-use Rattle.nef_geo.specs.Shapes.{form_of, hit_place, vector_of}
+use Rattle.nef_plane.proofs.Prelude.{form_of, hit_place, vector_of}
 use Rattle.nef_plane.proofs.Axes.{axis-level}
 use Rattle.nef_plane.proofs.Listed.{met-lies}
 use Rattle.nef_plane.proofs.plane.AxisRayPlaneRay.can_tell.Goals as goal

@@ -1,4 +1,4 @@
-use Rattle.nef_geo.specs.Shapes.{hit_place, vector_of}
+use Rattle.nef_plane.proofs.Prelude.{hit_place, vector_of}
 use Rattle.nef_plane.proofs.Leveled.{first-missed}
 use Rattle.nef_plane.proofs.plane.AxisRayPlaneRay.first.Goals as goal
 

@@ -1,4 +1,4 @@
-use Rattle.nef_geo.specs.Shapes.{form_of, hit_place, vector_of}
+use Rattle.nef_plane.proofs.Prelude.{form_of, hit_place, vector_of}
 use Rattle.nef_plane.proofs.Leveled.{unparted}
 use Rattle.nef_plane.proofs.Listed.{lies-has}
 use Rattle.nef_plane.proofs.plane.AxisRayPlaneRay.may_meet.Goals as goal

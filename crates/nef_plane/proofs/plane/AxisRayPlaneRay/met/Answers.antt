@@ -1,11 +1,4 @@
-use Rattle.std.proofs.Common.{◌≡◌, List, Some, None, refl, rules, sym, subst}
-use Rattle.nef_geo.specs.Shapes.{form_of, place_of, hit_place, vector_of}
-use Rattle.nef_geo.specs.declared.plane.Plane.{Plane}
-use Rattle.nef_complex.specs.Index.{AreHolders}
-use Rattle.nef_complex.specs.Complexes.{complex_of}
-use Rattle.nef_complex.proofs.ListedHolders.{holders-within}
-use Rattle.nef_plane.specs.Ends.{HasEndsAt}
-use Rattle.nef_plane.specs.Meets.{AllHold, AtMeet, IsNearest, far_met_of}
+use Rattle.nef_plane.proofs.Prelude.{◌≡◌, List, Some, None, refl, rules, sym, subst, form_of, place_of, hit_place, vector_of, Plane, AreHolders, complex_of, holders-within, HasEndsAt, AllHold, AtMeet, IsNearest, far_met_of}
 use Rattle.nef_plane.proofs.Choosing.{met-answers, none-answers}
 use Rattle.nef_plane.proofs.Either.{ends-held}
 use Rattle.nef_plane.proofs.Listed.{lies-has}

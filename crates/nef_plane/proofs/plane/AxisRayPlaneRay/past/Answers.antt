@@ -1,4 +1,4 @@
-use Rattle.nef_geo.specs.Shapes.{hit_place, vector_of}
+use Rattle.nef_plane.proofs.Prelude.{hit_place, vector_of}
 use Rattle.nef_plane.proofs.Leveled.{past-missed}
 use Rattle.nef_plane.proofs.plane.AxisRayPlaneRay.past.Goals as goal
 

@@ -1,9 +1,5 @@
-use Rattle.std.proofs.Common.{◌∙◌, sym, subst}
-use Rattle.nef_space.specs.Local.{IsVertex}
-use Rattle.law_sphere.specs.Least.{Cone}
+use Rattle.nef_result.proofs.Prelude.{◌∙◌, sym, subst, IsVertex, Cone, map_of, IsLeastMap, SphereMap}
 use Rattle.nef_star.proofs.Needed.{true_or_false}
-use Rattle.nef_smap.specs.Maps.{map_of, IsLeastMap}
-use Rattle.nef_smap.specs.declared.map.SphereMap.{SphereMap}
 use Rattle.nef_result.proofs.Vertices.{vertex-flat, flat-vertex}
 use Rattle.nef_result.proofs.outcome.Outcome.of.Goals as goal
 
