@@ -1,15 +1,5 @@
 -- The classes of finitely many numbers that a decided relation links.
-use Rattle.std.proofs.Common.{◌≡◌, ℕ, zero, suc, ◌<◌, arith, refl, sym, ◌∙◌, ◌⊎◌, inl, inr, ⊎_elim, ◌↔◌, List, [], ◌∷◌, subst}
-use Rattle.std.proofs.lemmas.Bool.{cases_order}
-use Rattle.nef_space.specs.Lists.{Chained}
-use Rattle.nef_space.specs.Signs.{Lies}
-use Rattle.nef_space.proofs.Lists.{pairs, lies-pairs}
-use Rattle.law_near.proofs.Decided.{Decided}
-use Rattle.law_cones.proofs.Listing.{Collected, collect}
-use Rattle.nef_classes.proofs.Chains.{chain-here, chain-link, chain-trans, chain-turned, chain-keeps, chain-map}
-
-pub equal-decided : (a b : ℕ) → Decided (a ≡ b)
-equal-decided a b = ⊎_elim (λ e. inl e) (λ o. inr (λ e. ⊎_elim (λ l. omega (arith, l, e)) (λ l. omega (arith, l, e)) o)) (cases_order a b)
+use Rattle.law_exist.proofs.Prelude.{◌≡◌, ℕ, zero, suc, ◌<◌, arith, refl, sym, ◌∙◌, ◌⊎◌, inl, inr, ⊎_elim, ◌↔◌, List, ◌∷◌, subst, [], cases_order, Chained, Lies, pairs, lies-pairs, Decided, Collected, collect, chain-here, chain-link, chain-trans, chain-turned, chain-keeps, chain-map, eq-decided}
 
 -- ---- links one after the other
 abbrev AreLinked : List (ℕ × ℕ) → ℕ → ℕ → Type 0
@@ -17,12 +7,12 @@ AreLinked ls s t = Lies ls (s, t)
 
 -- what has the class of a gets that of b
 moved : (ℕ → ℕ) → ℕ → ℕ → ℕ → ℕ
-moved f a b k = ⊎_elim (λ e. f b) (λ o. f k) (equal-decided (f k) (f a))
+moved f a b k = ⊎_elim (λ e. f b) (λ o. f k) (eq-decided (f k) (f a))
 
 module _ (f : ℕ → ℕ) (a b : ℕ) where
   moved-same : (k : ℕ) → f k ≡ f a → moved f a b k ≡ f b
   unfolding moved
-  moved-same k e = by (equal-decided (f k) (f a))
+  moved-same k e = by (eq-decided (f k) (f a))
     where
       by : (o : Decided (f k ≡ f a)) → ⊎_elim (λ e. f b) (λ o. f k) o ≡ f b
       by (inl d) = refl
@@ -30,7 +20,7 @@ module _ (f : ℕ → ℕ) (a b : ℕ) where
 
   moved-other : (k : ℕ) → (f k ≡ f a → ⊥) → moved f a b k ≡ f k
   unfolding moved
-  moved-other k n = by (equal-decided (f k) (f a))
+  moved-other k n = by (eq-decided (f k) (f a))
     where
       by : (o : Decided (f k ≡ f a)) → ⊎_elim (λ e. f b) (λ o. f k) o ≡ f k
       by (inl d) = absurd (n d)
@@ -41,10 +31,10 @@ module _ (f : ℕ → ℕ) (a b : ℕ) where
   moved-kept s t e = ⊎_elim
       (λ d. moved-same s d ∙ sym (moved-same t (sym e ∙ d)))
       (λ n. moved-other s n ∙ e ∙ sym (moved-other t (λ d. n (e ∙ d))))
-      (equal-decided (f s) (f a))
+      (eq-decided (f s) (f a))
 
   moved-ends : moved f a b a ≡ moved f a b b
-  moved-ends = moved-same a refl ∙ ⊎_elim (λ d. sym (moved-same b d)) (λ n. sym (moved-other b n)) (equal-decided (f b) (f a))
+  moved-ends = moved-same a refl ∙ ⊎_elim (λ d. sym (moved-same b d)) (λ n. sym (moved-other b n)) (eq-decided (f b) (f a))
 
 -- numbers have one class exactly where chains of links join them
 abbrev AreClasses : List (ℕ × ℕ) → (ℕ → ℕ) → Type 0
@@ -77,7 +67,7 @@ classes-of (l ∷ ls) = by (classes-of ls)
         keeps x y (inr m) = moved-kept f l.0 l.1 x y ((F x y).1 (chain-link (AreLinked ls) x y m))
 
         joined : (s t : ℕ) → moved f l.0 l.1 s ≡ moved f l.0 l.1 t → Chained (AreLinked (l ∷ ls)) s t
-        joined s t e = cases (equal-decided (f s) (f l.0)) (equal-decided (f t) (f l.0))
+        joined s t e = cases (eq-decided (f s) (f l.0)) (eq-decided (f t) (f l.0))
           where
             to-a : (k : ℕ) → f k ≡ f l.0 → Chained (AreLinked (l ∷ ls)) k l.0
             to-a k d = old k l.0 d

@@ -1,24 +1,7 @@
 -- Every set whose carriers are planes has a complex that shows it: its vertices are finitely many, each point has a least map, and so there are all edges.
-use Rattle.std.proofs.Common.{◌≡◌, ℕ, ℤ, ◌*ℤ◌, refl, sym, List, [], ◌∷◌, subst}
-use Rattle.nef_space.proofs.Ring.{ring, at, ◌⊗◌}
-use Rattle.nef_space.specs.Signs.{Lies}
-use Rattle.nef_space.specs.Place.{Place, Form, normal_of, SamePlace, IsPlaceBelow}
-use Rattle.nef_space.specs.Sets.{Set}
-use Rattle.nef_space.specs.Local.{IsVertex}
-use Rattle.nef_space.specs.Vectors.{IsDirection}
-use Rattle.law_near.specs.Cells.{carriers}
-use Rattle.law_near.proofs.PlaceOrder.{place_below-trans}
-use Rattle.law_near.proofs.Rays.{same-place_sym}
-use Rattle.law_near.proofs.Vertices.{all-vertices}
-use Rattle.law_sphere.specs.Least.{InOrder, Least, Ordered, Cone}
-use Rattle.law_sphere.specs.Maps.{At}
+use Rattle.law_exist.proofs.Prelude.{◌≡◌, ℕ, ℤ, ◌*ℤ◌, refl, sym, List, ◌∷◌, subst, map, [], ring, at, ◌⊗◌, Lies, Place, Form, normal_of, SamePlace, IsPlaceBelow, Set, IsVertex, IsDirection, carriers, place_below-trans, same-place_sym, all-vertices, InOrder, Least, Ordered, Cone, At, Mapped, map-list, Sorted, sort, chain-order, same-itself, same-place_trans, Vertex, Edge, Edges, SamePlane, Carriers, Shows, AreVertices, EverySetHasVertices, VerticesHaveEdges, HasPlanes, EverySetIsShown, lies-at, at-lies}
 use Rattle.law_cones.proofs.Cones.{point-map}
-use Rattle.law_cones.proofs.Listing.{lies-at, at-lies, Mapped, map-list, Sorted, sort, chain-order}
-use Rattle.law_complex.proofs.Ways.{same-itself, same-place_trans}
-use Rattle.law_complex.specs.Complexes.{Vertex, Edge, Edges}
-use Rattle.law_complex.specs.Shows.{SamePlane, Carriers, Shows}
 use Rattle.nef_edges.proofs.Existing.{edges-exist}
-use Rattle.law_exist.specs.Laws.{AreVertices, EverySetHasVertices, VerticesHaveEdges, HasPlanes, EverySetIsShown}
 use Rattle.law_exist.proofs.Orders.{FormBelow, form-trans, form-either, place-either}
 
 -- ---- vertices

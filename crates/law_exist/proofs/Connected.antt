@@ -1,33 +1,12 @@
 -- Whether two points of a set are joined is decided, and their components are finitely many: points on the same sides of all carriers are joined, and so are points of which one lies on the sides of the other, or on the carriers
 -- between, where both have as many flat directions. Along an even segment nothing else happens.
-use Rattle.std.proofs.Common.{◌≡◌, ℕ, zero, suc, ◌<◌, false, refl, sym, ap, ◌∙◌, ◌⊎◌, inl, inr, ⊎_elim, ◌↔◌, List, [], ◌∷◌, length, subst}
-use Rattle.nef_space.specs.Signs.{Sign, minus, nought, plus, Lies}
-use Rattle.nef_space.specs.Lists.{IsChain, Chained}
-use Rattle.nef_space.specs.Place.{Place, Form, Within, IsBetween}
-use Rattle.nef_space.specs.Sets.{Set}
-use Rattle.nef_space.specs.Local.{FlatDim, IsEven, IsEvenPath, Joined}
-use Rattle.law_near.specs.Cells.{sign_at, carriers, SameSigns}
-use Rattle.law_near.specs.Homogeneous.{of_place, OnPlaces}
-use Rattle.law_near.proofs.Alike.{FlatDim-one}
-use Rattle.law_near.proofs.Between.{mixed-of}
-use Rattle.law_near.proofs.Cells.{Keeps, reach-some, keeps-all, is_nought}
+use Rattle.law_exist.proofs.Prelude.{◌≡◌, ℕ, zero, suc, ◌<◌, false, refl, sym, ap, ◌∙◌, ◌⊎◌, inl, inr, ⊎_elim, ◌↔◌, List, ◌∷◌, length, subst, [], Sign, minus, nought, plus, Lies, IsChain, Chained, Place, Form, Within, IsBetween, Set, FlatDim, IsEven, IsEvenPath, Joined, sign_at, carriers, SameSigns, of_place, OnPlaces, FlatDim-one, mixed-of, reach-some, keeps-all, is_nought, Decided, decided-both, decided-to, decided-not, every, joined-turned, joined-both, joined-itself, flat_dim-of, reach_all, dim-cell, joined-cell, joined-even, At, at-one, lies-at, at-or, even-by, chain-here, chain-link, chain-trans, chain-turned, HasComponents, at-within, JoinedIsDecided, ComponentsAreCounted, eq-decided}
+use Rattle.law_near.proofs.Cells.{Keeps}
 use Rattle.law_near.proofs.Crossings.{opposite, joint, sign-mixed}
-use Rattle.law_near.proofs.Decided.{Decided, decided-both, decided-to, decided-not, every}
-use Rattle.law_near.proofs.Even.{joined-turned, joined-both, joined-itself}
-use Rattle.law_near.proofs.FlatDecided.{flat_dim-of, flat_dim-decided}
-use Rattle.law_near.proofs.Near.{reach_all}
+use Rattle.law_near.proofs.FlatDecided.{flat_dim-decided}
 use Rattle.law_near.proofs.Places.{settled-segment_places}
 use Rattle.law_near.proofs.Representatives.{representative_places, representative_place}
-use Rattle.law_links.proofs.Ties.{dim-cell, joined-cell, joined-even}
-use Rattle.law_sphere.specs.Maps.{At}
-use Rattle.law_sphere.proofs.Lists.{at-one}
-use Rattle.law_cones.proofs.Listing.{lies-at, at-or}
-use Rattle.law_complex.proofs.FacetWays.{even-by}
-use Rattle.nef_classes.proofs.Chains.{chain-here, chain-link, chain-trans, chain-turned}
-use Rattle.nef_conn.specs.Components.{HasComponents}
-use Rattle.nef_smap.proofs.Lists.{at-within}
-use Rattle.law_exist.specs.Laws.{JoinedIsDecided, ComponentsAreCounted}
-use Rattle.law_exist.proofs.Classes.{equal-decided, decided-classes}
+use Rattle.law_exist.proofs.Classes.{decided-classes}
 
 -- ---- signs
 sign-decided : (a b : Sign) → Decided (a ≡ b)
@@ -171,7 +150,7 @@ module _ (s : Set) where
       let f = class-of k.0 in
       let e = f.1 (cell p).number (cell q).number in
       let j = cells-joined k.0 p q k.1 in
-      ⊎_elim (λ g. inl (j.1 (e.0 g))) (λ n. inr (λ x. n (e.1 (j.0 x)))) (equal-decided (f.0 (cell p).number) (f.0 (cell q).number))
+      ⊎_elim (λ g. inl (j.1 (e.0 g))) (λ n. inr (λ x. n (e.1 (j.0 x)))) (eq-decided (f.0 (cell p).number) (f.0 (cell q).number))
 
   -- ---- components
   -- a point for each class among the points of a list

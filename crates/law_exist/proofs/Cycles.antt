@@ -1,25 +1,6 @@
 -- The cycles of the facets of a complex that shows a set exist: the orbits of its next corners.
-use Rattle.std.proofs.Common.{◌≡◌, ℕ, zero, suc, ◌+◌, ◌<◌, ◌≤◌, arith, refl, sym, ◌∙◌, inl, inr, ⊎_elim, List, [], ◌∷◌, ◌++◌, length, Bool, true, false, subst, replicate, set}
-use Rattle.std.proofs.lemmas.List.{length-set}
-use Rattle.nef_space.specs.Lists.{IsAt}
-use Rattle.nef_space.specs.Sets.{Set}
-use Rattle.law_sphere.specs.Maps.{At, Item, arc_item, sloop_item, items, Arc}
-use Rattle.law_sphere.proofs.Lists.{at-one}
-use Rattle.law_sphere.proofs.Shot.{arc-at}
-use Rattle.law_sphere.proofs.Arcs.{at-arc, ends-of}
-use Rattle.law_complex.specs.Complexes.{Vertex, Edge, Complex, Corner as PlainCorner, IsCorner}
-use Rattle.law_complex.specs.Shows.{Shows}
-use Rattle.law_complex.proofs.Joining.{svertex-edge}
-use Rattle.nef_classes.proofs.ClassLists.{is-at_one, is-at_some}
+use Rattle.law_exist.proofs.Prelude.{◌≡◌, ℕ, zero, suc, ◌+◌, ◌<◌, ◌≤◌, arith, refl, sym, ◌∙◌, inl, inr, ⊎_elim, List, ◌∷◌, ◌++◌, length, Bool, true, false, subst, replicate, set, [], length-set, IsAt, Set, At, Item, arc_item, sloop_item, items, Arc, at-one, arc-at, at-arc, ends-of, Vertex, Edge, Complex, Corner as PlainCorner, IsCorner, Shows, svertex-edge, is-at_one, is-at_some, corner_of, Leads, NextCorner, Cycles, IsFacetOf, FacetNumbers, cycle_corners, Cycle, corners_at, corner_from, HasItem, AreCorners, AreFirsts, AreNext, IsStep, AreOrbits, AreCornersOf, AreNumbered, IsCycleOf, AreGrouped, at-within, at-some, eq-decided}
 use Rattle.nef_complex.specs.declared.complex.Corner.{Corner}
-use Rattle.nef_complex.specs.Complexes.{corner_of}
-use Rattle.nef_complex.specs.Cycles.{Leads, NextCorner, Cycles}
-use Rattle.nef_complex.specs.Numbers.{IsFacetOf, FacetNumbers, cycle_corners}
-use Rattle.nef_complex.specs.declared.parts.Cycle.{Cycle}
-use Rattle.nef_facets.specs.Corners.{corners_at, corner_from, HasItem, AreCorners}
-use Rattle.nef_facets.specs.Facets.{AreFirsts}
-use Rattle.nef_facets.specs.Next.{AreNext}
-use Rattle.nef_facets.specs.Orbits.{IsStep, AreOrbits, AreCornersOf, AreNumbered, IsCycleOf, AreGrouped}
 use Rattle.nef_facets.proofs.CornerLists.{AreCornersTo, no-corners, corners-next, all-corners}
 use Rattle.nef_facets.proofs.CyclesOf.{next-step, are-numbered, facet-cycles}
 use Rattle.nef_facets.proofs.EdgeViews.{edge-from}
@@ -27,9 +8,6 @@ use Rattle.nef_facets.proofs.FirstCorners.{AreFirstsTo, firsts-none, firsts-same
 use Rattle.nef_facets.proofs.Grouping.{grouped-none, grouped-more}
 use Rattle.nef_facets.proofs.NextCorners.{next-arc}
 use Rattle.nef_facets.proofs.Walks.{unmarked_count, fewer, IsWalk, walk-none, walk-more, walk-back, AreOrbitsTo, orbits-begun, orbits-pass, orbits-more, orbits-all}
-use Rattle.nef_smap.proofs.Lists.{at-within}
-use Rattle.nef_smap.proofs.SideLists.{at-some}
-use Rattle.law_exist.proofs.Classes.{equal-decided}
 use Rattle.law_exist.proofs.Rows.{Made, make-list, make-each}
 
 -- ---- corners
@@ -166,7 +144,7 @@ module _ (C : Complex) (rows : List (List ℕ)) (N : FacetNumbers C rows) (ks : 
       let e : i + 1 ≡ suc i = omega arith in
       ⊎_elim
       (λ d. (js ++ k ∷ [], subst (λ n. AreFirstsTo rows ks n (js ++ k ∷ [])) e (firsts-new C rows N ks A i js F k a m f d)))
-      (λ d. (js, subst (λ n. AreFirstsTo rows ks n js) e (firsts-same C rows N ks A i js F k a m f d))) (equal-decided m (length js))
+      (λ d. (js, subst (λ n. AreFirstsTo rows ks n js) e (firsts-same C rows N ks A i js F k a m f d))) (eq-decided m (length js))
 
   pub firsts : (js : List Corner) × AreFirsts rows ks js
   firsts = let (js, F) = firsts-to (length ks) (omega arith) in (js, firsts-all rows ks (length ks) js F (omega arith))

@@ -1,10 +1,5 @@
 -- Elements of a table, in order: one for each row and column.
-use Rattle.std.proofs.Common.{◌≡◌, ℕ, zero, suc, ◌<◌, refl, sym, ◌∙◌, ◌⊎◌, inl, inr, List, [], ◌∷◌, ◌++◌, subst}
-use Rattle.nef_space.specs.Signs.{Lies}
-use Rattle.nef_space.proofs.Lists.{each, lies-each, lies-left, lies-right, lies-append}
-use Rattle.law_sphere.specs.Maps.{At}
-use Rattle.law_sphere.specs.Least.{InOrder}
-use Rattle.law_cones.proofs.Listing.{lies-at, at-lies, Mapped, map-list, Sorted, sort, chain-order}
+use Rattle.law_exist.proofs.Prelude.{◌≡◌, ℕ, zero, suc, ◌<◌, refl, sym, ◌∙◌, ◌⊎◌, inl, inr, List, ◌∷◌, ◌++◌, subst, [], Lies, each, lies-each, lies-left, lies-right, lies-append, At, InOrder, Mapped, map-list, Sorted, sort, chain-order, lies-at, at-lies}
 use Rattle.law_exist.proofs.Classes.{numbers-to, in-numbers, number-in}
 use Rattle.law_exist.proofs.Numbering.{PairBelow, pair-trans, pair-either}
 use Rattle.law_exist.proofs.Planes.{lies-image}

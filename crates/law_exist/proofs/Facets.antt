@@ -1,24 +1,11 @@
 -- The items of a complex that shows a set have facet numbers: items whose points are joined have one.
-use Rattle.std.proofs.Common.{◌≡◌, ℕ, ◌<◌, ◌≤◌, refl, ap, ◌∙◌, inr, ◌↔◌, List, subst}
-use Rattle.nef_space.specs.Lists.{IsAt, Chained}
-use Rattle.nef_space.specs.Local.{FlatDim}
-use Rattle.nef_space.specs.Place.{Place}
-use Rattle.nef_space.specs.Sets.{Set}
-use Rattle.law_sphere.specs.Maps.{At, Item, items}
-use Rattle.law_complex.specs.Complexes.{Vertex, Complex, Corner, IsCorner}
-use Rattle.law_complex.specs.Shows.{Shows}
-use Rattle.law_complex.proofs.Ways.{same-itself}
-use Rattle.law_links.specs.Links.{FacetLink}
-use Rattle.law_links.specs.Components.{IsAtItem}
+use Rattle.law_exist.proofs.Prelude.{◌≡◌, ℕ, ◌<◌, ◌≤◌, refl, inr, ◌↔◌, List, subst, IsAt, Chained, FlatDim, Place, Set, At, Item, items, Vertex, Complex, Corner, IsCorner, Shows, same-itself, FacetLink, IsAtItem, joined-items_linked, at-within, at-some, at-from_get, count_items, IsFacetOf, FacetNumbers}
 use Rattle.law_links.proofs.ItemLinks.{items-joined}
 use Rattle.law_links.proofs.ItemPoints.{items-have_points}
-use Rattle.nef_conn.proofs.Steps.{joined-items_linked}
-use Rattle.nef_smap.proofs.Lists.{at-within}
-use Rattle.nef_smap.proofs.SideLists.{at-some, at-from_get}
-use Rattle.nef_complex.specs.Numbers.{count_items, IsFacetOf, FacetNumbers}
 use Rattle.law_exist.proofs.Connected.{class-number, class-same}
 use Rattle.law_exist.proofs.Elements.{Elements, elements}
 use Rattle.law_exist.proofs.Numbering.{Numbered, number-all, Table, Placed, PairBelow, table, placed, has-place}
+use Rattle.nef_conn.proofs.OneNamed.{corners-same}
 
 pub record ItemAt (C : Complex) : Type 0 where
   pub corner : Corner
@@ -31,12 +18,6 @@ row-of C x = x.corner.vertex
 
 abbrev col-of : (C : Complex) → ItemAt C → ℕ
 col-of C x = x.corner.item
-
-corner-same : (j k : Corner) → j.vertex ≡ k.vertex → j.item ≡ k.item → j ≡ k
-corner-same j k e f = ap (λ i. made i j.item) e ∙ ap (λ n. made k.vertex n) f
-  where
-    made : ℕ → ℕ → Corner
-    made i n = record { vertex = i; item = n }
 
 module _ (C : Complex) where
   item-make : (i k : ℕ) (v : Vertex) → At C.vertices i v → k < count_items v → (x : ItemAt C) × (row-of C x ≡ i) × (col-of C x ≡ k)
@@ -91,7 +72,7 @@ module _ (s : Set) (C : Complex) (S : Shows s C) where
               put : (k : Corner) (n : ℕ) → IsFacetOf T.rows k n → (p : ℕ) × (x : ItemAt C) × At E.list p x × (x.corner ≡ k) × IsAt N.list p n
               put k n h =
                   let (p, x, a, e, f, c) = placed (row-of C) (col-of C) E.list E.ordered C.vertices count_items E.complete (item-sound C E.list) N.list N.as_many k.vertex k.item n h in
-                  (p, x, a, corner-same x.corner k e f, c)
+                  (p, x, a, corners-same x.corner k e f, c)
 
               by-class : (j k : Corner) (m n : ℕ) → IsFacetOf T.rows j m → IsFacetOf T.rows k n → (m ≡ n) ↔ Chained (FacetLink C) j k
               by-class j k m n g h =

@@ -1,9 +1,5 @@
 -- A list without repeats whose elements lie in another is no longer than that.
-use Rattle.std.proofs.Common.{◌≡◌, ℕ, zero, suc, ◌+◌, ◌*◌, ◌≤◌, arith, refl, sym, ◌∙◌, ◌⊎◌, inl, inr, ⊎_elim, List, [], ◌∷◌, length, length-append}
-use Rattle.nef_space.specs.Signs.{Lies}
-use Rattle.nef_space.proofs.Lists.{each, pairs}
-use Rattle.law_sphere.specs.Maps.{At}
-use Rattle.law_cones.proofs.Listing.{lies-at}
+use Rattle.law_exist.proofs.Prelude.{◌≡◌, ℕ, zero, suc, ◌+◌, ◌*◌, ◌≤◌, arith, refl, sym, ◌∙◌, ◌⊎◌, inl, inr, ⊎_elim, List, ◌∷◌, length, length-append, [], Lies, each, pairs, At, lies-at}
 
 -- no element stands at two places
 abbrev pub Once : {A : Type 0} → List A → Type 0

@@ -1,15 +1,6 @@
 -- The classes of finitely many things in order, each class in order, and the classes in the order of their first things.
-use Rattle.std.proofs.Common.{◌≡◌, ℕ, zero, suc, arith, refl, sym, ◌⊎◌, inl, inr, ⊎_elim, List, [], ◌∷◌, length, subst}
-use Rattle.nef_space.specs.Lists.{IsChain, Chained}
-use Rattle.nef_space.specs.Signs.{Lies}
-use Rattle.law_near.proofs.Decided.{Decided, decided-both, decided-to, decided-not, every}
-use Rattle.law_sphere.specs.Maps.{At}
-use Rattle.law_sphere.specs.Least.{InOrder}
-use Rattle.law_sphere.proofs.Lists.{at-one}
-use Rattle.law_cones.proofs.Listing.{lies-at, at-or, Chain}
-use Rattle.nef_classes.proofs.Chains.{chain-here, chain-link, chain-trans, chain-turned}
-use Rattle.nef_smap.proofs.Lists.{at-within}
-use Rattle.law_exist.proofs.Classes.{equal-decided, decided-classes}
+use Rattle.law_exist.proofs.Prelude.{◌≡◌, ℕ, zero, suc, arith, refl, sym, ◌⊎◌, inl, inr, ⊎_elim, List, ◌∷◌, length, subst, [], IsChain, Chained, Lies, Decided, decided-both, decided-to, decided-not, every, At, InOrder, at-one, lies-at, at-or, Chain, chain-here, chain-link, chain-trans, chain-turned, at-within, eq-decided}
+use Rattle.law_exist.proofs.Classes.{decided-classes}
 
 -- ---- classes of the images of listed things
 module _ {X Y : Type 0} (xs : List X) (f : X → Y) (R : Y → Y → Type 0) (listed : (y z : Y) → R y z → ((i : ℕ) × (x : X) × At xs i x × (f x ≡ y)) × ((j : ℕ) × (w : X) × At xs j w × (f w ≡ z)))
@@ -53,7 +44,7 @@ module _ {X Y : Type 0} (xs : List X) (f : X → Y) (R : Y → Y → Type 0) (li
   chained-decided i j x w a b =
       let c = decided-classes (length xs) Link link-decided (λ s t l. (at-within xs s l.0 l.2, at-within xs t l.1 l.3)) in
       let r = c.1 i j in
-      ⊎_elim (λ e. inl (to-images i j x w a b (r.0 e))) (λ n. inr (λ h. n (r.1 (from-images i j x w a b h)))) (equal-decided (c.0 i) (c.0 j))
+      ⊎_elim (λ e. inl (to-images i j x w a b (r.0 e))) (λ n. inr (λ h. n (r.1 (from-images i j x w a b h)))) (eq-decided (c.0 i) (c.0 j))
 
 -- ---- the part of a list in order that has a decided property
 module _ {X : Type 0} (Below : X → X → Type 0) where

@@ -1,3 +1,4 @@
+pub mod Prelude
 pub mod Orders
 pub mod Complexes
 pub mod Reduced

@@ -1,18 +1,6 @@
 -- Plain data within the limits is that of the program's data.
-use Rattle.std.proofs.Common.{◌≡◌, ℕ, zero, suc, ◌<◌, ◌≤◌, ◌^◌, lit≤, arith, refl, ap, ◌∙◌, List, [], ◌∷◌, map, Option, Some, None, option_map}
-use Rattle.nef_space.specs.Limits.{direction_limit, normal_limit, svertex_limit}
-use Rattle.nef_space.specs.Vectors.{Vector, IsDirection, IsAtMost}
-use Rattle.nef_space.specs.declared.label.Label.{Label}
-use Rattle.law_sphere.specs.Vectors.{IsPrimitive}
-use Rattle.law_sphere.specs.Maps.{At, MapVertex, Arc, MapSloop, Map, Item, arc_item, sloop_item, items, item_normal}
-use Rattle.law_sphere.proofs.Arcs.{at-sloop, at-arc}
-use Rattle.nef_geo.specs.Shapes.{vector_of}
-use Rattle.nef_geo.specs.declared.dir.Dir.{Dir}
-use Rattle.nef_smap.specs.Maps.{svertex_of, arc_of, sloop_of, map_of}
-use Rattle.nef_smap.specs.declared.map.SVertex.{SVertex}
-use Rattle.nef_smap.specs.declared.map.SArc.{SArc}
+use Rattle.law_exist.proofs.Prelude.{◌≡◌, ℕ, zero, suc, ◌<◌, ◌≤◌, ◌^◌, lit≤, arith, refl, ap, ◌∙◌, List, ◌∷◌, map, Option, Some, None, option_map, of_z, [], direction_limit, normal_limit, svertex_limit, Vector, IsDirection, IsAtMost, Label, IsPrimitive, At, MapVertex, Arc, MapSloop, Map, Item, arc_item, sloop_item, items, item_normal, at-sloop, at-arc, vector_of, Dir, svertex_of, arc_of, sloop_of, map_of, SVertex, SArc, SphereMap, neg}
 use Rattle.nef_smap.specs.declared.map.SLoop.{SLoop}
-use Rattle.nef_smap.specs.declared.map.SphereMap.{SphereMap}
 use Rattle.law_exist.proofs.Reduced.{primitive-lowest}
 
 pub lifted : {A B : Type 0} (f : A → B) (ys : List B) → ((k : ℕ) (y : B) → At ys k y → (x : A) × (f x ≡ y)) → (xs : List A) × (map f xs ≡ ys)

@@ -1,23 +1,11 @@
 -- Numbers by first appearance, and tables of numbers.
-use Rattle.std.proofs.Common.{◌≡◌, ◌≢◌, ℕ, zero, suc, ◌+◌, ◌<◌, ◌≤◌, pos, arith, refl, sym, ap, ◌∙◌, ◌⊎◌, inl, inr, ◌↔◌, List, [], ◌∷◌, ◌++◌, length, map, take, get_or, Option, Some, None, subst}
-use Rattle.std.proofs.lemmas.Int.{ints}
-use Rattle.std.proofs.lemmas.Bool.{cases_order}
-use Rattle.std.proofs.lemmas.List.{length-map, take_all}
-use Rattle.nef_space.specs.Lists.{IsAt, IsInTable}
-use Rattle.nef_space.specs.Numbers.{IsBelow}
-use Rattle.law_near.proofs.Decided.{Decided}
-use Rattle.law_sphere.specs.Maps.{At}
-use Rattle.law_sphere.specs.Least.{InOrder}
+use Rattle.law_exist.proofs.Prelude.{◌≡◌, ◌≢◌, ℕ, zero, suc, ◌+◌, ◌<◌, ◌≤◌, pos, arith, refl, sym, ap, ◌∙◌, ◌⊎◌, inl, inr, ◌↔◌, List, ◌∷◌, ◌++◌, length, map, take, get_or, Option, Some, None, subst, [], ints, cases_order, length-map, take_all, IsAt, IsInTable, IsBelow, Decided, At, InOrder, is-at_one, is-at_within, is-at_some, take-more, IsNumberedTo, numbered-earlier, numbered-new, at-map, map-at, at-within, at-from_get, get-from_at, eq-decided}
 use Rattle.nef_classes.specs.Classes.{AreNumbered}
-use Rattle.nef_classes.proofs.ClassLists.{is-at_one, is-at_within, is-at_some, take-more, IsNumberedTo, numbered-earlier, numbered-new}
-use Rattle.nef_smap.proofs.Lists.{at-map, map-at, at-within}
-use Rattle.nef_smap.proofs.SideLists.{at-from_get, get-from_at}
-use Rattle.law_exist.proofs.Classes.{equal-decided}
 
 -- ---- by first appearance
 find-number : (cs : List ℕ) (x : ℕ) → ((e : ℕ) × IsAt cs e x) ⊎ ((k c : ℕ) → IsAt cs k c → c ≢ x)
 find-number [] x = inr (λ k c a e. let l = is-at_within [] k c a in omega (arith, l))
-find-number (c ∷ cs) x = by (equal-decided c x) (find-number cs x)
+find-number (c ∷ cs) x = by (eq-decided c x) (find-number cs x)
   where
     by : Decided (c ≡ x) → ((e : ℕ) × IsAt cs e x) ⊎ ((k d : ℕ) → IsAt cs k d → d ≢ x) → ((e : ℕ) × IsAt (c ∷ cs) e x) ⊎ ((k d : ℕ) → IsAt (c ∷ cs) k d → d ≢ x)
     by (inl e) o = inl (zero, get-from_at (c ∷ cs) zero x e)

@@ -1,18 +1,6 @@
 -- Orders of lists of numbers, of forms and of points: they go on, and of two one is below the other or they are the same.
-use Rattle.std.proofs.Common.{◌≡◌, ℤ, pos, ◌*ℤ◌, arith, refl, sym, ap, ◌∙◌, ◌⊎◌, inl, inr, ⊎_elim, List, [], ◌∷◌, length}
-use Rattle.std.proofs.lemmas.Int.{ints}
-use Rattle.nef_space.proofs.Order.{by_order}
-use Rattle.nef_space.specs.Numbers.{IsBelow}
-use Rattle.nef_space.specs.Place.{Place, Form, form, form_numbers, SamePlace, IsPlaceBelow}
-
-pub numbers-trans : (xs ys zs : List ℤ) → IsBelow xs ys → IsBelow ys zs → IsBelow xs zs
-numbers-trans [] ys zs h k = absurd h
-numbers-trans (x ∷ xs) [] zs h k = absurd h
-numbers-trans (x ∷ xs) (y ∷ ys) [] h k = absurd k
-numbers-trans (x ∷ xs) (y ∷ ys) (z ∷ zs) (inl h) (inl k) = inl (omega (arith, ints))
-numbers-trans (x ∷ xs) (y ∷ ys) (z ∷ zs) (inl h) (inr (e, k)) = inl (omega (arith, ints))
-numbers-trans (x ∷ xs) (y ∷ ys) (z ∷ zs) (inr (e, h)) (inl k) = inl (omega (arith, ints))
-numbers-trans (x ∷ xs) (y ∷ ys) (z ∷ zs) (inr (e, h)) (inr (f, k)) = inr (e ∙ f, numbers-trans xs ys zs h k)
+use Rattle.law_exist.proofs.Prelude.{◌≡◌, ℤ, pos, ◌*ℤ◌, arith, refl, sym, ap, ◌∙◌, ◌⊎◌, inl, inr, ⊎_elim, List, ◌∷◌, length, [], by_order, IsBelow, Place, Form, form, form_numbers, SamePlace, IsPlaceBelow}
+use Rattle.nef_geo.proofs.Orders.{below-trans}
 
 pub numbers-either : (xs ys : List ℤ) → length xs ≡ length ys → IsBelow xs ys ⊎ (xs ≡ ys) ⊎ IsBelow ys xs
 numbers-either [] [] l = inr (inl refl)
@@ -30,7 +18,7 @@ abbrev pub FormBelow : Form → Form → Type 0
 FormBelow g h = IsBelow (form_numbers g) (form_numbers h)
 
 pub form-trans : (f g h : Form) → FormBelow f g → FormBelow g h → FormBelow f h
-form-trans f g h = numbers-trans (form_numbers f) (form_numbers g) (form_numbers h)
+form-trans f g h = below-trans (form_numbers f) (form_numbers g) (form_numbers h)
 
 abbrev of_numbers : List ℤ → Form
 of_numbers (a ∷ b ∷ c ∷ d ∷ []) = form a b c d

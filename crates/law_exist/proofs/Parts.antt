@@ -1,47 +1,12 @@
 -- Every complex of the program that shows a set has parts.
-use Rattle.std.proofs.Common.{◌≡◌, ℕ, zero, suc, ◌<◌, ◌≤◌, pos, arith, refl, sym, ap, ◌⊎◌, inl, inr, ⊎_elim, List, length, subst}
-use Rattle.std.proofs.lemmas.Bool.{cases_order}
-use Rattle.nef_space.specs.Lists.{IsAt, IsInTable}
-use Rattle.nef_space.specs.Place.{Form, form_at, normal_of}
-use Rattle.nef_space.specs.Sets.{Set}
-use Rattle.nef_space.specs.Vectors.{IsNormal, SameDirection}
-use Rattle.nef_space.specs.declared.label.Label.{Label}
-use Rattle.nef_space.specs.declared.label.Label.TheVariants.{Out}
-use Rattle.nef_geo.specs.Shapes.{form_of}
-use Rattle.nef_geo.specs.declared.plane.Plane.{Plane}
-use Rattle.law_sphere.specs.Maps.{At, Item, items, item_normal, item_mark, item_pos, item_neg}
-use Rattle.law_sphere.proofs.Lists.{at-one}
-use Rattle.law_complex.specs.Complexes.{Vertex, Corner, Complex as PlainComplex}
-use Rattle.law_complex.specs.Rays.{VertexSide, HasSideLabel}
-use Rattle.law_complex.specs.Shows.{Shows}
-use Rattle.law_links.specs.Components.{IsUpright}
-use Rattle.nef_classes.proofs.ClassLists.{is-at_one, is-at_within, is-at_some}
-use Rattle.nef_smap.specs.Sides.{AreSfaces}
-use Rattle.nef_smap.proofs.Lists.{at-map}
-use Rattle.nef_smap.proofs.SideLists.{at-some, get-from_at}
+use Rattle.law_exist.proofs.Prelude.{◌≡◌, ℕ, zero, suc, ◌<◌, ◌≤◌, pos, arith, refl, sym, ap, ◌⊎◌, inl, inr, ⊎_elim, List, length, subst, cases_order, IsAt, IsInTable, Form, form_at, normal_of, Set, IsNormal, SameDirection, Label, Out, form_of, Plane, At, Item, items, item_normal, item_mark, item_pos, item_neg, at-one, Vertex, Corner, Complex as PlainComplex, VertexSide, HasSideLabel, Shows, IsUpright, is-at_one, is-at_within, is-at_some, AreSfaces, at-map, at-some, get-from_at, vertex_of, complex_of, corner_of, Cycles, IsSideNumber, cycle_corners, IsFacetOf, IsVolumeOf, FacetNumbers, VolumeNumbers, pos_of, neg_of, shell_sides, IsParts, SfaceNumbers, Shells, Cycle, Facet, Parts, Shell, carried, HasItem, AreCorners, IsPlaneAt, IsMarkAt, AreFirsts, IsFacetParts, AreVolumeLabels, IsBeside, AreFacetsOf, HasLeastMaps, upright-by_maps, chain-label, numbered-side, neg}
 use Rattle.nef_complex.specs.declared.complex.Corner.{Corner as ProgramCorner}
 use Rattle.nef_complex.specs.declared.complex.Complex.{Complex}
-use Rattle.nef_complex.specs.Complexes.{vertex_of, complex_of, corner_of}
-use Rattle.nef_complex.specs.Cycles.{Cycles}
-use Rattle.nef_complex.specs.Sides.{IsSideNumber}
-use Rattle.nef_complex.specs.Numbers.{cycle_corners, IsFacetOf, IsVolumeOf, FacetNumbers, VolumeNumbers, pos_of, neg_of, shell_sides, IsParts}
-use Rattle.nef_complex.specs.Shells.{SfaceNumbers, Shells}
-use Rattle.nef_complex.specs.declared.parts.Cycle.{Cycle}
-use Rattle.nef_complex.specs.declared.parts.Facet.{Facet}
-use Rattle.nef_complex.specs.declared.parts.Parts.{Parts}
-use Rattle.nef_complex.specs.declared.parts.Shell.{Shell}
-use Rattle.nef_complex.proofs.Carried.{carried}
 use Rattle.nef_facets.specs.Carriers.{IsPlaneThrough}
-use Rattle.nef_facets.specs.Corners.{HasItem, AreCorners}
-use Rattle.nef_facets.specs.Facets.{IsPlaneAt, IsMarkAt, AreFirsts, IsFacetParts}
 use Rattle.nef_facets.specs.declared.parts.FacetParts.{FacetParts}
 use Rattle.nef_facets.proofs.PartsOf.{facet-parts}
-use Rattle.nef_volumes.specs.Labels.{AreVolumeLabels}
-use Rattle.nef_volumes.specs.Parts.{IsBeside, AreFacetsOf}
 use Rattle.nef_volumes.proofs.AllParts.{all-first, parts-are, beside-first}
 use Rattle.nef_volumes.proofs.OutsideSide.{out-side}
-use Rattle.nef_volumes.proofs.SideLabels.{HasLeastMaps, upright-by_maps, chain-label}
-use Rattle.nef_volumes.proofs.VolumeLabels.{numbered-side}
 use Rattle.law_exist.proofs.Cycles.{corners, firsts, cycles-exist}
 use Rattle.law_exist.proofs.Facets.{facet-numbers}
 use Rattle.law_exist.proofs.Rows.{Made, make-list, make-each, most-in}

@@ -1,36 +1,7 @@
 -- A set whose carriers are planes of the program has a sorted list of these; its vertices are points of the program.
-use Rattle.std.proofs.Common.{◌≡◌, ℕ, pos, negsuc, ◌*ℤ◌, refl, sym, ap, ◌∙◌, ◌⊎◌, inl, inr, ⊎_elim, List, [], ◌∷◌, map, subst}
-use Rattle.nef_space.proofs.Order.{nought-is}
-use Rattle.nef_space.proofs.Lists.{each, lies-each}
-use Rattle.nef_space.proofs.Ring.{ring, at, num, ◌⊕◌, ◌⊖◌, ◌⊗◌}
-use Rattle.nef_space.proofs.Combination.{follows, given, none}
-use Rattle.nef_space.specs.Signs.{nought, Lies}
-use Rattle.nef_space.specs.Place.{Place, Form, form_at, normal_of, SamePlace}
-use Rattle.nef_space.specs.Sets.{Set}
-use Rattle.nef_space.specs.Local.{IsVertex}
-use Rattle.nef_space.specs.Vectors.{Vector, dot, cross, triple, IsZero, IsDirection}
-use Rattle.law_near.specs.Cells.{sign_at, carriers}
-use Rattle.law_near.proofs.Far.{nought-or}
-use Rattle.law_near.specs.Cones.{IsMeet}
-use Rattle.law_near.proofs.Between.{parallel-x, parallel-y, parallel-z}
-use Rattle.law_near.proofs.Directions.{self-pos}
+use Rattle.law_exist.proofs.Prelude.{◌≡◌, ℕ, pos, negsuc, refl, sym, ap, ◌∙◌, ◌⊎◌, inl, inr, ⊎_elim, List, ◌∷◌, map, subst, [], nought-is, each, lies-each, at, num, ◌⊖◌, ◌⊗◌, follows, given, none, nought, Lies, Place, Form, form_at, normal_of, SamePlace, Set, IsVertex, Vector, cross, triple, IsZero, IsDirection, sign_at, carriers, IsMeet, signs-same, same-place_sym, FlatDim-by_germs, germs-by_cell, all-vertices, At, InOrder, Mapped, map-list, Sorted, sort, chain-order, SamePlane, Carriers, plane-turned, plane-point, same-place_trans, form_of, place_of, Plane, Point, at-map, map-at, AreCarried, triple-cycle, cross-turned, dot-comm, in-span, lies-at, at-lies}
 use Rattle.law_near.proofs.Meets.{vertex-meets}
-use Rattle.law_near.proofs.Rays.{signs-same, same-place_sym}
-use Rattle.law_near.proofs.Alike.{FlatDim-by_germs, germs-by_cell}
-use Rattle.law_near.proofs.Vertices.{all-vertices}
-use Rattle.law_sphere.specs.Maps.{At}
-use Rattle.law_sphere.specs.Least.{InOrder}
-use Rattle.law_sphere.proofs.Shot.{product-off}
-use Rattle.law_cones.proofs.Listing.{lies-at, at-lies, Mapped, map-list, Sorted, sort, chain-order}
-use Rattle.law_complex.specs.Shows.{SamePlane, Carriers}
-use Rattle.law_complex.proofs.Planes.{plane-turned, plane-point}
-use Rattle.law_complex.proofs.Ways.{same-place_trans}
-use Rattle.nef_geo.specs.Shapes.{form_of, place_of}
-use Rattle.nef_geo.specs.declared.plane.Plane.{Plane}
-use Rattle.nef_geo.specs.declared.point.Point.{Point}
 use Rattle.nef_geo.proofs.Unique.{plane_equal}
-use Rattle.nef_smap.proofs.Lists.{at-map, map-at}
-use Rattle.law_exist.specs.Laws.{AreCarried}
 use Rattle.law_exist.proofs.Orders.{FormBelow, form-trans, form-either}
 use Rattle.law_exist.proofs.Complexes.{Sound, Complete}
 use Rattle.law_exist.proofs.Points.{meet-point}
@@ -49,15 +20,7 @@ plane-one g h e =
 -- ---- normals
 -- a vector parallel to a direction takes the direction's place where a triple product is nought
 parallel-triple : (a b u v : Vector) → IsDirection b → IsZero (cross a b) → triple b u v ≡ pos 0 → triple a u v ≡ pos 0
-parallel-triple a b u v i z e = ⊎_elim (λ o. o) (λ n. absurd (product-off (dot b b) (triple a u v) (self-pos b i) n product)) (nought-or (triple a u v))
-  where
-    product : dot b b *ℤ triple a u v ≡ pos 0
-    product =
-        let p = cross u v in
-        let x = parallel-x a b z in let y = parallel-y a b z in let w = parallel-z a b z in
-        follows (dot b b ∷ dot a b ∷ a.x ∷ a.y ∷ a.z ∷ b.x ∷ b.y ∷ b.z ∷ p.x ∷ p.y ∷ p.z ∷ []) (at 0 ⊗ (at 2 ⊗ at 8 ⊕ at 3 ⊗ at 9 ⊕ at 4 ⊗ at 10)) (num (pos 0))
-        (given (at 8) (at 0 ⊗ at 2) (at 1 ⊗ at 5) x (given (at 9) (at 0 ⊗ at 3) (at 1 ⊗ at 6) y (given (at 10) (at 0 ⊗ at 4) (at 1 ⊗ at 7) w
-        (given (at 1) (at 5 ⊗ at 8 ⊕ at 6 ⊗ at 9 ⊕ at 7 ⊗ at 10) (num (pos 0)) e none)))) tt
+parallel-triple a b u v i z e = dot-comm a (cross u v) ∙ in-span (cross u v) b a i (cross-turned a b z) (dot-comm (cross u v) b ∙ e)
 
 pub normals-parallel : (g h : Form) → SamePlane g h → IsZero (cross (normal_of h) (normal_of g))
 normals-parallel g h S =
@@ -66,11 +29,6 @@ normals-parallel g h S =
       follows xs (at 5 ⊗ at 0 ⊖ at 3 ⊗ at 2) (num (pos 0)) (given (num (pos 1)) (at 0 ⊗ at 5) (at 2 ⊗ at 3) S.ac none) tt,
       follows xs (at 3 ⊗ at 1 ⊖ at 4 ⊗ at 0) (num (pos 0)) (given (num (negsuc 0)) (at 0 ⊗ at 4) (at 1 ⊗ at 3) S.ab none) tt,
     )
-
-turn : (a b c : Vector) → triple a b c ≡ triple b c a
-turn a b c = ring (a.x ∷ a.y ∷ a.z ∷ b.x ∷ b.y ∷ b.z ∷ c.x ∷ c.y ∷ c.z ∷ [])
-    (at 0 ⊗ (at 4 ⊗ at 8 ⊖ at 5 ⊗ at 7) ⊕ at 1 ⊗ (at 5 ⊗ at 6 ⊖ at 3 ⊗ at 8) ⊕ at 2 ⊗ (at 3 ⊗ at 7 ⊖ at 4 ⊗ at 6))
-    (at 3 ⊗ (at 7 ⊗ at 2 ⊖ at 8 ⊗ at 1) ⊕ at 4 ⊗ (at 8 ⊗ at 0 ⊖ at 6 ⊗ at 2) ⊕ at 5 ⊗ (at 6 ⊗ at 1 ⊖ at 7 ⊗ at 0)) tt
 
 module _ (s : Set) (hs : List Plane) (C : AreCarried s hs) where
   -- ---- the carriers
@@ -149,9 +107,9 @@ module _ (s : Set) (hs : List Plane) (C : AreCarried s hs) where
           let a = normal_of m.first in let b = normal_of m.second in let c = normal_of m.third in
           let a' = normal_of (form_of f.0) in let b' = normal_of (form_of g.0) in let c' = normal_of (form_of h.0) in
           let x = parallel-triple a a' b' c' f.1.1.is_plane (normals-parallel (form_of f.0) m.first f.1.1) e in
-          let y = parallel-triple b b' c' a g.1.1.is_plane (normals-parallel (form_of g.0) m.second g.1.1) (sym (turn a b' c') ∙ x) in
-          let z = parallel-triple c c' a b h.1.1.is_plane (normals-parallel (form_of h.0) m.third h.1.1) (sym (turn b c' a) ∙ y) in
-          m.independent (turn a b c ∙ turn b c a ∙ z)
+          let y = parallel-triple b b' c' a g.1.1.is_plane (normals-parallel (form_of g.0) m.second g.1.1) (sym (triple-cycle a b' c') ∙ x) in
+          let z = parallel-triple c c' a b h.1.1.is_plane (normals-parallel (form_of h.0) m.third h.1.1) (sym (triple-cycle b c' a) ∙ y) in
+          m.independent (triple-cycle a b c ∙ triple-cycle b c a ∙ z)
 
   pub record PointList : Type 0 where
     pub list : List Point

@@ -1,19 +1,6 @@
 -- A point at which three planes of the program with independent normals meet is one of the program's points.
-use Rattle.std.proofs.Common.{◌≡◌, ℕ, ◌*◌, ◌≤◌, ℤ, pos, negsuc, neg_ℤ, ◌*ℤ◌, ◌<ℤ◌, nat_abs, arith, [], ◌∷◌}
-use Rattle.std.proofs.lemmas.Int.{ints}
-use Rattle.nef_space.proofs.Order.{by_order}
-use Rattle.nef_space.proofs.Ring.{at, num, neg, ◌⊗◌}
-use Rattle.nef_space.proofs.Combination.{follows, given, none}
-use Rattle.nef_space.specs.Limits.{normal_limit, offset_limit, point_limit, weight_limit}
-use Rattle.nef_space.specs.Place.{Place, Form, form_at, normal_of, SamePlace}
-use Rattle.nef_space.specs.Vectors.{vector, cross, IsAtMost}
-use Rattle.nef_geo.specs.Numbers.{IsReduced, IsSameRatios}
-use Rattle.nef_geo.specs.Shapes.{place_of, form_of}
-use Rattle.nef_geo.specs.declared.plane.Plane.{Plane}
-use Rattle.nef_geo.specs.declared.point.Point.{Point}
+use Rattle.law_exist.proofs.Prelude.{◌≡◌, ℕ, ◌*◌, ◌≤◌, ℤ, pos, negsuc, neg_ℤ, ◌*ℤ◌, ◌<ℤ◌, nat_abs, arith, ◌∷◌, of_z, [], ints, by_order, at, num, neg, ◌⊗◌, follows, given, none, normal_limit, offset_limit, point_limit, weight_limit, Place, Form, form_at, normal_of, SamePlace, vector, cross, IsAtMost, IsReduced, IsSameRatios, place_of, form_of, Plane, Point, part_small, part_positive, dot_size, cross_size, normal_within}
 use Rattle.nef_geo.proofs.Cramer.{constants, meet_x, meet_y, meet_z, meet_w, IsOnlyCommon-from_ratios}
-use Rattle.nef_geo.proofs.Divisors.{part_small, part_positive}
-use Rattle.nef_geo.proofs.Products.{dot_size, cross_size, normal_within}
 use Rattle.law_exist.proofs.Reduced.{reduce}
 
 -- the point with these numbers, reduced

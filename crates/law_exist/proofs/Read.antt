@@ -1,23 +1,6 @@
 -- A form whose numbers are within the limits, and whose normal isn't zero, is that of a plane of the program.
-use Rattle.std.proofs.Common.{◌≡◌, ℕ, ◌<◌, ◌≤◌, ℤ, pos, neg_ℤ, ◌<ℤ◌, ◌*ℤ◌, nat_abs, arith, refl, sym, ap, ◌∙◌, ◌⊎◌, inl, inr, ⊎_elim, [], ◌∷◌, Bool, true, false}
-use Rattle.std.specs.Int.{◌∣◌}
-use Rattle.std.proofs.lemmas.Int.{ints}
-use Rattle.std.proofs.lemmas.Bool.{cases_order}
+use Rattle.law_exist.proofs.Prelude.{◌≡◌, ℕ, ◌<◌, ◌≤◌, ℤ, pos, neg_ℤ, ◌<ℤ◌, ◌*ℤ◌, nat_abs, arith, refl, sym, ap, ◌∙◌, ◌⊎◌, inl, inr, ⊎_elim, ◌∷◌, Bool, true, false, [], ◌∣◌, ints, cases_order, ring, at, num, neg, ◌⊗◌, normal_limit, offset_limit, DividesAll, IsLowest, Form, form, form_numbers, normal_of, Vector, IsDirection, IsNormal, form_of, Plane, part_small, SamePlane, negated_if, signed, signed_form, normal-choice, lowest_form-turned, IsSmallForm}
 use native.Mathlib.Nat.{pos_of_dvd_of_pos}
-use Rattle.nef_space.proofs.Ring.{ring, at, num, neg, ◌⊗◌}
-use Rattle.nef_space.specs.Limits.{normal_limit, offset_limit}
-use Rattle.nef_space.specs.Numbers.{DividesAll, IsLowest}
-use Rattle.nef_space.specs.Place.{Form, form, form_numbers, normal_of}
-use Rattle.nef_space.specs.Vectors.{Vector, IsDirection, IsNormal}
-use Rattle.nef_geo.specs.Shapes.{form_of}
-use Rattle.nef_geo.specs.declared.plane.Plane.{Plane}
-use Rattle.nef_geo.proofs.Divisors.{part_small}
-use Rattle.law_complex.specs.Shows.{SamePlane}
-use Rattle.nef_case.specs.Turns.{negated_if}
-use Rattle.law_turns.specs.Turned.{signed}
-use Rattle.law_turns.specs.Complexes.{signed_form}
-use Rattle.law_turns.proofs.Numbers.{normal-choice, lowest_form-turned}
-use Rattle.law_exist.specs.Laws.{IsSmallForm}
 use Rattle.law_exist.proofs.Reduced.{Reduced, reduce-by}
 
 -- what divides a number that isn't zero is positive

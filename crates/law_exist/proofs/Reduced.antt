@@ -1,19 +1,7 @@
 -- Four numbers are a positive multiple of four in lowest terms; vectors in lowest terms are at most as large as those that they are parallel to.
-use Rattle.std.proofs.Common.{◌≡◌, ℕ, zero, suc, ◌+◌, ◌-◌, ◌*◌, ◌<◌, ◌≤◌, ℤ, pos, negsuc, ◌+ℤ◌, ◌*ℤ◌, ◌<ℤ◌, nat_abs, arith, refl, sym, ap, ◌∙◌, inl, inr, List, [], ◌∷◌}
-use Rattle.std.specs.Int.{◌∣◌, IsGcd}
+use Rattle.law_exist.proofs.Prelude.{◌≡◌, ℕ, zero, suc, ◌+◌, ◌-◌, ◌*◌, ◌<◌, ◌≤◌, ℤ, pos, negsuc, ◌+ℤ◌, ◌*ℤ◌, ◌<ℤ◌, nat_abs, arith, refl, sym, ap, ◌∙◌, inl, inr, List, ◌∷◌, of_z, [], ◌∣◌, IsGcd, ints, unsigned_abs-mul, cases_lt, mul-le, IsGcd-from_zero, IsGcd-swap, IsGcd-from_sub, ring, at, num, ◌⊕◌, ◌⊖◌, ◌⊗◌, follows, given, none, DividesAll, IsLowest, Vector, IsZero, IsDirection, cross, dot, IsAtMost, triple_of, IsPrimitive, IsReduced, divides_all, IsGcdOfFour-from_steps, quot_exact, IsReduced-from_parts}
 use Rattle.std.specs.Int.RustNames.{int_div}
-use Rattle.std.proofs.lemmas.Int.{ints, unsigned_abs-mul}
-use Rattle.std.proofs.lemmas.Bool.{cases_lt}
-use Rattle.std.proofs.lemmas.Nat.{mul-le}
-use Rattle.std.proofs.lemmas.Nat.Gcd.{IsGcd-from_zero, IsGcd-swap, IsGcd-from_sub}
 use native.Mathlib.Nat.{pos_of_dvd_of_pos}
-use Rattle.nef_space.proofs.Ring.{ring, at, num, ◌⊕◌, ◌⊖◌, ◌⊗◌}
-use Rattle.nef_space.proofs.Combination.{follows, given, none}
-use Rattle.nef_space.specs.Numbers.{DividesAll, IsLowest}
-use Rattle.nef_space.specs.Vectors.{Vector, IsZero, IsDirection, cross, dot, IsAtMost, triple_of}
-use Rattle.law_sphere.specs.Vectors.{IsPrimitive}
-use Rattle.nef_geo.specs.Numbers.{IsReduced}
-use Rattle.nef_geo.proofs.Divisors.{divides_all, IsGcdOfFour-from_steps, quot_exact, IsReduced-from_parts}
 
 -- ---- greatest common divisors
 gcd-within : (n a b : ℕ) → a + b ≤ n → (g : ℕ) × IsGcd a b g

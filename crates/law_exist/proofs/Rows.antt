@@ -1,10 +1,5 @@
 -- Lists of things that are said place by place.
-use Rattle.std.proofs.Common.{◌≡◌, ℕ, zero, suc, ◌<◌, ◌≤◌, arith, refl, ap, ◌⊎◌, inl, inr, ⊎_elim, List, [], ◌∷◌, length, subst}
-use Rattle.std.proofs.lemmas.Bool.{cases_order}
-use Rattle.nef_space.specs.Lists.{IsAt, IsInTable}
-use Rattle.law_sphere.specs.Maps.{At}
-use Rattle.nef_classes.proofs.ClassLists.{is-at_one, is-at_some, is-at_within}
-use Rattle.nef_smap.proofs.SideLists.{at-from_get, get-from_at}
+use Rattle.law_exist.proofs.Prelude.{◌≡◌, ℕ, zero, suc, ◌<◌, ◌≤◌, arith, refl, ap, ◌⊎◌, inl, inr, ⊎_elim, List, ◌∷◌, length, subst, [], cases_order, IsAt, IsInTable, At, is-at_one, is-at_some, is-at_within, at-from_get, get-from_at}
 
 -- a list with a thing at each place that R says
 pub record Made {Y : Type 0} (c : ℕ) (R : ℕ → Y → Type 0) : Type 0 where

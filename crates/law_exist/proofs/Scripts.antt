@@ -1,24 +1,8 @@
 -- Sets whose halves are turns of few forms within the limits have complexes of the program.
-use Rattle.std.proofs.Common.{◌≡◌, ℕ, ◌*◌, ◌^◌, ◌<◌, ◌≤◌, arith, refl, sym, ap, ◌∙◌, inl, inr, ⊎_elim, List, [], ◌∷◌, ◌++◌, length, length-append, Bool, false, subst}
-use Rattle.nef_space.specs.Limits.{normal_limit}
-use Rattle.nef_space.specs.Place.{Form, form, normal_of}
-use Rattle.nef_space.specs.Sets.{Set, halves}
-use Rattle.nef_space.specs.Signs.{Lies}
-use Rattle.nef_space.proofs.Lists.{lies-left, lies-right, lies-append}
-use Rattle.law_near.specs.Cells.{frame}
-use Rattle.nef_geo.specs.Shapes.{form_of}
-use Rattle.nef_geo.specs.declared.plane.Plane.{Plane}
-use Rattle.law_complex.specs.Shows.{SamePlane}
-use Rattle.law_cones.proofs.Listing.{at-lies}
-use Rattle.nef_case.specs.Turns.{Triple}
+use Rattle.law_exist.proofs.Prelude.{◌≡◌, ℕ, ◌*◌, ◌^◌, ◌<◌, ◌≤◌, arith, refl, sym, ap, ◌∙◌, inl, inr, ⊎_elim, List, ◌∷◌, ◌++◌, length, length-append, Bool, false, subst, of_z, [], normal_limit, Form, form, normal_of, Set, halves, Lies, lies-left, lies-right, lies-append, frame, form_of, Plane, SamePlane, Triple, turned_plane, turned_set, at_most-turned, is-at_some, at-from_get, AreCarried, IsSmallForm, AreSmall, IsTurnOf, AreTurnsOf, EveryTurnedSetIsShown, at-lies}
 use Rattle.nef_case.proofs.TurnLemmas.{composition-turns, composed-by_numbers}
-use Rattle.law_turns.specs.Turned.{turned_plane, turned_set}
 use Rattle.law_turns.proofs.Carriers.{halves-from}
-use Rattle.law_turns.proofs.Numbers.{at_most-turned}
 use Rattle.law_turns.proofs.Vectors.{direction-turned}
-use Rattle.nef_classes.proofs.ClassLists.{is-at_some}
-use Rattle.nef_smap.proofs.SideLists.{at-from_get}
-use Rattle.law_exist.specs.Laws.{AreCarried, IsSmallForm, AreSmall, IsTurnOf, AreTurnsOf, EveryTurnedSetIsShown}
 use Rattle.law_exist.proofs.Read.{read}
 use Rattle.law_exist.proofs.Rows.{Made, make-list}
 use Rattle.law_exist.proofs.Shown.{carried-shown}

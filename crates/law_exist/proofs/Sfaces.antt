@@ -1,46 +1,16 @@
 -- The sides of each map of the program have numbers of sfaces.
-use Rattle.std.proofs.Common.{◌≡◌, ℕ, zero, suc, ◌+◌, ◌<◌, ◌≤◌, ℤ, pos, ◌<ℤ◌, ◌≤ℤ◌, arith, refl, sym, ap, ◌∙◌, inl, inr, ⊎_elim, ◌↔◌, List, [], ◌∷◌, ◌++◌, length, take, Option, Some, None, subst}
-use Rattle.std.proofs.lemmas.Int.{ints}
-use Rattle.nef_space.proofs.Lists.{lies-left, lies-right}
-use Rattle.nef_space.proofs.Order.{by_order}
-use Rattle.nef_space.specs.Lists.{Chained}
-use Rattle.nef_space.specs.Vectors.{Vector, opposite, dot, cross, up, IsDirection}
-use Rattle.nef_space.specs.declared.label.Label.{Label}
-use Rattle.law_near.proofs.Decided.{Decided, decided-both}
-use Rattle.law_near.proofs.Directions.{self-pos}
-use Rattle.law_sphere.specs.Forms.{forms, SameSigns}
-use Rattle.law_sphere.specs.Maps.{At, MapVertex, MapSloop, Map, Item, arc_item, sloop_item, items, item_normal, dir_of, around_svertex, pos_item, whole, Shaped}
-use Rattle.law_sphere.proofs.Arcs.{at-sloop, at-arc}
-use Rattle.law_sphere.proofs.Compare.{dir-self}
-use Rattle.law_sphere.proofs.Forms.{item-forms, normal-form, OnItem-decided}
-use Rattle.law_sphere.proofs.Parallel.{circle-point, apart}
-use Rattle.law_sphere.proofs.Shot.{dir-at}
-use Rattle.law_sphere.proofs.Vectors.{normal-direction}
+use Rattle.law_exist.proofs.Prelude.{◌≡◌, ℕ, zero, suc, ◌+◌, ◌<◌, ◌≤◌, ℤ, pos, ◌<ℤ◌, ◌≤ℤ◌, arith, refl, sym, ap, ◌∙◌, inl, inr, ⊎_elim, ◌↔◌, List, ◌∷◌, ◌++◌, length, take, Option, Some, None, subst, [], ints, lies-left, lies-right, by_order, Chained, Vector, opposite, dot, cross, up, IsDirection, Label, Decided, decided-both, forms, At, MapVertex, MapSloop, Map, Item, arc_item, sloop_item, items, item_normal, dir_of, around_svertex, pos_item, whole, Shaped, at-sloop, at-arc, item-forms, normal-form, OnItem-decided, circle-point, dir-at, normal-direction, Link, AreLinked, AreWithin, AreClasses, is-at_within, map_of, IsSphereMap, sides_of, AreSfaces, number_of, rise, IsOver, IsFirst, IsFirstOf, meridians, over_forms, FirstNear, JoinsBelow, JoinsArc, AreEach, AreArounds, AreSloops, AreGrounds, met_number, AreJoins, SphereMap, at-some, at-from_get, get-from_at, map-ahead, map-across, self-pos, dir-self, apart, eq-decided}
+use Rattle.law_sphere.specs.Forms.{SameSigns}
 use Rattle.nef_geo.proofs.InPlane.{up-direction}
-use Rattle.nef_classes.specs.declared.forest.Link.{Link}
-use Rattle.nef_classes.specs.Classes.{AreLinked, AreWithin, AreClasses}
-use Rattle.nef_classes.proofs.ClassLists.{is-at_within}
-use Rattle.nef_smap.specs.Maps.{map_of, IsSphereMap}
-use Rattle.nef_smap.specs.Sides.{sides_of, AreSfaces}
-use Rattle.nef_smap.specs.SideNumbers.{number_of}
-use Rattle.nef_smap.specs.Above.{rise, IsOver, IsFirst, IsFirstOf, meridians, over_forms}
-use Rattle.nef_smap.specs.Joined.{FirstNear}
-use Rattle.nef_smap.specs.JoinLinks.{JoinsBelow, JoinsArc, AreEach, AreArounds, AreSloops, AreGrounds}
-use Rattle.nef_smap.specs.Links.{met_number, AreJoins}
-use Rattle.nef_smap.specs.declared.map.SphereMap.{SphereMap}
 use Rattle.nef_smap.proofs.FirstOf.{all-first, pass-first, only-first, lower-first, higher-first}
 use Rattle.nef_smap.proofs.Joining.{along-some, along-forward, cross-level}
 use Rattle.nef_smap.proofs.LinkLists.{arounds-none, arounds-more, arounds-pass, sloops-some, sloops-none, grounds-some, all-joins}
 use Rattle.nef_smap.proofs.Over.{one_side, moved}
 use Rattle.nef_smap.proofs.SfaceNumbers.{links-within, sface-numbers}
-use Rattle.nef_smap.proofs.SideLists.{at-some, at-from_get, get-from_at}
 use Rattle.nef_smap.proofs.Stands.{stand, stands}
-use Rattle.nef_smap.proofs.Upward.{map-ahead, map-across}
-use Rattle.law_exist.proofs.Classes.{equal-decided, decided-classes}
+use Rattle.law_exist.proofs.Classes.{decided-classes}
 use Rattle.law_exist.proofs.Numbering.{row-of, numbered-exist}
-
-less-decided : (a b : ℤ) → Decided (a <ℤ b)
-less-decided a b = by_order a b (λ l. inl l) (λ e. inr (λ l. omega (arith, ints, e, l))) (λ l. inr (λ m. omega (arith, ints, l, m)))
+use Rattle.nef_conn.proofs.Good.{less-decided}
 
 -- ---- what is met first
 module _ (M : Map) (ahead : (k : ℕ) (x : Item) → At (items M) k x → pos 0 <ℤ dot (item_normal x) up) where
@@ -179,7 +149,7 @@ module _ (M : Map) (V : Shaped M) (ahead : (k : ℕ) (x : Item) → At (items M)
 -- ---- classes
 link-decided : (ls : List Link) (s t : ℕ) → Decided (AreLinked ls s t)
 link-decided [] s t = inr (λ x. let w = is-at_within [] x.0 x.1 x.2 in omega (arith, w))
-link-decided (l ∷ ls) s t = by (equal-decided l.first s) (equal-decided l.second t) (link-decided ls s t)
+link-decided (l ∷ ls) s t = by (eq-decided l.first s) (eq-decided l.second t) (link-decided ls s t)
   where
     by : Decided (l.first ≡ s) → Decided (l.second ≡ t) → Decided (AreLinked ls s t) → Decided (AreLinked (l ∷ ls) s t)
     by (inl e) (inl f) o = inl (zero, l, refl, e, f)

@@ -1,27 +1,8 @@
 -- Whether two sides are linked in a shell is decided.
-use Rattle.std.proofs.Common.{◌≡◌, ℕ, arith, refl, sym, ap, ◌∙◌, ◌⊎◌, inl, inr, ⊎_elim, List, subst}
-use Rattle.nef_space.specs.Sets.{Set}
-use Rattle.nef_space.specs.Vectors.{SameDirection, opposite, plane_dir}
-use Rattle.nef_space.specs.declared.label.Label.{Label}
-use Rattle.law_near.proofs.Decided.{Decided, decided-both, decided-or}
-use Rattle.law_sphere.specs.Maps.{At, Arc, Item, item_normal, OnItem, Side as MapSide, around_svertex, pos_item, neg_item, whole, HasSide, InOneSface}
-use Rattle.law_sphere.proofs.Forms.{OnItem-decided}
-use Rattle.law_sphere.proofs.Lists.{search_list, at-one}
-use Rattle.law_sphere.proofs.Places.{SameDirection-decided}
-use Rattle.law_cones.proofs.Listing.{at-or}
-use Rattle.law_complex.specs.Complexes.{Vertex, Edge, Complex as PlainComplex, Corner, IsCorner}
-use Rattle.law_complex.specs.Shows.{Shows}
-use Rattle.law_complex.specs.Rays.{VertexSide, HasSideLabel}
-use Rattle.law_links.specs.Links.{LinkAcross, LinkInSface, AreAlong, AreSidesAlong, pos_arcs, neg_arcs, around_ends, LinkAlongEdge, LinkAcrossFacet}
+use Rattle.law_exist.proofs.Prelude.{◌≡◌, ℕ, arith, refl, sym, ap, ◌∙◌, ◌⊎◌, inl, inr, ⊎_elim, List, subst, Set, SameDirection, opposite, plane_dir, Label, Decided, decided-both, decided-or, At, Arc, Item, item_normal, OnItem, Side as MapSide, around_svertex, pos_item, neg_item, whole, HasSide, InOneSface, OnItem-decided, search_list, at-one, SameDirection-decided, at-or, Vertex, Edge, Complex as PlainComplex, Corner, IsCorner, Shows, VertexSide, HasSideLabel, LinkAcross, LinkInSface, AreAlong, AreSidesAlong, pos_arcs, neg_arcs, around_ends, LinkAlongEdge, LinkAcrossFacet, sides_of, AreSfaces, number_of, side-number, is-at_some, is-at_within, ShellLink, eq-decided}
 use Rattle.nef_conn.proofs.Named.{found, from-vertex}
 use Rattle.nef_facets.proofs.AcrossLinks.{link-is, link-one}
-use Rattle.nef_smap.specs.Sides.{sides_of, AreSfaces}
-use Rattle.nef_smap.specs.SideNumbers.{number_of}
-use Rattle.nef_smap.proofs.SideNumbers.{side-number}
-use Rattle.nef_classes.proofs.ClassLists.{is-at_some, is-at_within}
-use Rattle.nef_complex.specs.Shells.{ShellLink}
 use Rattle.nef_volumes.proofs.SfaceTies.{sface-from_numbers, numbers-from_sface}
-use Rattle.law_exist.proofs.Classes.{equal-decided}
 
 -- ---- across a facet
 module _ (s : Set) (C : PlainComplex) (S : Shows s C) where
@@ -33,7 +14,7 @@ module _ (s : Set) (C : PlainComplex) (S : Shows s C) where
       by (inl o) =
           let m = found s C S j v x K o in
           let L : LinkAcross C j m.2.0 = record { vertex = v; item = x; corner = K; inward = o; named = (m.0, from-vertex s C S j v x K o m.0 m.1, m.2.1) } in
-          then m.2.0 L (equal-decided m.2.0.vertex k.vertex) (equal-decided m.2.0.item k.item)
+          then m.2.0 L (eq-decided m.2.0.vertex k.vertex) (eq-decided m.2.0.item k.item)
         where
           made : ℕ → ℕ → Corner
           made i n = record { vertex = i; item = n }
@@ -127,7 +108,7 @@ module _ (C : PlainComplex) where
           let f = at-one v.map.arcs i A.low_arc a (subst (λ (u : Vertex). At u.map.arcs i A.low_arc) (at-one C.vertices e.low A.low_vertex v A.ends.low p) A.is_low) r in
           let g = at-one w.map.arcs j A.high_arc b (subst (λ (u : Vertex). At u.map.arcs j A.high_arc) (at-one C.vertices e.high A.high_vertex w A.ends.high q) A.is_high) t in
           n (subst (λ (z : Arc). Fits z b) f (subst (λ (z : Arc). Fits A.low_arc z) g (A.one_normal, A.one_way)))))
-          (decided-both (SameDirection-decided a.normal b.normal) (decided-or (decided-both (equal-decided a.source e.low_svertex) (equal-decided b.target e.high_svertex)) (decided-both (equal-decided a.target e.low_svertex) (equal-decided b.source e.high_svertex))))
+          (decided-both (SameDirection-decided a.normal b.normal) (decided-or (decided-both (eq-decided a.source e.low_svertex) (eq-decided b.target e.high_svertex)) (decided-both (eq-decided a.target e.low_svertex) (eq-decided b.source e.high_svertex))))
         where
           Fits : Arc → Arc → Type 0
           Fits a b = SameDirection a.normal b.normal × (((a.source ≡ e.low_svertex) × (b.target ≡ e.high_svertex)) ⊎ ((a.target ≡ e.low_svertex) × (b.source ≡ e.high_svertex)))
@@ -170,7 +151,7 @@ module _ (C : PlainComplex) where
       both-around : (i j : ℕ) → o ≡ around_svertex i → p ≡ around_svertex j → Decided (AreSidesAlong C e o p)
       both-around i j a b = ⊎_elim (λ h. inl (around_ends (a ∙ ap around_svertex h.0) (b ∙ ap around_svertex h.1)))
           (λ n. inr (refuse e o p (λ k l c d A. let z : around_svertex i ≡ pos_item k = sym a ∙ c in cc) (λ k l c d A. let z : around_svertex i ≡ neg_item k = sym a ∙ c in cc) (λ c d. n (ap index (sym a ∙ c), ap index (sym b ∙ d)))))
-          (decided-both (equal-decided i e.low_svertex) (equal-decided j e.high_svertex))
+          (decided-both (eq-decided i e.low_svertex) (eq-decided j e.high_svertex))
 
       -- o or p is of a kind that doesn't go with the other
       none : ((i j : ℕ) → o ≡ pos_item i → p ≡ pos_item j → ⊥) → ((i j : ℕ) → o ≡ neg_item i → p ≡ neg_item j → ⊥) → ((i j : ℕ) → o ≡ around_svertex i → p ≡ around_svertex j → ⊥) → Decided (AreSidesAlong C e o p)
@@ -193,11 +174,11 @@ module _ (C : PlainComplex) where
   edge-link_decided x y l m hx hy = ⊎_elim
       (λ f. let h = f.holds in inl (record { number = f.number; edge = f.element; is_edge = f.listed; low_side = x.side; high_side = y.side; is_low = (l, h.0, refl, hx); is_high = (m, h.1.0, refl, hy); along = h.1.1 }))
       (λ none. inr (λ L. none L.number L.edge L.is_edge (L.is_low.1, (L.is_high.1, subst (λ o. AreSidesAlong C L.edge o y.side) (sym L.is_low.2) (subst (AreSidesAlong C L.edge L.low_side) (sym L.is_high.2) L.along)))))
-      (search_list C.edges (λ n e. (x.vertex ≡ e.low) × ((y.vertex ≡ e.high) × AreSidesAlong C e x.side y.side)) (λ n e. decided-both (equal-decided x.vertex e.low) (decided-both (equal-decided y.vertex e.high) (sides-along_decided e x.side y.side))))
+      (search_list C.edges (λ n e. (x.vertex ≡ e.low) × ((y.vertex ≡ e.high) × AreSidesAlong C e x.side y.side)) (λ n e. decided-both (eq-decided x.vertex e.low) (decided-both (eq-decided y.vertex e.high) (sides-along_decided e x.side y.side))))
 
   -- ---- in an sface
   pub sface-link_decided : (x y : VertexSide) (l m : Label) → HasSideLabel C x l → HasSideLabel C y m → ((v : Vertex) → At C.vertices x.vertex v → (ns : List ℕ) × AreSfaces v.map ns) → Decided (LinkInSface C x y)
-  sface-link_decided x y l m (v, a, h) (w, b, k) faces = by (equal-decided y.vertex x.vertex)
+  sface-link_decided x y l m (v, a, h) (w, b, k) faces = by (eq-decided y.vertex x.vertex)
     where
       by : Decided (y.vertex ≡ x.vertex) → Decided (LinkInSface C x y)
       by (inr n) = inr (λ L. n L.one_vertex)
@@ -222,7 +203,7 @@ module _ (C : PlainComplex) where
               ⊎_elim
               (λ e2. let c = r.0 e2 in inl (record { vertex = v; is_vertex = a; one_vertex = e; one = l; other = m; has = h; has_other = other; one_sface = sface-from_numbers v.map c.0 (number_of v.map x.side) (number_of v.map y.side) x.side y.side l m i j c.1 }))
               (λ n. inr (λ L. n (r.1 (numbers-from_sface v.map x.side y.side l m h other (subst (λ (u : Vertex). InOneSface u.map x.side y.side) (at-one C.vertices x.vertex L.vertex v L.is_vertex a) L.one_sface)))))
-              (equal-decided p.0 q.0)
+              (eq-decided p.0 q.0)
 
 pub shell-link_decided : (s : Set) (C : PlainComplex) → Shows s C → ((i : ℕ) (v : Vertex) → At C.vertices i v → (ns : List ℕ) × AreSfaces v.map ns) → (x y : VertexSide) (l m : Label) → HasSideLabel C x l → HasSideLabel C y m → Decided (ShellLink C x y)
 shell-link_decided s C S faces x y l m hx hy =

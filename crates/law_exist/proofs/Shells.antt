@@ -1,33 +1,8 @@
 -- The shells of a complex that shows a set exist: the classes of its sides, each in order.
-use Rattle.std.proofs.Common.{◌≡◌, ℕ, refl, sym, ap, ◌∙◌, inl, inr, ⊎_elim, List, [], ◌∷◌, map, subst}
-use Rattle.std.proofs.lemmas.List.{length-map}
-use Rattle.nef_space.specs.Lists.{Chained}
-use Rattle.nef_space.specs.Sets.{Set}
-use Rattle.nef_space.specs.Signs.{Lies}
-use Rattle.nef_space.specs.declared.label.Label.{Label}
-use Rattle.law_near.proofs.Decided.{Decided}
-use Rattle.law_sphere.specs.Maps.{At}
-use Rattle.law_sphere.specs.Least.{InOrder}
-use Rattle.law_cones.proofs.Listing.{lies-at, at-lies, chain-order}
-use Rattle.law_complex.specs.Complexes.{Vertex, Complex}
-use Rattle.law_complex.specs.Shows.{Shows}
-use Rattle.law_complex.specs.Rays.{VertexSide, HasSideLabel}
-use Rattle.law_links.specs.Links.{VolumeLink, LinkAcrossFacet}
-use Rattle.nef_classes.proofs.Chains.{chain-here, chain-link, chain-trans, chain-turned, chain-map}
-use Rattle.nef_smap.specs.Sides.{sides_of, AreSfaces}
-use Rattle.nef_smap.specs.SideNumbers.{number_of}
-use Rattle.nef_smap.proofs.SideNumbers.{side-number}
-use Rattle.nef_smap.proofs.Lists.{at-map, map-at, at-within}
-use Rattle.nef_smap.proofs.SideLists.{at-from_get}
-use Rattle.nef_complex.specs.Numbers.{count_sides, IsVolumeOf, VolumeNumbers, shell_sides}
-use Rattle.nef_complex.specs.Shells.{ShellLink, IsNamed, IsNameBelow, IsListed, IsShell, IsShellBelow, Shells}
-use Rattle.nef_complex.specs.Sides.{IsSideNumber}
-use Rattle.nef_complex.specs.declared.parts.Shell.{Shell}
+use Rattle.law_exist.proofs.Prelude.{◌≡◌, ℕ, refl, sym, ap, ◌∙◌, inl, inr, ⊎_elim, List, ◌∷◌, map, subst, [], length-map, Chained, Set, Lies, Label, Decided, At, InOrder, chain-order, Vertex, Complex, Shows, VertexSide, HasSideLabel, VolumeLink, LinkAcrossFacet, chain-here, chain-link, chain-trans, chain-turned, chain-map, sides_of, AreSfaces, number_of, side-number, at-map, map-at, at-within, at-from_get, count_sides, IsVolumeOf, VolumeNumbers, shell_sides, ShellLink, IsNamed, IsNameBelow, IsListed, IsShell, IsShellBelow, Shells, IsSideNumber, Shell, numbered-side, lies-at, at-lies, eq-decided}
 use Rattle.nef_complex.specs.declared.parts.Side.{Side}
 use Rattle.nef_volumes.proofs.AllTies.{shell-volume}
 use Rattle.nef_volumes.proofs.ShellParts.{side-number_one}
-use Rattle.nef_volumes.proofs.VolumeLabels.{numbered-side}
-use Rattle.law_exist.proofs.Classes.{equal-decided}
 use Rattle.law_exist.proofs.Elements.{Elements}
 use Rattle.law_exist.proofs.Groups.{chained-decided, Part, class, leads, leaders, leader-of, order-chain}
 use Rattle.law_exist.proofs.Numbering.{PairBelow, pair-trans, pair-either, pair-itself, one-place}
@@ -175,7 +150,7 @@ module _ (s : Set) (C : Complex) (S : Shows s C) (faces : (i : ℕ) (v : Vertex)
     volume-decided : (n : ℕ) (x : SideAt C) → Decided (IsVolumeOf C rows x.side n)
     volume-decided n x =
         let r = numbered-side C rows N x.side x.is.label (number-label C x.side x.number x.is) in
-        ⊎_elim (λ e. inl (subst (IsVolumeOf C rows x.side) e r.1)) (λ f. inr (λ X. f ((N.numbered.by_class x.side x.side r.0 n r.1 X).1 (chain-here (VolumeLink C) x.side)))) (equal-decided r.0 n)
+        ⊎_elim (λ e. inl (subst (IsVolumeOf C rows x.side) e r.1)) (λ f. inr (λ X. f ((N.numbered.by_class x.side x.side r.0 n r.1 X).1 (chain-here (VolumeLink C) x.side)))) (eq-decided r.0 n)
 
     module _ (n : ℕ) where
       abbrev IsIn : SideAt C → Type 0

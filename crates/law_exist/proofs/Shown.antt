@@ -1,24 +1,9 @@
 -- Every set whose carriers are planes of the program, and not too many, has a complex of the program that shows it. In each complex of the program that shows a set the maps are within their limits.
-use Rattle.std.proofs.Common.{◌≡◌, ℕ, ◌≤◌, ◌^◌, refl, sym, ap, ◌∙◌, List, [], length, map, subst}
-use Rattle.nef_space.proofs.Lists.{each}
-use Rattle.nef_space.specs.Place.{Place, Form}
-use Rattle.nef_space.specs.Sets.{Set}
-use Rattle.law_sphere.specs.Maps.{At, Map}
-use Rattle.law_cones.proofs.Listing.{at-lies}
-use Rattle.law_complex.specs.Complexes.{Vertex as PlainVertex, Edge as PlainEdge}
-use Rattle.law_complex.specs.Shows.{SamePlane, Shows}
-use Rattle.nef_geo.specs.Shapes.{form_of, place_of}
-use Rattle.nef_geo.specs.declared.plane.Plane.{Plane}
-use Rattle.nef_smap.specs.Maps.{map_of}
-use Rattle.nef_smap.proofs.Lists.{map-at, at-map}
-use Rattle.nef_smap.proofs.SideLists.{at-from_get}
+use Rattle.law_exist.proofs.Prelude.{◌≡◌, ℕ, ◌≤◌, ◌^◌, refl, sym, ap, ◌∙◌, List, length, map, subst, [], each, Place, Form, Set, At, Map, Vertex as PlainVertex, Edge as PlainEdge, SamePlane, Shows, form_of, place_of, Plane, map_of, map-at, at-map, at-from_get, vertex_of, edge_of, complex_of, HasLeastMaps, AreCarried, EveryCarriedSetIsShown, at-lies}
 use Rattle.nef_complex.specs.declared.complex.Complex.{Complex}
 use Rattle.nef_complex.specs.declared.complex.Vertex.{Vertex}
 use Rattle.nef_complex.specs.declared.complex.Edge.{Edge}
 use Rattle.nef_complex.specs.declared.complex.PlaneIndex.{PlaneIndex}
-use Rattle.nef_complex.specs.Complexes.{vertex_of, edge_of, complex_of}
-use Rattle.nef_volumes.proofs.SideLabels.{HasLeastMaps}
-use Rattle.law_exist.specs.Laws.{AreCarried, EveryCarriedSetIsShown}
 use Rattle.law_exist.proofs.Complexes.{VerticesAt, vertices-at, vertex_edges, shown-by}
 use Rattle.law_exist.proofs.Lifted.{lifted, sphere-map}
 use Rattle.law_exist.proofs.Planes.{lies-image, planes, PointList, points}

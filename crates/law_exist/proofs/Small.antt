@@ -1,80 +1,17 @@
 -- The maps of a set whose carriers are planes of the program are within the limits: their svertices are crossings of two carriers, and their items lie in one.
-use Rattle.std.proofs.Common.{◌≡◌, ℕ, ◌*◌, ◌<◌, ◌≤◌, ◌^◌, ℤ, pos, negsuc, ◌-ℤ◌, ◌*ℤ◌, lit≤, arith, sym, ◌⊎◌, inl, inr, ⊎_elim, List, [], ◌∷◌, length, map, subst}
-use Rattle.std.proofs.lemmas.Nat.{mul-le}
-use Rattle.std.proofs.lemmas.List.{length-map}
-use Rattle.std.proofs.lemmas.Int.{ints}
-use Rattle.nef_space.proofs.Lists.{pairs, lies-pairs}
-use Rattle.nef_space.proofs.Ring.{ring, at, num, ◌⊕◌, ◌⊖◌, ◌⊗◌}
-use Rattle.nef_space.proofs.Combination.{follows, given, none}
-use Rattle.nef_space.specs.Signs.{Lies}
-use Rattle.nef_space.specs.Limits.{normal_limit, svertex_limit}
-use Rattle.nef_space.specs.Place.{Form, normal_of}
-use Rattle.nef_space.specs.Sets.{Set}
-use Rattle.nef_space.specs.Vectors.{Vector, dot, cross, IsZero, IsDirection, SameDirection, IsOpposite, IsNormal}
-use Rattle.law_near.proofs.FlatDecided.{cross-turned, parallel-both}
+use Rattle.law_exist.proofs.Prelude.{◌≡◌, ℕ, ◌*◌, ◌<◌, ◌≤◌, ◌^◌, lit≤, arith, sym, ◌⊎◌, inl, inr, ⊎_elim, List, length, map, subst, mul-le, length-map, pairs, lies-pairs, Lies, normal_limit, svertex_limit, Form, normal_of, Set, Vector, cross, IsZero, IsDirection, SameDirection, IsOpposite, IsNormal, IsPrimitive, At, MapVertex, Item, items, item_normal, Beside, same_way, other_way, beside, normal-direction, direction-decided, lowest-same, Vertex, Edge, Complex, Shows, near_point, near-one, plane-turned, plane-slope, onward, onward-way, form_of, Plane, cross_size, normal_within, at-map, at-within, carried, AreCarried, cross-turned, parallel-both, SameDirection-turned, SameDirection-trans, dir-self, crossed, opposite-cross, opposite-way, lies-at, cross-direction_turned}
 use Rattle.law_near.proofs.Supports.{edge-support}
-use Rattle.law_sphere.specs.Vectors.{IsPrimitive}
-use Rattle.law_sphere.specs.Maps.{At, MapVertex, Item, items, item_normal}
-use Rattle.law_sphere.proofs.Around.{Beside, same_way, other_way, beside}
-use Rattle.law_sphere.proofs.Vectors.{normal-direction}
-use Rattle.law_sphere.proofs.Places.{direction-decided}
-use Rattle.law_sphere.proofs.Compare.{SameDirection-turned, SameDirection-trans, dir-self}
-use Rattle.law_sphere.proofs.Equal.{lowest-same}
-use Rattle.law_cones.proofs.Listing.{lies-at}
 use Rattle.law_cones.proofs.Lowest.{lowest}
-use Rattle.law_complex.specs.Complexes.{Vertex, Edge, Complex}
-use Rattle.law_complex.specs.Shows.{Shows}
-use Rattle.law_complex.proofs.Edges.{near_point, near-flat, near-one}
-use Rattle.law_complex.proofs.Planes.{plane-turned, plane-slope}
-use Rattle.law_complex.proofs.Ways.{onward, onward-way}
-use Rattle.nef_geo.specs.Shapes.{form_of}
-use Rattle.nef_geo.specs.declared.plane.Plane.{Plane}
-use Rattle.nef_geo.proofs.Products.{cross_size, normal_within}
-use Rattle.nef_smap.proofs.Lists.{at-map, at-within}
-use Rattle.nef_complex.proofs.Carried.{carried}
-use Rattle.law_exist.specs.Laws.{AreCarried}
+use Rattle.law_complex.proofs.Edges.{near-flat}
 use Rattle.law_exist.proofs.Few.{Once, few, length-pairs}
 use Rattle.law_exist.proofs.Lifted.{IsShort, IsShortMap}
 use Rattle.law_exist.proofs.Planes.{normals-parallel}
 use Rattle.law_exist.proofs.Reduced.{lowest-small}
 
 -- ---- crossings of planes
--- what lies in two planes is parallel to their crossing
-in-both : (m n d : Vector) → dot m d ≡ pos 0 → dot n d ≡ pos 0 → IsZero (cross (cross m n) d)
-in-both m n d a b =
-    let xs = m.x ∷ m.y ∷ m.z ∷ n.x ∷ n.y ∷ n.z ∷ d.x ∷ d.y ∷ d.z ∷ [] in
-    let c = at 1 ⊗ at 5 ⊖ at 2 ⊗ at 4 in let e = at 2 ⊗ at 3 ⊖ at 0 ⊗ at 5 in let f = at 0 ⊗ at 4 ⊖ at 1 ⊗ at 3 in
-    let md = at 0 ⊗ at 6 ⊕ at 1 ⊗ at 7 ⊕ at 2 ⊗ at 8 in let nd = at 3 ⊗ at 6 ⊕ at 4 ⊗ at 7 ⊕ at 5 ⊗ at 8 in
-    let o = num (pos 0) in (
-      follows xs (e ⊗ at 8 ⊖ f ⊗ at 7) o (given (at 3) md o a (given (num (negsuc 0) ⊗ at 0) nd o b none)) tt,
-      follows xs (f ⊗ at 6 ⊖ c ⊗ at 8) o (given (at 4) md o a (given (num (negsuc 0) ⊗ at 1) nd o b none)) tt,
-      follows xs (c ⊗ at 7 ⊖ e ⊗ at 6) o (given (at 5) md o a (given (num (negsuc 0) ⊗ at 2) nd o b none)) tt,
-    )
-
 -- the other way round
 turned-way : (m n d : Vector) → IsOpposite (cross m n) d → SameDirection (cross n m) d
-turned-way m n d w =
-    let xs = m.x ∷ m.y ∷ m.z ∷ n.x ∷ n.y ∷ n.z ∷ d.x ∷ d.y ∷ d.z ∷ [] in
-    let c = at 1 ⊗ at 5 ⊖ at 2 ⊗ at 4 in let e = at 2 ⊗ at 3 ⊖ at 0 ⊗ at 5 in let f = at 0 ⊗ at 4 ⊖ at 1 ⊗ at 3 in
-    let c' = at 4 ⊗ at 2 ⊖ at 5 ⊗ at 1 in let e' = at 5 ⊗ at 0 ⊖ at 3 ⊗ at 2 in let f' = at 3 ⊗ at 1 ⊖ at 4 ⊗ at 0 in
-    let o = num (pos 0) in let k = num (negsuc 0) in
-    record {
-      parallel = (
-        follows xs (e' ⊗ at 8 ⊖ f' ⊗ at 7) o (given k (e ⊗ at 8 ⊖ f ⊗ at 7) o w.parallel.0 none) tt,
-        follows xs (f' ⊗ at 6 ⊖ c' ⊗ at 8) o (given k (f ⊗ at 6 ⊖ c ⊗ at 8) o w.parallel.1 none) tt,
-        follows xs (c' ⊗ at 7 ⊖ e' ⊗ at 6) o (given k (c ⊗ at 7 ⊖ e ⊗ at 6) o w.parallel.2 none) tt,
-      );
-      forward =
-          let q = ring xs (c' ⊗ at 6 ⊕ e' ⊗ at 7 ⊕ f' ⊗ at 8) (o ⊖ (c ⊗ at 6 ⊕ e ⊗ at 7 ⊕ f ⊗ at 8)) tt in
-          let b = w.backward in
-          omega (arith, ints, q, b);
-    }
-
-turned-direction : (m n : Vector) → IsDirection (cross m n) → IsDirection (cross n m)
-turned-direction m n i z = i (one m.y n.z m.z n.y z.0, one m.z n.x m.x n.z z.1, one m.x n.y m.y n.x z.2)
-  where
-    one : (a b c d : ℤ) → d *ℤ c -ℤ b *ℤ a ≡ pos 0 → a *ℤ b -ℤ c *ℤ d ≡ pos 0
-    one a b c d e = follows (a ∷ b ∷ c ∷ d ∷ []) (at 0 ⊗ at 1 ⊖ at 2 ⊗ at 3) (num (pos 0)) (given (num (negsuc 0)) (at 3 ⊗ at 2 ⊖ at 1 ⊗ at 0) (num (pos 0)) e none) tt
+turned-way m n d w = subst (λ (v : Vector). SameDirection v d) (opposite-cross m n) (opposite-way (cross m n) d w)
 
 abbrev dir-of-svertex : MapVertex → Vector
 dir-of-svertex u = u.dir
@@ -130,7 +67,7 @@ module _ (s : Set) (hs : List Plane) (A : AreCarried s hs) (gs : List Plane) (vs
               let to_second = parallel-both m (normal_of E.first) n g.2.is_plane (cross-turned (normal_of E.first) m (normals-parallel (form_of g.0) E.first g.2)) z in
               let to_first = parallel-both n (normal_of E.first) (normal_of E.second) h.2.is_plane (cross-turned (normal_of E.first) n to_second) (cross-turned (normal_of E.second) n (normals-parallel (form_of h.0) E.second h.2)) in
               E.independent to_first;
-          parallel = in-both m n d (plane-slope E.first (form_of g.0) d (plane-turned (form_of g.0) E.first g.2) flat.0) (plane-slope E.second (form_of h.0) d (plane-turned (form_of h.0) E.second h.2) flat.1);
+          parallel = crossed m n d (plane-slope E.first (form_of g.0) d (plane-turned (form_of g.0) E.first g.2) flat.0) (plane-slope E.second (form_of h.0) d (plane-turned (form_of h.0) E.second h.2) flat.1);
         }
 
     pub svertex-short : (k : ℕ) (u : MapVertex) → At v.map.svertices k u → IsShort svertex_limit u.dir
@@ -180,7 +117,7 @@ module _ (s : Set) (hs : List Plane) (A : AreCarried s hs) (gs : List Plane) (vs
 
         by : Beside c u.dir → Lies (pairs crossing hs hs) u.dir
         by (same_way w) = subst (Lies (pairs crossing hs hs)) (low-is c u.dir w X.direction p) (lies-pairs crossing hs hs X.first X.second X.first_in X.second_in)
-        by (other_way w) = subst (Lies (pairs crossing hs hs)) (low-is (cross n m) u.dir (turned-way m n u.dir w) (turned-direction m n X.direction) p) (lies-pairs crossing hs hs X.second X.first X.second_in X.first_in)
+        by (other_way w) = subst (Lies (pairs crossing hs hs)) (low-is (cross n m) u.dir (turned-way m n u.dir w) (cross-direction_turned m n X.direction) p) (lies-pairs crossing hs hs X.second X.first X.second_in X.first_in)
 
     svertices-once : Once (map dir-of-svertex v.map.svertices)
     svertices-once j k d b c =

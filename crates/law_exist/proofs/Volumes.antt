@@ -1,30 +1,6 @@
 -- The sides of a complex of the program that shows a set have volume numbers: sides whose points are joined have one, and those that are outside have 0.
-use Rattle.std.proofs.Common.{◌≡◌, ℕ, suc, ◌<◌, ◌≤◌, arith, refl, sym, ap, ◌∙◌, inr, ◌↔◌, List, subst}
-use Rattle.nef_space.specs.Lists.{IsAt, Chained}
-use Rattle.nef_space.specs.Local.{FlatDim, HasLabel}
-use Rattle.nef_space.specs.Place.{Place}
-use Rattle.nef_space.specs.Sets.{Set}
-use Rattle.nef_space.specs.declared.label.Label.{Label}
-use Rattle.nef_space.specs.declared.label.Label.TheVariants.{Out, Not, In}
-use Rattle.law_sphere.specs.Maps.{At, Side as MapSide}
-use Rattle.law_sphere.proofs.Lists.{at-one}
-use Rattle.law_complex.specs.Complexes.{Vertex, Complex}
-use Rattle.law_complex.specs.Shows.{Shows}
-use Rattle.law_complex.specs.Rays.{VertexSide, HasSideLabel}
-use Rattle.law_complex.proofs.Ways.{same-itself}
-use Rattle.law_links.specs.Links.{VolumeLink}
-use Rattle.law_links.specs.Components.{IsAtSide, IsUpright}
-use Rattle.law_links.proofs.SidesJoined.{sides-joined}
-use Rattle.nef_classes.proofs.ClassLists.{is-at_one}
-use Rattle.nef_classes.proofs.Chains.{chain-here, chain-link}
+use Rattle.law_exist.proofs.Prelude.{◌≡◌, ℕ, suc, ◌<◌, ◌≤◌, arith, refl, sym, ap, ◌∙◌, inr, ◌↔◌, List, subst, IsAt, Chained, FlatDim, HasLabel, Place, Set, Label, Out, Not, In, At, Side as MapSide, at-one, Vertex, Complex, Shows, VertexSide, HasSideLabel, same-itself, VolumeLink, IsAtSide, IsUpright, sides-joined, is-at_one, chain-here, chain-link, joined-items_linked, sides_of, LabelledSide, at-within, at-some, at-from_get, get-from_at, side-has, IsSideNumber, count_sides, IsVolumeOf, IsSideBelow, VolumeNumbers, side-point, chain-label}
 use Rattle.nef_conn.proofs.SidesName.{converse-for_all}
-use Rattle.nef_conn.proofs.Steps.{joined-items_linked}
-use Rattle.nef_smap.specs.Sides.{sides_of, LabelledSide}
-use Rattle.nef_smap.proofs.Lists.{at-within}
-use Rattle.nef_smap.proofs.SideLists.{at-some, at-from_get, get-from_at, side-has}
-use Rattle.nef_complex.specs.Sides.{IsSideNumber}
-use Rattle.nef_complex.specs.Numbers.{count_sides, IsVolumeOf, IsSideBelow, VolumeNumbers}
-use Rattle.nef_volumes.proofs.SideLabels.{side-point, chain-label}
 use Rattle.law_exist.proofs.Connected.{class-number, class-same}
 use Rattle.law_exist.proofs.Elements.{Elements, elements}
 use Rattle.law_exist.proofs.Numbering.{NumberedAfter, number-after, Table, Placed, table, placed, has-place}

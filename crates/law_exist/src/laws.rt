@@ -1,10 +1,10 @@
-//! The laws of what exists.
+//! Laws of existence for sets: vertices, complexes with parts, and numbers of components.
 
 ghost use Rattle.law_exist.specs.Laws.{EverySetHasVertices, VerticesHaveEdges, EverySetIsShown, EveryCarriedSetIsShown, EveryTurnedSetIsShown, EveryShownHasParts, JoinedIsDecided, ComponentsAreCounted};
 
-/// Every set has a list of its vertices, in order, with least maps; vertices in order have all their edges; so every set
-/// whose carriers are planes has a complex that shows it, and where these are planes of the program one of the program's;
-/// and every complex of the program that shows a set has parts.
+/// Every set has an ordered list of its vertices with least maps, and ordered vertices have all their edges. A set
+/// whose carriers are planes is shown by a complex, and by a complex of the program if the program has these planes.
+/// Every complex of the program that shows a set has parts.
 pub fn complex_laws()
     ensures vertices { EverySetHasVertices }
     ensures edges { VerticesHaveEdges }
@@ -14,8 +14,7 @@ pub fn complex_laws()
     ensures parts { EveryShownHasParts }
 {}
 
-/// Whether two points of a set are joined is decided, and the points with as many flat directions have a number of
-/// components.
+/// Two points of a set are joined or not joined, and the points with k flat directions have a number of components.
 pub fn joined_laws()
     ensures decided { JoinedIsDecided }
     ensures counted { ComponentsAreCounted }

@@ -1,4 +1,4 @@
-//! What sets have exists: vertices, a complex that shows the set, its parts, and numbers of components. Nothing runs. Each
+//! The existence of vertices, of a complex that shows a set, of parts, and of numbers of components. Nothing runs; each
 //! law is a clause of a function with an empty body.
 #![tactic(auto)]
 

@@ -1,23 +1,5 @@
 -- Links, cycles and parts of complexes with the same vertices and edges are the same, whatever their carriers.
-use Rattle.std.proofs.Common.{ℕ, inl, inr, ⊎_elim, List, [], ◌∷◌}
-use Rattle.nef_space.specs.Lists.{Chained}
-use Rattle.nef_space.specs.Place.{Place, Form}
-use Rattle.nef_space.specs.Vectors.{Vector}
-use Rattle.nef_space.specs.declared.label.Label.{Label}
-use Rattle.nef_space.specs.declared.label.Label.TheVariants.{In}
-use Rattle.law_sphere.specs.Maps.{Item, Side}
-use Rattle.nef_classes.proofs.Chains.{chain-link, chain-map}
-use Rattle.law_complex.specs.Belongs.{SpotMark, Towards, SeesSpot, Belongs, on_skeleton, off_skeleton}
-use Rattle.law_complex.specs.Complexes.{Vertex, Edge, Complex, Corner, HasEnds, IsCorner}
-use Rattle.law_complex.specs.Skeleton.{IsEdgePoint, IsOnEdges, IsFacetPoint, Spot, at_vertex, on_edge, in_facet, IsSpot, IsSkeletonPoint, PlaneMeet, meets_vertex, meets_edge, LiesIn, Meets, IsFirstInPlane, IsCornerAt, RayNames, HasCorner}
-use Rattle.law_complex.specs.Rays.{VertexSide, IsAbove, RayDown}
-use Rattle.law_links.specs.Links.{AreAlong, LinkAlong, LinkAcross, FacetLink, LinkInSface, AreSidesAlong, pos_arcs, neg_arcs, around_ends, LinkAlongEdge, LinkAcrossFacet, LinkDown, VolumeLink}
-use Rattle.nef_complex.specs.Cycles.{IsNextArc, NextCorner, StepsTo, IsCycle, Cycles}
-use Rattle.nef_complex.specs.Sides.{IsSideNumber}
-use Rattle.nef_complex.specs.Numbers.{HasRows, count_items, count_sides, IsVolumeOf, IsSideBelow, FacetNumbers, VolumeNumbers, pos_of, neg_of, IsFacetAt, IsFacet, IsVolume, IsParts, cycle_corners, shell_sides}
-use Rattle.nef_complex.specs.Shells.{ShellLink, IsNamed, IsShell, Shells}
-use Rattle.nef_complex.specs.declared.parts.Facet.{Facet}
-use Rattle.nef_complex.specs.declared.parts.Parts.{Parts}
+use Rattle.law_text.proofs.Prelude.{ℕ, inl, inr, ⊎_elim, List, [], ◌∷◌, Chained, Place, Form, Vector, Label, In, Item, Side, chain-link, chain-map, SpotMark, Towards, SeesSpot, Belongs, on_skeleton, off_skeleton, Vertex, Edge, Complex, Corner, HasEnds, IsCorner, IsEdgePoint, IsOnEdges, IsFacetPoint, Spot, at_vertex, on_edge, in_facet, IsSpot, IsSkeletonPoint, PlaneMeet, meets_vertex, meets_edge, LiesIn, Meets, IsFirstInPlane, IsCornerAt, RayNames, HasCorner, VertexSide, IsAbove, RayDown, AreAlong, LinkAlong, LinkAcross, FacetLink, LinkInSface, AreSidesAlong, pos_arcs, neg_arcs, around_ends, LinkAlongEdge, LinkAcrossFacet, LinkDown, VolumeLink, IsNextArc, NextCorner, StepsTo, IsCycle, Cycles, IsSideNumber, HasRows, count_items, count_sides, IsVolumeOf, IsSideBelow, FacetNumbers, VolumeNumbers, pos_of, neg_of, IsFacetAt, IsFacet, IsVolume, IsParts, cycle_corners, shell_sides, ShellLink, IsNamed, IsShell, Shells, Facet, Parts}
 use Rattle.nef_complex.specs.declared.parts.Side.{Side as NamedSide}
 
 abbrev pub made : List Form → List Vertex → List Edge → Complex

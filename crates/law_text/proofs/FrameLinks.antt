@@ -1,26 +1,13 @@
 -- The links of the complexes of the whole frame and of the empty set: items in one side of the frame are linked, and so are all sides inward.
-use Rattle.std.proofs.Common.{◌≡◌, ℕ, ◌<◌, ℤ, pos, ◌+ℤ◌, ◌*ℤ◌, ◌<ℤ◌, arith, refl, sym, ◌⊎◌, inl, inr, Bool, true, false, List, [], ◌∷◌, subst}
-use Rattle.std.proofs.lemmas.Int.{ints}
-use Rattle.nef_space.proofs.Ring.{ring, at, num, ◌⊕◌, ◌⊗◌}
-use Rattle.nef_space.specs.Lists.{Chained}
-use Rattle.nef_space.specs.Place.{Form}
-use Rattle.nef_space.specs.Vectors.{Vector, vector, dot, blend, IsZero, IsDirection, IsOpposite, SameDirection}
-use Rattle.nef_space.specs.declared.label.Label.{Label}
-use Rattle.law_sphere.specs.Maps.{At, MapVertex, Map, Item, arc_item, items, item_normal, item_pos, item_neg, OnItem, IsFree, Side, pos_item, neg_item, HasSide, Reaches, Sees, directly, here, link}
-use Rattle.law_sphere.proofs.Compare.{dir-self}
-use Rattle.nef_classes.proofs.Chains.{chain-here, chain-link, chain-trans, chain-turned}
-use Rattle.law_complex.specs.Complexes.{Complex, Corner, Edge}
-use Rattle.law_complex.specs.Rays.{VertexSide, HasSideLabel}
-use Rattle.law_links.specs.Links.{AreAlong, LinkAlong, FacetLink, IsSideOf, LinkInSface, AreSidesAlong, pos_arcs, neg_arcs, LinkAlongEdge, VolumeLink}
-use Rattle.nef_result.specs.Ends.{Ends, ends}
-use Rattle.nef_result.proofs.Walls.{Axis, on_x, on_y, on_z}
-use Rattle.nef_result.proofs.CornerVertices.{end_of, inward, inward_way}
-use Rattle.nef_result.proofs.CornerCones.{axis_of}
-use Rattle.nef_result.proofs.Octants.{depth, way, next, after, place, slot, upper, lower, arc, octant, each-svertex, each-item, arc-at, item-at, on-quarter, quarter-on}
-use Rattle.nef_result.proofs.OctantShapes.{level-depth, depth-level, none-deep, one-deep}
-use Rattle.nef_result.proofs.OctantCones.{around, deep-blend, inward-deep}
-use Rattle.nef_result.proofs.Listed.{vertex_at, number, frame_vertices, frame-vertex}
-use Rattle.nef_result.proofs.FrameEdges.{corner_by, edge_of, edge_slot, frame_edges, edge-there}
+use Rattle.law_text.proofs.Prelude.{◌≡◌, ℕ, ◌+◌, ◌==◌, ◌<◌, ℤ, pos, ◌+ℤ◌, ◌*ℤ◌, ◌<ℤ◌, arith, refl, sym, ap, inl, inr, Bool, true, false, cond, eqb, List, [], ◌∷◌, Some, slice_get, subst, ints, eq-eqb, Chained, Form, Vector, dot, blend, SameDirection, Label, Out, At, MapVertex, Map, Item, arc_item, OnItem, IsFree, Side, pos_item, neg_item, HasSide, IsClear, Reaches, Sees, directly, InOneSface, here, link, dot-comb, turned_vector, unturned_vector, differ, is_odd, item-on, image, image_back, chain-here, chain-link, chain-trans, chain-turned, Leads, NextCorner, some-at, next-linked, Complex, Corner, VertexSide, HasSideLabel, FacetLink, VolumeLink, Ends, ends, Axis, on_x, on_y, end_of, inward, inward_way, axis_of, each-bool, dir-self, dot-zero}
+use Rattle.law_turns.proofs.Images.{clear-there}
+use Rattle.law_turns.proofs.Vectors.{turning, vector-back, back-vector}
+use Rattle.nef_volumes.proofs.FacetSides.{chain-pos, chain-neg}
+use Rattle.law_text.proofs.Corners.{each-pair, seek, of-four, on_axes, each-axis, each-slot}
+use Rattle.law_text.proofs.Octants.{next, after, place, slot, source_of, target_of, axis_number, arc, octant, arc-at, item-at, lowest, turn_to, arc-turned, octant_turned}
+use Rattle.law_text.proofs.LowestCorner.{part, level-ray, none-positive, some-direction, quarter, each-ray, each-quarter, on-quarter, quarter-on, lowest-shaped}
+use Rattle.law_text.proofs.FrameVertices.{vertex_at, number, frame_vertices, frame-vertex}
+use Rattle.law_text.proofs.FrameEdges.{at_end, edge_at, edge_slot, frame_edges, edge-there}
 
 abbrev pub frame_complex : Label → List Form → Complex
 frame_complex l hs = record { carriers = hs; vertices = frame_vertices l; edges = frame_edges }
@@ -29,256 +16,209 @@ frame_complex l hs = record { carriers = hs; vertices = frame_vertices l; edges 
 abbrev pub corner : Ends → Axis → Corner
 corner k a = record { vertex = number k; item = slot a }
 
--- the side of an item that looks inward, by the end of its axis
-abbrev pub inner : Bool → ℕ → Side
-inner true n = neg_item n
-inner false n = pos_item n
+-- the side of an item
+abbrev pub side_of : Bool → ℕ → Side
+side_of true n = neg_item n
+side_of false n = pos_item n
 
+abbrev pub item_side : Ends → Axis → Bool → VertexSide
+item_side k a b = record { vertex = number k; side = side_of b (slot a) }
+
+-- the side that looks inward
 abbrev pub inner_side : Ends → Axis → VertexSide
-inner_side k a = record { vertex = number k; side = inner (end_of k a) (slot a) }
+inner_side k a = item_side k a (end_of k a)
 
-pub axis-some : (a : Axis) → IsDirection (axis_of a)
-axis-some on_x z = let e = z.0 in omega (arith, ints)
-axis-some on_y z = let e = z.1 in omega (arith, ints)
-axis-some on_z z = let e = z.2 in omega (arith, ints)
-
--- ---- along an edge
--- one arc begins at the edge where the other ends
-abbrev OneWay : Label → Ends → Ends → Axis → Axis → Type 0
-OneWay l k j a o = (((arc l k a).source ≡ place k.x k.y o) × ((arc l j a).target ≡ place j.x j.y o)) ⊎ (((arc l k a).target ≡ place k.x k.y o) × ((arc l j a).source ≡ place j.x j.y o))
-
-next-ways : (l : Label) (o : Axis) (b c : Bool) → OneWay l (corner_by o false b c) (corner_by o true b c) (next o) o
-next-ways l on_x b true = inl (refl, refl)
-next-ways l on_x b false = inr (refl, refl)
-next-ways l on_y b true = inl (refl, refl)
-next-ways l on_y b false = inr (refl, refl)
-next-ways l on_z b true = inl (refl, refl)
-next-ways l on_z b false = inr (refl, refl)
-
-after-ways : (l : Label) (o : Axis) (b c : Bool) → OneWay l (corner_by o false b c) (corner_by o true b c) (after o) o
-after-ways l on_x true c = inr (refl, refl)
-after-ways l on_x false c = inl (refl, refl)
-after-ways l on_y true c = inr (refl, refl)
-after-ways l on_y false c = inl (refl, refl)
-after-ways l on_z true c = inr (refl, refl)
-after-ways l on_z false c = inl (refl, refl)
-
--- ---- chains
-one-step : {X : Type 0} (Link : X → X → Type 0) (u : Bool → X) → Link (u false) (u true) → (b c : Bool) → Chained Link (u b) (u c)
-one-step Link u h true true = chain-here Link (u true)
-one-step Link u h false false = chain-here Link (u false)
-one-step Link u h false true = chain-link Link (u false) (u true) h
-one-step Link u h true false = chain-turned Link (u false) (u true) (chain-link Link (u false) (u true) h)
-
-wall-chain : {X : Type 0} (Link : X → X → Type 0) (t : Ends → X) (a : Axis) (e : Bool) → ((c : Bool) → Link (t (corner_by a e false c)) (t (corner_by a e true c)))
-    → ((b : Bool) → Link (t (corner_by a e b false)) (t (corner_by a e b true))) → (b c b' c' : Bool) → Chained Link (t (corner_by a e b c)) (t (corner_by a e b' c'))
-wall-chain Link t a e f g b c b' c' = chain-trans Link (t (corner_by a e b c)) (t (corner_by a e b' c)) (t (corner_by a e b' c'))
-    (one-step Link (λ i. t (corner_by a e i c)) (f c) b b') (one-step Link (λ i. t (corner_by a e b' i)) (g b') c c')
-
--- ---- depths
-depth-zero : (a : Axis) (b : Bool) (d : Vector) → IsZero d → depth a b d ≡ pos 0
-depth-zero on_x true d z = let e = z.0 in omega (arith, ints)
-depth-zero on_x false d z = z.0
-depth-zero on_y true d z = let e = z.1 in omega (arith, ints)
-depth-zero on_y false d z = z.1
-depth-zero on_z true d z = let e = z.2 in omega (arith, ints)
-depth-zero on_z false d z = z.2
-
-along-level : (a : Axis) (b : Bool) (d : Vector) → SameDirection (way a b) d → dot (axis_of (next a)) d ≡ pos 0
-along-level on_x true d w = let e = w.parallel.2 in omega (arith, ints)
-along-level on_x false d w = let e = w.parallel.2 in omega (arith, ints)
-along-level on_y true d w = let e = w.parallel.0 in omega (arith, ints)
-along-level on_y false d w = let e = w.parallel.0 in omega (arith, ints)
-along-level on_z true d w = let e = w.parallel.1 in omega (arith, ints)
-along-level on_z false d w = let e = w.parallel.1 in omega (arith, ints)
-
--- ---- a direction of the item
-flank : Ends → Axis → Vector
-flank k on_x = vector (pos 0) (inward k.y) (inward k.z)
-flank k on_y = vector (inward k.x) (pos 0) (inward k.z)
-flank k on_z = vector (inward k.x) (inward k.y) (pos 0)
-
-flank-own : (a : Axis) (x y z : Bool) → depth a (end_of (ends x y z) a) (flank (ends x y z) a) ≡ pos 0
-unfolding flank
-flank-own on_x true y z = refl
-flank-own on_x false y z = refl
-flank-own on_y x true z = refl
-flank-own on_y x false z = refl
-flank-own on_z x y true = refl
-flank-own on_z x y false = refl
-
-flank-next : (a : Axis) (x y z : Bool) → depth (next a) (end_of (ends x y z) (next a)) (flank (ends x y z) a) ≡ pos 1
-unfolding flank
-flank-next on_x x true z = refl
-flank-next on_x x false z = refl
-flank-next on_y x y true = refl
-flank-next on_y x y false = refl
-flank-next on_z true y z = refl
-flank-next on_z false y z = refl
-
-flank-after : (a : Axis) (x y z : Bool) → depth (after a) (end_of (ends x y z) (after a)) (flank (ends x y z) a) ≡ pos 1
-unfolding flank
-flank-after on_x x y true = refl
-flank-after on_x x y false = refl
-flank-after on_y true y z = refl
-flank-after on_y false y z = refl
-flank-after on_z x true z = refl
-flank-after on_z x false z = refl
-
-square : (b : Bool) → inward b *ℤ inward b ≡ pos 1
-square true = refl
-square false = refl
-
-not-opposed : (a : Axis) (k : Ends) → IsOpposite (inward_way k) (flank k a) → ⊥
-unfolding flank
-not-opposed on_x k w = let e = square k.y in let f = square k.z in let h = w.backward in omega (arith, ints, e, f, h)
-not-opposed on_y k w = let e = square k.x in let f = square k.z in let h = w.backward in omega (arith, ints, e, f, h)
-not-opposed on_z k w = let e = square k.x in let f = square k.y in let h = w.backward in omega (arith, ints, e, f, h)
-
-dot-inward : (a : Axis) (k : Ends) → dot (axis_of a) (inward_way k) ≡ inward (end_of k a)
-dot-inward on_x k = omega (arith, ints)
-dot-inward on_y k = omega (arith, ints)
-dot-inward on_z k = omega (arith, ints)
-
-sum-positive : (i j : ℕ) (u v : ℤ) → 0 < i → u ≡ pos 1 → (v ≡ pos 0) ⊎ (v ≡ pos 1) → pos 0 <ℤ (pos i *ℤ u +ℤ pos j *ℤ v)
-sum-positive i j u v h e (inl f) = rw (e, f) (let r = ring (pos i ∷ pos j ∷ []) (at 0 ⊗ num (pos 1) ⊕ at 1 ⊗ num (pos 0)) (at 0) tt in omega (arith, ints, r))
-sum-positive i j u v h e (inr f) = rw (e, f) (let r = ring (pos i ∷ pos j ∷ []) (at 0 ⊗ num (pos 1) ⊕ at 1 ⊗ num (pos 1)) (at 0 ⊕ at 1) tt in omega (arith, ints, r))
+pub axis-self : (a : Axis) → SameDirection (axis_of a) (axis_of a)
+axis-self a = dir-self (axis_of a) (some-direction (axis_of a) 0 (each-axis (λ o. dot (axis_of o) (axis_of o)) (λ o. pos 1) refl a))
 
 -- ---- sides
-has-by : (M : Map) (n : ℕ) (x : Item) (l : Label) (b : Bool) → At (items M) n x → item_pos x ≡ upper b l → item_neg x ≡ lower b l → HasSide M (inner b n) l
-has-by M n x l true h e f = (x, h, f)
-has-by M n x l false h e f = (x, h, e)
+module _ (l : Label) where
+  -- the label of a side
+  abbrev pub label_of : Ends → Axis → Bool → Label
+  label_of k a b = cond (differ (end_of k a) b) Out l
 
-reaches-by : (M : Map) (n : ℕ) (x : Item) (d y : Vector) (b : Bool) → At (items M) n x → OnItem M x y → dot (item_normal x) d ≡ inward b → Reaches M (inner b n) d y
-reaches-by M n x d y true h o e = (x, h, o, omega (arith, ints, e))
-reaches-by M n x d y false h o e = (x, h, o, omega (arith, ints, e))
+  pub has-side : (k : Ends) (a : Axis) (b : Bool) → HasSide (octant l k) (side_of b (slot a)) (label_of k a b)
+  has-side k a true = (arc_item (arc l k a), item-at l k a, each-bool (λ e. cond e l Out) (λ e. cond (differ e true) Out l) refl (end_of k a))
+  has-side k a false = (arc_item (arc l k a), item-at l k a, each-bool (λ e. cond e Out l) (λ e. cond (differ e false) Out l) refl (end_of k a))
+
+  pub inner-is : (k : Ends) (a : Axis) → label_of k a (end_of k a) ≡ l
+  inner-is k a = each-bool (λ e. cond (differ e e) Out l) (λ e. l) refl (end_of k a)
+
+  has-inner : (k : Ends) (a : Axis) → HasSide (octant l k) (side_of (end_of k a) (slot a)) l
+  has-inner k a = subst (HasSide (octant l k) (side_of (end_of k a) (slot a))) (inner-is k a) (has-side k a (end_of k a))
+
+-- ---- the sides inward see one direction, at the lowest corner
+-- a direction of the item
+abbrev flank : Axis → Vector
+flank a = blend 1 (axis_of (next a)) 1 (axis_of (after a))
+
+some-part : (i j n : ℕ) (u v : ℤ) → 0 < i → u ≡ pos 1 → v ≡ pos n → pos 0 <ℤ (pos i *ℤ u +ℤ pos j *ℤ v)
+some-part i j n u v h e f = rw (e, f) (omega (arith, ints, h))
 
 module _ (l : Label) where
-  pub has-inner : (k : Ends) (a : Axis) → HasSide (octant l k) (inner (end_of k a) (slot a)) l
-  has-inner k a = has-by (octant l k) (slot a) (arc_item (arc l k a)) l (end_of k a) (item-at l k a) refl refl
+  abbrev M : Map
+  M = octant l lowest
 
-  deep-free : (k : Ends) (d : Vector) → ((a : Axis) → pos 0 <ℤ depth a (end_of k a) d) → IsFree (octant l k) d
-  deep-free k d f = record {
-    direction = λ z. none-deep (depth on_x k.x d) (depth-zero on_x k.x d z) (f on_x);
-    off_svertices = λ n v h w. each-svertex l k (λ j (u : MapVertex). SameDirection u.dir d → ⊥) (λ a w. none-deep (depth (next a) (end_of k (next a)) d) (level-depth (next a) (end_of k (next a)) d (along-level a (end_of k a) d w)) (f (next a))) n v h w;
-    off_items = λ n x h o. each-item l k (λ j (y : Item). OnItem (octant l k) y d → ⊥) (λ a o. none-deep (depth a (end_of k a) d) (level-depth a (end_of k a) d (on-quarter l k a d o).0) (f a)) n x h o;
+  deep-free : (d : Vector) → ((a : Axis) → pos 0 <ℤ part a d) → IsFree M d
+  deep-free d f = record {
+    direction = λ z. none-positive (part on_x d) (dot-zero (axis_of on_x) d z) (f on_x);
+    off_svertices = each-ray l (λ n (v : MapVertex). SameDirection v.dir d → ⊥) (λ a w. none-positive (part (next a) d) (level-ray a d w).0 (f (next a)));
+    off_items = each-quarter l (λ n (x : Item). OnItem M x d → ⊥) (λ a o. none-positive (part a d) (on-quarter l a d o).0 (f a));
   }
 
-  on-flank : (k : Ends) (a : Axis) → OnItem (octant l k) (arc_item (arc l k a)) (flank k a)
-  on-flank k a = quarter-on l k a (flank k a) (depth-level a (end_of k a) (flank k a) (flank-own a k.x k.y k.z), one-deep _ (flank-next a k.x k.y k.z), one-deep _ (flank-after a k.x k.y k.z))
+  on-flank : (a : Axis) → OnItem M (arc_item (arc l lowest a)) (flank a)
+  on-flank a = subst (λ c. OnItem M (arc_item c) (flank a)) (each-axis (quarter l) (arc l lowest) refl a)
+      (quarter-on l a (flank a) (each-axis (λ o. part o (flank o)) (λ o. pos 0) refl a, one _ (each-axis (λ o. part (next o) (flank o)) (λ o. pos 1) refl a), one _ (each-axis (λ o. part (after o) (flank o)) (λ o. pos 1) refl a)))
+    where
+      one : (i : ℤ) → i ≡ pos 1 → pos 0 <ℤ i
+      one i e = omega (arith, ints)
 
-  sees : (k : Ends) (a : Axis) → Sees (octant l k) (inner (end_of k a) (slot a)) (inward_way k)
-  sees k a = directly (flank k a)
-      (record {
-        start = deep-free k (inward_way k) (λ o. one-deep (depth o (end_of k o) (inward_way k)) (inward-deep o k.x k.y k.z));
-        direction = λ z. none-deep (depth (next a) (end_of k (next a)) (flank k a)) (depth-zero (next a) (end_of k (next a)) (flank k a) z) (one-deep _ (flank-next a k.x k.y k.z));
-        short = not-opposed a k;
-        between = λ i j g h. deep-free k (blend i (inward_way k) j (flank k a)) (λ o.
-            subst (λ u. pos 0 <ℤ u) (sym (deep-blend o (end_of k o) i j (inward_way k) (flank k a)))
-            (sum-positive i j (depth o (end_of k o) (inward_way k)) (depth o (end_of k o) (flank k a)) g (inward-deep o k.x k.y k.z)
-            (around (λ e. (depth e (end_of k e) (flank k a) ≡ pos 0) ⊎ (depth e (end_of k e) (flank k a) ≡ pos 1)) a (inl (flank-own a k.x k.y k.z)) (inr (flank-next a k.x k.y k.z)) (inr (flank-after a k.x k.y k.z)) o)));
+  clear : (a : Axis) → IsClear M (inward_way lowest) (flank a)
+  clear a = record {
+    start = deep-free (inward_way lowest) (λ o. let e = inward-part o in omega (arith, ints, e));
+    direction = some-direction (flank a) 1 (each-axis (λ o. dot (flank o) (flank o)) (λ o. pos 2) refl a);
+    short = λ w. let b = w.backward in let e = each-axis (λ o. dot (inward_way lowest) (flank o)) (λ o. pos 2) refl a in omega (arith, ints, b, e);
+    between = λ i j g h. deep-free (blend i (inward_way lowest) j (flank a)) (λ o. subst (λ u. pos 0 <ℤ u) (sym (dot-comb (axis_of o) (pos i) (inward_way lowest) (pos j) (flank a)))
+        (some-part i j (cond (slot o == slot a) 0 1) _ _ g (inward-part o)
+        (each-axis (λ b. part o (flank b)) (λ b. pos (cond (slot o == slot b) 0 1)) (each-axis (λ c. on_axes (λ b. part c (flank b))) (λ c. on_axes (λ b. pos (cond (slot c == slot b) 0 1))) refl o) a)));
+  }
+    where
+      inward-part : (o : Axis) → part o (inward_way lowest) ≡ pos 1
+      inward-part o = each-axis (λ b. part b (inward_way lowest)) (λ b. pos 1) refl o
+
+  -- and so at each corner
+  module _ (k : Ends) where
+    abbrev t : ℕ
+    t = turn_to k
+
+    abbrev inside : Vector
+    inside = turned_vector t (inward_way lowest)
+
+    facing : (a : Axis) (b : Bool) → dot (axis_of a) inside ≡ inward b → Reaches (octant l k) (side_of b (slot a)) inside (turned_vector t (flank a))
+    facing a b e = by b e
+      where
+        on : OnItem (octant l k) (arc_item (arc l k a)) (turned_vector t (flank a))
+        on = (item-on t M (octant l k) (lowest-shaped l) (octant_turned l k) (slot a) (end_of k (axis_number (slot a))) (arc_item (arc l lowest a)) (arc_item (arc l k a)) (item-at l lowest a) (arc-turned l k a) (flank a)).1 (on-flank a)
+
+        by : (b : Bool) → dot (axis_of a) inside ≡ inward b → Reaches (octant l k) (side_of b (slot a)) inside (turned_vector t (flank a))
+        by true e = (arc_item (arc l k a), item-at l k a, on, omega (arith, ints, e))
+        by false e = (arc_item (arc l k a), item-at l k a, on, omega (arith, ints, e))
+
+    sees : (a : Axis) → Sees (octant l k) (side_of (end_of k a) (slot a)) inside
+    sees a = directly (turned_vector t (flank a))
+        (clear-there (turned_vector t) (unturned_vector t) (is_odd t) (turning t) (vector-back t) (back-vector t) M (octant l k) (image t M (octant l k) (lowest-shaped l) (octant_turned l k)) (image_back t M (octant l k) (lowest-shaped l) (octant_turned l k)) (inward_way lowest) (flank a) (clear a))
+        (facing a (end_of k a) (each-slot (λ j o. dot (axis_of o) (turned_vector (turn_to j) (inward_way lowest))) (λ j o. inward (end_of j o)) refl k a))
+
+    pub one-sface : (a b : Axis) → InOneSface (octant l k) (side_of (end_of k a) (slot a)) (side_of (end_of k b) (slot b))
+    one-sface a b = link (side_of (end_of k a) (slot a)) (side_of (end_of k b) (slot b)) (side_of (end_of k b) (slot b)) l (has-inner l k b) (inside, sees a, sees b) (here (side_of (end_of k b) (slot b)))
+
+-- ---- the corners of a side of the frame, each with the next of its facet
+-- the number of the facet
+abbrev pub face : Ends → Axis → ℕ
+face k a = slot a + cond (end_of k a) 3 0
+
+-- the first corner
+abbrev pub first : Ends → Axis → Ends
+first k a = at_end lowest a (end_of k a)
+
+abbrev pub are_one : Ends → Axis → Ends → Axis → Bool
+are_one k a j o = eqb (face k a) (face j o)
+
+one-first : (k : Ends) (a : Axis) (j : Ends) (o : Axis) → face k a ≡ face j o → corner (first j o) o ≡ corner (first k a) a
+one-first k a j o e = subst (λ b. cond b (corner (first j o) o) (corner (first k a) a) ≡ corner (first k a) a) (eq-eqb (face k a) (face j o) e) (each-pair (λ i c m d. cond (are_one i c m d) (corner (first m d) d) (corner (first i c) c)) (λ i c m d. corner (first i c) c) refl k a j o)
+
+abbrev pub next_corner : Ends → Axis → Ends
+next_corner k a = at_end k (source_of k a) (cond (end_of k (source_of k a)) false true)
+
+abbrev pub second : Ends → Axis → Ends
+second k a = next_corner (first k a) a
+
+abbrev pub third : Ends → Axis → Ends
+third k a = next_corner (second k a) a
+
+abbrev pub fourth : Ends → Axis → Ends
+fourth k a = next_corner (third k a) a
+
+abbrev pub ring : Ends → Axis → List Ends
+ring k a = first k a ∷ second k a ∷ third k a ∷ fourth k a ∷ []
+
+pub on-ring : (k : Ends) (a : Axis) → (m : ℕ) × At (ring k a) m k
+on-ring k a = let m = seek number (number k) (ring k a) in (m, some-at (ring k a) m k (each-slot (λ j o. slice_get (ring j o) (seek number (number j) (ring j o))) (λ j o. Some j) refl k a))
+
+-- an edge that leads from this end of it, or from the other
+either-end : (b : Bool) (i s j t p q r u : ℕ) → cond b r p ≡ i → cond b u q ≡ s → cond b p r ≡ j → cond b q u ≡ t → Leads (record { low = p; low_svertex = q; high = r; high_svertex = u; mark = Out }) i s j t
+either-end true i s j t p q r u d e f g = inr (d, e, f, g)
+either-end false i s j t p q r u d e f g = inl (d, e, f, g)
+
+module _ (l : Label) (hs : List Form) where
+  abbrev C : Complex
+  C = frame_complex l hs
+
+  pub step : (k : Ends) (a : Axis) → NextCorner C (corner k a) (corner (next_corner k a) a)
+  step k a =
+      let o = source_of k a in
+      let j = next_corner k a in
+      inl (record {
+        here = vertex_at l k;
+        there = vertex_at l j;
+        this_arc = arc l k a;
+        that_arc = arc l j a;
+        is_here = frame-vertex l k;
+        is_there = frame-vertex l j;
+        is_this = arc-at l k a;
+        is_that = arc-at l j a;
+        number = edge_slot k o;
+        edge = edge_at k o;
+        is_edge = edge-there k o;
+        leads = either-end (end_of k o) (number k) (place k.x k.y o) (number j) (place j.x j.y (target_of j a)) (edge_at k o).low (edge_at k o).low_svertex (edge_at k o).high (edge_at k o).high_svertex
+            (each-slot (λ i c. cond (end_of i c) (edge_at i c).high (edge_at i c).low) (λ i c. number i) refl k o)
+            (each-slot (λ i c. cond (end_of i c) (edge_at i c).high_svertex (edge_at i c).low_svertex) (λ i c. place i.x i.y c) refl k o)
+            (each-slot (λ i c. cond (end_of i (source_of i c)) (edge_at i (source_of i c)).low (edge_at i (source_of i c)).high) (λ i c. number (next_corner i c)) refl k a)
+            (each-slot (λ i c. cond (end_of i (source_of i c)) (edge_at i (source_of i c)).low_svertex (edge_at i (source_of i c)).high_svertex) (λ i c. (arc Out (next_corner i c) c).target) refl k a);
+        one_normal = axis-self a;
       })
-      (reaches-by (octant l k) (slot a) (arc_item (arc l k a)) (inward_way k) (flank k a) (end_of k a) (item-at l k a) (on-flank k a) (dot-inward a k))
 
-  module _ (hs : List Form) where
-    abbrev C : Complex
-    C = frame_complex l hs
+  from-first : (k : Ends) (a : Axis) → Chained (FacetLink C) (corner (first k a) a) (corner k a)
+  from-first k a =
+      let L = FacetLink C in
+      let two = next-linked C (corner (first k a) a) (corner (second k a) a) (step (first k a) a) in
+      let three = chain-trans L (corner (first k a) a) (corner (second k a) a) (corner (third k a) a) two (next-linked C (corner (second k a) a) (corner (third k a) a) (step (second k a) a)) in
+      let four = chain-trans L (corner (first k a) a) (corner (third k a) a) (corner (fourth k a) a) three (next-linked C (corner (third k a) a) (corner (fourth k a) a) (step (third k a) a)) in
+      let m = on-ring k a in
+      of-four (λ j. Chained L (corner (first k a) a) (corner j a)) (first k a) (second k a) (third k a) (fourth k a) (chain-here L (corner (first k a) a)) two three four m.0 k m.1
 
-    along : (o : Axis) (b c : Bool) (a : Axis) → OneWay l (corner_by o false b c) (corner_by o true b c) a o → AreAlong C (edge_of o b c) (slot a) (slot a)
-    along o b c a w =
-        let k = corner_by o false b c in let j = corner_by o true b c in
-        record {
-          low_vertex = vertex_at l k;
-          high_vertex = vertex_at l j;
-          ends = record { low = frame-vertex l k; high = frame-vertex l j };
-          low_arc = arc l k a;
-          high_arc = arc l j a;
-          is_low = arc-at l k a;
-          is_high = arc-at l j a;
-          one_normal = dir-self (axis_of a) (axis-some a);
-          one_way = w;
-        }
+  pub facet-chain : (k : Ends) (a : Axis) (j : Ends) (o : Axis) → face k a ≡ face j o → Chained (FacetLink C) (corner k a) (corner j o)
+  facet-chain k a j o e = chain-trans (FacetLink C) (corner k a) (corner (first k a) a) (corner j o) (chain-turned (FacetLink C) (corner (first k a) a) (corner k a) (from-first k a))
+      (subst (λ (c : Corner). Chained (FacetLink C) c (corner j o)) (one-first k a j o e) (from-first j o))
 
-    item-link : (o : Axis) (b c : Bool) (a : Axis) → OneWay l (corner_by o false b c) (corner_by o true b c) a o → LinkAlong C (corner (corner_by o false b c) a) (corner (corner_by o true b c) a)
-    item-link o b c a w = record { number = edge_slot o b c; edge = edge_of o b c; is_edge = edge-there o b c; from_low = refl; to_high = refl; along = along o b c a w }
+  -- ---- sides inward
+  pub inner-label : (k : Ends) (a : Axis) → HasSideLabel C (inner_side k a) l
+  inner-label k a = (vertex_at l k, frame-vertex l k, has-inner l k a)
 
-    -- ---- items in one side
-    next-items : (a : Axis) (e c : Bool) → LinkAlong C (corner (corner_by a e false c) a) (corner (corner_by a e true c) a)
-    next-items on_x e c = item-link on_y c e on_x (after-ways l on_y c e)
-    next-items on_y e c = item-link on_z c e on_y (after-ways l on_z c e)
-    next-items on_z e c = item-link on_x c e on_z (after-ways l on_x c e)
+  sides-chain : (a : Axis) (k j : Ends) → end_of k a ≡ end_of j a → Chained (VolumeLink C) (inner_side k a) (inner_side j a)
+  sides-chain a k j e = subst (λ b. Chained (VolumeLink C) (inner_side k a) (item_side j a b)) e (by (end_of k a))
+    where
+      by : (b : Bool) → Chained (VolumeLink C) (item_side k a b) (item_side j a b)
+      by true = chain-neg C (corner k a) (corner j a) (facet-chain k a j a (ap (λ b. slot a + cond b 3 0) e))
+      by false = chain-pos C (corner k a) (corner j a) (facet-chain k a j a (ap (λ b. slot a + cond b 3 0) e))
 
-    after-items : (a : Axis) (e b : Bool) → LinkAlong C (corner (corner_by a e b false) a) (corner (corner_by a e b true) a)
-    after-items on_x e b = item-link on_z e b on_x (next-ways l on_z e b)
-    after-items on_y e b = item-link on_x e b on_y (next-ways l on_x e b)
-    after-items on_z e b = item-link on_y e b on_z (next-ways l on_y e b)
+  at-corner : (k : Ends) (a b : Axis) → Chained (VolumeLink C) (inner_side k a) (inner_side k b)
+  at-corner k a b = chain-link (VolumeLink C) (inner_side k a) (inner_side k b) (inl (record {
+    vertex = vertex_at l k;
+    is_vertex = frame-vertex l k;
+    one_vertex = refl;
+    one = l;
+    other = l;
+    has = has-inner l k a;
+    has_other = has-inner l k b;
+    one_sface = one-sface l k a b;
+  }))
 
-    items-chain : (a : Axis) (e b c b' c' : Bool) → Chained (FacetLink C) (corner (corner_by a e b c) a) (corner (corner_by a e b' c') a)
-    items-chain a e = wall-chain (FacetLink C) (λ i. corner i a) a e (λ c. inl (next-items a e c)) (λ b. inl (after-items a e b))
-
-    pub facet-chain : (a : Axis) (k j : Ends) → end_of k a ≡ end_of j a → Chained (FacetLink C) (corner k a) (corner j a)
-    facet-chain on_x k j e = subst (λ b. Chained (FacetLink C) (corner k on_x) (corner (ends b j.y j.z) on_x)) e (items-chain on_x k.x k.y k.z j.y j.z)
-    facet-chain on_y k j e = subst (λ b. Chained (FacetLink C) (corner k on_y) (corner (ends j.x b j.z) on_y)) e (items-chain on_y k.y k.z k.x j.z j.x)
-    facet-chain on_z k j e = subst (λ b. Chained (FacetLink C) (corner k on_z) (corner (ends j.x j.y b) on_z)) e (items-chain on_z k.z k.x k.y j.x j.y)
-
-    -- ---- sides inward
-    pub inner-label : (k : Ends) (a : Axis) → HasSideLabel C (inner_side k a) l
-    inner-label k a = (vertex_at l k, frame-vertex l k, has-inner k a)
-
-    inner-of : (k : Ends) (a : Axis) → IsSideOf C (inner_side k a) (number k) (inner (end_of k a) (slot a))
-    inner-of k a = (l, refl, refl, inner-label k a)
-
-    same-sides : (E : Edge) (n : ℕ) (b : Bool) → AreAlong C E n n → AreSidesAlong C E (inner b n) (inner b n)
-    same-sides E n true A = neg_arcs n n A refl refl
-    same-sides E n false A = pos_arcs n n A refl refl
-
-    side-link : (o : Axis) (b c : Bool) (a : Axis) (e : Bool) → AreAlong C (edge_of o b c) (slot a) (slot a)
-        → HasSide (octant l (corner_by o false b c)) (inner e (slot a)) l → HasSide (octant l (corner_by o true b c)) (inner e (slot a)) l
-        → LinkAlongEdge C (record { vertex = number (corner_by o false b c); side = inner e (slot a) }) (record { vertex = number (corner_by o true b c); side = inner e (slot a) })
-    side-link o b c a e A g h = record {
-      number = edge_slot o b c;
-      edge = edge_of o b c;
-      is_edge = edge-there o b c;
-      low_side = inner e (slot a);
-      high_side = inner e (slot a);
-      is_low = (l, refl, refl, (vertex_at l (corner_by o false b c), frame-vertex l (corner_by o false b c), g));
-      is_high = (l, refl, refl, (vertex_at l (corner_by o true b c), frame-vertex l (corner_by o true b c), h));
-      along = same-sides (edge_of o b c) (slot a) e A;
-    }
-
-    next-sides : (a : Axis) (e c : Bool) → LinkAlongEdge C (inner_side (corner_by a e false c) a) (inner_side (corner_by a e true c) a)
-    next-sides on_x e c = side-link on_y c e on_x e (along on_y c e on_x (after-ways l on_y c e)) (has-inner (ends e false c) on_x) (has-inner (ends e true c) on_x)
-    next-sides on_y e c = side-link on_z c e on_y e (along on_z c e on_y (after-ways l on_z c e)) (has-inner (ends c e false) on_y) (has-inner (ends c e true) on_y)
-    next-sides on_z e c = side-link on_x c e on_z e (along on_x c e on_z (after-ways l on_x c e)) (has-inner (ends false c e) on_z) (has-inner (ends true c e) on_z)
-
-    after-sides : (a : Axis) (e b : Bool) → LinkAlongEdge C (inner_side (corner_by a e b false) a) (inner_side (corner_by a e b true) a)
-    after-sides on_x e b = side-link on_z e b on_x e (along on_z e b on_x (next-ways l on_z e b)) (has-inner (ends e b false) on_x) (has-inner (ends e b true) on_x)
-    after-sides on_y e b = side-link on_x e b on_y e (along on_x e b on_y (next-ways l on_x e b)) (has-inner (ends false e b) on_y) (has-inner (ends true e b) on_y)
-    after-sides on_z e b = side-link on_y e b on_z e (along on_y e b on_z (next-ways l on_y e b)) (has-inner (ends b false e) on_z) (has-inner (ends b true e) on_z)
-
-    sides-chain : (a : Axis) (e b c b' c' : Bool) → Chained (VolumeLink C) (inner_side (corner_by a e b c) a) (inner_side (corner_by a e b' c') a)
-    sides-chain a e = wall-chain (VolumeLink C) (λ i. inner_side i a) a e (λ c. inr (inl (next-sides a e c))) (λ b. inr (inl (after-sides a e b)))
-
-    sface-link : (k : Ends) (a b : Axis) → LinkInSface C (inner_side k a) (inner_side k b)
-    sface-link k a b = record {
-      vertex = vertex_at l k;
-      is_vertex = frame-vertex l k;
-      one_vertex = refl;
-      one = l;
-      other = l;
-      has = has-inner k a;
-      has_other = has-inner k b;
-      one_sface = link (inner (end_of k a) (slot a)) (inner (end_of k b) (slot b)) (inner (end_of k b) (slot b)) l (has-inner k b) (inward_way k, sees k a, sees k b) (here (inner (end_of k b) (slot b)));
-    }
-
-    at-corner : (k : Ends) (a b : Axis) → Chained (VolumeLink C) (inner_side k a) (inner_side k b)
-    at-corner k a b = chain-link (VolumeLink C) (inner_side k a) (inner_side k b) (inl (sface-link k a b))
-
-    pub volume-chain : (k j : Ends) (a b : Axis) → Chained (VolumeLink C) (inner_side k a) (inner_side j b)
-    volume-chain k j a b =
-        let L = VolumeLink C in
-        let i = ends k.x j.y j.z in
-        chain-trans L (inner_side k a) (inner_side k on_x) (inner_side j b) (at-corner k a on_x)
-        (chain-trans L (inner_side k on_x) (inner_side i on_x) (inner_side j b) (sides-chain on_x k.x k.y k.z j.y j.z)
-        (chain-trans L (inner_side i on_x) (inner_side i on_y) (inner_side j b) (at-corner i on_x on_y)
-        (chain-trans L (inner_side i on_y) (inner_side j on_y) (inner_side j b) (sides-chain on_y j.y j.z k.x j.z j.x) (at-corner j on_y b))))
+  pub volume-chain : (k j : Ends) (a b : Axis) → Chained (VolumeLink C) (inner_side k a) (inner_side j b)
+  volume-chain k j a b =
+      let L = VolumeLink C in
+      let i = ends k.x j.y j.z in
+      chain-trans L (inner_side k a) (inner_side k on_x) (inner_side j b) (at-corner k a on_x)
+      (chain-trans L (inner_side k on_x) (inner_side i on_x) (inner_side j b) (sides-chain on_x k i refl)
+      (chain-trans L (inner_side i on_x) (inner_side i on_y) (inner_side j b) (at-corner i on_x on_y)
+      (chain-trans L (inner_side i on_y) (inner_side j on_y) (inner_side j b) (sides-chain on_y i j refl) (at-corner j on_y b))))

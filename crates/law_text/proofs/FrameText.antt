@@ -1,40 +1,13 @@
 -- The texts of the empty set and of the whole frame.
-use Rattle.std.proofs.Common.{◌≡◌, ℕ, zero, suc, ℤ, pos, nat_abs, ◌<ℤ◌, arith, refl, sym, ◌∙◌, ap, Bool, true, false, List, [], ◌∷◌, ◌++◌, length, map, subst, Option, Some, None, codes, option_map, option_to_list}
-use Rattle.std.proofs.lemmas.Int.{ints}
-use Rattle.std.proofs.lemmas.List.{length-map}
+use Rattle.law_text.proofs.Prelude.{◌≡◌, ℕ, suc, ℤ, pos, nat_abs, ◌<ℤ◌, arith, refl, sym, ◌∙◌, ap, true, false, List, [], ◌∷◌, ◌++◌, length, map, subst, Option, Some, None, codes, option_map, option_to_list, ints, length-map, flat_map, SameSet, IsAt, Place, Form, Set, Vector, Label, Out, Not, In, cones-of_same, FlatDim-by_cone, form_of, Plane, MapVertex, Arc, MapSloop, at-from_get, svertex_of, arc_of, sloop_of, SLoop, Vertex as PlainVertex, Edge as PlainEdge, Complex as PlainComplex, Corner as PlainCorner, Edges, vertex_of, edge_of, corner_of, complex_of, ShowsSet, cone-carried, edges-one, One, IsFacet, IsParts, cycle_corners, Word, line, label_word, option_word, numbers, signed, plane_words, vertex_text, svertex_line, arc_line, sloop_line, edge_line, cycle_line, facet_text, volume_line, text, Cycle, Facet, Parts, Ends, Axis, IsWhole, empty-whole, full-whole, end_of, turned_set}
 use Rattle.std.specs.Fmt.{digits}
-use Rattle.std.specs.List.{flat_map}
-use Rattle.nef_space.specs.Local.{SameSet}
-use Rattle.nef_space.specs.Lists.{IsAt}
-use Rattle.nef_space.specs.Place.{Place, Form}
-use Rattle.nef_space.specs.Sets.{Set}
-use Rattle.nef_space.specs.Vectors.{Vector}
-use Rattle.nef_space.specs.declared.label.Label.{Label}
-use Rattle.nef_space.specs.declared.label.Label.TheVariants.{Out, Not, In}
-use Rattle.law_near.proofs.Alike.{cones-of_same, FlatDim-by_cone}
-use Rattle.nef_geo.specs.Shapes.{form_of}
-use Rattle.nef_geo.specs.declared.plane.Plane.{Plane}
-use Rattle.law_sphere.specs.Maps.{At, MapVertex, Arc, MapSloop}
-use Rattle.nef_smap.proofs.SideLists.{at-from_get}
-use Rattle.nef_smap.specs.Maps.{svertex_of, arc_of, sloop_of}
-use Rattle.nef_smap.specs.declared.map.SLoop.{SLoop}
-use Rattle.law_complex.specs.Complexes.{Vertex as PlainVertex, Edge as PlainEdge, Complex as PlainComplex, Corner as PlainCorner, Edges}
 use Rattle.nef_complex.specs.declared.complex.Complex.{Complex}
 use Rattle.nef_complex.specs.declared.complex.Vertex.{Vertex}
-use Rattle.nef_complex.specs.Complexes.{vertex_of, edge_of, corner_of, complex_of, ShowsSet}
-use Rattle.nef_unique.proofs.Vertices.{cone-carried, edges-one}
-use Rattle.nef_core.specs.declared.work.TextVersion.TheVariants.{One}
-use Rattle.nef_complex.specs.Numbers.{IsFacet, IsParts, cycle_corners}
-use Rattle.nef_complex.specs.Text.{Word, line, label_word, option_word, numbers, signed, plane_words, vertex_text, svertex_line, arc_line, sloop_line, edge_line, cycle_line, facet_text, volume_line, text}
-use Rattle.nef_complex.specs.declared.parts.Cycle.{Cycle}
-use Rattle.nef_complex.specs.declared.parts.Facet.{Facet}
-use Rattle.nef_complex.specs.declared.parts.Parts.{Parts}
-use Rattle.nef_result.proofs.Walls.{Axis, on_x, on_y, on_z, IsWhole, empty-whole, full-whole}
-use Rattle.nef_result.proofs.Listed.{frame_vertices, AreOf, vertices-listed}
-use Rattle.nef_result.proofs.FrameEdges.{frame_edges, frame-edges}
 use Rattle.law_text.specs.Frame.{empty_text, with_in, EmptyText, FullText}
+use Rattle.law_text.proofs.FrameVertices.{frame_vertices, AreOf, vertices-listed}
+use Rattle.law_text.proofs.FrameEdges.{frame_edges, frame-edges}
 use Rattle.law_text.proofs.FrameLinks.{frame_complex}
-use Rattle.law_text.proofs.FrameParts.{face, wall_plane, wall_cycle, above_number, beneath_number, IsWallFacet, facet-is, six-facets, volumes-are}
+use Rattle.law_text.proofs.FrameParts.{Wall, walls, wall-number, wall_plane, wall_cycle, volume_beside, IsWallFacet, facet-is, six-facets, volumes-are}
 use Rattle.law_text.proofs.OneCycles.{HasOneNext}
 use Rattle.law_text.proofs.OneNext.{one-next}
 
@@ -111,41 +84,20 @@ cycles-plain : (xs : List Cycle) → flat_map cycle_line xs ≡ flat_map plain_c
 cycles-plain [] = refl
 cycles-plain (x ∷ xs) = ap (λ r. r ++ flat_map cycle_line xs) (cycle-plain x) ∙ ap (λ r. plain_cycle (map corner_of x.corners) ++ r) (cycles-plain xs)
 
-abbrev wall_text : Axis → Bool → List ℕ
-wall_text a e = facet_by (wall_plane a e) Out (above_number e) (beneath_number e) (flat_map plain_cycle (wall_cycle a e ∷ []))
+abbrev wall_text : Wall → List ℕ
+wall_text (k, a) = facet_by (wall_plane a (end_of k a)) Out (volume_beside (end_of k a) false) (volume_beside (end_of k a) true) (flat_map plain_cycle (wall_cycle k a ∷ []))
 
-facet-plain : (a : Axis) (e : Bool) (f : Facet) → IsWallFacet a e f → facet_text f ≡ wall_text a e
-facet-plain a e f F =
-    ap (λ h. facet_by h f.mark f.pos f.neg (flat_map cycle_line f.cycles)) F.plane
-    ∙ ap (λ m. facet_by (wall_plane a e) m f.pos f.neg (flat_map cycle_line f.cycles)) F.mark
-    ∙ ap (λ n. facet_by (wall_plane a e) Out n f.neg (flat_map cycle_line f.cycles)) F.pos
-    ∙ ap (λ n. facet_by (wall_plane a e) Out (above_number e) n (flat_map cycle_line f.cycles)) F.neg
-    ∙ ap (λ c. facet_by (wall_plane a e) Out (above_number e) (beneath_number e) c) (cycles-plain f.cycles ∙ ap (flat_map plain_cycle) F.cycles)
-
--- the sides of the frame, by their numbers
-abbrev Wall : Type 0
-Wall = Axis × Bool
-
-abbrev walls : List Wall
-walls = (on_z, false) ∷ (on_y, false) ∷ (on_x, false) ∷ (on_z, true) ∷ (on_y, true) ∷ (on_x, true) ∷ []
-
-wall-number : (n : ℕ) (w : Wall) → At walls n w → n ≡ face w.0 w.1
-wall-number zero w h = subst (λ (v : Wall). 0 ≡ face v.0 v.1) h refl
-wall-number (suc zero) w h = subst (λ (v : Wall). 1 ≡ face v.0 v.1) h refl
-wall-number (suc (suc zero)) w h = subst (λ (v : Wall). 2 ≡ face v.0 v.1) h refl
-wall-number (suc (suc (suc zero))) w h = subst (λ (v : Wall). 3 ≡ face v.0 v.1) h refl
-wall-number (suc (suc (suc (suc zero)))) w h = subst (λ (v : Wall). 4 ≡ face v.0 v.1) h refl
-wall-number (suc (suc (suc (suc (suc zero))))) w h = subst (λ (v : Wall). 5 ≡ face v.0 v.1) h refl
-wall-number (suc (suc (suc (suc (suc (suc n)))))) w h = absurd h
+facet-plain : (k : Ends) (a : Axis) (f : Facet) → IsWallFacet k a f → facet_text f ≡ wall_text (k, a)
+facet-plain k a f (g, m, above, under, cycles) = ap (facet_by f.plane f.mark f.pos f.neg) (cycles-plain f.cycles) ∙ rw (g, m, above, under, cycles) refl
 
 -- ---- the text
 abbrev text_by : List ℕ → List ℕ → List ℕ → List ℕ → List Label → List ℕ
 text_by ns vs es fs ms = line (codes "nef3" ∷ codes "1" ∷ [] ++ numbers ns) ++ vs ++ es ++ fs ++ flat_map volume_line ms
 
 abbrev frame_text : Label → List ℕ
-frame_text l = text_by (8 ∷ 12 ∷ 6 ∷ 2 ∷ []) (flat_map plain_vertex (frame_vertices l)) (flat_map plain_edge frame_edges) (flat_map (λ (w : Wall). wall_text w.0 w.1) walls) (Out ∷ l ∷ [])
+frame_text l = text_by (8 ∷ 12 ∷ 6 ∷ 2 ∷ []) (flat_map plain_vertex (frame_vertices l)) (flat_map plain_edge frame_edges) (flat_map wall_text walls) (Out ∷ l ∷ [])
 
-module _ (t : Set) (l : Label) (W : IsWhole t l) (s : Set) (c : Complex) (p : Parts) (same : SameSet s t) (S : ShowsSet s c) (P : IsParts (complex_of c) p) where
+module _ (t : Set) (l : Label) (W : IsWhole t l) (turned : (n : ℕ) → turned_set n t ≡ t) (s : Set) (c : Complex) (p : Parts) (same : SameSet s t) (S : ShowsSet s c) (P : IsParts (complex_of c) p) where
   -- the vertices are those of the other set too
   of-other : AreOf t (map vertex_of c.vertices)
   of-other =
@@ -160,7 +112,7 @@ module _ (t : Set) (l : Label) (W : IsWhole t l) (s : Set) (c : Complex) (p : Pa
       }
 
   vertices-are : map vertex_of c.vertices ≡ frame_vertices l
-  vertices-are = vertices-listed t l W c.vertices of-other
+  vertices-are = vertices-listed t l W turned c.vertices of-other
 
   edges-are : map edge_of c.edges ≡ frame_edges
   edges-are = edges-one (frame_vertices l) (map edge_of c.edges) frame_edges (subst (λ (vs : List PlainVertex). Edges vs (map edge_of c.edges)) vertices-are S.shows.edges) (frame-edges l)
@@ -178,8 +130,8 @@ module _ (t : Set) (l : Label) (W : IsWhole t l) (s : Set) (c : Complex) (p : Pa
   one : HasOneNext (frame_complex l hs)
   one = subst HasOneNext complex-is (one-next s (complex_of c) S.shows)
 
-  facets-text : flat_map facet_text p.facets ≡ flat_map (λ (w : Wall). wall_text w.0 w.1) walls
-  facets-text = flat-same facet_text (λ (w : Wall). wall_text w.0 w.1) p.facets walls (six-facets l hs W.some one p parts)
+  facets-text : flat_map facet_text p.facets ≡ flat_map wall_text walls
+  facets-text = flat-same facet_text wall_text p.facets walls (six-facets l hs W.some one p parts)
       (λ n f w g h.
       let e = wall-number n w (at-from_get walls n w h) in
       facet-plain w.0 w.1 f (facet-is l hs W.some one p parts w.0 w.1 f (subst (λ (m : ℕ). IsFacet (frame_complex l hs) p m f) e (parts.facets n f g))))
@@ -192,16 +144,11 @@ module _ (t : Set) (l : Label) (W : IsWhole t l) (s : Set) (c : Complex) (p : Pa
 
   pub text-is : text One c p ≡ frame_text l
   text-is =
-      let vs = flat_map vertex_text c.vertices in
-      let es = flat_map edge_line c.edges in
-      let fs = flat_map facet_text p.facets in
-      ap (λ n. text_by (n ∷ length c.edges ∷ length p.facets ∷ length p.volumes ∷ []) vs es fs p.volumes) many-vertices
-      ∙ ap (λ n. text_by (8 ∷ n ∷ length p.facets ∷ length p.volumes ∷ []) vs es fs p.volumes) many-edges
-      ∙ ap (λ n. text_by (8 ∷ 12 ∷ n ∷ length p.volumes ∷ []) vs es fs p.volumes) (six-facets l hs W.some one p parts)
-      ∙ ap (λ (ms : List Label). text_by (8 ∷ 12 ∷ 6 ∷ length ms ∷ []) vs es fs ms) (volumes-are l hs W.some one p parts)
-      ∙ ap (λ xs. text_by (8 ∷ 12 ∷ 6 ∷ 2 ∷ []) xs es fs (Out ∷ l ∷ [])) (all-plain c.vertices ∙ ap (flat_map plain_vertex) vertices-are)
-      ∙ ap (λ xs. text_by (8 ∷ 12 ∷ 6 ∷ 2 ∷ []) (flat_map plain_vertex (frame_vertices l)) xs fs (Out ∷ l ∷ [])) (flat-image plain_edge edge_of c.edges ∙ ap (flat_map plain_edge) edges-are)
-      ∙ ap (λ xs. text_by (8 ∷ 12 ∷ 6 ∷ 2 ∷ []) (flat_map plain_vertex (frame_vertices l)) (flat_map plain_edge frame_edges) xs (Out ∷ l ∷ [])) facets-text
+      let vs : flat_map vertex_text c.vertices ≡ flat_map plain_vertex (frame_vertices l) = all-plain c.vertices ∙ ap (flat_map plain_vertex) vertices-are in
+      let es : flat_map edge_line c.edges ≡ flat_map plain_edge frame_edges = flat-image plain_edge edge_of c.edges ∙ ap (flat_map plain_edge) edges-are in
+      let made : text_by (length c.vertices ∷ length c.edges ∷ length p.facets ∷ length p.volumes ∷ []) (flat_map vertex_text c.vertices) (flat_map edge_line c.edges) (flat_map facet_text p.facets) p.volumes ≡ frame_text l =
+      rw (many-vertices, many-edges, six-facets l hs W.some one p parts, vs, es, facets-text, volumes-are l hs W.some one p parts) refl in
+      made
 
 empty-listed : frame_text Not ≡ empty_text
 unfolding digits
@@ -212,7 +159,7 @@ unfolding digits
 full-listed = refl
 
 pub empty-is : EmptyText
-empty-is s c p same S P = text-is Set.empty Not empty-whole s c p same S P ∙ empty-listed
+empty-is s c p same S P = text-is Set.empty Not empty-whole (λ n. refl) s c p same S P ∙ empty-listed
 
 pub full-is : FullText
-full-is s c p same S P = text-is Set.full In full-whole s c p same S P ∙ full-listed
+full-is s c p same S P = text-is Set.full In full-whole (λ n. refl) s c p same S P ∙ full-listed

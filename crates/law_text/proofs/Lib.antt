@@ -1,3 +1,4 @@
+pub mod Prelude
 pub mod Lines
 pub mod Words
 pub mod Lists
@@ -11,6 +12,11 @@ mod OneNext
 mod OneShells
 mod OneParts
 pub mod SameText
+mod Corners
+mod Octants
+mod LowestCorner
+mod FrameVertices
+mod FrameEdges
 mod FrameLinks
 mod FrameParts
 mod FrameText

@@ -1,6 +1,5 @@
 -- Where the words of a line end, and the line.
-use Rattle.std.proofs.Common.{◌≡◌, ℕ, ◌<◌, ◌≤◌, arith, refl, ap, sym, ◌∙◌, List, [], ◌∷◌, ◌++◌, append_assoc, subst}
-use Rattle.nef_complex.specs.Text.{Word, line}
+use Rattle.law_text.proofs.Prelude.{◌≡◌, ℕ, ◌<◌, ◌≤◌, arith, refl, ap, sym, ◌∙◌, List, [], ◌∷◌, ◌++◌, append_assoc, subst, Word, line}
 
 -- each element has P
 abbrev pub Each : {A : Type 0} → (A → Type 0) → List A → Type 0

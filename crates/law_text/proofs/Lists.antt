@@ -1,7 +1,5 @@
 -- Texts that stand one after the other, each told by its first letter.
-use Rattle.std.proofs.Common.{◌≡◌, ℕ, refl, ap, sym, ◌∙◌, List, [], ◌∷◌, ◌++◌, length, map, append_assoc, subst}
-use Rattle.std.specs.List.{flat_map}
-use Rattle.std.proofs.lemmas.List.{length-map}
+use Rattle.law_text.proofs.Prelude.{◌≡◌, ℕ, refl, ap, sym, ◌∙◌, List, [], ◌∷◌, ◌++◌, length, map, append_assoc, subst, flat_map, length-map}
 use Rattle.law_text.proofs.Lines.{Starts, Lacks, starts-lacks, starts-never, same-both}
 
 -- the text before a rest tells the value, and where the rest begins

@@ -1,8 +1,5 @@
 -- The numbers of classes by first appearance are the only ones.
-use Rattle.std.proofs.Common.{◌≡◌, ℕ, zero, suc, ◌<◌, ◌≤◌, pos, ◌⊎◌, inl, inr, ⊎_elim, [], ◌∷◌, arith, refl, sym, ap, subst}
-use Rattle.std.proofs.lemmas.Int.{ints}
-use Rattle.nef_space.specs.Lists.{NumbersClasses}
-use Rattle.nef_space.specs.Numbers.{IsBelow}
+use Rattle.law_text.proofs.Prelude.{◌≡◌, ℕ, zero, suc, ◌<◌, ◌≤◌, pos, ◌⊎◌, inl, inr, ⊎_elim, [], ◌∷◌, arith, refl, sym, ap, subst, ints, NumbersClasses, IsBelow}
 
 -- the place l in row j comes before the place k in row i
 abbrev pub IsEarlier : ℕ → ℕ → ℕ → ℕ → Type 0
@@ -25,7 +22,7 @@ module _ (P : ℕ → ℕ → Type 0) (step : (i k : ℕ) → ((j l : ℕ) → I
   pub by-places : (i k : ℕ) → P i k
   by-places i k = below (suc i) i k (omega arith)
 
-three-ways : (m n : ℕ) → (m < n) ⊎ (m ≡ n) ⊎ (n < m)
+pub three-ways : (m n : ℕ) → (m < n) ⊎ (m ≡ n) ⊎ (n < m)
 three-ways zero zero = inr (inl refl)
 three-ways zero (suc n) = inl (omega arith)
 three-ways (suc m) zero = inr (inr (omega arith))

@@ -1,11 +1,5 @@
 -- Where each corner has one next corner, the cycles are the only ones.
-use Rattle.std.proofs.Common.{◌≡◌, ℕ, zero, suc, ◌<◌, ◌⊎◌, inl, inr, ⊎_elim, List, [], ◌∷◌, length, arith, refl, sym, ◌∙◌, ap, subst}
-use Rattle.std.proofs.lemmas.Int.{ints}
-use Rattle.std.specs.List.{All}
-use Rattle.law_sphere.specs.Maps.{At}
-use Rattle.law_sphere.proofs.Equal.{same-lists}
-use Rattle.law_complex.specs.Complexes.{Complex, Corner}
-use Rattle.nef_complex.specs.Cycles.{NextCorner, IsCornerBelow, StepsTo, IsCycle, IsCycleBelow, Cycles}
+use Rattle.law_text.proofs.Prelude.{◌≡◌, ℕ, zero, suc, ◌<◌, ◌⊎◌, inl, inr, ⊎_elim, List, [], ◌∷◌, length, arith, refl, sym, ◌∙◌, ap, subst, ints, All, At, same-lists, Complex, Corner, NextCorner, IsCornerBelow, StepsTo, IsCycle, IsCycleBelow, Cycles}
 
 below-apart : (j k : Corner) → IsCornerBelow j k → IsCornerBelow k j → ⊥
 below-apart j k (inl h) (inl g) = omega (arith, ints)

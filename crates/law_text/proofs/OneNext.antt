@@ -1,24 +1,8 @@
 -- Each corner has one next corner.
-use Rattle.std.proofs.Common.{◌≡◌, ℕ, pos, neg_ℤ, ◌<ℤ◌, inl, inr, [], ◌∷◌, arith, refl, sym, ◌∙◌, subst}
-use Rattle.std.proofs.lemmas.Int.{ints}
-use Rattle.nef_space.proofs.Ring.{ring, at, num, neg, ◌⊕◌, ◌⊖◌, ◌⊗◌}
-use Rattle.nef_space.specs.Place.{toward}
-use Rattle.nef_space.specs.Sets.{Set}
-use Rattle.nef_space.specs.Vectors.{Vector, dot, cross, triple, IsDirection, SameDirection}
-use Rattle.law_near.proofs.Directions.{self-pos, direction-right}
-use Rattle.law_near.proofs.FlatDecided.{cross-turned}
-use Rattle.law_sphere.specs.Maps.{At, Arc, arc_item}
-use Rattle.law_sphere.proofs.Vectors.{normal-is, same-minus, nought-if}
-use Rattle.law_sphere.proofs.Lists.{at-one}
-use Rattle.law_sphere.proofs.Arcs.{at-arc}
-use Rattle.law_sphere.proofs.Compare.{SameDirection-turned, SameDirection-trans, dir-self}
-use Rattle.law_sphere.proofs.Turn.{turn-same}
-use Rattle.law_complex.specs.Complexes.{Vertex, Edge, Complex, Corner, IsCorner}
-use Rattle.law_complex.specs.Shows.{Shows}
-use Rattle.law_links.proofs.EdgeEnds.{end-level, close_way, on-close, corner_of}
-use Rattle.nef_complex.specs.Cycles.{Leads, IsNextArc}
+use Rattle.law_text.proofs.Prelude.{◌≡◌, ℕ, pos, neg_ℤ, ◌<ℤ◌, inl, inr, [], ◌∷◌, arith, refl, sym, ◌∙◌, subst, ints, ring, at, num, neg, ◌⊕◌, ◌⊖◌, ◌⊗◌, toward, Set, Vector, dot, cross, triple, IsDirection, SameDirection, At, Arc, arc_item, normal-is, same-minus, at-one, at-arc, turn-same, Vertex, Edge, Complex, Corner, IsCorner, Shows, end-level, close_way, on-close, Leads, IsNextArc, turned-level, arc-no_sloop, self-pos, cross-turned, nought-if, SameDirection-turned, SameDirection-trans, dir-self, direction-right}
+use Rattle.law_links.proofs.EdgeEnds.{corner_of}
 use Rattle.nef_facets.proofs.EdgeViews.{EdgeFrom, edge-from, one-vertex, one-svertex}
-use Rattle.nef_facets.proofs.NextCorners.{turned-level, arc-no_sloop, corner-same}
+use Rattle.nef_facets.proofs.NextCorners.{corner-same}
 use Rattle.law_text.proofs.OneCycles.{HasOneNext}
 
 level-back : (n u : Vector) → dot n (cross u n) ≡ pos 0

@@ -1,34 +1,7 @@
 -- A complex has its parts in one way alone, where each corner has one next corner.
-use Rattle.std.proofs.Common.{◌≡◌, ℕ, zero, suc, ◌<◌, ◌≤◌, pos, ⊎_elim, Bool, true, false, List, length, map, arith, refl, sym, ◌∙◌, ap, subst}
-use Rattle.nef_space.specs.Lists.{IsInTable}
-use Rattle.nef_space.specs.Place.{Place, form_at, normal_of}
-use Rattle.nef_space.specs.Vectors.{cross, IsZero}
-use Rattle.nef_space.specs.declared.label.Label.{Label}
-use Rattle.law_cyclic.proofs.Directions.{same-second}
-use Rattle.law_near.proofs.FlatDecided.{cross-turned, parallel-both}
-use Rattle.nef_geo.specs.Shapes.{form_of}
-use Rattle.nef_geo.specs.declared.plane.Plane.{Plane}
-use Rattle.law_sphere.specs.Maps.{Item, items, item_normal}
-use Rattle.nef_smap.specs.Sides.{sides_of}
-use Rattle.nef_classes.proofs.ClassLists.{is-at_within, is-at_some, is-at_one}
-use Rattle.nef_smap.proofs.SideLists.{at-from_get, get-from_at, side-has}
-use Rattle.nef_smap.proofs.SideNumbers.{number-one}
-use Rattle.nef_smap.specs.SideNumbers.{number_of}
+use Rattle.law_text.proofs.Prelude.{◌≡◌, ℕ, zero, suc, ◌<◌, ◌≤◌, pos, ⊎_elim, Bool, true, false, List, length, map, arith, refl, sym, ◌∙◌, ap, subst, IsInTable, Place, form_at, normal_of, cross, IsZero, Label, form_of, Plane, Item, items, item_normal, sides_of, is-at_within, is-at_some, is-at_one, at-from_get, get-from_at, side-has, number-one, number_of, Vertex, Complex, Corner, IsCorner, VertexSide, HasSideLabel, corner_of, FacetLink, VolumeLink, IsCornerBelow, Cycles, IsSideNumber, count_items, count_sides, IsFacetOf, IsVolumeOf, IsSideBelow, pos_of, neg_of, IsFacet, IsParts, cycle_corners, shell_sides, Shells, Cycle, Facet, Parts, Shell, map-one, cross-turned, parallel-both, direction-right}
 use Rattle.nef_cand.proofs.Planes.{plane_test, tested-equal, tested-other, line-of}
-use Rattle.law_complex.specs.Complexes.{Vertex, Complex, Corner, IsCorner}
-use Rattle.law_complex.specs.Rays.{VertexSide, HasSideLabel}
 use Rattle.nef_complex.specs.declared.complex.Corner.{Corner as CornerValue}
-use Rattle.nef_complex.specs.Complexes.{corner_of}
-use Rattle.law_links.specs.Links.{FacetLink, VolumeLink}
-use Rattle.nef_complex.specs.Cycles.{IsCornerBelow, Cycles}
-use Rattle.nef_complex.specs.Sides.{IsSideNumber}
-use Rattle.nef_complex.specs.Numbers.{count_items, count_sides, IsFacetOf, IsVolumeOf, IsSideBelow, pos_of, neg_of, IsFacet, IsParts, cycle_corners, shell_sides}
-use Rattle.nef_complex.specs.Shells.{Shells}
-use Rattle.nef_complex.specs.declared.parts.Cycle.{Cycle}
-use Rattle.nef_complex.specs.declared.parts.Facet.{Facet}
-use Rattle.nef_complex.specs.declared.parts.Parts.{Parts}
-use Rattle.nef_complex.specs.declared.parts.Shell.{Shell}
-use Rattle.nef_unique.proofs.Injective.{map-one}
 use Rattle.law_text.proofs.Numbering.{IsEarlier, numbers-one}
 use Rattle.law_text.proofs.Rows.{list-one, rows-one, rows-both, table-one}
 use Rattle.law_text.proofs.OneCycles.{HasOneNext, cycles-one}
@@ -169,7 +142,7 @@ module _ (C : Complex) (one : HasOneNext C) (p q : Parts) (P : IsParts C p) (Q :
       let cycles = subst (λ (rows : List (List ℕ)). Cycles C (λ k. IsFacetOf rows k n) (cycle_corners g.cycles)) (sym facet-numbers) G.cycles in
       facet-equal f g
       (plane-one f.plane g.plane (c.0).point
-      (parallel-both (item_normal (c.1)) (normal_of (form_of f.plane)) (normal_of (form_of g.plane)) (same-second (normal_of (form_of f.plane)) (item_normal (c.1)) a.normal)
+      (parallel-both (item_normal (c.1)) (normal_of (form_of f.plane)) (normal_of (form_of g.plane)) (direction-right (normal_of (form_of f.plane)) (item_normal (c.1)) a.normal)
       (cross-turned (normal_of (form_of f.plane)) (item_normal (c.1)) a.normal.parallel) (cross-turned (normal_of (form_of g.plane)) (item_normal (c.1)) b.normal.parallel))
       a.through b.through)
       (a.mark ∙ sym b.mark)

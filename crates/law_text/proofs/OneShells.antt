@@ -1,16 +1,5 @@
 -- The numbers of sfaces and the shells are the only ones.
-use Rattle.std.proofs.Common.{◌≡◌, ℕ, ◌<◌, pos, inl, inr, ⊎_elim, List, arith, refl, sym, ◌∙◌, ap, subst}
-use Rattle.std.proofs.lemmas.Int.{ints}
-use Rattle.nef_space.specs.Lists.{IsAt}
-use Rattle.law_sphere.specs.Maps.{At, Map}
-use Rattle.law_sphere.proofs.Equal.{same-lists}
-use Rattle.law_sphere.proofs.Lists.{at-one}
-use Rattle.nef_smap.specs.Sides.{SeeOneWay, AreSfaces}
-use Rattle.nef_classes.proofs.ClassLists.{is-at_within, is-at_some}
-use Rattle.law_complex.specs.Complexes.{Complex}
-use Rattle.law_complex.specs.Rays.{VertexSide}
-use Rattle.nef_complex.specs.Sides.{IsSideNumber}
-use Rattle.nef_complex.specs.Shells.{IsNamed, IsNameBelow, IsListed, IsShell, IsShellBelow, Shells}
+use Rattle.law_text.proofs.Prelude.{◌≡◌, ℕ, ◌<◌, pos, inl, inr, ⊎_elim, List, arith, refl, sym, ◌∙◌, ap, subst, ints, IsAt, At, Map, same-lists, at-one, SeeOneWay, AreSfaces, is-at_within, is-at_some, Complex, VertexSide, IsSideNumber, IsNamed, IsNameBelow, IsListed, IsShell, IsShellBelow, Shells}
 use Rattle.nef_complex.specs.declared.parts.Side.{Side}
 use Rattle.law_text.proofs.Numbering.{IsEarlier, numbers-one}
 use Rattle.law_text.proofs.Rows.{list-one}

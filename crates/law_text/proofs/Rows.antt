@@ -1,10 +1,5 @@
 -- Lists and tables with the same elements are one.
-use Rattle.std.proofs.Common.{◌≡◌, ℕ, suc, List, [], ◌∷◌, length, arith, refl, sym, ◌∙◌, ap, subst}
-use Rattle.nef_space.specs.Lists.{IsAt, IsInTable}
-use Rattle.nef_classes.proofs.ClassLists.{is-at_within, is-at_some, is-at_one}
-use Rattle.nef_smap.proofs.SideLists.{at-from_get}
-use Rattle.law_complex.specs.Complexes.{Vertex, Complex}
-use Rattle.nef_complex.specs.Numbers.{HasRows}
+use Rattle.law_text.proofs.Prelude.{◌≡◌, ℕ, suc, List, [], ◌∷◌, length, arith, refl, sym, ◌∙◌, ap, subst, IsAt, IsInTable, is-at_within, is-at_some, is-at_one, at-from_get, Vertex, Complex, HasRows}
 
 pub list-one : {X : Type 0} (xs ys : List X) → length xs ≡ length ys → ((k : ℕ) (x y : X) → IsAt xs k x → IsAt ys k y → x ≡ y) → xs ≡ ys
 list-one [] [] e same = refl

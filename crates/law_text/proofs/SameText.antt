@@ -1,24 +1,10 @@
 -- Complexes that show one set have the same text.
-use Rattle.std.proofs.Common.{◌≡◌, ℕ, List, map, sym, ◌∙◌, ap, subst, ◌↔◌}
-use Rattle.nef_space.specs.Local.{SameSet}
-use Rattle.nef_space.specs.Place.{Place, InFrame}
-use Rattle.nef_space.specs.Sets.{Set, Holds}
-use Rattle.nef_geo.specs.Shapes.{form_of}
-use Rattle.law_complex.specs.Belongs.{Belongs}
-use Rattle.law_complex.specs.Complexes.{Edge as PlainEdge, Edges}
+use Rattle.law_text.proofs.Prelude.{◌≡◌, ℕ, List, map, sym, ◌∙◌, ap, subst, ◌↔◌, SameSet, Place, InFrame, Set, Holds, form_of, Belongs, Edge as PlainEdge, Edges, Shows, complex_of, vertex_of, edge_of, TextVersion, One, Two, Parts, IsParts, text, Spells, edges-one, set-vertices}
 use Rattle.law_complex.specs.Laws.{BelongsHolds}
-use Rattle.law_complex.specs.Shows.{Shows}
 use Rattle.nef_complex.specs.declared.complex.Complex.{Complex}
 use Rattle.nef_complex.specs.declared.complex.Vertex.{Vertex}
 use Rattle.nef_complex.specs.declared.complex.Edge.{Edge}
-use Rattle.nef_complex.specs.Complexes.{complex_of, vertex_of, edge_of}
-use Rattle.nef_core.specs.declared.work.TextVersion.{TextVersion}
-use Rattle.nef_core.specs.declared.work.TextVersion.TheVariants.{One, Two}
-use Rattle.nef_complex.specs.declared.parts.Parts.{Parts}
-use Rattle.nef_complex.specs.Numbers.{IsParts}
-use Rattle.nef_complex.specs.Text.{text, Spells}
 use Rattle.nef_unique.proofs.Sets.{vertices-set}
-use Rattle.nef_unique.proofs.Vertices.{edges-one, set-vertices}
 use Rattle.law_text.proofs.Whole.{vertices-read}
 use Rattle.law_text.proofs.Carriers.{made, parts-too, belongs-too}
 use Rattle.law_text.proofs.OneNext.{one-next}

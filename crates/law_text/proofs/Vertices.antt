@@ -1,25 +1,9 @@
 -- The vertices that a text tells.
-use Rattle.std.proofs.Common.{◌≡◌, ℕ, ℤ, pos, negsuc, ◌<◌, ◌≤◌, ◌^◌, nat_abs, arith, refl, ap, sym, ◌∙◌, List, [], ◌∷◌, ◌++◌, get_or, map, append_assoc, Option, Some, None, option_to_list}
+use Rattle.law_text.proofs.Prelude.{◌≡◌, ℕ, ℤ, pos, negsuc, ◌<◌, ◌≤◌, ◌^◌, nat_abs, arith, refl, ap, sym, ◌∙◌, List, [], ◌∷◌, ◌++◌, get_or, map, append_assoc, Option, Some, None, option_to_list, decimal, signed_decimal, flat_map, map-id, direction_limit, point_limit, weight_limit, vector, Dir, Point, same_places_equal, SVertex, SArc, SLoop, dir-one, svertex-equal, arc-equal, sloop-equal, map-equal, vertex-equal, TextVersion, One, Two, Parts, Word, label_word, option_word, numbers, vertex_line, svertex_line, arc_line, sloop_line, vertex_text, sface_line, faced_text, with_rows, vertices_text}
 use lib.Signed.{mag}
-use Rattle.std.specs.Fmt.{decimal, signed_decimal}
-use Rattle.std.specs.List.{flat_map}
 use Rattle.std.proofs.lemmas.Fmt.{decimal_injective, signed_decimal_injective}
-use Rattle.std.proofs.lemmas.List.{map-id}
-use Rattle.nef_space.specs.Limits.{direction_limit, point_limit, weight_limit}
-use Rattle.nef_space.specs.Vectors.{vector}
-use Rattle.nef_geo.specs.declared.dir.Dir.{Dir}
-use Rattle.nef_geo.specs.declared.point.Point.{Point}
-use Rattle.nef_geo.proofs.Unique.{same_places_equal}
-use Rattle.nef_smap.specs.declared.map.SVertex.{SVertex}
-use Rattle.nef_smap.specs.declared.map.SArc.{SArc}
-use Rattle.nef_smap.specs.declared.map.SLoop.{SLoop}
 use Rattle.nef_complex.specs.declared.complex.Vertex.{Vertex}
-use Rattle.nef_unique.proofs.Injective.{dir-one, svertex-equal, arc-equal, sloop-equal, map-equal, vertex-equal}
 use Rattle.nef_complex.specs.declared.complex.Complex.{Complex}
-use Rattle.nef_core.specs.declared.work.TextVersion.{TextVersion}
-use Rattle.nef_core.specs.declared.work.TextVersion.TheVariants.{One, Two}
-use Rattle.nef_complex.specs.declared.parts.Parts.{Parts}
-use Rattle.nef_complex.specs.Text.{Word, label_word, option_word, numbers, vertex_line, svertex_line, arc_line, sloop_line, vertex_text, sface_line, faced_text, with_rows, vertices_text}
 use Rattle.law_text.proofs.Lines.{ArePlain, Starts, Lacks, same-head, line-starts, line-ends, starts-onto, starts-lacks}
 use Rattle.law_text.proofs.Words.{decimal-plain, numbers-plain, signed-plain, label-plain, option-plain, label-one, option-one}
 use Rattle.law_text.proofs.Lists.{Reads, ReadsAll, Any, all-lack, all-read, four_parts}

@@ -1,21 +1,10 @@
 -- The edges, facets and volumes of a text, and the whole text.
-use Rattle.std.proofs.Common.{◌≡◌, ℕ, arith, refl, ap, sym, ◌∙◌, List, [], ◌∷◌, ◌++◌, length, append_assoc}
-use Rattle.std.specs.Fmt.{decimal, signed_decimal}
-use Rattle.std.specs.List.{flat_map}
-use Rattle.std.proofs.lemmas.List.{length-map}
-use Rattle.nef_space.specs.declared.label.Label.{Label}
+use Rattle.law_text.proofs.Prelude.{◌≡◌, ℕ, arith, refl, ap, sym, ◌∙◌, List, [], ◌∷◌, ◌++◌, length, append_assoc, decimal, signed_decimal, flat_map, length-map, Label, Cycle, Facet, TextVersion, One, Two, Parts, Shell, Word, label_word, numbers, corner_words, edge_line, cycle_line, facet_line, facet_text, volume_line, side_words, shell_line, shelled_text, with_rows, counts, version_word, first_line, vertices_text, volumes_text, text}
 use Rattle.nef_complex.specs.declared.complex.Corner.{Corner}
 use Rattle.nef_complex.specs.declared.complex.Edge.{Edge}
 use Rattle.nef_complex.specs.declared.complex.Vertex.{Vertex}
 use Rattle.nef_complex.specs.declared.complex.Complex.{Complex}
-use Rattle.nef_complex.specs.declared.parts.Cycle.{Cycle}
-use Rattle.nef_complex.specs.declared.parts.Facet.{Facet}
-use Rattle.nef_core.specs.declared.work.TextVersion.{TextVersion}
-use Rattle.nef_core.specs.declared.work.TextVersion.TheVariants.{One, Two}
-use Rattle.nef_complex.specs.declared.parts.Parts.{Parts}
-use Rattle.nef_complex.specs.declared.parts.Shell.{Shell}
 use Rattle.nef_complex.specs.declared.parts.Side.{Side}
-use Rattle.nef_complex.specs.Text.{Word, label_word, numbers, corner_words, edge_line, cycle_line, facet_line, facet_text, volume_line, side_words, shell_line, shelled_text, with_rows, counts, version_word, first_line, vertices_text, volumes_text, text}
 use Rattle.law_text.proofs.Lines.{Each-append, IsPlain, ArePlain, Starts, Lacks, line-starts, line-ends, starts-onto, starts-lacks}
 use Rattle.law_text.proofs.Words.{decimal-plain, numbers-plain, signed-plain, label-plain}
 use Rattle.law_text.proofs.Lists.{Reads, ReadsAll, Any, all-lack, all-read, same-length, four_parts}

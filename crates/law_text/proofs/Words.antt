@@ -1,9 +1,6 @@
 -- The words of a text: plain, and each told by what it spells.
-use Rattle.std.proofs.Common.{◌≡◌, ℕ, ℤ, pos, negsuc, zero, suc, ◌+◌, ◌<◌, ◌/◌, ◌%◌, nat_lt, nat_eq, arith, refl, ap, sym, ◌∙◌, Bool, true, false, cond, List, [], ◌∷◌, get_or, Option, Some, None, subst}
-use Rattle.std.specs.Fmt.{digits, digits_onto, digit_glyph, decimal, signed_decimal}
-use Rattle.nef_space.specs.declared.label.Label.{Label}
-use Rattle.nef_space.specs.declared.label.Label.TheVariants.{Out, Not, In}
-use Rattle.nef_complex.specs.Text.{Word, label_word, option_word, numbers, signed}
+use Rattle.law_text.proofs.Prelude.{◌≡◌, ℕ, ℤ, pos, negsuc, zero, suc, ◌+◌, ◌<◌, ◌/◌, ◌%◌, nat_lt, nat_eq, arith, refl, ap, sym, ◌∙◌, Bool, true, false, cond, List, [], ◌∷◌, get_or, Option, Some, None, subst, digits_onto, digit_glyph, decimal, signed_decimal, Label, Out, Not, In, Word, label_word, option_word, numbers, signed}
+use Rattle.std.specs.Fmt.{digits}
 use Rattle.law_text.proofs.Lines.{IsPlain, ArePlain}
 
 -- ---- numbers, of any size

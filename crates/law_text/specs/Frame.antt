@@ -1,14 +1,10 @@
 -- The texts of the empty set and of the whole frame, in the first version.
-use Rattle.std.specs.Prelude.{◌≡◌, ℕ, List, [], ◌∷◌, ◌++◌, codes, map, take, drop, cond, ◌==◌}
+use Rattle.std.specs.Prelude.{◌≡◌, ◌∷◌, ◌++◌, ◌==◌, ℕ, List, [], codes, map, take, drop, cond}
 use Rattle.std.specs.List.{concat}
-use Rattle.nef_space.specs.Local.{SameSet}
-use Rattle.nef_space.specs.Sets.{Set}
+use Rattle.nef_complex.specs.Prelude.{SameSet, Set, complex_of, ShowsSet, IsParts, text}
 use Rattle.nef_complex.specs.declared.complex.Complex.{Complex}
-use Rattle.nef_complex.specs.Complexes.{complex_of, ShowsSet}
 use Rattle.nef_core.specs.declared.work.TextVersion.TheVariants.{One}
 use Rattle.nef_complex.specs.declared.parts.Parts.{Parts}
-use Rattle.nef_complex.specs.Numbers.{IsParts}
-use Rattle.nef_complex.specs.Text.{text}
 
 abbrev pub empty_text : List ℕ
 empty_text = concat (
@@ -97,14 +93,14 @@ empty_text = concat (
     ∷ codes "w n\n" ∷ []
     )
 
--- In for Not: the letter i for each letter n but that of the first word
+-- the text with In for Not: the letter i for each letter n, except in the first word
 abbrev pub with_in : List ℕ → List ℕ
 with_in bytes = take 4 bytes ++ map (λ b. cond (b == 110) 105 b) (drop 4 bytes)
 
--- each complex that shows the empty set has this text, whatever the set was made of
+-- each complex that shows an empty set has this text, however the set was made
 abbrev pub EmptyText : Type 0
 EmptyText = (s : Set) (c : Complex) (p : Parts) → SameSet s Set.empty → ShowsSet s c → IsParts (complex_of c) p → text One c p ≡ empty_text
 
--- and each that shows the whole frame has it with In for Not
+-- each complex that shows the whole frame has the empty set's text with In for Not
 abbrev pub FullText : Type 0
 FullText = (s : Set) (c : Complex) (p : Parts) → SameSet s Set.full → ShowsSet s c → IsParts (complex_of c) p → text One c p ≡ with_in empty_text

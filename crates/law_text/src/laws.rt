@@ -1,10 +1,10 @@
-//! The laws of texts, and of what the set that a complex shows determines.
+//! Laws of texts, and of parts and texts that the set of a complex determines.
 
 ghost use Rattle.law_text.specs.Laws.{TextReadsBack, CountsRead};
 ghost use Rattle.law_text.specs.Frame.{EmptyText, FullText};
 ghost use Rattle.law_text.specs.Determined.{SamePartsOfSame, SameSetSameText, TurnedBackSameText, SameTextSameSet, SpelledHolds};
 
-/// Complexes with one text, in either version, have the same vertices, with equal maps, and as many edges, facets and
+/// Complexes with one text, in either version, have equal vertices with equal maps, and as many edges, facets and
 /// volumes.
 pub fn text_laws()
     ensures vertices { TextReadsBack }
@@ -12,8 +12,8 @@ pub fn text_laws()
 {}
 
 /// Complexes with the same vertices and edges have the same parts, whatever their carriers; complexes that show one set
-/// have the same parts and the same text in each version, so that a set that is turned and then turned back has its text again; sets whose
-/// complexes have one text are one; and a point of the frame belongs to what a set's text spells exactly where the set
+/// have the same parts and texts, so turning a set and turning it back gives its text again. Sets whose complexes have
+/// one text are one set; a point of the frame belongs to the complex that a set's text spells exactly where the set
 /// holds.
 pub fn determined_laws()
     ensures same_parts { SamePartsOfSame }
@@ -23,7 +23,7 @@ pub fn determined_laws()
     ensures spelled { SpelledHolds }
 {}
 
-/// The texts of the empty set and of the whole frame in the first version, byte by byte, whatever they were made of.
+/// The first version's texts of the empty set and of the whole frame, byte by byte, for any set that is empty or full.
 pub fn frame_text_laws()
     ensures empty { EmptyText }
     ensures full { FullText }

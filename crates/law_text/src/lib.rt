@@ -1,5 +1,5 @@
-//! The text of a complex tells its vertices, and the set that it shows determines its parts and its text. A text is a
-//! list of bytes here; nothing runs. Each law is a clause of a function with an empty body.
+//! The text of a complex tells its vertices, and the set of a complex determines its parts and its text. A text is a
+//! list of bytes; nothing runs. Each law is a clause of a function with an empty body.
 #![tactic(auto)]
 
 mod laws;

@@ -1,9 +1,6 @@
-use Rattle.std.proofs.Common.{subst}
-use Rattle.nef_space.specs.Sets.{Set}
-use Rattle.law_complex.specs.Shows.{Shows}
-use Rattle.nef_complex.specs.Complexes.{complex_of}
+use Rattle.law_text.proofs.Prelude.{subst, Set, Shows, complex_of, facet-of}
 use Rattle.law_turns.proofs.Twice.{set-back}
-use Rattle.law_complex.proofs.FacetNames.{facet-at, facet-of}
+use Rattle.law_complex.proofs.FacetNames.{facet-at}
 use Rattle.law_complex.proofs.Skeletons.{belongs-holds}
 use Rattle.law_text.proofs.SameText.{same-parts, same-set_text, text-set, spelled-holds}
 use Rattle.law_text.proofs.laws.determined_laws.Goals as goal
