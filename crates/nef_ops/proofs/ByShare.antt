@@ -1,29 +1,6 @@
 -- The map of a combination where one set alone says which it is.
-use Rattle.std.proofs.Common.{◌≡◌, ◌+◌, pos, arith, ap, ◌∙◌, subst, Result, Ok, Err, IfOk}
-use Rattle.std.proofs.lemmas.Int.{ints}
-use Rattle.nef_space.specs.Place.{Place, Ratio, step}
-use Rattle.nef_space.specs.Sets.{Set}
-use Rattle.nef_space.specs.Vectors.{Vector}
-use Rattle.nef_space.specs.Local.{HasLabel, Germ}
-use Rattle.nef_space.specs.declared.label.Label.{Label}
-use Rattle.nef_space.specs.declared.label.Label.TheVariants.{Out, Not, In}
-use Rattle.law_near.specs.Cones.{label_not}
-use Rattle.law_near.proofs.Decided.{label_of, germ_of}
-use Rattle.law_near.proofs.Germs.{label-one, Germ-unique}
-use Rattle.law_near.proofs.Combine.{not-label, germ-not}
-use Rattle.law_sphere.specs.Maps.{Map}
-use Rattle.law_sphere.specs.Least.{Cone}
-use Rattle.law_sphere.proofs.Labels.{label-unique}
-use Rattle.nef_smap.specs.declared.map.SphereMap.{SphereMap}
-use Rattle.nef_smap.specs.Maps.{map_of, IsLeastMap}
-use Rattle.nef_star.specs.declared.star.Op.{Op}
-use Rattle.nef_star.specs.Ops.{op_label}
-use Rattle.nef_stopo.specs.Sets.{op_set}
+use Rattle.nef_ops.proofs.Prelude.{◌≡◌, ◌+◌, pos, arith, ap, ◌∙◌, subst, Bool, true, false, Result, Ok, Err, IfOk, ints, Place, Ratio, step, Set, Vector, HasLabel, Germ, Label, Out, Not, In, label_of, germ_of, label-one, Germ-unique, not-label, germ-not, Map, Cone, label-unique, SphereMap, map_of, IsLeastMap, Operand, First, Second, Op, op_label, op_set, Share, Part, One, either_of, turned_label, turned_set, IsCombined, AreAlike, InShare, HasShare, Leads}
 use Rattle.nef_stopo.proofs.Cones.{label-by_op, germ-by_op}
-use Rattle.nef_ops.specs.declared.share.Share.{Share}
-use Rattle.nef_ops.specs.declared.share.Share.TheVariants.{Part}
-use Rattle.nef_ops.specs.declared.local.Choice.TheVariants.{First, Second, NotFirst, NotSecond}
-use Rattle.nef_ops.specs.Shares.{IsCombined, AreAlike, InShare, HasShare, Leads}
 
 -- ---- labels at one point
 pub alike-labels : (s t : Set) (p : Place) (k l : Label) → HasLabel s p k → HasLabel t p l → AreAlike k l
@@ -75,22 +52,28 @@ module _ (op : Op) (f g : Share) (M : Map) (r s t : Set) (p : Place) (F : HasSha
         );
   }
 
+-- what both sets have with a label each, the set of one operand has with its label
+either-has : (P : Set → Label → Type 0) (o : Operand) (s t : Set) (k l : Label) → P s k → P t l → P (either_of o s t) (either_of o k l)
+either-has P First s t k l h i = h
+either-has P Second s t k l h i = i
+
+label-turned : (turned : Bool) (s : Set) (q : Place) (k : Label) → HasLabel s q k → HasLabel (turned_set turned s) q (turned_label turned k)
+label-turned false s q k h = h
+label-turned true s q k h = not-label s q k h
+
+germ-turned : (turned : Bool) (s : Set) (q : Place) (d : Vector) (k : Label) → Germ s q d k → Germ (turned_set turned s) q d (turned_label turned k)
+germ-turned false s q d k g = g
+germ-turned true s q d k g = germ-not s q d k g
+
+-- where one set or its complement is chosen
 module _ (op : Op) (f g : Share) (M : Map) (s t : Set) (p : Place) (F : HasShare f s p) (G : HasShare g t p) where
-  pub shown-first : Cone M s p → Leads First op f g → Cone M (op_set op s t) p
-  shown-first C w = shown-by op f g M s s t p F G C (λ k l. k) w (λ q k l m h i j. label-one s q k m h j) (λ d k l m h i j. Germ-unique s p d k m h j)
-
-  pub shown-second : Cone M t p → Leads Second op f g → Cone M (op_set op s t) p
-  shown-second C w = shown-by op f g M t s t p F G C (λ k l. l) w (λ q k l m h i j. label-one t q l m i j) (λ d k l m h i j. Germ-unique t p d l m i j)
-
-  pub shown-not_first : Cone M (Set.other s) p → Leads NotFirst op f g → Cone M (op_set op s t) p
-  shown-not_first C w = shown-by op f g M (Set.other s) s t p F G C (λ k l. label_not k) w
-      (λ q k l m h i j. label-one (Set.other s) q (label_not k) m (not-label s q k h) j)
-      (λ d k l m h i j. Germ-unique (Set.other s) p d (label_not k) m (germ-not s p d k h) j)
-
-  pub shown-not_second : Cone M (Set.other t) p → Leads NotSecond op f g → Cone M (op_set op s t) p
-  shown-not_second C w = shown-by op f g M (Set.other t) s t p F G C (λ k l. label_not l) w
-      (λ q k l m h i j. label-one (Set.other t) q (label_not l) m (not-label t q l i) j)
-      (λ d k l m h i j. Germ-unique (Set.other t) p d (label_not l) m (germ-not t p d l i) j)
+  pub shown-one : (o : Operand) (turned : Bool) → Cone M (turned_set turned (either_of o s t)) p → Leads (One o turned) op f g → Cone M (op_set op s t) p
+  shown-one o turned C w =
+      let u = either_of o s t in
+      let r = turned_set turned u in
+      shown-by op f g M r s t p F G C (λ k l. turned_label turned (either_of o k l)) w
+      (λ q k l m h i j. let n = either_of o k l in label-one r q (turned_label turned n) m (label-turned turned u q n (either-has (λ v. HasLabel v q) o s t k l h i)) j)
+      (λ d k l m h i j. let n = either_of o k l in Germ-unique r p d (turned_label turned n) m (germ-turned turned u p d n (either-has (λ v. Germ v p d) o s t k l h i)) j)
 
 -- one map for both sets
 pub shown-same : (op : Op) (A : Map) (s t : Set) (p : Place) → ((l : Label) → op_label op l l ≡ l) → Cone A s p → Cone A t p → Cone A (op_set op s t) p

@@ -1,12 +1,5 @@
 -- Between two points past an end of a coordinate, and of the open frame, lie such points alone.
-use Rattle.std.proofs.Common.{◌≡◌, ℕ, ◌*◌, ◌<◌, ℤ, pos, neg_ℤ, ◌+ℤ◌, ◌-ℤ◌, ◌*ℤ◌, ◌<ℤ◌, nat_abs, arith, [], ◌∷◌}
-use Rattle.std.proofs.lemmas.Int.{ints}
-use Rattle.nef_space.proofs.Combination.{given, none, follows}
-use Rattle.nef_space.proofs.Order.{mul_pos, cancel_lt}
-use Rattle.nef_space.proofs.Ring.{at, num, ◌⊕◌, ◌⊖◌, ◌⊗◌}
-use Rattle.nef_space.specs.Limits.{half_side}
-use Rattle.nef_space.specs.Place.{Place, InFrame, InClosedFrame, IsBetween}
-use Rattle.law_near.proofs.Between.{mixed-of}
+use Rattle.nef_ops.proofs.Prelude.{◌≡◌, ℕ, ◌*◌, ◌<◌, ℤ, pos, neg_ℤ, ◌+ℤ◌, ◌-ℤ◌, ◌*ℤ◌, ◌<ℤ◌, nat_abs, arith, [], ◌∷◌, ints, given, none, follows, mul_pos, cancel_lt, at, num, ◌⊕◌, ◌⊖◌, ◌⊗◌, half_side, Place, InFrame, InClosedFrame, IsBetween, mixed-of}
 
 -- k c = i a + j b and k w = i u + j v, and a and b lie below e times u and v
 pub below-mixed : (k i j : ℕ) (c a b w u v e : ℤ) → 0 < k → 0 < i → 0 < j → pos k *ℤ c ≡ pos i *ℤ a +ℤ pos j *ℤ b → pos k *ℤ w ≡ pos i *ℤ u +ℤ pos j *ℤ v

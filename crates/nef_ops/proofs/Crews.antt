@@ -1,5 +1,5 @@
 -- No more workers share work than there may be.
-use Rattle.std.proofs.Common.{ℕ, ◌≤◌, Bool, true, false, ◌&&◌, arith}
+use Rattle.nef_ops.proofs.Prelude.{ℕ, ◌≤◌, Bool, true, false, ◌&&◌, arith}
 use Rattle.std.specs.Prelude.{nat_le, if◌then◌else◌}
 use Rattle.nef_core.specs.declared.work.BoardKind.TheVariants.{Lock, Free}
 use Rattle.nef_core.specs.declared.work.Work.{Work}

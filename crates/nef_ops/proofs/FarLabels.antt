@@ -1,38 +1,7 @@
 -- The points past one side of a span of the skeleton, within the open frame, are convex; so between two of them there is nothing of the skeleton, and the set looks the same at both.
-use Rattle.std.proofs.Common.{◌≡◌, ℕ, zero, suc, ◌+◌, ◌<◌, List, [], ◌∷◌, ℤ, pos, ◌+ℤ◌, ◌*ℤ◌, ◌<ℤ◌, ◌≤ℤ◌, length, arith, sym, subst, ⊎_elim}
-use Rattle.std.proofs.lemmas.Int.{ints}
-use Rattle.nef_space.proofs.Order.{mul_le_right, by_order}
-use Rattle.nef_space.specs.Lists.{IsAt}
-use Rattle.nef_space.specs.Local.{HasLabel, FlatDim}
-use Rattle.nef_space.specs.Place.{Place, IsBetween}
-use Rattle.nef_space.specs.Sets.{Set}
-use Rattle.nef_space.specs.declared.label.Label.{Label}
-use Rattle.nef_geo.specs.Shapes.{form_of, place_of}
-use Rattle.nef_geo.specs.declared.plane.Plane.{Plane}
-use Rattle.law_near.specs.Homogeneous.{IsMixed, of_place}
-use Rattle.law_near.specs.Laws.{SameGerms}
-use Rattle.law_near.proofs.Between.{mixed-of}
-use Rattle.law_near.proofs.Even.{even-germs, labels-by_germs}
-use Rattle.law_sphere.specs.Maps.{At}
-use Rattle.law_complex.specs.Spans.{coordinate_of}
-use Rattle.law_complex.proofs.FacetWays.{even-by}
-use Rattle.nef_classes.proofs.ClassLists.{less-or-last, is-at_one, is-at_within}
-use Rattle.nef_smap.proofs.SideLists.{get-from_at}
-use Rattle.nef_complex.specs.Complexes.{ShowsSet}
-use Rattle.nef_complex.specs.Index.{IsSpanOn}
-use Rattle.nef_complex.specs.Spans.{IsInSpan, IsNarrower}
-use Rattle.nef_complex.specs.declared.complex.Complex.{Complex}
-use Rattle.nef_complex.specs.declared.spans.Span.{Span}
-use Rattle.nef_complex.proofs.Spanned.{spanned}
-use Rattle.nef_complex.proofs.Spanning.{span-wider}
+use Rattle.nef_ops.proofs.Prelude.{◌≡◌, ℕ, zero, suc, ◌+◌, ◌<◌, List, [], ◌∷◌, ℤ, pos, ◌+ℤ◌, ◌*ℤ◌, ◌<ℤ◌, ◌≤ℤ◌, length, arith, sym, subst, ⊎_elim, ints, mul_le_right, by_order, IsAt, HasLabel, FlatDim, Place, IsBetween, Set, Label, form_of, place_of, Plane, IsMixed, of_place, SameGerms, mixed-of, even-germs, labels-by_germs, At, coordinate_of, even-by, less-or-last, is-at_one, is-at_within, get-from_at, ShowsSet, IsSpanOn, IsInSpan, IsNarrower, Complex, Span, spanned, span-wider, volume-flat, Axis, X, Y, Z, Below, Above, Side, MeetsFrame, HoldsSkeleton, axis_coordinate, IsPastEnd, IsWithinEnd, IsBeyond, IsFar, IsClear, IsUniform}
 use Rattle.nef_locate.proofs.CarrierPoints.{skeleton-carrier}
-use Rattle.nef_locate.proofs.VolumeLabels.{volume-flat}
-use Rattle.nef_ops.specs.declared.regions.Axis.{Axis}
-use Rattle.nef_ops.specs.declared.regions.Axis.TheVariants.{X, Y, Z}
 use Rattle.nef_ops.specs.declared.regions.Way.{Way}
-use Rattle.nef_ops.specs.declared.regions.Way.TheVariants.{Below, Above}
-use Rattle.nef_ops.specs.declared.regions.Side.{Side}
-use Rattle.nef_ops.specs.Far.{MeetsFrame, HoldsSkeleton, axis_coordinate, IsPastEnd, IsWithinEnd, IsBeyond, IsFar, IsClear, IsUniform}
 use Rattle.nef_ops.proofs.Convex.{below-mixed, above-mixed, frame-between}
 
 -- ---- the skeleton

@@ -1,39 +1,8 @@
 -- What an operation gathers: its candidates, the right map at each, and its carriers.
-use Rattle.std.proofs.Common.{◌≡◌, Bool, ℕ, zero, suc, ◌<◌, List, [], ◌∷◌, map, length, get_or, slice_get, Some, ap, sym, subst, ◌∙◌, inl, inr}
-use Rattle.std.specs.List.{Contains}
-use Rattle.std.proofs.lemmas.List.{length-map}
-use Rattle.nef_space.specs.Local.{IsVertex}
-use Rattle.nef_space.specs.Place.{Place, Form, SamePlace, IsPlaceBelow, InClosedFrame}
-use Rattle.nef_space.specs.Sets.{Set}
-use Rattle.nef_geo.specs.Shapes.{form_of, place_of}
-use Rattle.nef_geo.specs.declared.plane.Plane.{Plane}
-use Rattle.nef_geo.specs.declared.point.Point.{Point}
-use Rattle.law_sphere.specs.Least.{InOrder, Cone}
-use Rattle.law_sphere.specs.Maps.{At}
-use Rattle.law_sphere.proofs.Lists.{at-one}
-use Rattle.nef_star.specs.declared.star.Op.{Op}
-use Rattle.nef_star.specs.declared.star.Op.TheVariants.{And, Or, Diff, Xor}
-use Rattle.nef_stopo.specs.Sets.{op_set}
-use Rattle.nef_smap.specs.declared.map.SphereMap.{SphereMap}
-use Rattle.nef_smap.specs.Maps.{map_of}
-use Rattle.nef_smap.proofs.Lists.{map-at, at-map, at-within, at-get, get-at}
+use Rattle.nef_ops.proofs.Prelude.{◌≡◌, Bool, ℕ, zero, suc, ◌<◌, List, [], ◌∷◌, map, length, get_or, slice_get, Some, ap, sym, subst, ◌∙◌, inl, inr, Contains, length-map, IsVertex, Place, Form, SamePlace, IsPlaceBelow, InClosedFrame, Set, form_of, place_of, Plane, Point, InOrder, Cone, At, at-one, Op, And, Or, Diff, Xor, op_set, SphereMap, map_of, map-at, at-map, at-within, at-get, get-at, Carriers, SamePlane, Vertex, Complex, vertex_of, ShowsSet, IsVertexOfBoth, Named, IsListed, AreFramed, named_point, IsNamed, AreNamed, ListsNear, moved_if, IsOutcomeAt, AreOutcomesOf, UnaryOp, unary_set, IsRight, IsWorkedBy}
 use Rattle.law_complex.specs.Complexes.{Vertex as PlainVertex, Complex as PlainComplex}
-use Rattle.law_complex.specs.Shows.{Carriers, SamePlane}
-use Rattle.nef_complex.specs.declared.complex.Vertex.{Vertex}
-use Rattle.nef_complex.specs.declared.complex.Complex.{Complex}
-use Rattle.nef_complex.specs.Complexes.{vertex_of, ShowsSet}
-use Rattle.law_complex.specs.Laws.{IsVertexOfBoth}
-use Rattle.nef_cand.specs.declared.named.Named.{Named}
-use Rattle.nef_cand.specs.Candidates.{IsListed, AreFramed}
-use Rattle.nef_cand.specs.Names.{named_point, IsNamed, AreNamed}
-use Rattle.nef_cand.specs.Near.{ListsNear}
 use Rattle.nef_cand.specs.Points.{points_of}
 use Rattle.nef_result.specs.declared.outcome.Outcome.{Outcome}
-use Rattle.nef_result.specs.Givens.{moved_if}
-use Rattle.nef_result.specs.Outcomes.{IsOutcomeAt, AreOutcomesOf}
-use Rattle.nef_ops.specs.declared.operations.UnaryOp.{UnaryOp}
-use Rattle.nef_ops.specs.Nodes.{unary_set}
-use Rattle.nef_ops.specs.Rights.{IsRight, IsWorkedBy}
 use Rattle.nef_ops.proofs.OneSet.{unary-carriers, unary-vertex}
 
 -- ---- elements by their places

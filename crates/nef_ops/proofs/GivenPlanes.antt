@@ -1,14 +1,6 @@
 -- A plane as it was given is the plane of its normal form.
-use Rattle.std.proofs.Common.{◌≡◌, ℤ, pos, neg_ℤ, ◌*ℤ◌, Bool, true, false, [], ◌∷◌, arith, sym, subst, cond}
-use Rattle.std.proofs.lemmas.Int.{ints}
-use Rattle.nef_space.proofs.Ring.{ring, at, neg, ◌⊗◌}
-use Rattle.nef_space.specs.Place.{Form, normal_of}
-use Rattle.nef_space.specs.Vectors.{IsDirection}
-use Rattle.nef_geo.specs.Shapes.{form_of, turned_form, given_form}
-use Rattle.nef_geo.specs.declared.plane.Plane.{Plane}
+use Rattle.nef_ops.proofs.Prelude.{◌≡◌, ℤ, pos, neg_ℤ, ◌*ℤ◌, Bool, true, false, [], ◌∷◌, arith, sym, subst, cond, ints, ring, at, neg, ◌⊗◌, Form, normal_of, IsDirection, form_of, turned_form, given_form, Plane, normal-direction, SamePlane}
 use Rattle.nef_geo.specs.declared.plane.Oriented.{Oriented}
-use Rattle.law_sphere.proofs.Vectors.{normal-direction}
-use Rattle.law_complex.specs.Shows.{SamePlane}
 
 crossed : (a b : ℤ) → a *ℤ b ≡ b *ℤ a
 crossed a b = ring (a ∷ b ∷ []) (at 0 ⊗ at 1) (at 1 ⊗ at 0) tt

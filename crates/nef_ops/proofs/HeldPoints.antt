@@ -1,22 +1,8 @@
 -- The candidates of a combination within the open frame are points of the one skeleton, or lie in a span that holds the other.
-use Rattle.std.proofs.Common.{ℕ, List, map, subst, ◌⊎◌, inl, inr, ⊎_elim}
-use Rattle.nef_space.specs.Place.{Place}
-use Rattle.nef_space.specs.Sets.{Set}
-use Rattle.nef_geo.specs.Shapes.{place_of}
-use Rattle.nef_geo.specs.declared.point.Point.{Point}
-use Rattle.law_sphere.specs.Maps.{At}
+use Rattle.nef_ops.proofs.Prelude.{ℕ, List, map, subst, ◌⊎◌, inl, inr, ⊎_elim, Place, Set, place_of, Point, At, IsSkeletonPoint, at_vertex, on_edge, at-map, at-contains, complex_of, ShowsSet, Complex, Span, Named, First, Second, named_point, IsNameAt, AreNamed, HoldsSkeleton, AreHeld}
 use Rattle.law_complex.specs.Complexes.{Complex as PlainComplex}
-use Rattle.law_complex.specs.Skeleton.{IsSkeletonPoint, at_vertex, on_edge}
-use Rattle.nef_smap.proofs.Lists.{at-map, at-contains}
-use Rattle.nef_complex.specs.Complexes.{complex_of, ShowsSet}
-use Rattle.nef_complex.specs.declared.complex.Complex.{Complex}
-use Rattle.nef_complex.specs.declared.spans.Span.{Span}
 use Rattle.nef_cand.specs.declared.named.Name.{Name}
 use Rattle.nef_cand.specs.declared.named.Name.TheVariants as name
-use Rattle.nef_cand.specs.declared.named.Named.{Named}
-use Rattle.nef_cand.specs.declared.named.Operand.TheVariants.{First, Second}
-use Rattle.nef_cand.specs.Names.{named_point, IsNameAt, AreNamed}
-use Rattle.nef_ops.specs.Far.{HoldsSkeleton, AreHeld}
 
 -- what has a name is a point of one of the skeletons
 named-skeleton : (C D : PlainComplex) (y : Place) (n : Name) → IsNameAt C D y n → IsSkeletonPoint C y ⊎ IsSkeletonPoint D y

@@ -1,37 +1,11 @@
 -- A vertex of an operand that is one of the result, with its map or with that of the complement.
-use Rattle.std.proofs.Common.{◌≡◌, refl, sym, subst, List, ℕ}
-use Rattle.nef_space.specs.Local.{IsVertex, Germ}
-use Rattle.nef_space.specs.Place.{Place, SamePlace}
-use Rattle.nef_space.specs.Sets.{Set}
-use Rattle.nef_space.specs.Vectors.{Vector}
-use Rattle.nef_space.specs.declared.label.Label.{Label}
-use Rattle.nef_space.specs.declared.label.Label.TheVariants.{Out, Not, In}
-use Rattle.nef_geo.specs.Shapes.{place_of}
+use Rattle.nef_ops.proofs.Prelude.{◌≡◌, refl, sym, subst, ap, List, ℕ, Bool, true, false, IsVertex, Germ, Place, SamePlace, Set, Vector, Label, Out, Not, In, place_of, FlatDim-by_germs, germ-not, germ_of, Germ-unique, At, Cone, complement, exchanged_map, topology-cone, IsVertexPoint, map_of, IsLeastMap, at-map, map-at, Vertex, Complex, vertex_of, complex_of, ShowsSet, Operand, First, Second, operand_of, cone-same, moved_if, of_operand, StandsAt, IsOutcomeAt, Op, op_set, One, Input, Share, Part, AreTold, IsAsIn, IsInput, movable, kept_outcome, IsOutcomeOf, either_of, turned_set, HasShare, Leads}
 use Rattle.law_near.specs.Cones.{label_not}
-use Rattle.law_near.proofs.Alike.{FlatDim-by_germs}
-use Rattle.law_near.proofs.Combine.{germ-not}
-use Rattle.law_near.proofs.Decided.{germ_of}
-use Rattle.law_near.proofs.Germs.{Germ-unique}
-use Rattle.law_sphere.specs.Maps.{At}
-use Rattle.law_sphere.specs.Least.{Cone}
-use Rattle.law_border.specs.Topology.{complement}
-use Rattle.law_border.specs.Marks.{exchanged_map}
-use Rattle.law_border.proofs.Cones.{topology-cone}
 use Rattle.law_border.proofs.ExchangedLabels.{exchanged-laws}
 use Rattle.law_complex.specs.Complexes.{Vertex as PlainVertex}
-use Rattle.law_complex.specs.Skeleton.{IsVertexPoint}
-use Rattle.nef_smap.specs.Maps.{map_of, IsLeastMap}
-use Rattle.nef_smap.proofs.Lists.{at-map, map-at}
-use Rattle.nef_complex.specs.declared.complex.Vertex.{Vertex}
-use Rattle.nef_complex.specs.declared.complex.Complex.{Complex}
-use Rattle.nef_complex.specs.Complexes.{vertex_of, complex_of, ShowsSet}
-use Rattle.nef_cand.specs.declared.named.Operand.{Operand}
-use Rattle.nef_locate.proofs.Cones.{cone-same}
-use Rattle.nef_result.specs.declared.outcome.Outcome.TheVariants.{Stays, Turned}
-use Rattle.nef_result.specs.Outcomes.{of_operand, StandsAt, IsOutcomeAt}
 use Rattle.nef_result.proofs.Vertices.{vertex-flat, flat-vertex, vertex-same}
 use Rattle.nef_ops.specs.declared.operations.UnaryOp.TheVariants as unary
-use Rattle.nef_ops.specs.Rights.{IsAsIn}
+use Rattle.nef_ops.proofs.ByShare.{share-part, shown-one}
 use Rattle.nef_ops.proofs.Gathered.{at-got}
 use Rattle.nef_ops.proofs.OneSet.{unary-vertex}
 
@@ -73,13 +47,11 @@ module _ (c : Complex) (k : ℕ) (y : Place) (r s : Set) (S : ShowsSet s c) (a :
     stands : StandsAt (of_operand o us vs) k here.0 y
     stands = (subst (λ (ws : List Vertex). At ws k here.0) (sym is) here.1.0, here.1.1)
 
-    pub kept : IsAsIn s r y → IsOutcomeAt us vs r y (Stays o k)
-    kept h =
+    pub kept : (turned : Bool) → IsAsIn (turned_set turned s) r y → IsOutcomeAt us vs r y (kept_outcome turned o k)
+    kept false h =
         let m = map_of here.0.map in
         (vertex-flat m r y least.least (h m cone) (flat-vertex m s y least.least cone vertex-here), (here.0, stands, least, h m cone))
-
-    pub turned : IsAsIn (Set.other s) r y → IsOutcomeAt us vs r y (Turned o k)
-    turned h =
+    kept true h =
         let m = map_of here.0.map in
         let n = exchanged_map m in
         let laws = exchanged-laws m least.sphere_map.valid in
@@ -88,3 +60,14 @@ module _ (c : Complex) (k : ℕ) (y : Place) (r s : Set) (S : ShowsSet s c) (a :
           vertex-flat n r y smallest (h n there) (flat-vertex n (Set.other s) y smallest there (other-vertex s y vertex-here)),
           (here.0, stands, least, λ l i. h (map_of l) (i.1 s y cone)),
         )
+
+-- a vertex of an operand whose maps may be moved, where a region of the other operand tells enough
+pub told : (op : Op) (o : Operand) (turned : Bool) (a b : Input) (k : ℕ) (p : Place) (f : Share) → IsInput a → IsInput b → (either_of o a b).is_own ≡ true
+    → IsVertexPoint (operand_of o (complex_of a.complex.now) (complex_of b.complex.now)) k p → ((c : Complex) (s : Set) → AreTold c (either_of o b a).far.now → ShowsSet s c → HasShare f s p)
+    → Leads (One o turned) op (either_of o Part f) (either_of o f Part) → IsOutcomeOf op a b p (kept_outcome turned o k)
+told op First turned a b k p f A B own vertex share leads s t S T =
+    kept a.complex.now k p (op_set op s t) s S vertex (movable a) (movable b) First (ap (λ (m : Bool). moved_if m a.complex.now) own) turned
+    (λ M K. shown-one op Part f M s t p (share-part s p) (share b.complex.now t B.1 T) First turned K leads)
+told op Second turned a b k p f A B own vertex share leads s t S T =
+    kept b.complex.now k p (op_set op s t) t T vertex (movable a) (movable b) Second (ap (λ (m : Bool). moved_if m b.complex.now) own) turned
+    (λ M K. shown-one op f Part M s t p (share a.complex.now s A.1 S) (share-part t p) Second turned K leads)

@@ -1,23 +1,7 @@
 -- Labels that a map doesn't have, from what its svertices and its items don't have.
-use Rattle.std.proofs.Common.{◌≡◌, ℕ, ◌+◌, ◌<◌, List, get_or, ap, ◌∙◌, subst, Some}
+use Rattle.nef_ops.proofs.Prelude.{◌≡◌, ℕ, ◌+◌, ◌<◌, List, get_or, ap, ◌∙◌, subst, Some, Place, Set, Vector, Label, Not, In, SVertex, SphereMap, svertex_of, map_of, at-map, at-get, At, Map, MapVertex, Item, items, around_svertex, pos_item, neg_item, whole, HasSide, MapLabel, at_svertex, on_item, seen, Cone, label-one, germ-label, Share, Nothing, Everything, Lacks, SvertexLacks, ItemLacks, InShare, HasShare}
 use borrow.Author.Count.{below_more}
-use Rattle.nef_space.specs.Place.{Place}
-use Rattle.nef_space.specs.Sets.{Set}
-use Rattle.nef_space.specs.Vectors.{Vector}
-use Rattle.nef_space.specs.declared.label.Label.{Label}
-use Rattle.nef_space.specs.declared.label.Label.TheVariants.{Not, In}
-use Rattle.nef_smap.specs.declared.map.SVertex.{SVertex}
-use Rattle.nef_smap.specs.declared.map.SphereMap.{SphereMap}
-use Rattle.nef_smap.specs.Maps.{svertex_of, map_of}
-use Rattle.nef_smap.proofs.Lists.{at-map, at-get}
-use Rattle.law_sphere.specs.Maps.{At, Map, MapVertex, Item, items}
-use Rattle.law_sphere.specs.Maps.{Side, around_svertex, pos_item, neg_item, whole, HasSide, MapLabel, at_svertex, on_item, seen}
-use Rattle.law_sphere.specs.Least.{Cone}
-use Rattle.law_near.proofs.Germs.{label-one}
-use Rattle.law_complex.proofs.Cones.{germ-label}
-use Rattle.nef_ops.specs.declared.share.Share.{Share}
-use Rattle.nef_ops.specs.declared.share.Share.TheVariants.{Nothing, Everything}
-use Rattle.nef_ops.specs.Shares.{Lacks, SvertexLacks, ItemLacks, InShare, HasShare}
+use Rattle.law_sphere.specs.Maps.{Side}
 
 -- what holds of the elements so far, and of one more
 pub all-more : {A : Type 0} (P : A → Type 0) (xs : List A) (i : ℕ) (x : A) → x ≡ get_or xs i x → P x

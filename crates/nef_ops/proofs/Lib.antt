@@ -1,3 +1,4 @@
+pub mod Prelude
 pub mod Crews
 pub mod GivenPlanes
 pub mod OneSet

@@ -1,21 +1,9 @@
 -- The operations on one set keep its carriers, and make no vertices; regularisation is the closure of the interior.
-use Rattle.std.proofs.Common.{List, Result, Ok, Err, IfOk}
-use Rattle.nef_space.specs.Place.{Place, Form, step}
-use Rattle.nef_space.specs.Sets.{Set}
-use Rattle.nef_space.specs.Vectors.{Vector}
-use Rattle.nef_space.specs.Local.{Flat, IsVertex}
+use Rattle.nef_ops.proofs.Prelude.{List, Result, Ok, Err, IfOk, Place, Form, step, Set, Vector, Flat, IsVertex, Cone, Map, Topology, Carriers, SphereMap, map_of, IsLeastMap, UnaryOp, unary_set}
 use Rattle.law_near.proofs.FlatOperations.{flat-of, flat-not, flat-inside, flat-closed, flat-border, flat-regular}
 use Rattle.law_near.proofs.Topology.{regular-label}
-use Rattle.law_sphere.specs.Least.{Cone}
-use Rattle.law_sphere.specs.Maps.{Map}
-use Rattle.law_border.specs.Topology.{Topology}
-use Rattle.law_complex.specs.Shows.{Carriers}
-use Rattle.nef_smap.specs.declared.map.SphereMap.{SphereMap}
-use Rattle.nef_smap.specs.Maps.{map_of, IsLeastMap}
 use Rattle.nef_stopo.specs.Made.{IsMadeBy}
-use Rattle.nef_ops.specs.declared.operations.UnaryOp.{UnaryOp}
 use Rattle.nef_ops.specs.declared.operations.UnaryOp.TheVariants.{Not, Int, Cl, Bd, Reg}
-use Rattle.nef_ops.specs.Nodes.{unary_set}
 
 pub unary-carriers : (op : UnaryOp) (s : Set) (hs : List Form) → Carriers s hs → Carriers (unary_set op s) hs
 unary-carriers Not s hs C = record { each = C.each; all = C.all; ordered = C.ordered }

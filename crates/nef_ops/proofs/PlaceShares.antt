@@ -1,36 +1,7 @@
 -- What a set has of the frame close to a vertex, and to the points of an edge, of a facet and of a volume.
-use Rattle.std.proofs.Common.{◌≡◌, ℕ, Some, arith, refl, slice_get, subst}
-use Rattle.nef_space.specs.Signs.{Sign, minus, nought, plus, sign}
-use Rattle.nef_space.specs.Local.{HasLabel, Germ, FlatDim}
-use Rattle.nef_space.specs.Place.{Place, IsBetween}
-use Rattle.nef_space.specs.Sets.{Set}
-use Rattle.nef_space.specs.Vectors.{Vector, zero_vector, blend, dot}
-use Rattle.nef_space.specs.declared.label.Label.{Label}
-use Rattle.nef_space.specs.declared.label.Label.TheVariants.{Not, In}
-use Rattle.law_near.proofs.Alike.{flat-germ}
-use Rattle.law_near.proofs.Even.{span-3}
-use Rattle.law_near.proofs.Germs.{label-one, Germ-unique}
-use Rattle.law_near.proofs.Rays.{Germ-zero}
-use Rattle.law_sphere.specs.Least.{Cone, by_side}
-use Rattle.law_sphere.specs.Maps.{At, Item, item_normal, item_pos, item_mark, item_neg, dir_of}
-use Rattle.law_sphere.proofs.Labels.{label-direction}
-use Rattle.law_sphere.proofs.Lists.{at-one}
-use Rattle.law_complex.specs.Complexes.{Vertex, Edge, Complex, Corner, HasEnds, IsCorner}
-use Rattle.law_complex.specs.Shows.{Shows}
-use Rattle.law_complex.specs.Skeleton.{HasCorner}
-use Rattle.law_complex.proofs.Cones.{label-germ}
-use Rattle.law_complex.proofs.Edges.{edge-points}
-use Rattle.nef_smap.specs.Maps.{map_of}
-use Rattle.nef_complex.specs.Complexes.{vertex_of, complex_of, ShowsSet}
-use Rattle.nef_complex.specs.declared.complex.Complex.{Complex as ShownComplex}
-use Rattle.nef_complex.specs.declared.complex.Vertex.{Vertex as ShownVertex}
-use Rattle.nef_locate.specs.Places.{IsPlaceAt}
+use Rattle.nef_ops.proofs.Prelude.{◌≡◌, ℕ, Some, arith, refl, slice_get, subst, Sign, minus, nought, plus, sign, HasLabel, Germ, FlatDim, Place, IsBetween, Set, Vector, zero_vector, blend, dot, Label, Not, In, flat-germ, span-3, label-one, Germ-unique, Germ-zero, Cone, by_side, At, Item, item_normal, item_pos, item_mark, item_neg, dir_of, label-direction, at-one, Edge, Corner, HasEnds, IsCorner, Shows, HasCorner, label-germ, edge-points, map_of, vertex_of, complex_of, ShowsSet, Complex as ShownComplex, Vertex as ShownVertex, IsPlaceAt, corner-labels, cone-same, image-read, Share, Nothing, Everything, InShare, HasShare, ItemLacks}
+use Rattle.law_complex.specs.Complexes.{Vertex, Complex}
 use Rattle.nef_locate.specs.declared.point.Place.TheVariants as place
-use Rattle.nef_locate.proofs.Cones.{corner-labels, cone-same}
-use Rattle.nef_locate.proofs.Marks.{image-read}
-use Rattle.nef_ops.specs.declared.share.Share.{Share}
-use Rattle.nef_ops.specs.declared.share.Share.TheVariants.{Nothing, Everything}
-use Rattle.nef_ops.specs.Shares.{InShare, HasShare, ItemLacks}
 
 -- the labels close to a vertex are those of its map
 pub vertex-share : (c : ShownComplex) (k : ℕ) (u : ShownVertex) (f : Share) → slice_get c.vertices k ≡ Some u → ((s : Set) (p : Place) → Cone (map_of u.map) s p → HasShare f s p)

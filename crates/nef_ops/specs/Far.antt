@@ -1,18 +1,9 @@
--- Past the sides of a span of its skeleton a set has one label in each region of the open frame.
-use Rattle.std.specs.Prelude.{◌≡◌, ℕ, ℤ, pos, ◌*ℤ◌, ◌<ℤ◌, ◌≤ℤ◌, ◌⊎◌, IfSome, List}
-use Rattle.nef_space.specs.Local.{HasLabel, FlatDim}
-use Rattle.nef_space.specs.Place.{Place, Form, form_at, InFrame}
-use Rattle.nef_space.specs.Sets.{Set}
-use Rattle.nef_space.specs.declared.label.Label.{Label}
-use Rattle.nef_geo.specs.Shapes.{place_of}
-use Rattle.nef_geo.specs.declared.point.Point.{Point}
-use Rattle.law_sphere.specs.Maps.{At}
-use Rattle.law_complex.specs.Skeleton.{IsSkeletonPoint}
+-- Regions of the open frame past the sides of a span of a set's skeleton, in each of which the set has one label.
+use Rattle.std.specs.Prelude.{◌≡◌, ◌*ℤ◌, ◌<ℤ◌, ◌≤ℤ◌, ◌⊎◌, ℕ, ℤ, pos, IfSome, List}
+use Rattle.nef_complex.specs.Prelude.{HasLabel, FlatDim, Place, Form, form_at, InFrame, Set, Label, place_of, Point, At, IsSkeletonPoint, complex_of, ShowsSet, IsInSpan}
 use Rattle.law_complex.specs.Spans.{Coordinate, coordinate_of, coordinate_x, coordinate_y, coordinate_z}
 use Rattle.nef_complex.specs.declared.complex.Complex.{Complex}
 use Rattle.nef_complex.specs.declared.spans.Span.{Span}
-use Rattle.nef_complex.specs.Complexes.{complex_of, ShowsSet}
-use Rattle.nef_complex.specs.Spans.{IsInSpan}
 use Rattle.nef_ops.specs.declared.regions.Axis.{Axis}
 use Rattle.nef_ops.specs.declared.regions.Axis.TheVariants.{X, Y, Z}
 use Rattle.nef_ops.specs.declared.regions.Way.{Way}
@@ -25,7 +16,7 @@ use Rattle.nef_ops.specs.declared.regions.Region.{Region}
 abbrev pub MeetsFrame : Form → Type 0
 MeetsFrame f = (y : Place) × InFrame y × (form_at f y ≡ pos 0)
 
--- the points of the skeleton within the open frame lie in the span
+-- the points of the skeleton in the open frame lie in the span
 abbrev pub HoldsSkeleton : Complex → Span → Type 0
 HoldsSkeleton c span = (s : Set) (y : Place) → ShowsSet s c → InFrame y → IsSkeletonPoint (complex_of c) y → IsInSpan span y
 
@@ -40,12 +31,12 @@ abbrev pub IsPastEnd : Way → ℤ → ℤ → ℤ → Type 0
 IsPastEnd Below end n w = n <ℤ (end *ℤ w)
 IsPastEnd Above end n w = (end *ℤ w) <ℤ n
 
--- n/w lies at the end, or before it
+-- n/w lies at the end or before the end
 abbrev pub IsWithinEnd : Way → ℤ → ℤ → ℤ → Type 0
 IsWithinEnd Below end n w = (end *ℤ w) ≤ℤ n
 IsWithinEnd Above end n w = n ≤ℤ (end *ℤ w)
 
--- the other end lies past the end
+-- the end `other` lies past `end`
 abbrev pub IsBeyond : Way → ℤ → ℤ → Type 0
 IsBeyond Below end other = other <ℤ end
 IsBeyond Above end other = end <ℤ other
@@ -53,37 +44,37 @@ IsBeyond Above end other = end <ℤ other
 abbrev pub IsPast : Side → Place → Type 0
 IsPast side p = IsPastEnd side.way side.end (coordinate_of (axis_coordinate side.axis) p) (pos p.w)
 
--- the point lies past the side, within the open frame
+-- the point lies in the open frame, past the side
 abbrev pub IsFar : Side → Place → Type 0
 IsFar side p = InFrame p × IsPast side p
 
--- there is nothing of the skeleton
+-- no skeleton point lies in the open frame past the side
 abbrev pub IsClear : Complex → Side → Type 0
 IsClear c side = (s : Set) (y : Place) → ShowsSet s c → IsFar side y → IsSkeletonPoint (complex_of c) y → ⊥
 
--- each of the points within the open frame is one of the skeleton, or lies in the span
+-- each of the points in the open frame is a skeleton point, or lies in the span
 abbrev pub AreHeld : Complex → Span → List Point → Type 0
 AreHeld c span ps = (k : ℕ) (p : Point) → At ps k p → InFrame (place_of p) → IsSkeletonPoint (complex_of c) (place_of p) ⊎ IsInSpan span (place_of p)
 
--- the points past the side lie at the other end, or before it
+-- the points past the side lie at the end `other` or before this end
 abbrev pub AreWithin : Side → ℤ → List Point → Type 0
 AreWithin side other ps = (k : ℕ) (p : Point) → At ps k p → IsFar side (place_of p) → IsWithinEnd side.way other (coordinate_of (axis_coordinate side.axis) (place_of p)) (pos (place_of p).w)
 
 -- ---- labels
--- the point has the label, and so have all points close by
+-- the set has the label at the point and at all close points
 abbrev pub IsUniform : Set → Place → Label → Type 0
 IsUniform s p l = HasLabel s p l × FlatDim s p 3
 
 abbrev pub IsUniformIn : Complex → Place → Label → Type 0
 IsUniformIn c p l = (s : Set) → ShowsSet s c → IsUniform s p l
 
--- where the region has a label, it is that of all its points
+-- where the region has a label, all its points have that label
 abbrev pub IsTold : Complex → Region → Type 0
 IsTold c r = IfSome r.label (λ (l : Label). (p : Place) → IsFar r.side p → IsUniformIn c p l)
 
 abbrev pub AreTold : Complex → List Region → Type 0
 AreTold c regions = (k : ℕ) (r : Region) → At regions k r → IsTold c r
 
--- so many points pay for labels of the regions
+-- with so many points labels of regions are looked for
 abbrev pub many_points : ℕ
 many_points = 64

@@ -1,6 +1,5 @@
 -- The sets of constants and of the operations on one set.
-use Rattle.std.specs.Prelude.{Bool, true, false}
-use Rattle.nef_space.specs.Sets.{Set}
+use Rattle.nef_space.specs.Prelude.{Bool, true, false, Set}
 use Rattle.nef_ops.specs.declared.operations.UnaryOp.{UnaryOp}
 use Rattle.nef_ops.specs.declared.operations.UnaryOp.TheVariants.{Not, Int, Cl, Bd, Reg}
 

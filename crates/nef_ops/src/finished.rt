@@ -1,4 +1,4 @@
-//! All jobs of an operation, worked over the board that was chosen, and the complex that their results make.
+//! All jobs of an operation, worked over the chosen board, and the complex that their results make.
 
 ghost use Rattle.std.specs.Prelude.{◌≡◌, ◌≤◌};
 ghost use Rattle.nef_complex.specs.Prelude.{ℕ, [], true, false, length, IfOk, Some, slice_get, vec_len, Set, ShowsSet};
@@ -18,8 +18,7 @@ use std::alloc::Global;
 use std::sync::Wait;
 use std::thread::Threads;
 
-// How many of the workers that were asked for share the jobs: as many as these pay for, or all, where the gate may hold
-// jobs back until others began.
+// How many workers share the jobs: as many as the jobs pay for, or all where the gate may hold a job back.
 fn crew(how: &How, work: Work, holds: bool) -> u32
     ensures few { result ≤ 64 }
     ensures all { holds ≡ true → result ≡ how.now.workers }
@@ -32,7 +31,7 @@ fn crew(how: &How, work: Work, holds: bool) -> u32
     }
 }
 
-// One right result for each job, in the order of the jobs, worked by so many workers over a board of this kind.
+// One right result for each job, in the order of the jobs, by `workers` workers over a board of this kind.
 fn finished<R: Threads + Wait + Sync, J: Job, G: Gate + Sync>(
     rt: &R,
     alloc: Global,
@@ -59,7 +58,7 @@ fn finished<R: Threads + Wait + Sync, J: Job, G: Gate + Sync>(
     }
 }
 
-/// The results of all jobs, in their order. The jobs are this work, and so many workers share them.
+/// One right result for each job, in the order of the jobs, by as many workers as the work pays for.
 pub(crate) fn all_worked<R: Threads + Wait + Sync, J: Job, G: Gate + Sync>(
     rt: &R,
     alloc: Global,
@@ -76,8 +75,8 @@ pub(crate) fn all_worked<R: Threads + Wait + Sync, J: Job, G: Gate + Sync>(
     finished(rt, alloc, job, how.board, workers, gate)
 }
 
-/// The complex of a set with these carriers. The points are its candidates, and each job says what it has at one of them.
-/// What two complexes say of their vertices and edges is taken over.
+/// The complex of a set with these carriers. The points are the candidates, and each job gives the outcome at one
+/// candidate. What the complex tells of vertices and edges is taken over.
 pub(crate) fn complex_by_jobs<R: Threads + Wait + Sync, J: Job<Out = Outcome>, G: Gate + Sync>(
     rt: &R,
     alloc: Global,
@@ -85,18 +84,16 @@ pub(crate) fn complex_by_jobs<R: Threads + Wait + Sync, J: Job<Out = Outcome>, G
     work: Work,
     points: &[Point],
     carriers: List<Plane>,
-    first: &Complex,
-    second: &Complex,
+    from: &Complex,
     how: &How,
     gate: &G,
 ) -> Result<Complex, OutOfMemory>
-    requires first { (s : Set) × ShowsSet s first.now }
-    requires second { (s : Set) × ShowsSet s second.now }
+    requires from { (s : Set) × ShowsSet s from.now }
     requires workable { J.workable job.now }
     requires alike { J.count job.now ≡ length points.now }
     requires set { (s : Set) × IsWorkedBy (J.right job.now) [] [] s carriers points.now }
     ensures shows { IfOk result (λ c. (s : Set) → IsWorkedBy (J.right job.now) [] [] s carriers points.now → ShowsSet s c) }
 {
     let outcomes = all_worked(rt, alloc, job, work, how, gate)?;
-    assemble_lent(alloc, carriers, points, outcomes, first, second)
+    assemble_lent(alloc, carriers, points, outcomes, from, from)
 }

@@ -1,9 +1,9 @@
-//! The operations on complexes: constants, halves, combinations of two sets, what topology makes of one, and whether two
-//! sets are one.
+//! The operations on complexes: constants, halves, combinations of two sets, topological operations on a set, and the
+//! comparison of two sets.
 //!
 //! An operation lists its candidates, the points that may be vertices of the result, works the least map of the result
-//! at each as a job of its own, and puts the complex together from these. Source: Granados et al., "Boolean Operations
-//! on 3D Selective Nef Complexes", ESA 2003.
+//! at each candidate as a job of its own, and puts the complex together from these maps. Source: Granados et al.,
+//! "Boolean Operations on 3D Selective Nef Complexes", ESA 2003.
 #![tactic(auto)]
 
 mod finished;

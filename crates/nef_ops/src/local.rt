@@ -11,15 +11,14 @@ ghost use Rattle.nef_complex.specs.declared.complex.Vertex.{Vertex as ShownVerte
 ghost use Rattle.nef_cand.specs.Candidates.{AreFramed};
 ghost use Rattle.nef_cand.specs.Names.{operand_of, other_of, named_point, IsNameAt, IsNamed, AreNamed};
 ghost use Rattle.nef_locate.specs.Places.{IsPlaceIn, IsPlaceAt};
-ghost use Rattle.nef_ops.specs.Shares.{IsCombined, HasShare, Leads, LeadsAt, IsFindingIn, IsFoundAt};
+ghost use Rattle.nef_ops.specs.Shares.{either_of, turned_set, IsCombined, HasShare, Leads, LeadsAt, IsFindingIn, IsFoundAt};
 ghost use Rattle.nef_ops.specs.Far.{AreTold};
-ghost use Rattle.nef_ops.specs.Rights.{IsAsIn, IsRight};
-ghost use Rattle.nef_result.specs.Givens.{moved_if};
+ghost use Rattle.nef_ops.specs.Rights.{IsAsIn, IsRight, IsInput, movable, kept_outcome, IsOutcomeOf};
 ghost use Rattle.nef_result.specs.Outcomes.{of_operand, IsOutcomeAt};
 
 use crate::OutOfMemory;
 use crate::regions::{Regions, label_among};
-use crate::share::{Share, face_share, share_at, share_of, share_off_edges};
+use crate::share::{Share, face_share, share_at, share_of};
 use nef_cand::{Name, Named, Operand};
 use nef_complex::Complex;
 use nef_core::Job;
@@ -32,8 +31,8 @@ use nef_stopo::{combine, exchanged};
 use nef_unique::same_map;
 use std::alloc::Global;
 
-// What is found of a point in a complex: its place there, or, far from the skeleton, the one label.
-#[derive(Debug, Clone, Copy, PartialEq, Eq)]
+// What is known of a point in a complex: its place, or, far from the skeleton, the one label around the point.
+#[derive(Clone, Copy)]
 enum Finding {
     /// The point lies at this place.
     At(Place),
@@ -41,31 +40,20 @@ enum Finding {
     Far(Label),
 }
 
-// What the set holds of the frame close to the points of which this is found.
-fn found_share(c: &Complex, found: &Finding) -> Share
+// What the set holds of the frame close to a point of which this is found. Without `by_maps` no map is looked at, and
+// the answer is `Part` at vertices and on edges.
+fn found_share(c: &Complex, found: &Finding, by_maps: bool) -> Share
     requires shows { (s : Set) × ShowsSet s c.now }
     requires has { IsFindingIn c.now found.now }
     ensures share { (s : Set) (y : PlainPlace) → ShowsSet s c.now → IsFoundAt c.now y found.now → HasShare result s y }
 {
     match *found {
-        Finding::At(place) => share_at(c, &place),
+        Finding::At(place) => share_at(c, &place, by_maps),
         Finding::Far(label) => face_share(label),
     }
 }
 
-// The same by a label alone; of vertices and edges nothing is told so.
-fn told_share(c: &Complex, found: &Finding) -> Share
-    requires shows { (s : Set) × ShowsSet s c.now }
-    requires has { IsFindingIn c.now found.now }
-    ensures share { (s : Set) (y : PlainPlace) → ShowsSet s c.now → IsFoundAt c.now y found.now → HasShare result s y }
-{
-    match *found {
-        Finding::At(place) => share_off_edges(c, &place),
-        Finding::Far(label) => face_share(label),
-    }
-}
-
-// The least map of the set at the points of which this is found. `OutOfMemory` comes where no memory is left; off the
+// The least map of the set at a point of which this is found. `OutOfMemory` comes where no memory is left; off the
 // vertices and edges no memory is taken.
 fn found_map(alloc: Global, c: &Complex, found: &Finding) -> Result<SphereMap, OutOfMemory>
     requires shows { (s : Set) × ShowsSet s c.now }
@@ -79,7 +67,7 @@ fn found_map(alloc: Global, c: &Complex, found: &Finding) -> Result<SphereMap, O
     }
 }
 
-// The number of the vertex, where the place is one.
+// The number of the vertex, where the place is a vertex.
 fn vertex_number(place: &Place) -> Option<usize>
     ensures vertex { (C : PlainComplex) (y : PlainPlace) → IsPlaceAt C y place.now → IfSome result (λ k. IsVertexPoint C k y) }
 {
@@ -91,7 +79,7 @@ fn vertex_number(place: &Place) -> Option<usize>
     }
 }
 
-// The number of the vertex that was found, where there is one.
+// The number of the vertex, where a vertex was found.
 fn found_vertex(found: &Finding) -> Option<usize>
     ensures vertex { (c : ShownComplex) (y : PlainPlace) → IsFoundAt c y found.now → IfSome result (λ k. IsVertexPoint (complex_of c) k y) }
 {
@@ -101,50 +89,49 @@ fn found_vertex(found: &Finding) -> Option<usize>
     }
 }
 
-// What another set has where it is as this one, of which this is found there: the vertex that this one has there, where its
-// map may be moved, or else what its map says.
-fn same_outcome(
-    alloc: Global,
-    c: &Complex,
-    operand: Operand,
-    is_own: bool,
-    found: &Finding,
-) -> Result<Outcome, OutOfMemory>
-    requires shows { (s : Set) × ShowsSet s c.now }
-    requires has { IsFindingIn c.now found.now }
-    ensures outcome { IfOk result (λ o. (us vs : Sequence ShownVertex) (r s : Set) (y : PlainPlace) → of_operand operand us vs ≡ moved_if is_own c.now → ShowsSet s c.now → IsFoundAt c.now y found.now → IsAsIn s r y → IsOutcomeAt us vs r y o) }
+// The outcome where the operand's vertex with this number stays, with `In` and `Not` exchanged in its map if `turned`.
+fn kept(operand: Operand, number: usize, turned: bool) -> Outcome
+    ensures kept { result ≡ kept_outcome turned operand number }
 {
-    if is_own {
-        if let Some(number) = found_vertex(found) {
-            return Ok(Outcome::Stays(operand, number));
-        }
+    if turned {
+        Outcome::Turned(operand, number)
+    } else {
+        Outcome::Stays(operand, number)
     }
-    let map = found_map(alloc, c, found)?;
-    Outcome::of(alloc, map)
 }
 
-// What another set has where it is as the complement of this one, of which this is found there.
-fn turned_outcome(
-    alloc: Global,
-    c: &Complex,
-    operand: Operand,
-    is_own: bool,
-    found: &Finding,
-) -> Result<Outcome, OutOfMemory>
-    requires shows { (s : Set) × ShowsSet s c.now }
-    requires has { IsFindingIn c.now found.now }
-    ensures outcome { IfOk result (λ o. (us vs : Sequence ShownVertex) (r s : Set) (y : PlainPlace) → of_operand operand us vs ≡ moved_if is_own c.now → ShowsSet s c.now → IsFoundAt c.now y found.now → IsAsIn (Set.other s) r y → IsOutcomeAt us vs r y o) }
+// The least map of the complement if `turned`, and else the map itself.
+fn turned_if(map: SphereMap, turned: bool) -> SphereMap
+    requires least { IsLeastMap map }
+    ensures least { IsLeastMap result }
+    ensures cone { (s : Set) (y : PlainPlace) → Cone (map_of map) s y → Cone (map_of result) (turned_set turned s) y }
 {
-    if is_own {
-        if let Some(number) = found_vertex(found) {
-            return Ok(Outcome::Turned(operand, number));
-        }
-    }
-    let map = found_map(alloc, c, found)?;
-    Outcome::of(alloc, exchanged(map))
+    if turned { exchanged(map) } else { map }
 }
 
-// The vertex or the edge that the name tells, of which set, and the place in the other set if the name tells one.
+// The outcome at a point where the result is as this operand, or as its complement if `turned`, by what is `found`
+// there: the operand's vertex, where its map may be moved, or else what the operand's map says.
+fn one_outcome(
+    alloc: Global,
+    input: &Input,
+    operand: Operand,
+    found: &Finding,
+    turned: bool,
+) -> Result<Outcome, OutOfMemory>
+    requires shows { (s : Set) × ShowsSet s input.now.complex.now }
+    requires has { IsFindingIn input.now.complex.now found.now }
+    ensures outcome { IfOk result (λ o. (us vs : Sequence ShownVertex) (r s : Set) (y : PlainPlace) → of_operand operand us vs ≡ movable input.now → ShowsSet s input.now.complex.now → IsFoundAt input.now.complex.now y found.now → IsAsIn (turned_set turned s) r y → IsOutcomeAt us vs r y o) }
+{
+    if input.is_own {
+        if let Some(number) = found_vertex(found) {
+            return Ok(kept(operand, number, turned));
+        }
+    }
+    let map = found_map(alloc, input.complex, found)?;
+    Outcome::of(alloc, turned_if(map, turned))
+}
+
+// The vertex or edge in the name, with its operand, and the place in the other operand if the name has one.
 fn told_places(name: &Name) -> (Operand, Place, Option<Place>)
     ensures place { (C D : PlainComplex) (y : PlainPlace) → IsNameAt C D y name.now → IsPlaceIn (operand_of result.0 C D) result.1 }
     ensures at { (C D : PlainComplex) (y : PlainPlace) → IsNameAt C D y name.now → IsPlaceAt (operand_of result.0 C D) y result.1 }
@@ -157,15 +144,14 @@ fn told_places(name: &Name) -> (Operand, Place, Option<Place>)
     }
 }
 
-// What is found of the candidate in one of the two complexes that its name speaks of. It is looked for only where its name
-// tells of the other one alone, and no region its label.
-fn finding_in(c: &Complex, own: Operand, far: &Regions, candidate: &Named) -> Finding
-    requires shows { (s : Set) × ShowsSet s c.now }
-    requires told { AreTold c.now far.now }
+// What is known of the candidate in operand `own`. The candidate is located there only where its name tells of the
+// other operand alone and no region tells its label.
+fn finding_in(input: &Input, own: Operand, candidate: &Named) -> Finding
+    requires input { IsInput input.now }
     requires framed { InClosedFrame (place_of candidate.now.point) }
-    requires named { (C D : PlainComplex) × (operand_of own C D ≡ complex_of c.now) × IsNamed C D candidate.now }
-    ensures has { IsFindingIn c.now result }
-    ensures found { IsFoundAt c.now (place_of candidate.now.point) result }
+    requires named { (C D : PlainComplex) × (operand_of own C D ≡ complex_of input.now.complex.now) × IsNamed C D candidate.now }
+    ensures has { IsFindingIn input.now.complex.now result }
+    ensures found { IsFoundAt input.now.complex.now (place_of candidate.now.point) result }
 {
     let (operand, place, across) = told_places(&candidate.name);
     if operand == own {
@@ -174,13 +160,14 @@ fn finding_in(c: &Complex, own: Operand, far: &Regions, candidate: &Named) -> Fi
     if let Some(place) = across {
         return Finding::At(place);
     }
+    let far = input.far;
     match label_among(far, &candidate.point) {
         Some(label) => Finding::Far(label),
-        None => Finding::At(locate(c, &candidate.point)),
+        None => Finding::At(locate(input.complex, &candidate.point)),
     }
 }
 
-// What the set holds of the frame close to the point, where a region tells its label there.
+// What the set holds of the frame close to the point, where a region tells the point's label.
 fn far_share(far: &Regions, point: &Point) -> Share
     ensures share { (c : ShownComplex) (s : Set) → AreTold c far.now → ShowsSet s c → HasShare result s (place_of point.now) }
 {
@@ -190,47 +177,41 @@ fn far_share(far: &Regions, point: &Point) -> Share
     }
 }
 
-// Which map is that of a combination at a point.
-#[derive(Debug, Clone, Copy, PartialEq, Eq)]
+// Which map a combination has at a point.
+#[derive(Clone, Copy, PartialEq, Eq)]
 enum Choice {
-    /// That of the first set.
-    First,
-    /// That of the second set.
-    Second,
-    /// That of the first set's complement.
-    NotFirst,
-    /// That of the second set's complement.
-    NotSecond,
-    /// One with parts of both.
+    /// The map of this set, or of its complement if the flag is true.
+    One(Operand, bool),
+    /// A map with parts of both sets.
     Both,
 }
 
-// Which map is that of the operation's combination of two sets with these shares of the frame.
+// Which map the operation's combination has at a point, where the two sets hold these shares of the frame.
 fn choice_of(op: Op, first: Share, second: Share) -> Choice
     ensures leads { Leads result op first second }
 {
     match (op, first, second) {
-        (Op::And, Share::Nothing, _) => Choice::First,
-        (Op::And, _, Share::Nothing) => Choice::Second,
-        (Op::And, Share::Everything, _) => Choice::Second,
-        (Op::And, _, Share::Everything) => Choice::First,
-        (Op::Or, Share::Nothing, _) => Choice::Second,
-        (Op::Or, _, Share::Nothing) => Choice::First,
-        (Op::Or, Share::Everything, _) => Choice::First,
-        (Op::Or, _, Share::Everything) => Choice::Second,
-        (Op::Diff, Share::Nothing, _) => Choice::First,
-        (Op::Diff, _, Share::Nothing) => Choice::First,
-        (Op::Diff, Share::Everything, _) => Choice::NotSecond,
-        (Op::Diff, _, Share::Everything) => Choice::NotSecond,
-        (Op::Xor, Share::Nothing, _) => Choice::Second,
-        (Op::Xor, _, Share::Nothing) => Choice::First,
-        (Op::Xor, Share::Everything, _) => Choice::NotSecond,
-        (Op::Xor, _, Share::Everything) => Choice::NotFirst,
+        (Op::And, Share::Nothing, _) => Choice::One(Operand::First, false),
+        (Op::And, _, Share::Nothing) => Choice::One(Operand::Second, false),
+        (Op::And, Share::Everything, _) => Choice::One(Operand::Second, false),
+        (Op::And, _, Share::Everything) => Choice::One(Operand::First, false),
+        (Op::Or, Share::Nothing, _) => Choice::One(Operand::Second, false),
+        (Op::Or, _, Share::Nothing) => Choice::One(Operand::First, false),
+        (Op::Or, Share::Everything, _) => Choice::One(Operand::First, false),
+        (Op::Or, _, Share::Everything) => Choice::One(Operand::Second, false),
+        (Op::Diff, Share::Nothing, _) => Choice::One(Operand::First, false),
+        (Op::Diff, _, Share::Nothing) => Choice::One(Operand::First, false),
+        (Op::Diff, Share::Everything, _) => Choice::One(Operand::Second, true),
+        (Op::Diff, _, Share::Everything) => Choice::One(Operand::Second, true),
+        (Op::Xor, Share::Nothing, _) => Choice::One(Operand::Second, false),
+        (Op::Xor, _, Share::Nothing) => Choice::One(Operand::First, false),
+        (Op::Xor, Share::Everything, _) => Choice::One(Operand::Second, true),
+        (Op::Xor, _, Share::Everything) => Choice::One(Operand::First, true),
         (_, Share::Part, Share::Part) => Choice::Both,
     }
 }
 
-// Whether a set combined with itself is the set.
+// Whether the operation makes of a set and itself this set.
 fn keeps_equals(op: Op) -> bool
     ensures keeps { IsTrue result → (l : PlainLabel) → op_label op l l ≡ l }
 {
@@ -240,8 +221,8 @@ fn keeps_equals(op: Op) -> bool
     }
 }
 
-// The least map of the combination of two sets at a point, from their least maps there. Where one set holds all of the
-// frame close to the point, or nothing, it is the other's map, that of its complement, or the set's own.
+// The least map of the combination of two sets at a point, from their least maps there. Where one set holds all or
+// nothing of the frame close to the point, the result is the other set's map, its complement's, or the set's own.
 fn merged(
     alloc: Global,
     first: SphereMap,
@@ -253,10 +234,10 @@ fn merged(
     ensures combined { IfOk result (IsCombined op first second) }
 {
     match choice_of(op, share_of(&first), share_of(&second)) {
-        Choice::First => Ok(first),
-        Choice::Second => Ok(second),
-        Choice::NotFirst => Ok(exchanged(first)),
-        Choice::NotSecond => Ok(exchanged(second)),
+        Choice::One(operand, turned) => match operand {
+            Operand::First => Ok(turned_if(first, turned)),
+            Operand::Second => Ok(turned_if(second, turned)),
+        },
         Choice::Both => {
             if keeps_equals(op) && same_map(&first, &second) {
                 Ok(first)
@@ -267,98 +248,87 @@ fn merged(
     }
 }
 
-/// What the combination of the sets of two complexes has at each candidate. The maps of a complex may be moved where it is the
-/// operation's own.
+/// An operand of a combination: its complex, whether maps may be moved out of the complex, and the complex's regions.
+#[derive(Drop)]
+pub(crate) struct Input<'a> {
+    pub(crate) complex: &'a Complex,
+    pub(crate) is_own: bool,
+    pub(crate) far: &'a Regions,
+}
+
+// Of two values, one for each operand, that of this operand.
+fn either_of<'a, T>(operand: Operand, first: &'a T, second: &'a T) -> &'a T
+    ensures either { result.now ≡ either_of operand first.now second.now }
+{
+    match operand {
+        Operand::First => first,
+        Operand::Second => second,
+    }
+}
+
+/// The jobs of a combination of the sets of two complexes: the outcome at each candidate.
 #[derive(Drop)]
 pub(crate) struct BinaryJob<'a> {
     pub(crate) op: Op,
-    pub(crate) first: &'a Complex,
-    pub(crate) second: &'a Complex,
-    pub(crate) own_first: bool,
-    pub(crate) own_second: bool,
-    pub(crate) far_first: &'a Regions,
-    pub(crate) far_second: &'a Regions,
+    pub(crate) first: Input<'a>,
+    pub(crate) second: Input<'a>,
     pub(crate) listed: &'a [Named],
 }
 
 impl<'a> BinaryJob<'a> {
-    // Which map is that of the combination at a point of which this is found in the two sets. A label, where one is told,
-    // mostly says so, and costs less to look at than the map of a vertex.
+    // Which map the combination has at a point, by what is found of the point in the two operands. Labels mostly
+    // decide, and cost less to look at than the map of a vertex.
     fn choice(&self, first: &Finding, second: &Finding) -> Choice
-        requires first { (s : Set) × ShowsSet s self.now.first.now }
-        requires second { (t : Set) × ShowsSet t self.now.second.now }
-        requires has_first { IsFindingIn self.now.first.now first.now }
-        requires has_second { IsFindingIn self.now.second.now second.now }
-        ensures leads { (s t : Set) (y : PlainPlace) → ShowsSet s self.now.first.now → ShowsSet t self.now.second.now → IsFoundAt self.now.first.now y first.now → IsFoundAt self.now.second.now y second.now → LeadsAt result self.now.op s t y }
+        requires first { IsInput self.now.first }
+        requires second { IsInput self.now.second }
+        requires has_first { IsFindingIn self.now.first.complex.now first.now }
+        requires has_second { IsFindingIn self.now.second.complex.now second.now }
+        ensures leads { (s t : Set) (y : PlainPlace) → ShowsSet s self.now.first.complex.now → ShowsSet t self.now.second.complex.now → IsFoundAt self.now.first.complex.now y first.now → IsFoundAt self.now.second.complex.now y second.now → LeadsAt result self.now.op s t y }
     {
-        let first_told = told_share(self.first, first);
-        let second_told = told_share(self.second, second);
+        let first_told = found_share(self.first.complex, first, false);
+        let second_told = found_share(self.second.complex, second, false);
         let told = choice_of(self.op, first_told, second_told);
         if told != Choice::Both {
             return told;
         }
-        let first_share = found_share(self.first, first);
-        let second_share = found_share(self.second, second);
+        let first_share = found_share(self.first.complex, first, true);
+        let second_share = found_share(self.second.complex, second, true);
         choice_of(self.op, first_share, second_share)
     }
 
-    // What is told of the combination at this vertex of the first set, where that may be moved and a region tells the label of
-    // the second set.
-    fn told_first(&self, number: usize, point: &Point) -> Option<Outcome>
-        requires told { AreTold self.now.second.now self.now.far_second.now }
-        requires vertex { IsVertexPoint (complex_of self.now.first.now) number (place_of point.now) }
-        ensures outcome { IfSome result (λ o. (s t : Set) → ShowsSet s self.now.first.now → ShowsSet t self.now.second.now → IsOutcomeAt (moved_if self.now.own_first self.now.first.now) (moved_if self.now.own_second self.now.second.now) (op_set self.now.op s t) (place_of point.now) o) }
-    {
-        if !self.own_first {
-            return None;
-        }
-        let share = far_share(self.far_second, point);
-        match choice_of(self.op, Share::Part, share) {
-            Choice::First => Some(Outcome::Stays(Operand::First, number)),
-            Choice::NotFirst => Some(Outcome::Turned(Operand::First, number)),
-            Choice::Second | Choice::NotSecond | Choice::Both => None,
-        }
-    }
-
-    // The same at a vertex of the second set.
-    fn told_second(&self, number: usize, point: &Point) -> Option<Outcome>
-        requires told { AreTold self.now.first.now self.now.far_first.now }
-        requires vertex { IsVertexPoint (complex_of self.now.second.now) number (place_of point.now) }
-        ensures outcome { IfSome result (λ o. (s t : Set) → ShowsSet s self.now.first.now → ShowsSet t self.now.second.now → IsOutcomeAt (moved_if self.now.own_first self.now.first.now) (moved_if self.now.own_second self.now.second.now) (op_set self.now.op s t) (place_of point.now) o) }
-    {
-        if !self.own_second {
-            return None;
-        }
-        let share = far_share(self.far_first, point);
-        match choice_of(self.op, share, Share::Part) {
-            Choice::Second => Some(Outcome::Stays(Operand::Second, number)),
-            Choice::NotSecond => Some(Outcome::Turned(Operand::Second, number)),
-            Choice::First | Choice::NotFirst | Choice::Both => None,
-        }
-    }
-
-    // What the combination has at a vertex of one set, where one look at the other's regions tells it.
+    // The outcome at a vertex of one operand, where its map may be moved and a region of the other operand has a label.
     fn told_outcome(&self, operand: Operand, number: usize, point: &Point) -> Option<Outcome>
-        requires first_told { AreTold self.now.first.now self.now.far_first.now }
-        requires second_told { AreTold self.now.second.now self.now.far_second.now }
-        requires vertex { IsVertexPoint (operand_of operand (complex_of self.now.first.now) (complex_of self.now.second.now)) number (place_of point.now) }
-        ensures outcome { IfSome result (λ o. (s t : Set) → ShowsSet s self.now.first.now → ShowsSet t self.now.second.now → IsOutcomeAt (moved_if self.now.own_first self.now.first.now) (moved_if self.now.own_second self.now.second.now) (op_set self.now.op s t) (place_of point.now) o) }
+        requires first { IsInput self.now.first }
+        requires second { IsInput self.now.second }
+        requires vertex { IsVertexPoint (operand_of operand (complex_of self.now.first.complex.now) (complex_of self.now.second.complex.now)) number (place_of point.now) }
+        ensures outcome { IfSome result (IsOutcomeOf self.now.op self.now.first self.now.second (place_of point.now)) }
     {
-        match operand {
-            Operand::First => self.told_first(number, point),
-            Operand::Second => self.told_second(number, point),
+        if !either_of(operand, &self.first, &self.second).is_own {
+            return None;
+        }
+        let part = Share::Part;
+        let share = far_share(either_of(operand, &self.second, &self.first).far, point);
+        let first = *either_of(operand, &part, &share);
+        let second = *either_of(operand, &share, &part);
+        match choice_of(self.op, first, second) {
+            Choice::One(chosen, turned) => {
+                if chosen == operand {
+                    Some(kept(operand, number, turned))
+                } else {
+                    None
+                }
+            }
+            Choice::Both => None,
         }
     }
 
-    // What the combination has at a candidate. At most of them one look tells it, and nothing else is begun.
+    // The outcome at a candidate. At most candidates one look tells the outcome, and nothing else is begun.
     fn outcome_at(&self, alloc: Global, candidate: &Named) -> Result<Outcome, OutOfMemory>
-        requires first { (s : Set) × ShowsSet s self.now.first.now }
-        requires second { (t : Set) × ShowsSet t self.now.second.now }
-        requires first_told { AreTold self.now.first.now self.now.far_first.now }
-        requires second_told { AreTold self.now.second.now self.now.far_second.now }
+        requires first { IsInput self.now.first }
+        requires second { IsInput self.now.second }
         requires framed { InClosedFrame (place_of candidate.now.point) }
-        requires named { IsNamed (complex_of self.now.first.now) (complex_of self.now.second.now) candidate.now }
-        ensures outcome { IfOk result (λ o. (s t : Set) → ShowsSet s self.now.first.now → ShowsSet t self.now.second.now → IsOutcomeAt (moved_if self.now.own_first self.now.first.now) (moved_if self.now.own_second self.now.second.now) (op_set self.now.op s t) (place_of candidate.now.point) o) }
+        requires named { IsNamed (complex_of self.now.first.complex.now) (complex_of self.now.second.complex.now) candidate.now }
+        ensures outcome { IfOk result (IsOutcomeOf self.now.op self.now.first self.now.second (place_of candidate.now.point)) }
     {
         if let Name::Vertex(operand, number) = candidate.name {
             if let Some(outcome) = self.told_outcome(operand, number, &candidate.point) {
@@ -368,70 +338,46 @@ impl<'a> BinaryJob<'a> {
         self.found_outcome(alloc, candidate)
     }
 
-    // The same by what is found of the candidate in both sets. Where that says that one set holds all of the frame close to it,
-    // or nothing, no more than one map is made.
+    // The outcome at a candidate by what is known of it in both operands. Where one operand holds all or nothing of the
+    // frame close to the candidate, no more than one map is made.
     fn found_outcome(&self, alloc: Global, candidate: &Named) -> Result<Outcome, OutOfMemory>
-        requires first { (s : Set) × ShowsSet s self.now.first.now }
-        requires second { (t : Set) × ShowsSet t self.now.second.now }
-        requires first_told { AreTold self.now.first.now self.now.far_first.now }
-        requires second_told { AreTold self.now.second.now self.now.far_second.now }
+        requires first { IsInput self.now.first }
+        requires second { IsInput self.now.second }
         requires framed { InClosedFrame (place_of candidate.now.point) }
-        requires named { IsNamed (complex_of self.now.first.now) (complex_of self.now.second.now) candidate.now }
-        ensures outcome { IfOk result (λ o. (s t : Set) → ShowsSet s self.now.first.now → ShowsSet t self.now.second.now → IsOutcomeAt (moved_if self.now.own_first self.now.first.now) (moved_if self.now.own_second self.now.second.now) (op_set self.now.op s t) (place_of candidate.now.point) o) }
+        requires named { IsNamed (complex_of self.now.first.complex.now) (complex_of self.now.second.complex.now) candidate.now }
+        ensures outcome { IfOk result (IsOutcomeOf self.now.op self.now.first self.now.second (place_of candidate.now.point)) }
     {
-        let first = finding_in(self.first, Operand::First, self.far_first, candidate);
-        let second = finding_in(self.second, Operand::Second, self.far_second, candidate);
+        let first = finding_in(&self.first, Operand::First, candidate);
+        let second = finding_in(&self.second, Operand::Second, candidate);
         match self.choice(&first, &second) {
-            Choice::First => {
-                same_outcome(alloc, self.first, Operand::First, self.own_first, &first)
-            }
-            Choice::Second => {
-                same_outcome(
+            Choice::One(operand, turned) => match operand {
+                Operand::First => one_outcome(alloc, &self.first, Operand::First, &first, turned),
+                Operand::Second => one_outcome(
                     alloc,
-                    self.second,
+                    &self.second,
                     Operand::Second,
-                    self.own_second,
                     &second,
-                )
-            }
-            Choice::NotFirst => {
-                turned_outcome(alloc, self.first, Operand::First, self.own_first, &first)
-            }
-            Choice::NotSecond => {
-                turned_outcome(
-                    alloc,
-                    self.second,
-                    Operand::Second,
-                    self.own_second,
-                    &second,
-                )
-            }
+                    turned,
+                ),
+            },
             Choice::Both => {
-                let map = found_map(alloc, self.first, &first)?;
-                let other = found_map(alloc, self.second, &second)?;
+                let map = found_map(alloc, self.first.complex, &first)?;
+                let other = found_map(alloc, self.second.complex, &second)?;
                 let both = merged(alloc, map, other, self.op)?;
                 Outcome::of(alloc, both)
             }
         }
     }
 
-    // Whether one look tells what the combination has at the candidate: a vertex of one set, in a region far from the other
-    // where that one's label is known.
+    // Whether one look tells the outcome: the candidate is an operand's vertex, in a labelled region of the other.
     fn is_told(&self, candidate: &Named) -> bool {
         match candidate.name {
             Name::Vertex(operand, _) => {
-                label_among(self.far_other(operand), &candidate.point).is_some()
+                let far = either_of(operand, &self.second, &self.first).far;
+                label_among(far, &candidate.point).is_some()
             }
             Name::Edge(_, _) => false,
             Name::Cut(_, _, _) => false,
-        }
-    }
-
-    // The regions of the set that isn't this operand.
-    fn far_other(&self, operand: Operand) -> &Regions {
-        match operand {
-            Operand::First => self.far_second,
-            Operand::Second => self.far_first,
         }
     }
 
@@ -452,9 +398,9 @@ impl<'a> Job for BinaryJob<'a> {
 
     ghost count = { λ j. length j.listed.now };
 
-    ghost right = { λ j i o. (s t : Set) → ShowsSet s j.first.now → ShowsSet t j.second.now → IsRight (op_set j.op s t) (moved_if j.own_first j.first.now) (moved_if j.own_second j.second.now) (map named_point j.listed.now) i o };
+    ghost right = { λ j i o. (s t : Set) → ShowsSet s j.first.complex.now → ShowsSet t j.second.complex.now → IsRight (op_set j.op s t) (movable j.first) (movable j.second) (map named_point j.listed.now) i o };
 
-    ghost workable = { λ j. ((s : Set) × ShowsSet s j.first.now) × ((t : Set) × ShowsSet t j.second.now) × AreFramed (map named_point j.listed.now) × AreNamed (complex_of j.first.now) (complex_of j.second.now) j.listed.now × AreTold j.first.now j.far_first.now × AreTold j.second.now j.far_second.now };
+    ghost workable = { λ j. IsInput j.first × IsInput j.second × AreFramed (map named_point j.listed.now) × AreNamed (complex_of j.first.complex.now) (complex_of j.second.complex.now) j.listed.now };
 
     fn jobs(&self) -> u64 {
         self.listed.len() as u64

@@ -15,7 +15,7 @@ ghost use Rattle.nef_result.specs.Outcomes.{AreOutcomesOf};
 
 use crate::OutOfMemory;
 use crate::finished::{all_worked, complex_by_jobs};
-use crate::local::BinaryJob;
+use crate::local::{BinaryJob, Input};
 use crate::regions::{core_span, regions_of};
 use nef_cand::{cut_candidates, named_points, near_candidates_by_threads, vertex_points};
 use nef_complex::Complex;
@@ -24,8 +24,7 @@ use nef_geo::{Label, List, Oriented, Plane, Point};
 use nef_io::Gate;
 use nef_locate::local_map;
 use nef_result::{
-    Given, Outcome, add_carrier, assemble, assemble_lent, copy_carriers, frame, half_map,
-    merge_carriers,
+    Given, Outcome, add_carrier, assemble, copy_carriers, frame, half_map, merge_carriers,
 };
 use nef_smap::SphereMap;
 use nef_star::Op;
@@ -34,7 +33,7 @@ use std::alloc::Global;
 use std::sync::Wait;
 use std::thread::Threads;
 
-// The least map of the half at each point. The complex is that of the whole frame.
+// The jobs of a half: its outcome at each point. `whole` is the complex of the whole frame.
 #[derive(Drop)]
 struct HalfJob<'a> {
     whole: &'a Complex,
@@ -64,8 +63,7 @@ impl<'a> Job for HalfJob<'a> {
     }
 }
 
-/// The complex of a half of the frame, as `half` makes it, from the complex of the whole frame, which a caller that makes
-/// many halves has made once.
+/// The complex of a half of the frame, as `half` makes it, from a complex of the whole frame, which a caller may keep.
 pub fn half_within<R: Threads + Wait + Sync, G: Gate + Sync>(
     rt: &R,
     alloc: Global,
@@ -89,16 +87,13 @@ pub fn half_within<R: Threads + Wait + Sync, G: Gate + Sync>(
     };
     let work = Work::LightJobs(how.board, job.jobs());
     let carriers = add_carrier(alloc, whole, &plane)?;
-    let complex = complex_by_jobs(
-        rt, alloc, &job, work, points, carriers, whole, whole, how, gate,
-    )?;
-    Ok(complex)
+    complex_by_jobs(rt, alloc, &job, work, points, carriers, whole, how, gate)
 }
 
 /// The complex of a half of the frame: where the given form is negative, or where it is at most zero if the half is
-/// closed. One job for each candidate, in their order, is worked over the board that `how` names, by `how.workers` workers,
-/// or by fewer where the jobs don't pay for so many and the gate holds none back; the gate is told of each
-/// job before it begins. `OutOfMemory` says that memory was wanted and not found.
+/// closed. One job for each candidate, in order, is worked over the board that `how` names, by `how.workers` workers,
+/// or by fewer where the jobs don't pay for so many and the gate holds none back; the gate is told of each job before
+/// it begins. `OutOfMemory` says that memory was wanted and not found.
 pub fn half<R: Threads + Wait + Sync, G: Gate + Sync>(
     rt: &R,
     alloc: Global,
@@ -110,7 +105,9 @@ pub fn half<R: Threads + Wait + Sync, G: Gate + Sync>(
     ensures shows { IfOk result (λ c. ShowsSet (Set.half (given_form oriented.now) closed) c) }
 {
     let whole = frame(alloc, Label::In)?;
-    half_within(rt, alloc, &whole, oriented, closed, how, gate)
+    let made = half_within(rt, alloc, &whole, oriented, closed, how, gate);
+    drop(whole);
+    made
 }
 
 /// The complex of the whole frame where `full` is true, and of the empty set otherwise. `OutOfMemory` says that memory
@@ -126,7 +123,7 @@ pub fn constant(alloc: Global, full: bool) -> Result<Complex, OutOfMemory>
 }
 
 /// An operation on one set.
-#[derive(Debug, Clone, Copy, PartialEq, Eq)]
+#[derive(Clone, Copy)]
 pub enum UnaryOp {
     /// The complement within the frame.
     Not,
@@ -159,7 +156,7 @@ fn changed(alloc: Global, map: &SphereMap, op: UnaryOp) -> Result<SphereMap, Out
     }
 }
 
-// The least map of what the operation makes of the set of a complex, at each vertex.
+// The jobs of an operation on the set of a complex: the outcome at each vertex.
 #[derive(Drop)]
 struct UnaryJob<'a> {
     op: UnaryOp,
@@ -186,8 +183,8 @@ impl<'a> Job for UnaryJob<'a> {
     }
 }
 
-/// The complex of what the operation makes of the set of a complex. Its vertices are among those of the set. One job for
-/// each of these, in their order, is worked over the board that `how` names, by `how.workers` workers, or by fewer where
+/// The complex of what the operation makes of the set of a complex. Its vertices are among the set's vertices. One job
+/// for each vertex, in order, is worked over the board that `how` names, by `how.workers` workers, or by fewer where
 /// the jobs don't pay for so many and the gate holds none back; the gate is told of each job before it begins.
 /// `OutOfMemory` says that memory was wanted and not found.
 pub fn unary<R: Threads + Wait + Sync, G: Gate + Sync>(
@@ -206,11 +203,10 @@ pub fn unary<R: Threads + Wait + Sync, G: Gate + Sync>(
     let work = Work::HeavyJobs(job.jobs());
     let carriers = copy_carriers(alloc, a)?;
     let points = points.as_slice();
-    let complex = complex_by_jobs(rt, alloc, &job, work, points, carriers, a, a, how, gate)?;
-    Ok(complex)
+    complex_by_jobs(rt, alloc, &job, work, points, carriers, a, how, gate)
 }
 
-// What so many jobs cost.
+// The work of so many jobs of a combination of the two sets.
 fn work_of(a: &Complex, b: &Complex, jobs: u64, board: BoardKind) -> Work
     ensures work { result ≡ combination_work board jobs (min (length a.now.carriers) (length b.now.carriers)) (min (length a.now.vertices + length b.now.vertices) (2 ^ 64 - 1)) }
 {
@@ -219,17 +215,21 @@ fn work_of(a: &Complex, b: &Complex, jobs: u64, board: BoardKind) -> Work
     Work::of_combination(board, jobs, carriers, vertices)
 }
 
-// What the jobs cost, without those at which one look is enough. These are counted only where all jobs would pay for more
-// than one worker.
+// The work of the jobs that take more than one look, which are counted only where all jobs would pay for two workers.
 fn busy_work(job: &BinaryJob, how: &How) -> Work {
-    let all = work_of(job.first, job.second, job.jobs(), how.board);
+    let all = work_of(job.first.complex, job.second.complex, job.jobs(), how.board);
     if all.crew(how.workers) < 2 {
         return all;
     }
-    work_of(job.first, job.second, job.busy_jobs(), how.board)
+    work_of(
+        job.first.complex,
+        job.second.complex,
+        job.busy_jobs(),
+        how.board,
+    )
 }
 
-// What a combination has at its candidates, and its carriers.
+// The carriers of a combination, its candidates, and the outcome at each candidate.
 #[derive(Drop)]
 struct Gathered {
     carriers: List<Plane>,
@@ -237,7 +237,7 @@ struct Gathered {
     outcomes: Vec<Outcome>,
 }
 
-// What the combination of the sets of two complexes has at its candidates. It is told which of the two may be taken apart.
+// The carriers, candidates and outcomes of the combination. The two flags say which complex may be taken apart.
 fn gather<R: Threads + Wait + Sync, G: Gate + Sync>(
     rt: &R,
     alloc: Global,
@@ -262,12 +262,16 @@ fn gather<R: Threads + Wait + Sync, G: Gate + Sync>(
     let far_second = regions_of(b, &core_b, &core_a, points.as_slice());
     let job = BinaryJob {
         op,
-        first: a,
-        second: b,
-        own_first: own_a,
-        own_second: own_b,
-        far_first: &far_first,
-        far_second: &far_second,
+        first: Input {
+            complex: a,
+            is_own: own_a,
+            far: &far_first,
+        },
+        second: Input {
+            complex: b,
+            is_own: own_b,
+            far: &far_second,
+        },
         listed: candidates,
     };
     let work = busy_work(&job, how);
@@ -280,7 +284,7 @@ fn gather<R: Threads + Wait + Sync, G: Gate + Sync>(
     })
 }
 
-// As `binary_given`, of complexes that are let go of elsewhere.
+// As `binary_given`, for complexes that the caller lets go of.
 fn combined<R: Threads + Wait + Sync, G: Gate + Sync>(
     rt: &R,
     alloc: Global,
@@ -307,9 +311,10 @@ fn combined<R: Threads + Wait + Sync, G: Gate + Sync>(
     assemble(alloc, carriers, points.as_slice(), outcomes, a, b)
 }
 
-/// The complex of the combination of the sets of two complexes. One job for each near candidate, in their order, is worked over
-/// the board that `how` names, by `how.workers` workers, or by fewer where the jobs don't pay for so many and the gate
-/// holds none back; the gate is told of each job before it begins. `OutOfMemory` says that memory was wanted and not found.
+/// The complex of the combination of the sets of two complexes. One job for each near candidate, in order, is worked
+/// over the board that `how` names, by `how.workers` workers, or by fewer where the jobs don't pay for so many and the
+/// gate holds none back; the gate is told of each job before it begins. `OutOfMemory` says that memory was wanted and
+/// not found.
 pub fn binary<R: Threads + Wait + Sync, G: Gate + Sync>(
     rt: &R,
     alloc: Global,
@@ -323,14 +328,10 @@ pub fn binary<R: Threads + Wait + Sync, G: Gate + Sync>(
     requires second { (t : Set) × ShowsSet t b.now }
     ensures shows { IfOk result (λ c. (s t : Set) → ShowsSet s a.now → ShowsSet t b.now → ShowsSet (op_set op s t) c) }
 {
-    let parts = gather(rt, alloc, op, a, false, b, false, how, gate)?;
-    let carriers = parts.carriers;
-    let points = parts.points;
-    let outcomes = parts.outcomes;
-    assemble_lent(alloc, carriers, points.as_slice(), outcomes, a, b)
+    binary_given(rt, alloc, op, Given::Lent(a), Given::Lent(b), how, gate)
 }
 
-/// As `binary`, of complexes some of which may be taken apart: the maps that the result has of these are moved.
+/// As `binary`, for complexes that may be taken apart where they are given away: maps of vertices that stay are moved.
 pub fn binary_given<R: Threads + Wait + Sync, G: Gate + Sync>(
     rt: &R,
     alloc: Global,
@@ -344,5 +345,8 @@ pub fn binary_given<R: Threads + Wait + Sync, G: Gate + Sync>(
     requires second { (t : Set) × ShowsSet t (given_of b) }
     ensures shows { IfOk result (λ c. (s t : Set) → ShowsSet s (given_of a.entry) → ShowsSet t (given_of b.entry) → ShowsSet (op_set op s t) c) }
 {
-    combined(rt, alloc, op, &mut a, &mut b, how, gate)
+    let made = combined(rt, alloc, op, &mut a, &mut b, how, gate);
+    drop(a);
+    drop(b);
+    made
 }

@@ -11,33 +11,33 @@ use nef_complex::{Complex, Span, carrier_spans};
 use nef_geo::{Label, Point, wide_product};
 use nef_locate::{locate, place_label};
 
-/// So many points pay for regions. Six of them are looked for, which is as much as a small operation does.
+/// With fewer points regions don't pay: looking for all six costs as much as a small operation.
 const MANY_POINTS: usize = 64;
 
 /// One of the three coordinates.
-#[derive(Debug, Clone, Copy, PartialEq, Eq)]
+#[derive(Clone, Copy)]
 enum Axis {
     X,
     Y,
     Z,
 }
 
-/// Which way from the end of a span.
-#[derive(Debug, Clone, Copy, PartialEq, Eq)]
+/// Past which end of a span: below its low end or above its high end.
+#[derive(Clone, Copy)]
 enum Way {
     Below,
     Above,
 }
 
-/// A side of a span: past it lies what has, along this axis, a coordinate strictly below, or above, the end.
-#[derive(Debug, Clone, Copy, PartialEq, Eq)]
+/// A side of a span: past it lie the points whose coordinate along `axis` is strictly below, or above, `end`.
+#[derive(Clone, Copy)]
 struct Side {
     axis: Axis,
     way: Way,
     end: i64,
 }
 
-// The number of the point along this axis, times its weight.
+// The number of the point for this axis, which is its coordinate times its weight.
 fn coordinate(point: &Point, axis: Axis) -> i64
     ensures coordinate { result ≡ coordinate_of (axis_coordinate axis) (place_of point.now) }
 {
@@ -67,8 +67,8 @@ impl Side {
     }
 }
 
-/// A span of the skeleton within the open frame: of the vertices on all carriers but those that hold no point of the open
-/// frame. Those of the frame's own sides hold none, and their vertices reach from one end of the frame to the other.
+/// A span of the skeleton within the open frame: of the vertices on all carriers with a point in the open frame. The
+/// planes of the frame's own sides have no such point, and vertices from one end of the frame to the other.
 pub(crate) fn core_span(c: &Complex) -> Span
     requires shows { (s : Set) × ShowsSet s c.now }
     ensures core { HoldsSkeleton c.now result }
@@ -83,17 +83,17 @@ pub(crate) fn core_span(c: &Complex) -> Span
     core
 }
 
-/// What lies past a side of a span within the open frame, and the label that the set has there, if it is known.
-#[derive(Debug, Clone, Copy, PartialEq, Eq)]
+/// The points of the open frame past a side of a span, and the set's label at these points, if the label is known.
+#[derive(Clone, Copy)]
 pub(crate) struct Region {
     side: Side,
     label: Option<Label>,
 }
 
-/// The regions past the six sides of a span of the set's skeleton.
+/// The regions past the six sides of a span of the set's skeleton within the open frame.
 pub(crate) type Regions = [Region; 6];
 
-// Whether the other end lies past the end.
+// Whether the end `other` lies past `end`.
 fn is_beyond(way: Way, end: i64, other: i64) -> bool
     ensures beyond { IsTrue result ↔ IsBeyond way end other }
 {
@@ -103,8 +103,8 @@ fn is_beyond(way: Way, end: i64, other: i64) -> bool
     }
 }
 
-// The region past an end along an axis, with its label if one of the points lies there within the open frame. The points past
-// the end lie no further than the other end, so that mostly none needs to be looked at.
+// The region past an end along an axis, with its label if one of the points lies in the region. Points past `end` lie
+// no further than `other`, so that mostly no point needs to be looked at.
 fn region_past(c: &Complex, axis: Axis, way: Way, end: i64, other: i64, points: &[Point]) -> Region
     requires shows { (s : Set) × ShowsSet s c.now }
     requires clear { IsClear c.now (record { axis = axis; way = way; end = end }) }
@@ -129,7 +129,7 @@ fn region_past(c: &Complex, axis: Axis, way: Way, end: i64, other: i64, points: 
 }
 
 impl Region {
-    // The label at a point of the open frame, where it lies in the region and the region has one.
+    // The region's label, if the label is known and the point, which is a point of the open frame, lies in the region.
     fn label_at(&self, point: &Point) -> Option<Label>
         requires framed { InFrame (place_of point.now) }
         ensures told { (c : ShownComplex) → IsTold c self.now → IfSome result (IsUniformIn c (place_of point.now)) }
@@ -143,7 +143,7 @@ impl Region {
     }
 }
 
-// The points that are looked at: all, where there are many.
+// The points that are looked at: all where there are many, and else none.
 fn asked_of(points: &[Point]) -> &[Point]
     ensures asked { (result.now ≡ points.now) ⊎ ((result.now ≡ []) × (length points.now < many_points)) }
 {
@@ -154,8 +154,8 @@ fn asked_of(points: &[Point]) -> &[Point]
     }
 }
 
-/// The regions past the sides of a span of the complex's skeleton within the open frame. Where there are many points, each region
-/// has a label in which one of them lies. Those that aren't of the skeleton lie in the other span.
+/// The regions past the sides of `core`, a span of the complex's skeleton within the open frame. Where there are many
+/// points, each region in which a point lies gets its label. Points off the skeleton lie within `other`.
 pub(crate) fn regions_of(c: &Complex, core: &Span, other: &Span, points: &[Point]) -> Regions
     requires shows { (s : Set) × ShowsSet s c.now }
     requires core { HoldsSkeleton c.now core.now }
@@ -174,7 +174,7 @@ pub(crate) fn regions_of(c: &Complex, core: &Span, other: &Span, points: &[Point
     ]
 }
 
-/// The label that the set has at the point and close to it, where a region in which it lies has a label.
+/// The label of the set at the point and close to it, where a region that holds the point has a label.
 pub(crate) fn label_among(regions: &[Region], point: &Point) -> Option<Label>
     ensures told { (c : ShownComplex) → AreTold c regions.now → IfSome result (IsUniformIn c (place_of point.now)) }
     ensures none { IsNone result → (k : ℕ) (r : PlainRegion) → At regions.now k r → IsFar r.side (place_of point.now) → IsNone r.label }

@@ -1,6 +1,7 @@
 //! What a set holds of the frame close to a point, by its map there or by the point's place in the complex.
 
-ghost use Rattle.nef_complex.specs.Prelude.{ℕ, IsTrue, Place as PlainPlace, Set, At, Item as PlainItem, items, Cone, complex_of, ShowsSet};
+ghost use Rattle.std.specs.Prelude.{◌<◌};
+ghost use Rattle.nef_complex.specs.Prelude.{ℕ, length, IsTrue, IsVertexPoint, Place as PlainPlace, Set, At, Item as PlainItem, items, Cone, complex_of, ShowsSet};
 ghost use Rattle.nef_smap.specs.Items.{item_of};
 ghost use Rattle.nef_smap.specs.Maps.{map_of};
 ghost use Rattle.nef_smap.specs.declared.map.SVertex.{SVertex as PlainSVertex};
@@ -14,17 +15,17 @@ use nef_locate::{Place, place_label};
 use nef_smap::{Item, SVertex, SphereMap};
 
 /// What a set holds of the frame close to a point.
-#[derive(Debug, Clone, Copy, PartialEq, Eq)]
+#[derive(Clone, Copy)]
 pub(crate) enum Share {
     /// No point.
     Nothing,
     /// Each point of the frame.
     Everything,
-    /// Some points, or it isn't known.
+    /// Some points, or as many as isn't known.
     Part,
 }
 
-// Whether no svertex has the label, nor the face round it.
+// Whether neither a svertex nor the face round a svertex has the label.
 fn svertices_lack(svertices: &[SVertex], label: Label) -> bool
     ensures lacks { IsTrue result → (k : ℕ) (v : PlainSVertex) → At svertices.now k v → SvertexLacks label v }
 {
@@ -36,14 +37,14 @@ fn svertices_lack(svertices: &[SVertex], label: Label) -> bool
     true
 }
 
-// Whether the item doesn't have the label, nor a face beside it.
+// Whether neither the item nor a face beside the item has the label.
 fn item_lacks(item: &Item, label: Label) -> bool
     ensures lacks { IsTrue result → ItemLacks label (item_of item.now) }
 {
     item.mark() != label && item.label(true) != label && item.label(false) != label
 }
 
-// Whether no item has the label, nor a face beside it.
+// Whether neither an item nor a face beside an item has the label.
 fn items_lack(map: &SphereMap, label: Label) -> bool
     ensures lacks { IsTrue result → (k : ℕ) (x : PlainItem) → At (items (map_of map.now)) k x → ItemLacks label x }
 {
@@ -81,7 +82,7 @@ pub(crate) fn share_of(map: &SphereMap) -> Share
     }
 }
 
-// What the set holds close to the points that have this corner.
+// What the set holds of the frame close to the points of the facet that have this corner.
 fn facet_share(c: &Complex, corner: &Corner) -> Share
     requires place { IsPlaceIn (complex_of c.now) (place.InFacet corner.now) }
     ensures share { (s : Set) (y : PlainPlace) → ShowsSet s c.now → IsPlaceAt (complex_of c.now) y (place.InFacet corner.now) → HasShare result s y }
@@ -107,36 +108,31 @@ pub(crate) fn face_share(label: Label) -> Share
     }
 }
 
-/// What the set holds of the frame close to the points that lie at this place off the vertices and edges; at those it
-/// isn't known.
-pub(crate) fn share_off_edges(c: &Complex, at: &Place) -> Share
-    requires shows { (s : Set) × ShowsSet s c.now }
-    requires place { IsPlaceIn (complex_of c.now) at.now }
-    ensures share { (s : Set) (y : PlainPlace) → ShowsSet s c.now → IsPlaceAt (complex_of c.now) y at.now → HasShare result s y }
+// What the set holds of the frame close to the vertex with this number, or `Part` if maps aren't looked at.
+fn vertex_share(c: &Complex, number: usize, by_maps: bool) -> Share
+    requires within { number < length c.now.vertices }
+    ensures share { (s : Set) (p : PlainPlace) → ShowsSet s c.now → IsVertexPoint (complex_of c.now) number p → HasShare result s p }
 {
-    match *at {
-        Place::Vertex(_) => Share::Part,
-        Place::OnEdge(_) => Share::Part,
-        Place::InFacet(corner) => facet_share(c, &corner),
-        Place::InVolume { .. } => face_share(place_label(c, at)),
+    if by_maps {
+        share_of(&c.vertices.at(number).map)
+    } else {
+        Share::Part
     }
 }
 
 /// What the set holds of the frame close to the points that lie at this place. No map is made, so on some edges along
-/// which it is all or nothing it isn't known.
-pub(crate) fn share_at(c: &Complex, at: &Place) -> Share
+/// which the set holds all or nothing the answer is `Part`. Without `by_maps` no map is looked at, and the answer is
+/// `Part` at all vertices and on all edges.
+pub(crate) fn share_at(c: &Complex, at: &Place, by_maps: bool) -> Share
     requires shows { (s : Set) × ShowsSet s c.now }
     requires place { IsPlaceIn (complex_of c.now) at.now }
     ensures share { (s : Set) (y : PlainPlace) → ShowsSet s c.now → IsPlaceAt (complex_of c.now) y at.now → HasShare result s y }
 {
     match *at {
-        Place::Vertex(number) => share_of(&c.vertices.at(number).map),
-        // The labels close to the edge are some of those close to its lower end.
-        Place::OnEdge(number) => {
-            let edge = c.edges.at(number);
-            share_of(&c.vertices.at(edge.low).map)
-        }
-        Place::InFacet(_) => share_off_edges(c, at),
-        Place::InVolume { .. } => share_off_edges(c, at),
+        Place::Vertex(number) => vertex_share(c, number, by_maps),
+        // each label close to the edge is a label close to its lower end
+        Place::OnEdge(number) => vertex_share(c, c.edges.at(number).low, by_maps),
+        Place::InFacet(corner) => facet_share(c, &corner),
+        Place::InVolume { .. } => face_share(place_label(c, at)),
     }
 }

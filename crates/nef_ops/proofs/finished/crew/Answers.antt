@@ -1,4 +1,4 @@
-use Rattle.std.proofs.Common.{ℕ, ◌≤◌, sym, subst}
+use Rattle.nef_ops.proofs.Prelude.{ℕ, ◌≤◌, sym, subst}
 use Rattle.nef_ops.proofs.Crews.{crew-few}
 use Rattle.nef_ops.proofs.finished.crew.Goals as goal
 

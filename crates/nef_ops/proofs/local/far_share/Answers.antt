@@ -1,4 +1,4 @@
-use Rattle.nef_geo.specs.Shapes.{place_of}
+use Rattle.nef_ops.proofs.Prelude.{place_of}
 use Rattle.nef_ops.proofs.ByShare.{share-part}
 use Rattle.nef_ops.proofs.PlaceShares.{flat-share}
 use Rattle.nef_ops.proofs.local.far_share.Goals as goal

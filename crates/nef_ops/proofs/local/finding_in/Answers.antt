@@ -1,10 +1,5 @@
-use Rattle.std.proofs.Common.{◌≡◌, rules, refl, subst, IfSome}
-use Rattle.nef_geo.specs.Shapes.{place_of}
+use Rattle.nef_ops.proofs.Prelude.{◌≡◌, rules, refl, subst, IfSome, place_of, Operand, First, Second, operand_of, other_of, IsPlaceIn, IsPlaceAt}
 use Rattle.law_complex.specs.Complexes.{Complex as PlainComplex}
-use Rattle.nef_cand.specs.declared.named.Operand.{Operand}
-use Rattle.nef_cand.specs.declared.named.Operand.TheVariants.{First, Second}
-use Rattle.nef_cand.specs.Names.{operand_of, other_of}
-use Rattle.nef_locate.specs.Places.{IsPlaceIn, IsPlaceAt}
 use Rattle.nef_locate.specs.declared.point.Place.{Place}
 use Rattle.nef_ops.proofs.local.finding_in.Goals as goal
 
@@ -39,4 +34,4 @@ returns-in-Some c =
     record { has = here.0; found = here.1 }
 
 pub returns-in-Some-label_among-clause-found : goal.returns-in-Some-label_among-clause-found
-returns-in-Some-label_among-clause-found c = c.in-Some-label_among.ensures.told c.args.c.now c.requires.told
+returns-in-Some-label_among-clause-found c = c.in-Some-label_among.ensures.told c.args.input.now.complex.now c.requires.input.1

@@ -1,8 +1,4 @@
-use Rattle.std.proofs.Common.{subst}
-use Rattle.std.proofs.lemmas.Result.{IfOk-weaker}
-use Rattle.nef_smap.specs.Maps.{map_of}
-use Rattle.nef_locate.proofs.Cones.{cone-flat}
-use Rattle.nef_ops.specs.Shares.{IsFindingIn, IsFoundAt}
+use Rattle.nef_ops.proofs.Prelude.{subst, IfOk-weaker, map_of, cone-flat, IsFindingIn, IsFoundAt}
 use Rattle.nef_ops.proofs.local.found_map.Goals as goal
 
 pub place_map-requires-clause-place : goal.place_map-requires-clause-place

@@ -1,5 +1,4 @@
-use Rattle.std.proofs.Common.{subst}
-use Rattle.nef_ops.specs.Shares.{IsFindingIn, IsFoundAt}
+use Rattle.nef_ops.proofs.Prelude.{subst, IsFindingIn, IsFoundAt}
 use Rattle.nef_ops.proofs.PlaceShares.{flat-share}
 use Rattle.nef_ops.proofs.local.found_share.Goals as goal
 

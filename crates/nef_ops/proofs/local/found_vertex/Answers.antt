@@ -1,6 +1,4 @@
-use Rattle.std.proofs.Common.{subst}
-use Rattle.nef_complex.specs.Complexes.{complex_of}
-use Rattle.nef_ops.specs.Shares.{IsFoundAt}
+use Rattle.nef_ops.proofs.Prelude.{subst, complex_of, IsFoundAt}
 use Rattle.nef_ops.proofs.local.found_vertex.Goals as goal
 
 pub returns-in-At : goal.returns-in-At

@@ -1,55 +1,26 @@
-use Rattle.std.proofs.Common.{◌≡◌, refl, sym, subst}
-use Rattle.nef_smap.specs.Maps.{map_of}
-use Rattle.nef_smap.specs.declared.map.SphereMap.{SphereMap}
-use Rattle.law_sphere.specs.Least.{Cone}
-use Rattle.nef_ops.proofs.ByShare.{combined-if_ok, shown-same, shown-first, shown-second, shown-not_first, shown-not_second}
+use Rattle.nef_ops.proofs.Prelude.{◌≡◌, refl, sym, subst, map_of, SphereMap, Cone, Operand, First, Second, One, Leads}
+use Rattle.nef_ops.proofs.ByShare.{combined-if_ok, shown-same, shown-one}
 use Rattle.nef_ops.proofs.local.merged.Goals as goal
 
 pub returns-in-First : goal.returns-in-First
 returns-in-First c =
-    let x = c.args in
-    let f = c.share_of in
-    let g = c.share_of-2 in
+    let x = c.args in let f = c.share_of in let g = c.share_of-2 in let m = c.turned_if in let b = c.in-One.turned in
     record {
       combined = record {
-        least = c.requires.first;
-        cone = λ s t p K L. shown-first x.op f.result g.result (map_of x.first) s t p (f.ensures.share s p K) (g.ensures.share t p L) K c.in-First.ensures.leads;
+        least = m.ensures.least;
+        cone = λ s t p K L. shown-one x.op f.result g.result (map_of m.result) s t p (f.ensures.share s p K) (g.ensures.share t p L) First b (m.ensures.cone s p K)
+            (subst (λ (o : Operand). Leads (One o b) x.op f.result g.result) c.in-First.is c.in-One.ensures.leads);
       };
     }
 
 pub returns-in-Second : goal.returns-in-Second
 returns-in-Second c =
-    let x = c.args in
-    let f = c.share_of in
-    let g = c.share_of-2 in
+    let x = c.args in let f = c.share_of in let g = c.share_of-2 in let m = c.turned_if-in-Second in let b = c.in-One.turned in
     record {
       combined = record {
-        least = c.requires.second;
-        cone = λ s t p K L. shown-second x.op f.result g.result (map_of x.second) s t p (f.ensures.share s p K) (g.ensures.share t p L) L c.in-Second.ensures.leads;
-      };
-    }
-
-pub returns-in-NotFirst : goal.returns-in-NotFirst
-returns-in-NotFirst c =
-    let x = c.args in
-    let f = c.share_of in
-    let g = c.share_of-2 in
-    record {
-      combined = record {
-        least = c.exchanged.ensures.least;
-        cone = λ s t p K L. shown-not_first x.op f.result g.result (map_of c.exchanged.result) s t p (f.ensures.share s p K) (g.ensures.share t p L) (c.exchanged.ensures.cone s p K) c.in-NotFirst.ensures.leads;
-      };
-    }
-
-pub returns-in-NotSecond : goal.returns-in-NotSecond
-returns-in-NotSecond c =
-    let x = c.args in
-    let f = c.share_of in
-    let g = c.share_of-2 in
-    record {
-      combined = record {
-        least = c.exchanged-in-NotSecond.ensures.least;
-        cone = λ s t p K L. shown-not_second x.op f.result g.result (map_of c.exchanged-in-NotSecond.result) s t p (f.ensures.share s p K) (g.ensures.share t p L) (c.exchanged-in-NotSecond.ensures.cone t p L) c.in-NotSecond.ensures.leads;
+        least = m.ensures.least;
+        cone = λ s t p K L. shown-one x.op f.result g.result (map_of m.result) s t p (f.ensures.share s p K) (g.ensures.share t p L) Second b (m.ensures.cone t p L)
+            (subst (λ (o : Operand). Leads (One o b) x.op f.result g.result) c.in-Second.is c.in-One.ensures.leads);
       };
     }
 

@@ -1,5 +1,4 @@
-use Rattle.std.proofs.Common.{subst}
-use Rattle.nef_cand.specs.Names.{IsNameAt}
+use Rattle.nef_ops.proofs.Prelude.{subst, IsNameAt}
 use Rattle.nef_ops.proofs.local.told_places.Goals as goal
 
 pub returns-in-Vertex : goal.returns-in-Vertex

@@ -1,5 +1,4 @@
-use Rattle.std.proofs.Common.{subst}
-use Rattle.nef_locate.specs.Places.{IsPlaceAt}
+use Rattle.nef_ops.proofs.Prelude.{subst, IsPlaceAt}
 use Rattle.nef_ops.proofs.local.vertex_number.Goals as goal
 
 pub returns-in-Vertex : goal.returns-in-Vertex

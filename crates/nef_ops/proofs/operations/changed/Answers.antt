@@ -1,13 +1,5 @@
-use Rattle.std.proofs.Common.{sym, subst}
+use Rattle.nef_ops.proofs.Prelude.{sym, subst, Place, Set, Cone, interior, closure, boundary, complement, map_of, SphereMap, UnaryOp, unary_set}
 use Rattle.std.specs.Prelude.{IfOk}
-use Rattle.nef_space.specs.Place.{Place}
-use Rattle.nef_space.specs.Sets.{Set}
-use Rattle.law_sphere.specs.Least.{Cone}
-use Rattle.law_border.specs.Topology.{interior, closure, boundary, complement}
-use Rattle.nef_smap.specs.Maps.{map_of}
-use Rattle.nef_smap.specs.declared.map.SphereMap.{SphereMap}
-use Rattle.nef_ops.specs.declared.operations.UnaryOp.{UnaryOp}
-use Rattle.nef_ops.specs.Nodes.{unary_set}
 use Rattle.nef_ops.proofs.OneSet.{made-cone, made-least, regular-cone}
 use Rattle.nef_ops.proofs.operations.changed.Goals as goal
 

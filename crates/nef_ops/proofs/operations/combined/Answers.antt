@@ -1,8 +1,4 @@
-use Rattle.std.proofs.Common.{◌≡◌, sym, subst}
-use Rattle.std.proofs.lemmas.Result.{IfOk-weaker}
-use Rattle.nef_stopo.specs.Sets.{op_set}
-use Rattle.nef_complex.specs.Complexes.{ShowsSet}
-use Rattle.nef_result.specs.Givens.{given_of, moved_of}
+use Rattle.nef_ops.proofs.Prelude.{sym, subst, IfOk-weaker, op_set, ShowsSet, given_of, moved_of}
 use Rattle.nef_ops.proofs.Gathered.{both-given}
 use Rattle.nef_ops.proofs.operations.combined.Goals as goal
 

@@ -1,11 +1,4 @@
-use Rattle.std.proofs.Common.{◌≡◌, ◌∙◌, List, map, length, arith, ap, sym, subst}
-use Rattle.nef_geo.specs.declared.point.Point.{Point}
-use Rattle.nef_complex.specs.Complexes.{complex_of}
-use Rattle.nef_cand.specs.declared.named.Named.{Named}
-use Rattle.nef_cand.specs.Candidates.{AreFramed}
-use Rattle.nef_cand.specs.Names.{named_point, AreNamed}
-use Rattle.nef_result.specs.Givens.{moved_if}
-use Rattle.nef_ops.specs.Far.{AreHeld}
+use Rattle.nef_ops.proofs.Prelude.{◌≡◌, ◌∙◌, List, map, length, arith, ap, sym, subst, Point, complex_of, Named, AreFramed, named_point, AreNamed, moved_if, AreHeld}
 use Rattle.nef_ops.proofs.Gathered.{both-outcomes}
 use Rattle.nef_ops.proofs.HeldPoints.{first-held, second-held}
 use Rattle.nef_ops.proofs.operations.gather.Goals as goal
@@ -29,7 +22,7 @@ regions_of-far_second-requires-clause-held g c =
 pub all_worked-requires-clause-workable : goal.all_worked-requires-clause-workable
 all_worked-requires-clause-workable g c = λ κs within.
     let same = sym c.as_slice-candidates.ensures.value in let lists = c.in_ok-listed.ensures.lists in
-    (c.requires.first, c.requires.second, subst (λ (ns : List Named). AreFramed (map named_point ns)) same lists.framed, subst (AreNamed (complex_of c.args.a.now) (complex_of c.args.b.now)) same lists.named, c.regions_of-far_first.ensures.told, c.regions_of-far_second.ensures.told)
+    ((c.requires.first, c.regions_of-far_first.ensures.told), (c.requires.second, c.regions_of-far_second.ensures.told), subst (λ (ns : List Named). AreFramed (map named_point ns)) same lists.framed, subst (AreNamed (complex_of c.args.a.now) (complex_of c.args.b.now)) same lists.named)
 
 pub returns : goal.returns
 returns g c =

@@ -1,7 +1,4 @@
-use Rattle.std.proofs.Common.{ap, length, sym, ◌∙◌}
-use Rattle.std.proofs.lemmas.List.{length-map}
-use Rattle.nef_complex.specs.declared.complex.Vertex.{Vertex}
-use Rattle.nef_ops.specs.Nodes.{unary_set}
+use Rattle.nef_ops.proofs.Prelude.{ap, length, sym, ◌∙◌, length-map, IfOk-weaker, Vertex, unary_set}
 use Rattle.nef_ops.proofs.Gathered.{one-worked}
 use Rattle.nef_ops.proofs.operations.unary.Goals as goal
 
@@ -20,6 +17,6 @@ pub returns : goal.returns
 returns g c =
     let op = c.args.op in
     record {
-      shows = λ s S. c.in_ok-complex.ensures.shows (unary_set op s)
-          (one-worked op c.args.a.now c.in_ok-carriers.carriers c.in_ok-points.points.items c.as_slice-points.result.now c.as_slice-points.ensures.value c.in_ok-points.ensures.points c.in_ok-carriers.ensures.same s S);
+      shows = IfOk-weaker c.complex_by_jobs.result _ _ (λ d shown s S. shown (unary_set op s)
+          (one-worked op c.args.a.now c.in_ok-carriers.carriers c.in_ok-points.points.items c.as_slice-points.result.now c.as_slice-points.ensures.value c.in_ok-points.ensures.points c.in_ok-carriers.ensures.same s S)) c.complex_by_jobs.ensures.shows;
     }

@@ -1,7 +1,4 @@
-use Rattle.std.proofs.Common.{◌+◌, get_or, arith, rules, sym, subst}
-use Rattle.nef_classes.proofs.ClassLists.{is-at_get}
-use Rattle.nef_complex.specs.declared.spans.Span.{Span}
-use Rattle.nef_complex.proofs.Outside.{no_span}
+use Rattle.nef_ops.proofs.Prelude.{◌+◌, get_or, arith, rules, sym, subst, is-at_get, Span, no_span}
 use Rattle.nef_ops.proofs.FarLabels.{HoldsCarriers, carriers-more, carriers-same, skeleton-held}
 use Rattle.nef_ops.proofs.regions.core_span.Goals.{then-not-misses_frame, else-not-misses_frame}
 use Rattle.nef_ops.proofs.regions.core_span.Goals as goal

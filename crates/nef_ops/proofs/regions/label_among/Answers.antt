@@ -1,13 +1,4 @@
-use Rattle.std.proofs.Common.{ℕ, ◌+◌, ◌<◌, List, IsNone, arith, rules, sym, refl}
-use Rattle.nef_space.specs.Lists.{IsAt}
-use Rattle.nef_space.specs.Place.{Place}
-use Rattle.nef_geo.specs.Shapes.{place_of}
-use Rattle.nef_classes.proofs.ClassLists.{is-at_get, is-at_is}
-use Rattle.nef_smap.proofs.Lists.{at-within}
-use Rattle.nef_smap.proofs.SideLists.{at-from_get}
-use Rattle.law_sphere.specs.Maps.{At}
-use Rattle.nef_ops.specs.declared.regions.Region.{Region}
-use Rattle.nef_ops.specs.Far.{IsFar}
+use Rattle.nef_ops.proofs.Prelude.{ℕ, ◌+◌, ◌<◌, List, IsNone, arith, rules, sym, refl, IsAt, Place, place_of, is-at_get, is-at_is, at-within, at-from_get, At, Region, IsFar}
 use Rattle.nef_ops.proofs.Lacking.{all-more}
 use Rattle.nef_ops.proofs.regions.label_among.Goals as goal
 

@@ -1,8 +1,4 @@
-use Rattle.std.proofs.Common.{ℕ, ◌<◌, IsNone}
-use Rattle.nef_geo.specs.Shapes.{place_of}
-use Rattle.law_sphere.specs.Maps.{At}
-use Rattle.nef_ops.specs.declared.regions.Region.{Region}
-use Rattle.nef_ops.specs.Far.{IsFar}
+use Rattle.nef_ops.proofs.Prelude.{ℕ, ◌<◌, IsNone, place_of, At, Region, IsFar}
 use Rattle.nef_ops.proofs.regions.label_among.Given as goal
 
 abbrev pub invariant-loop-region : goal.invariant-loop-region

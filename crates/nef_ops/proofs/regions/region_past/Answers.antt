@@ -1,11 +1,4 @@
-use Rattle.std.proofs.Common.{ℤ, pos, w64, to_z, of_z, arith, rules, sym, subst}
-use Rattle.std.proofs.lemmas.Int.{to_z-of_z}
-use Rattle.nef_geo.specs.Shapes.{place_of}
-use Rattle.nef_geo.specs.declared.point.Point.{Point}
-use Rattle.nef_smap.proofs.Lists.{at-within}
-use Rattle.nef_ops.specs.declared.regions.Side.{Side}
-use Rattle.law_complex.specs.Spans.{coordinate_of}
-use Rattle.nef_ops.specs.Far.{axis_coordinate, IsFar, IsClear, IsWithinEnd}
+use Rattle.nef_ops.proofs.Prelude.{ℤ, pos, w64, to_z, of_z, arith, rules, sym, subst, to_z-of_z, place_of, Point, at-within, Side, coordinate_of, axis_coordinate, IsFar, IsClear, IsWithinEnd}
 use Rattle.nef_ops.proofs.FarLabels.{far-uniform, none-past}
 use Rattle.nef_ops.proofs.Lacking.{all-more}
 use Rattle.nef_ops.proofs.regions.region_past.Goals.{else-has-via-then-has+else-in_frame, else-has-via-else-has}

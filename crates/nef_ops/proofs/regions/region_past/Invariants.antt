@@ -1,8 +1,4 @@
-use Rattle.std.proofs.Common.{ℕ, ◌<◌}
-use Rattle.nef_geo.specs.Shapes.{place_of}
-use Rattle.nef_geo.specs.declared.point.Point.{Point}
-use Rattle.law_sphere.specs.Maps.{At}
-use Rattle.nef_ops.specs.Far.{IsFar}
+use Rattle.nef_ops.proofs.Prelude.{ℕ, ◌<◌, place_of, Point, At, IsFar}
 use Rattle.nef_ops.proofs.regions.region_past.Given as goal
 
 abbrev pub invariant-loop-point : goal.invariant-loop-point

@@ -1,21 +1,4 @@
-use Rattle.std.proofs.Common.{◌≡◌, ◌⊎◌, ℕ, ◌<◌, ℤ, pos, ◌*ℤ◌, ◌≤ℤ◌, IsNone, FitsSigned, List, [], ◌∷◌, length, w64, to_z, of_z, arith, rules, sym, subst, ⊎_elim}
-use Rattle.std.proofs.lemmas.Int.{to_z-of_z}
-use Rattle.nef_space.specs.Place.{Place}
-use Rattle.nef_space.specs.Sets.{Set}
-use Rattle.nef_geo.specs.Shapes.{place_of}
-use Rattle.nef_geo.specs.declared.point.Point.{Point}
-use Rattle.law_sphere.specs.Maps.{At}
-use Rattle.law_complex.specs.Spans.{coordinate_of}
-use Rattle.nef_complex.specs.Complexes.{ShowsSet}
-use Rattle.nef_complex.specs.Spans.{IsInSpan}
-use Rattle.nef_complex.specs.declared.complex.Complex.{Complex}
-use Rattle.nef_complex.specs.declared.spans.Span.{Span}
-use Rattle.nef_ops.specs.declared.regions.Axis.{Axis}
-use Rattle.nef_ops.specs.declared.regions.Axis.TheVariants.{X, Y, Z}
-use Rattle.nef_ops.specs.declared.regions.Way.TheVariants.{Below, Above}
-use Rattle.nef_ops.specs.declared.regions.Region.{Region}
-use Rattle.nef_ops.specs.declared.regions.Side.{Side}
-use Rattle.nef_ops.specs.Far.{HoldsSkeleton, axis_coordinate, IsFar, IsClear, IsWithinEnd, AreHeld, AreWithin}
+use Rattle.nef_ops.proofs.Prelude.{◌≡◌, ◌⊎◌, ℕ, ◌<◌, ℤ, pos, ◌*ℤ◌, ◌≤ℤ◌, IsNone, FitsSigned, List, [], ◌∷◌, length, w64, to_z, of_z, arith, rules, sym, subst, ⊎_elim, to_z-of_z, Place, Set, place_of, Point, At, coordinate_of, ShowsSet, IsInSpan, Complex, Span, Axis, X, Y, Z, Below, Above, Region, Side, HoldsSkeleton, axis_coordinate, IsFar, IsClear, IsWithinEnd, AreHeld, AreWithin}
 use Rattle.nef_ops.proofs.FarLabels.{clear-low, clear-high, each-none, each-more}
 use Rattle.nef_ops.proofs.regions.regions_of.Goals as goal
 

@@ -1,11 +1,4 @@
-use Rattle.std.proofs.Common.{refl}
-use Rattle.nef_smap.proofs.Lists.{at-within}
-use Rattle.nef_smap.specs.Items.{item_of}
-use Rattle.nef_smap.specs.Maps.{map_of}
-use Rattle.law_sphere.specs.Maps.{items}
-use Rattle.law_complex.specs.Complexes.{IsCorner}
-use Rattle.nef_complex.specs.Complexes.{vertex_of, complex_of, corner_of}
-use Rattle.nef_locate.proofs.Marks.{image-within, image-read, corner-read}
+use Rattle.nef_ops.proofs.Prelude.{refl, at-within, item_of, map_of, items, IsCorner, vertex_of, complex_of, corner_of, image-within, image-read, corner-read}
 use Rattle.nef_ops.proofs.PlaceShares.{corner-nothing, corner-everything}
 use Rattle.nef_ops.proofs.share.facet_share.Goals as goal
 

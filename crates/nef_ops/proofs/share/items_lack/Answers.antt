@@ -1,11 +1,5 @@
-use Rattle.std.proofs.Common.{ℕ, arith, refl, subst}
+use Rattle.nef_ops.proofs.Prelude.{ℕ, arith, refl, subst, At, Item, items, at-one, item_of, map_of, at-within, ItemLacks}
 use borrow.Author.Count.{below_more}
-use Rattle.law_sphere.specs.Maps.{At, Item, items}
-use Rattle.law_sphere.proofs.Lists.{at-one}
-use Rattle.nef_smap.specs.Items.{item_of}
-use Rattle.nef_smap.specs.Maps.{map_of}
-use Rattle.nef_smap.proofs.Lists.{at-within}
-use Rattle.nef_ops.specs.Shares.{ItemLacks}
 use Rattle.nef_ops.proofs.share.items_lack.Goals as goal
 
 pub item_at-requires : goal.item_at-requires

@@ -1,7 +1,4 @@
-use Rattle.std.proofs.Common.{ℕ, ◌<◌}
-use Rattle.law_sphere.specs.Maps.{At, Item, items}
-use Rattle.nef_smap.specs.Maps.{map_of}
-use Rattle.nef_ops.specs.Shares.{ItemLacks}
+use Rattle.nef_ops.proofs.Prelude.{ℕ, ◌<◌, At, Item, items, map_of, ItemLacks}
 use Rattle.nef_ops.proofs.share.items_lack.Given as goal
 
 abbrev pub invariant-loop-number : goal.invariant-loop-number

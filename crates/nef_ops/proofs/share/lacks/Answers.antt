@@ -1,6 +1,4 @@
-use Rattle.std.proofs.Common.{◌≡◌, List, Some, rules, refl, sym, subst}
-use Rattle.law_sphere.specs.Maps.{At}
-use Rattle.nef_smap.specs.declared.map.SVertex.{SVertex}
+use Rattle.nef_ops.proofs.Prelude.{◌≡◌, List, Some, rules, refl, sym, subst, At, SVertex}
 use Rattle.nef_ops.proofs.Lacking.{map-lacks}
 use Rattle.nef_ops.proofs.share.lacks.Goals as goal
 

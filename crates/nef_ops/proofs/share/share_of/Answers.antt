@@ -1,5 +1,4 @@
-use Rattle.std.proofs.Common.{refl}
-use Rattle.nef_smap.specs.Maps.{map_of}
+use Rattle.nef_ops.proofs.Prelude.{refl, map_of}
 use Rattle.nef_ops.proofs.Lacking.{nothing-share, everything-share}
 use Rattle.nef_ops.proofs.share.share_of.Goals as goal
 

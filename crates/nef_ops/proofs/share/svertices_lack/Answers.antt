@@ -1,7 +1,4 @@
-use Rattle.std.proofs.Common.{arith, rules}
-use Rattle.nef_smap.specs.declared.map.SVertex.{SVertex}
-use Rattle.nef_smap.proofs.Lists.{at-within}
-use Rattle.nef_ops.specs.Shares.{SvertexLacks}
+use Rattle.nef_ops.proofs.Prelude.{arith, rules, SVertex, at-within, SvertexLacks}
 use Rattle.nef_ops.proofs.Lacking.{all-more}
 use Rattle.nef_ops.proofs.share.svertices_lack.Goals as goal
 

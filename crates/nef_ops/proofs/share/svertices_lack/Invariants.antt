@@ -1,7 +1,4 @@
-use Rattle.std.proofs.Common.{ℕ, ◌<◌}
-use Rattle.law_sphere.specs.Maps.{At}
-use Rattle.nef_smap.specs.declared.map.SVertex.{SVertex}
-use Rattle.nef_ops.specs.Shares.{SvertexLacks}
+use Rattle.nef_ops.proofs.Prelude.{ℕ, ◌<◌, At, SVertex, SvertexLacks}
 use Rattle.nef_ops.proofs.share.svertices_lack.Given as goal
 
 abbrev pub invariant-loop-svertex : goal.invariant-loop-svertex

@@ -1,7 +1,4 @@
-use Rattle.std.proofs.Common.{[], get_or}
-use Rattle.std.proofs.lemmas.Result.{IfOk-weaker}
-use Rattle.nef_space.specs.Sets.{Set}
-use Rattle.nef_geo.specs.Shapes.{given_form, place_of}
+use Rattle.nef_ops.proofs.Prelude.{[], get_or, IfOk-weaker, Set, given_form, place_of}
 use Rattle.nef_ops.proofs.Gathered.{right-at}
 use Rattle.nef_ops.proofs.operations.HalfJobJob.work.Goals as goal
 

@@ -1,8 +1,4 @@
-use Rattle.std.proofs.Common.{[]}
-use Rattle.std.proofs.lemmas.Result.{IfOk-weaker}
-use Rattle.nef_geo.specs.Shapes.{place_of}
-use Rattle.nef_ops.specs.Nodes.{unary_set}
-use Rattle.nef_complex.proofs.Reading.{got-at}
+use Rattle.nef_ops.proofs.Prelude.{[], IfOk-weaker, place_of, unary_set, got-at}
 use Rattle.nef_ops.proofs.Gathered.{vertex-right}
 use Rattle.nef_ops.proofs.operations.UnaryJobJob.work.Goals as goal
 

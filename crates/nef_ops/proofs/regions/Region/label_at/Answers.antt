@@ -1,6 +1,5 @@
-use Rattle.std.proofs.Common.{rules}
+use Rattle.nef_ops.proofs.Prelude.{rules, place_of}
 use Rattle.std.proofs.lemmas.Option.{IfSome_then}
-use Rattle.nef_geo.specs.Shapes.{place_of}
 use Rattle.nef_ops.proofs.regions.Region.label_at.Goals as goal
 
 pub returns-then-has-clause-told : goal.returns-then-has-clause-told
