@@ -1,8 +1,7 @@
 -- The value of decimal digits, one more digit at a time.
-use Rattle.std.proofs.Common.{◌≡◌, ℕ, ◌+◌, ◌-◌, ◌*◌, ◌<◌, ◌≤◌, List, [], ◌∷◌, ◌++◌, length, take, drop, arith, refl, length-append, get_or, add-one, ap, ◌∙◌, subst}
+use Rattle.nef_lex.proofs.Prelude.{◌≡◌, ℕ, ◌+◌, ◌-◌, ◌*◌, ◌<◌, ◌≤◌, List, [], ◌∷◌, ◌++◌, length, take, drop, arith, refl, length-append, get_or, add-one, ap, ◌∙◌, subst, decimal_value, zero_digit}
 use Rattle.std.proofs.lemmas.List.{take_more, take-append-drop}
 use Rattle.std.proofs.Math.Nat.{pow-le-pow_right, mul-le-mul_left, pow-suc}
-use Rattle.nef_lex.specs.Numbers.{decimal_value, zero_digit}
 
 pub decimal_value-push : (bs : List ℕ) (b : ℕ) → decimal_value (bs ++ b ∷ []) ≡ decimal_value bs * 10 + (b - zero_digit)
 decimal_value-push [] b = omega arith

@@ -1,3 +1,4 @@
+pub mod Prelude
 pub mod Pieces
 pub mod Decimal
 pub mod Signs

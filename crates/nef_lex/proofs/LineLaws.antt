@@ -1,11 +1,5 @@
 -- The laws of lines.
-use Rattle.std.proofs.Common.{◌≡◌, ℕ, false, cond, List, [], ◌∷◌, ◌++◌, refl, ap, ◌∙◌, inl, inr}
-use Rattle.std.specs.List.{All}
-use Rattle.std.proofs.lemmas.Bool.{ne_eqb}
-use Rattle.std.proofs.lemmas.Bool.Decides.{eqb_tells}
-use Rattle.std.proofs.lemmas.List.Elements.{All-head, All-tail, All-cons, All-nil}
-use Rattle.nef_lex.specs.Lines.{line_feed, carriage_return, is_line_feed}
-use Rattle.nef_lex.specs.Laws.{LacksFeed, ended, PiecesOfEnded, EndedPieces, ReturnDropped, OthersKept}
+use Rattle.nef_lex.proofs.Prelude.{◌≡◌, ℕ, false, cond, List, [], ◌∷◌, ◌++◌, refl, ap, ◌∙◌, inl, inr, All, ne_eqb, eqb_tells, All-head, All-tail, All-cons, All-nil, line_feed, carriage_return, is_line_feed, LacksFeed, ended, PiecesOfEnded, EndedPieces, ReturnDropped, OthersKept}
 use Rattle.nef_lex.proofs.Pieces.{pieces_of-at, pieces_of-whole, without_return-push}
 
 lacks : ℕ → Type 0

@@ -1,11 +1,6 @@
 -- The pieces of bytes between line feeds, one by one.
-use Rattle.std.proofs.Common.{◌≡◌, ◌≢◌, ℕ, ◌+◌, ◌-◌, ◌<◌, ◌≤◌, ◌==◌, true, false, cond, List, [], ◌∷◌, ◌++◌, length, map, take, get_or, arith, refl, ap, sym, ◌∙◌, inl, inr}
-use Rattle.std.specs.List.{All, enumerate_from, position_or_len, before_first, after_first, onto_first}
-use Rattle.std.proofs.lemmas.List.Elements.{All-head, All-tail}
+use Rattle.nef_lex.proofs.Prelude.{◌≡◌, ◌≢◌, ℕ, ◌+◌, ◌-◌, ◌<◌, ◌≤◌, ◌==◌, true, false, cond, List, [], ◌∷◌, ◌++◌, length, map, take, get_or, arith, refl, ap, sym, ◌∙◌, inl, inr, All, enumerate_from, position_or_len, before_first, after_first, onto_first, All-head, All-tail, cases_lt, ne_eqb, common_steps, is_line_feed, pieces_of, without_return, carriage_return, numbered_lines}
 use Rattle.std.proofs.lemmas.List.Sums.{split_at_first, fails_before_first, passes_at_first}
-use Rattle.std.proofs.lemmas.Bool.{cases_lt, ne_eqb}
-use Rattle.std.proofs.lemmas.Grind.{common_steps}
-use Rattle.nef_lex.specs.Lines.{is_line_feed, pieces_of, without_return, carriage_return, numbered_lines}
 
 pub pieces_of-cons_yes : (b : ℕ) (bs : List ℕ) → is_line_feed b ≡ true → pieces_of (b ∷ bs) ≡ [] ∷ pieces_of bs
 pieces_of-cons_yes b bs e = ap (λ t. cond t ([] ∷ pieces_of bs) (onto_first b (pieces_of bs))) e

@@ -1,7 +1,6 @@
 -- The number of a word, by its sign and its digits.
-use Rattle.std.proofs.Common.{◌≡◌, ℕ, ◌==◌, Bool, true, false, cond, List, [], ◌∷◌, Some, None, if◌then◌else◌, refl, pos, neg_ℤ}
+use Rattle.nef_lex.proofs.Prelude.{◌≡◌, ℕ, ◌==◌, Bool, true, false, cond, List, [], ◌∷◌, Some, None, if◌then◌else◌, refl, pos, neg_ℤ, minus_sign, decimal_value, number_of, has_minus, without_minus, is_digits}
 use Rattle.std.specs.Option.{option_map}
-use Rattle.nef_lex.specs.Numbers.{minus_sign, decimal_value, number_of, has_minus, without_minus, is_digits}
 
 pub number_of_parts : (word : List ℕ) → number_of word ≡ cond (is_digits (without_minus word)) (Some (cond (has_minus word) (neg_ℤ (pos (decimal_value (without_minus word)))) (pos (decimal_value (without_minus word))))) None
 number_of_parts [] = refl

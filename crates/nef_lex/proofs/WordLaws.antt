@@ -1,13 +1,6 @@
 -- The laws of words.
-use Rattle.std.proofs.Common.{◌≡◌, ℕ, ◌<◌, Bool, true, false, cond, not, List, [], ◌∷◌, ◌++◌, map, length, inl, inr, arith, refl, ap, sym, ◌∙◌, subst, append-nil}
-use Rattle.std.specs.List.{All, filter, before_first, slice_split}
-use Rattle.std.proofs.lemmas.Bool.{cases_Bool}
-use Rattle.std.proofs.lemmas.Bool.Decides.{eqb_tells}
-use Rattle.std.proofs.lemmas.Grind.{common_steps}
-use Rattle.std.proofs.lemmas.List.Elements.{All-head, All-tail, All-cons, All-nil, All-weaker}
+use Rattle.nef_lex.proofs.Prelude.{◌≡◌, ℕ, ◌<◌, Bool, true, false, cond, not, List, [], ◌∷◌, ◌++◌, map, length, inl, inr, arith, refl, ap, sym, ◌∙◌, subst, append-nil, All, filter, before_first, slice_split, cases_Bool, eqb_tells, common_steps, All-head, All-tail, All-cons, All-nil, All-weaker, comment_mark, is_gap, is_filled, is_comment_mark, IsGap, IsWord, is_word_byte, IsRest, spaced, IsParted, WordsOfSpaced, SpacedWords}
 use Rattle.std.proofs.lemmas.List.Splits.{slice_split-cons_yes, slice_split_none, slice_split_at}
-use Rattle.nef_lex.specs.Words.{comment_mark, is_gap, is_filled}
-use Rattle.nef_lex.specs.Laws.{is_comment_mark, IsGap, IsWord, is_word_byte, IsRest, spaced, IsParted, WordsOfSpaced, SpacedWords}
 
 -- ---- bytes
 

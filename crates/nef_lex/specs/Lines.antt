@@ -9,12 +9,12 @@ line_feed = 10
 abbrev pub carriage_return : ℕ
 carriage_return = 13
 
--- the bytes cut at each line feed; what follows the last one is a piece where it isn't empty
+-- the bytes cut at each line feed; what follows the last line feed is a piece if it isn't empty
 abbrev pub pieces_of : List ℕ → List (List ℕ)
 pieces_of [] = []
 pieces_of (b ∷ bs) = cond (b == line_feed) ([] ∷ pieces_of bs) (onto_first b (pieces_of bs))
 
--- a carriage return that is the last byte is dropped
+-- the bytes, without the last byte if that is a carriage return
 abbrev pub without_return : List ℕ → List ℕ
 without_return [] = []
 without_return (b ∷ []) = cond (b == carriage_return) [] (b ∷ [])

@@ -1,8 +1,6 @@
 -- Whole numbers as words.
-use Rattle.std.specs.Prelude.{ℕ, ◌+◌, ◌-◌, ◌*◌, ◌^◌, ◌==◌, ◌<◌, ◌&&◌, ℤ, pos, neg_ℤ, nat_abs, Bool, false, cond, List, [], ◌∷◌, length, Option, Some, None, option_map, if◌then◌else◌}
-use Rattle.std.specs.List.{list_all}
-use Rattle.std.specs.Char.{is_ascii_digit}
-use Rattle.nef_space.specs.Limits.{number_limit}
+use Rattle.std.specs.Prelude.{◌+◌, ◌-◌, ◌*◌, ◌^◌, ◌==◌, ◌<◌, ◌&&◌, ◌∷◌, if◌then◌else◌, ℕ, ℤ, pos, neg_ℤ, nat_abs, Bool, false, cond, List, [], length, Option, Some, None, option_map}
+use Rattle.nef_space.specs.Prelude.{list_all, is_ascii_digit, number_limit}
 use Rattle.nef_lex.specs.Words.{is_filled}
 
 abbrev pub minus_sign : ℕ
@@ -16,7 +14,7 @@ abbrev pub decimal_value : List ℕ → ℕ
 decimal_value [] = 0
 decimal_value (b ∷ bs) = (b - zero_digit) * 10 ^ length bs + decimal_value bs
 
--- one or more digits, and the number that a word of these spells
+-- the word is one or more digits; the number that it then spells
 abbrev pub is_digits : List ℕ → Bool
 is_digits word = is_filled word && list_all is_ascii_digit word
 
@@ -32,7 +30,7 @@ number_of (b ∷ bs) = if b == minus_sign then option_map (λ n. neg_ℤ (pos n)
 abbrev pub IsBeyond : ℤ → Type 0
 IsBeyond z = number_limit < nat_abs z
 
--- whether a word begins with a minus sign, and what stands after it
+-- whether a word begins with a minus sign; what stands after the sign
 abbrev pub has_minus : List ℕ → Bool
 has_minus [] = false
 has_minus (b ∷ bs) = b == minus_sign

@@ -5,7 +5,7 @@ use Rattle.std.specs.List.{filter, before_first, slice_split}
 abbrev pub comment_mark : ℕ
 comment_mark = 35
 
--- a blank or a tab
+-- the byte is a blank or a tab
 abbrev pub is_gap : ℕ → Bool
 is_gap b = b == 32 || b == 9
 

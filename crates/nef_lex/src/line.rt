@@ -7,16 +7,16 @@ ghost use Rattle.nef_lex.specs.Lines.{is_line_feed, without_return};
 use std::marker::Model;
 
 /// A line of a script.
-#[derive(Clone, Copy, Debug)]
+#[derive(Clone, Copy)]
 pub struct Line<'a> {
-    /// Its number, counted from 1.
+    /// The line's number, counted from 1.
     pub number: u64,
-    /// Its bytes with its comment, without the line feed and without a carriage return before it.
+    /// The line's bytes with its comment, without the line feed and without a carriage return before the line feed.
     pub text: &'a [u8],
 }
 
 /// The lines of a script that are still to come.
-#[derive(Debug, Drop)]
+#[derive(Drop)]
 pub struct Lines<'a> {
     pub(crate) given: u64,
     pub(crate) rest: &'a [u8],
@@ -57,14 +57,14 @@ impl<'a> Iterator for Lines<'a> {
     }
 }
 
-/// The place of the first such byte.
+/// The place of the first byte of this value.
 pub(crate) fn index_of(bytes: &[u8], byte: u8) -> Option<usize>
     ensures place { result ≡ position (λ b. b == byte) bytes.now }
 {
     bytes.iter().position(|b| *b == byte)
 }
 
-// What stands before the first line feed, and what stands after it.
+// The bytes before the first line feed, and the bytes after it.
 fn split_line(bytes: &[u8]) -> (&[u8], &[u8])
     ensures piece { result.0.now ≡ before_first is_line_feed bytes.now }
     ensures rest { result.1.now ≡ after_first is_line_feed bytes.now }
@@ -75,7 +75,7 @@ fn split_line(bytes: &[u8]) -> (&[u8], &[u8])
     }
 }
 
-// The piece without a carriage return as its last byte.
+// The piece, without its last byte if this byte is a carriage return.
 fn strip_return(piece: &[u8]) -> &[u8]
     ensures stripped { result.now ≡ without_return piece.now }
 {

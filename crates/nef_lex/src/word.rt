@@ -11,10 +11,8 @@ ghost use Rattle.nef_lex.specs.Laws.{PiecesOfEnded, EndedPieces, ReturnDropped, 
 use crate::line::{Lines, index_of};
 use std::alloc::{AllocError, Global};
 
-/// The lines of a script, numbered from 1.
-///
-/// The bytes are split at each line feed, and what follows the last one is a line where it isn't
-/// empty. A carriage return that is the last byte of a line is dropped.
+/// The lines of a script, numbered from 1. The bytes are split at each line feed, and what follows the last line feed
+/// is a line where it isn't empty. A carriage return that is the last byte of a line is dropped.
 pub fn lines(script: &[u8]) -> Lines<'_>
     ensures lines { result ≡ numbered_lines 1 script.now }
 {
@@ -24,8 +22,7 @@ pub fn lines(script: &[u8]) -> Lines<'_>
     }
 }
 
-/// The words of a line: the longest pieces without blank or tab. A `#` starts a comment to the end
-/// of the line.
+/// The words of a line: the longest pieces without blank or tab. A `#` starts a comment to the end of the line.
 pub fn words<'a>(alloc: Global, line: &'a [u8]) -> Result<Vec<&'a [u8]>, AllocError>
     ensures words { IfOk result (λ v. map (λ w. w.now) v.items ≡ words_of line.now) }
 {
@@ -45,11 +42,11 @@ fn strip_comment(line: &[u8]) -> &[u8]
     }
 }
 
-// The most bytes of a name.
+// How many bytes a name has at most.
 const LONGEST: usize = 32;
 
-/// Whether a word is a name: 1 to 32 bytes, of which the first is an ASCII letter or an underscore
-/// and the others are ASCII letters, digits or underscores.
+/// Whether a word is a name: 1 to 32 bytes, of which the first is an ASCII letter or an underscore and the others are
+/// ASCII letters, digits or underscores.
 pub fn is_name(word: &[u8]) -> bool
     ensures name { result ≡ is_name word.now }
 {
@@ -66,7 +63,7 @@ fn begins(byte: u8) -> bool
     byte.is_ascii_alphabetic() || byte == b'_'
 }
 
-// Whether each byte may stand in a name after the first.
+// Whether each byte may stand in a name after the first byte.
 fn all_continue(bytes: &[u8]) -> bool
     ensures all { result ≡ list_all (λ b. is_ascii_alphanumeric b || b == underscore) bytes.now }
 {
@@ -76,7 +73,7 @@ fn all_continue(bytes: &[u8]) -> bool
 }
 
 /// What a word says as a whole number.
-#[derive(Clone, Copy, Debug, PartialEq, Eq)]
+#[derive(Clone, Copy, Debug)]
 pub enum NumberWord {
     /// The word isn't an optional minus sign and one or more digits.
     NotOne,
@@ -89,8 +86,7 @@ pub enum NumberWord {
 // The greatest size of a number.
 const LIMIT: u64 = 1 << 62;
 
-/// The whole number that a word spells: an optional minus sign and one or more digits. Leading
-/// zeros and `-0` are accepted.
+/// The whole number that a word spells by an optional minus sign and digits. Leading zeros and `-0` are accepted.
 #[tactic(auto, using(crate::proofs::Signs::number_of_parts))]
 pub fn whole_number(word: &[u8]) -> NumberWord
     ensures not_one { (result ≡ NumberWord.NotOne) ↔ (number_of word.now ≡ None) }
@@ -108,7 +104,7 @@ pub fn whole_number(word: &[u8]) -> NumberWord
     }
 }
 
-// Whether a minus sign stands in front, and what follows it.
+// Whether a minus sign stands in front, and the bytes without the sign.
 fn split_sign(word: &[u8]) -> (bool, &[u8])
     ensures sign { result.0 ≡ has_minus word.now }
     ensures digits { result.1.now ≡ without_minus word.now }
@@ -126,7 +122,6 @@ fn is_decimal(bytes: &[u8]) -> bool
     !bytes.is_empty() && all_digits(bytes)
 }
 
-// Whether each byte is a digit.
 fn all_digits(bytes: &[u8]) -> bool
     ensures digits { result ≡ list_all is_ascii_digit bytes.now }
 {
@@ -150,8 +145,8 @@ fn magnitude(digits: &[u8]) -> Option<u64>
     Some(value)
 }
 
-/// The lines are the stretches between line feeds, and all bytes are made of such stretches; of
-/// carriage returns at the end of a line one is dropped, and nothing else.
+/// The lines are the stretches between line feeds, and all bytes are made of such stretches; of carriage returns at the
+/// end of a line one is dropped, and nothing else.
 pub fn line_laws()
     ensures pieces_of_ended { PiecesOfEnded }
     ensures ended_pieces { EndedPieces }
@@ -159,8 +154,7 @@ pub fn line_laws()
     ensures others_kept { OthersKept }
 {}
 
-/// The words are what stands between gaps of blanks and tabs, up to a comment, and each line is
-/// made of such words and gaps.
+/// The words are what stands between gaps of blanks and tabs, up to a comment, and each line is made of words and gaps.
 pub fn word_laws()
     ensures words_of_spaced { WordsOfSpaced }
     ensures spaced_words { SpacedWords }

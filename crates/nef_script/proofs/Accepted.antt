@@ -1,18 +1,6 @@
 -- Scripts whose lines pass, one after the other.
-use Rattle.std.proofs.Common.{◌≡◌, ℕ, ◌+◌, ◌*◌, ◌≤◌, Bool, true, false, ◌&&◌, ◌||◌, ◌==◌, cond, List, [], ◌∷◌, ◌++◌, map, length, Option, Some, None, is_none, inl, inr, refl, sym, ◌∙◌, ap, subst, arith, append-nil, append_assoc, length-append}
-use Rattle.std.specs.Prelude.{nat_lt}
-use Rattle.std.specs.List.{All, list_any}
-use Rattle.std.proofs.lemmas.Bool.{ltb-false}
-use Rattle.std.proofs.lemmas.Bool.Decides.{eqb_tells}
-use Rattle.std.proofs.lemmas.List.Elements.{All-head, All-tail, All-cons, All-nil, All-weaker}
-use Rattle.nef_lex.specs.Lines.{line_feed, carriage_return, is_line_feed, pieces_of, without_return, lines_of}
-use Rattle.nef_lex.specs.Words.{words_of}
-use Rattle.nef_lex.specs.Laws.{LacksFeed, ended}
+use Rattle.nef_script.proofs.Prelude.{◌≡◌, ℕ, ◌+◌, ◌*◌, ◌≤◌, Bool, true, false, ◌&&◌, ◌||◌, ◌==◌, cond, List, [], ◌∷◌, ◌++◌, map, length, Option, Some, None, is_none, inl, inr, refl, sym, ◌∙◌, ap, subst, arith, append-nil, append_assoc, length-append, nat_lt, All, list_any, ltb-false, eqb_tells, All-head, All-tail, All-cons, All-nil, All-weaker, line_feed, carriage_return, is_line_feed, pieces_of, without_return, lines_of, words_of, LacksFeed, ended, line_limit, is_bad_byte, line_refusal, bound_name, names_of, Passes, IsAccepted, script_of, ScriptKind}
 use Rattle.nef_lex.proofs.LineLaws.{pieces_of_ended}
-use Rattle.nef_script.specs.Tests.{line_limit, is_bad_byte}
-use Rattle.nef_script.specs.Refusal.{line_refusal, bound_name, names_of, Passes, IsAccepted}
-use Rattle.nef_script.specs.Laws.{script_of}
-use Rattle.nef_script.specs.declared.script.ScriptKind.{ScriptKind}
 use Rattle.nef_script.specs.declared.script.ScriptKind.TheVariants as kind
 use Rattle.nef_script.proofs.ByCommand.{refusal-by-words, first_none}
 use Rattle.nef_script.proofs.LineByLine.{names_of-push, here_at, passes_more}

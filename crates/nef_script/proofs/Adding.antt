@@ -1,28 +1,9 @@
 -- What one line adds.
-use Rattle.std.proofs.Common.{◌≡◌, ℕ, ◌+◌, ◌<◌, ◌≤◌, ◌⊎◌, pos, inl, inr, Bool, true, false, not, nat_eq, List, [], ◌∷◌, ◌++◌, length, take, get_or, Some, None, slice_get, if◌then◌else◌, refl, sym, ◌∙◌, ap, subst, arith, append-nil, length-append}
+use Rattle.nef_script.proofs.Prelude.{◌≡◌, ℕ, ◌+◌, ◌<◌, ◌≤◌, ◌⊎◌, pos, inl, inr, Bool, true, false, not, nat_eq, List, [], ◌∷◌, ◌++◌, length, take, get_or, Some, None, slice_get, if◌then◌else◌, refl, sym, ◌∙◌, ap, subst, arith, append-nil, length-append, get_or_from_slice_get, words_of, Node, IsOperand, TurnOf, Table, origin, HasOrigin, IsCopyOf, Extends, Stays, slice_get-seam, place-push, extends-length, verb_of, binds, is_own, KeepsRayLimits, on_verb, line_refusal, bound_name, Names, IsNode, IsQuestion, IsTurn, MeansCommand, MeansWords, has_words, adds_base, on_command, State, sets_of, IsSound, AddsWords, AddsLine, AddsCommand, number_at, Verb, Command, Bind, Turn}
 use Rattle.std.proofs.Math.Dec.{eqb-suc-zero}
-use Rattle.std.proofs.lemmas.Option.{get_or_from_slice_get}
-use Rattle.nef_lex.specs.Words.{words_of}
-use Rattle.nef_expr.specs.declared.nodes.Node.{Node}
 use Rattle.nef_expr.specs.declared.nodes.Node.TheVariants as node
-use Rattle.nef_expr.specs.Nodes.{IsOperand}
-use Rattle.nef_expr.specs.Turns.{TurnOf}
-use Rattle.nef_expr.specs.Table.{Table, origin, HasOrigin, IsCopyOf}
-use Rattle.nef_expr.specs.Copying.{Extends, Stays}
-use Rattle.nef_expr.proofs.Places.{slice_get-seam, place-push}
 use Rattle.nef_expr.proofs.Chains.{turn-within}
-use Rattle.nef_expr.proofs.Tables.{extends-length}
-use Rattle.nef_script.specs.Table.{verb_of, binds, is_own}
-use Rattle.nef_script.specs.Limits.{KeepsRayLimits}
-use Rattle.nef_script.specs.Tests.{on_verb}
-use Rattle.nef_script.specs.Refusal.{line_refusal, bound_name}
-use Rattle.nef_script.specs.Meaning.{Names, IsNode, IsQuestion, IsTurn, MeansCommand, MeansWords, has_words, adds_base}
-use Rattle.nef_script.specs.Checks.{on_command}
-use Rattle.nef_script.specs.Reading.{State, sets_of, IsSound, AddsWords, AddsLine, AddsCommand, number_at}
-use Rattle.nef_script.specs.declared.arguments.Verb.{Verb}
 use Rattle.nef_script.specs.declared.arguments.Verb.TheVariants as verb
-use Rattle.nef_script.specs.declared.script.Command.{Command}
-use Rattle.nef_script.specs.declared.script.Command.TheVariants.{Bind, Turn}
 use Rattle.nef_script.proofs.Looking.{node-operands, question-asks}
 use Rattle.nef_script.proofs.More.{names-more, node-more, own-binding, own-binds, ask-owns}
 

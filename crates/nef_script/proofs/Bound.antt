@@ -1,17 +1,12 @@
 -- The map of the bound names.
-use Rattle.std.proofs.Common.{◌≡◌, ℕ, cond, List, [], ◌∷◌, ◌++◌, length, Some, None, ap, sym, ◌∙◌, subst, inl, inr}
+use Rattle.nef_script.proofs.Prelude.{◌≡◌, ℕ, cond, List, [], ◌∷◌, ◌++◌, length, Some, None, ap, sym, ◌∙◌, subst, inl, inr, position, nat_cmp, bytes_eq, BTreeMap, cases_Bool, HasPlaces}
 use Rattle.std.specs.Bool.{Decides, one_answer}
-use Rattle.std.specs.List.{position}
-use Rattle.std.specs.Ordering.{nat_cmp}
 use Rattle.std.specs.Cmp.Lexicographic.{slice_cmp}
-use Rattle.std.specs.Str.{bytes_eq}
 use Rattle.std.specs.BTreeMap as tree
-use Rattle.std.specs.BTreeMap.{BTreeMap, get_by}
-use Rattle.std.proofs.lemmas.Bool.{cases_Bool}
+use Rattle.std.specs.BTreeMap.{get_by}
 use Rattle.std.proofs.lemmas.Map.Text.{btree_map_updates_str}
 use Rattle.std.proofs.lemmas.Slice.Eq.{bytes_eq-Decides}
 use denote.Ref.{Bor}
-use Rattle.nef_script.specs.Names.{HasPlaces}
 use Rattle.nef_script.proofs.Positions.{position-push_new, position-push_other}
 
 pub bytes_eq-flip : (a b : List ℕ) → bytes_eq a b ≡ bytes_eq b a

@@ -1,16 +1,5 @@
 -- The refusal of a line, by its words.
-use Rattle.std.proofs.Common.{◌≡◌, Bool, true, false, cond, List, [], ◌∷◌, ℕ, length, map, Option, Some, None, refl, ◌∙◌, ap}
-use Rattle.std.specs.Prelude.{nat_lt}
-use Rattle.std.specs.List.{find, list_any}
-use Rattle.std.specs.Option.{option_map}
-use Rattle.nef_lex.specs.Words.{words_of}
-use Rattle.nef_script.specs.Table.{verb_of}
-use Rattle.nef_script.specs.Tests.{line_limit, is_bad_byte, command_tests, words_tests}
-use Rattle.nef_script.specs.Refusal.{line_refusal}
-use Rattle.nef_script.specs.Checks.{command_test, kinds}
-use Rattle.nef_script.specs.Outcome.{first_of}
-use Rattle.nef_script.specs.declared.arguments.Verb.{Verb}
-use Rattle.nef_script.specs.declared.script.ScriptKind.{ScriptKind}
+use Rattle.nef_script.proofs.Prelude.{◌≡◌, Bool, true, false, cond, List, [], ◌∷◌, ℕ, length, map, Option, Some, None, refl, ◌∙◌, ap, nat_lt, find, list_any, option_map, words_of, verb_of, line_limit, is_bad_byte, command_tests, words_tests, line_refusal, command_test, kinds, first_of, Verb, ScriptKind}
 use Rattle.nef_script.specs.declared.script.ScriptKind.TheVariants as kind
 
 -- ---- the kinds one after the other

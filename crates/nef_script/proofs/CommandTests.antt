@@ -1,12 +1,6 @@
 -- The tests of each command and its words, as they are read.
-use Rattle.std.proofs.Common.{◌≡◌, ℕ, Bool, true, false, ◌||◌, ◌&&◌, List, [], ◌∷◌, refl, sym, ◌∙◌, ap}
-use Rattle.nef_space.specs.Limits.{normal_limit, offset_limit, query_limit, query_weight_limit, ray_direction_limit, ray_point_limit, ray_weight_limit}
-use Rattle.nef_script.specs.Tests.{word_test}
-use Rattle.nef_script.specs.Checks.{command_test}
-use Rattle.nef_script.specs.Outcome.{some_fails, no_room, roles_test, are_zero, is_normal, is_direction}
-use Rattle.nef_script.specs.declared.script.ScriptKind.{ScriptKind}
+use Rattle.nef_script.proofs.Prelude.{◌≡◌, ℕ, Bool, true, false, ◌||◌, ◌&&◌, List, [], ◌∷◌, refl, sym, ◌∙◌, ap, normal_limit, offset_limit, query_limit, query_weight_limit, ray_direction_limit, ray_point_limit, ray_weight_limit, word_test, command_test, some_fails, no_room, roles_test, are_zero, is_normal, is_direction, ScriptKind, NewName, Operand, Coefficient, Mode, Weight, Index}
 use Rattle.nef_script.specs.declared.arguments.Verb.TheVariants as verb
-use Rattle.nef_script.specs.Table.{NewName, Operand, Coefficient, Mode, Weight, Index}
 use Rattle.nef_script.proofs.Firsts.{or_none, swap, plain-roles, command-roles}
 
 or_assoc : (a b c : Bool) → ((a || b) || c) ≡ (a || (b || c))

@@ -1,22 +1,8 @@
 -- The first kinds that hold.
-use Rattle.std.proofs.Common.{◌≡◌, ℕ, ◌+◌, ◌<◌, ◌≤◌, Bool, true, false, ◌||◌, ◌&&◌, not, cond, nat_eq, nat_le, find, List, [], ◌∷◌, drop, length, Option, Some, None, Result, Ok, Err, IfOk, refl, sym, ◌∙◌, ap, subst, arith}
-use Rattle.std.proofs.lemmas.Bool.{le-leb, leb-true, ltb-true, ne_eqb}
-use Rattle.std.specs.Prelude.{IsErrAnd, nat_lt}
-use Rattle.std.proofs.lemmas.Result.{err_from_is_err_and}
-use Rattle.std.specs.List.{list_any, position}
-use Rattle.std.specs.Str.{bytes_eq}
+use Rattle.nef_script.proofs.Prelude.{◌≡◌, ℕ, ◌+◌, ◌<◌, ◌≤◌, Bool, true, false, ◌||◌, ◌&&◌, not, cond, nat_le, List, [], ◌∷◌, length, Option, Some, None, Result, Ok, Err, IfOk, refl, sym, ◌∙◌, ap, subst, arith, le-leb, leb-true, ltb-true, IsErrAnd, nat_lt, err_from_is_err_and, list_any, position, bytes_eq, kinds, command_test, roles, begins_new, is_own, name_count_limit, word_test, has_zero_normal, has_zero_direction, place, first_of, earlier, both, IsRead, is_normal, is_direction, some_fails, no_room, roles_test, IsNew, BindsNew, IsStatement, Node, IsNode, Statement, Ask, Print, Verb, Role, NewName, Operand, ScriptKind}
+use Rattle.std.proofs.Common.{find}
 use Rattle.nef_lex.specs.Names.{is_name}
-use Rattle.nef_script.specs.Checks.{kinds, command_test}
-use Rattle.nef_script.specs.Table.{roles, begins_new, is_own}
-use Rattle.nef_script.specs.Tests.{name_count_limit, word_test, has_zero_normal, has_zero_direction}
-use Rattle.nef_script.specs.Outcome.{place, first_of, earlier, both, IsRead, is_normal, is_direction, some_fails, no_room, roles_test, IsNew, BindsNew, IsStatement}
-use Rattle.nef_expr.specs.declared.nodes.Node.{Node}
-use Rattle.nef_script.specs.Meaning.{IsNode}
-use Rattle.nef_script.specs.declared.statement.Statement.{Statement}
-use Rattle.nef_script.specs.declared.statement.Statement.TheVariants.{Bind, Turn, Ask, Print}
-use Rattle.nef_script.specs.declared.arguments.Verb.{Verb}
-use Rattle.nef_script.specs.Table.{Role, NewName, Operand}
-use Rattle.nef_script.specs.declared.script.ScriptKind.{ScriptKind}
+use Rattle.nef_script.specs.declared.statement.Statement.TheVariants.{Bind, Turn}
 use Rattle.nef_script.specs.declared.script.ScriptKind.TheVariants as kind
 
 -- the earlier of two kinds that may be there
@@ -222,16 +208,6 @@ command-roles kind.ScriptTooLong names v args = of_words _ _ _ _ _
 
 pub plain-roles : (k : ScriptKind) (names : List (List ℕ)) (v : Verb) (args : List (List ℕ)) → zero_test v args k ≡ false → roles_test names (roles v) args k ≡ command_test k names v args
 plain-roles k names v args none = sym (or_all _ _ none) ∙ command-roles k names v args
-
--- the number of words isn't that of the roles
-not_equal : (m n : ℕ) → (m ≡ n → ⊥) → not (nat_eq m n) ≡ true
-not_equal m n other = ap not (ne_eqb m n other)
-
-pub wrong-count : {X : Type 0} (Q : X → Type 0) (names : List (List ℕ)) (rs : List Role) (ws : List (List ℕ)) → (length ws ≡ length rs → ⊥) → IsRead (roles_test names rs ws) Q (Err kind.WordCount)
-wrong-count Q names rs ws other = record { refusal = sym (ap (λ b. cond ((b && true) || (some_fails names rs ws kind.WordCount || (begins_new rs && no_room names kind.WordCount))) (Some kind.WordCount) (find (roles_test names rs ws) (drop 1 kinds))) (not_equal _ _ other)); value = tt }
-
-pub wrong-count-of : {X : Type 0} (Q : X → Type 0) (names : List (List ℕ)) (v : Verb) (ws : List (List ℕ)) → (length ws ≡ length (roles v) → ⊥) → IsRead (λ k. command_test k names v ws) Q (Err kind.WordCount)
-wrong-count-of Q names v ws other = record { refusal = sym (ap (λ b. cond b (Some kind.WordCount) (find (λ k. command_test k names v ws) (drop 1 kinds))) (not_equal _ _ other)); value = tt }
 
 -- ---- names
 

@@ -1,3 +1,4 @@
+pub mod Prelude
 pub mod Positions
 pub mod Bound
 pub mod Firsts

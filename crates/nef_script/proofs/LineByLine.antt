@@ -1,26 +1,7 @@
 -- A script line by line.
-use Rattle.std.proofs.Common.{◌≡◌, ℕ, ◌+◌, ◌<◌, ◌≤◌, Bool, true, false, List, [], ◌∷◌, ◌++◌, length, take, Option, Some, None, slice_get, cond, if◌then◌else◌, inl, inr, refl, sym, ◌∙◌, ap, subst, arith, append-nil, append_assoc, length-append}
-use Rattle.std.specs.List.{All, filter, enumerate_from}
-use Rattle.std.proofs.Math.Seq.{take-append_seam}
-use Rattle.std.proofs.lemmas.Bool.{cases_lt}
-use Rattle.std.proofs.lemmas.List.{take-append-le}
-use Rattle.std.proofs.lemmas.List.Elements.{All-nil, All-push, All-weaker, filter-append}
-use Rattle.std.proofs.lemmas.Option.{slice_get_within}
-use Rattle.nef_lex.specs.Lines.{lines_of}
-use Rattle.nef_lex.specs.Words.{words_of}
-use Rattle.nef_expr.specs.declared.nodes.Node.{Node}
-use Rattle.nef_script.specs.Refusal.{script_limit, line_refusal, bound_name, names_of, RefusalAt, Passes, FirstRefusal}
-use Rattle.nef_script.specs.Meaning.{Sets, IsWithin, MeansWords, MeansLines, has_words, adds_base, bases_of}
-use Rattle.nef_script.specs.Commands.{LooksAt, AreBoundBefore, IsBound, TurnsRight}
-use Rattle.nef_script.specs.Reading.{State, state, sets_of, IsSound, Step, AddsLine, AddsCommand}
+use Rattle.nef_script.proofs.Prelude.{◌≡◌, ℕ, ◌+◌, ◌<◌, ◌≤◌, Bool, true, false, List, [], ◌∷◌, ◌++◌, length, take, Option, Some, None, slice_get, cond, if◌then◌else◌, inl, inr, refl, sym, ◌∙◌, ap, subst, arith, append-nil, append_assoc, length-append, All, filter, enumerate_from, take-append_seam, cases_lt, take-append-le, All-nil, All-push, All-weaker, filter-append, slice_get_within, lines_of, words_of, Node, script_limit, line_refusal, bound_name, names_of, RefusalAt, Passes, FirstRefusal, Sets, IsWithin, MeansWords, MeansLines, has_words, adds_base, bases_of, LooksAt, AreBoundBefore, IsBound, TurnsRight, State, state, sets_of, IsSound, Step, AddsLine, AddsCommand, Table, table, slice_get-left, slice_get-seam, place-push, extends-length, HasRead, Command, ScriptKind}
 use Rattle.nef_script.proofs.Looking.{all-at, within-more, turns-more, looks-before}
 use Rattle.nef_script.proofs.More.{MoreSets, words-more}
-use Rattle.nef_expr.specs.Table.{Table, table}
-use Rattle.nef_expr.proofs.Places.{slice_get-left, slice_get-seam, place-push}
-use Rattle.nef_expr.proofs.Tables.{extends-length}
-use Rattle.nef_script.specs.Progress.{HasRead}
-use Rattle.nef_script.specs.declared.script.Command.{Command}
-use Rattle.nef_script.specs.declared.script.ScriptKind.{ScriptKind}
 
 -- ---- the names
 

@@ -1,21 +1,8 @@
 -- What the commands of lines look at, and what stays with more nodes.
-use Rattle.std.proofs.Common.{◌≡◌, ℕ, zero, suc, ◌<◌, ◌≤◌, List, [], ◌∷◌, length, Some, slice_get, ◌∙◌, ap, subst, arith, inl, inr}
-use Rattle.std.specs.Prelude.{slice_index_or}
-use Rattle.std.specs.List.{All}
-use Rattle.std.proofs.Math.ListN.{get_or-append}
-use Rattle.std.proofs.lemmas.List.Elements.{All-head, All-tail}
-use Rattle.nef_expr.specs.declared.nodes.Node.{Node}
+use Rattle.nef_script.proofs.Prelude.{◌≡◌, ℕ, zero, suc, ◌<◌, ◌≤◌, List, [], ◌∷◌, length, Some, slice_get, ◌∙◌, ap, subst, arith, inl, inr, slice_index_or, All, get_or-append, All-head, All-tail, Node, IsOperand, Extends, extends-turn, KeepsRayLimits, Names, IsNode, IsQuestion, IsWithin, LooksAt, TurnsRight, Verb, Command, Bind, Turn, Has, Joined, Ray, Same, Count}
 use Rattle.nef_expr.specs.declared.nodes.Node.TheVariants as node
-use Rattle.nef_expr.specs.Nodes.{IsOperand}
-use Rattle.nef_expr.specs.Copying.{Extends}
-use Rattle.nef_expr.proofs.Tables.{extends-turn}
-use Rattle.nef_script.specs.Limits.{KeepsRayLimits}
-use Rattle.nef_script.specs.Meaning.{Names, IsNode, IsQuestion, IsWithin}
-use Rattle.nef_script.specs.Commands.{LooksAt, TurnsRight}
-use Rattle.nef_script.specs.declared.arguments.Verb.{Verb}
 use Rattle.nef_script.specs.declared.arguments.Verb.TheVariants as verb
-use Rattle.nef_script.specs.declared.script.Command.{Command}
-use Rattle.nef_script.specs.declared.script.Command.TheVariants.{Bind, Turn, Has, Joined, Ray, Same, Count, Print}
+use Rattle.nef_script.specs.declared.script.Command.TheVariants.{Print}
 
 pub all-at : {X : Type 0} (P : X → Type 0) (xs : List X) (i : ℕ) (x : X) → All P xs → slice_get xs i ≡ Some x → P x
 all-at P [] i x all e = cc

@@ -1,15 +1,6 @@
 -- What a line means stays with more names' nodes and more sets.
-use Rattle.std.proofs.Common.{◌≡◌, ℕ, Bool, true, false, List, [], ◌∷◌, Some, slice_get, refl, sym, subst}
-use Rattle.nef_expr.specs.declared.nodes.Node.{Node}
-use Rattle.nef_expr.specs.Table.{IsCopyOf}
-use Rattle.nef_expr.specs.Copying.{Extends}
-use Rattle.nef_expr.proofs.Places.{slice_get-left}
-use Rattle.nef_expr.proofs.Tables.{extends-turn}
-use Rattle.nef_script.specs.Table.{binds, is_own}
-use Rattle.nef_script.specs.Meaning.{Names, IsNode, IsQuestion, Sets, IsBind, IsTurn, IsBinding, MeansCommand, MeansWords}
-use Rattle.nef_script.specs.declared.arguments.Verb.{Verb}
+use Rattle.nef_script.proofs.Prelude.{◌≡◌, ℕ, Bool, true, false, List, [], ◌∷◌, Some, slice_get, refl, sym, subst, Node, IsCopyOf, Extends, slice_get-left, extends-turn, binds, is_own, Names, IsNode, IsQuestion, Sets, IsBind, IsTurn, IsBinding, MeansCommand, MeansWords, Verb, Command}
 use Rattle.nef_script.specs.declared.arguments.Verb.TheVariants as verb
-use Rattle.nef_script.specs.declared.script.Command.{Command}
 
 -- what is at a place stays there
 pub extends-at : {A : Type 0} (xs ys : List A) (k : ℕ) (x : A) → Extends xs ys → slice_get xs k ≡ Some x → slice_get ys k ≡ Some x

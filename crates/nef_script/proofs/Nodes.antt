@@ -1,74 +1,42 @@
 -- The nodes that lines bind names to, by the command.
-use Rattle.std.proofs.Common.{◌≡◌, ℕ, List, [], ◌∷◌, length, refl, arith}
-use Rattle.nef_expr.specs.declared.nodes.Node.TheVariants as node
-use Rattle.nef_script.specs.Meaning.{IsNode}
-use Rattle.nef_script.specs.Reading.{SecondIs, LastTwoAre}
-use Rattle.nef_script.specs.declared.arguments.Verb.TheVariants as verb
+use Rattle.nef_script.proofs.Prelude.{◌≡◌, true, false, ℕ, List, [], ◌∷◌, length, Result, sym, subst, arith, Node, command_test, IsNode, Names, IsRead, IsStatement, BindsNew, roles_test, SecondIs, LastTwoAre, roles, is_own, Verb, ScriptKind, Statement}
+use Rattle.nef_script.proofs.Firsts.{IsRead-binds, zero_test}
 
-pub IsNode-Empty : (names : List (List ℕ)) (bound : List ℕ) (ws : List (List ℕ)) → length ws ≡ 1 → IsNode names bound verb.Empty ws node.Empty
-IsNode-Empty names bound [] one = absurd (omega arith)
-IsNode-Empty names bound (a ∷ []) one = refl
-IsNode-Empty names bound (a ∷ b ∷ ws) one = absurd (omega arith)
+-- by the verb that the command is
+pub of_verb : (names : List (List ℕ)) (bound : List ℕ) (line : ℕ) (ws : List (List ℕ)) (r : Result Statement ScriptKind) (v w : Verb) → v ≡ w → IsRead (λ k. command_test k names w ws) (IsStatement names bound line w ws) r → IsRead (λ k. command_test k names v ws) (IsStatement names bound line v ws) r
+of_verb names bound line ws r v w same read = subst (λ u. IsRead (λ k. command_test k names u ws) (IsStatement names bound line u ws) r) (sym same) read
 
-pub IsNode-Full : (names : List (List ℕ)) (bound : List ℕ) (ws : List (List ℕ)) → length ws ≡ 1 → IsNode names bound verb.Full ws node.Full
-IsNode-Full names bound [] one = absurd (omega arith)
-IsNode-Full names bound (a ∷ []) one = refl
-IsNode-Full names bound (a ∷ b ∷ ws) one = absurd (omega arith)
+-- a command that binds a name to a node, of no operands, one or two
+module _ (names : List (List ℕ)) (bound : List ℕ) (line : ℕ) (ws : List (List ℕ)) (r : Result Statement ScriptKind) (v w : Verb) (same : v ≡ w) (own : is_own w ≡ true) (plain : (k : ScriptKind) → zero_test w ws k ≡ false) where
+  binds : (IsIt : Node → Type 0) → ((n : Node) → IsIt n → IsNode names bound w ws n) → IsRead (roles_test names (roles w) ws) (BindsNew names ws IsIt) r → IsRead (λ k. command_test k names v ws) (IsStatement names bound line v ws) r
+  binds IsIt made read = of_verb names bound line ws r v w same (IsRead-binds names bound line w ws IsIt own plain made r read)
 
-pub IsNode-And : (names : List (List ℕ)) (bound : List ℕ) (ws : List (List ℕ)) (i j : ℕ) → LastTwoAre names bound ws i j → IsNode names bound verb.And ws (node.And i j)
-IsNode-And names bound [] i j are = absurd are
-IsNode-And names bound (a ∷ []) i j are = absurd are
-IsNode-And names bound (a ∷ b ∷ []) i j are = absurd are
-IsNode-And names bound (a ∷ b ∷ c ∷ []) i j are = (i, j, are.0, are.1, refl)
-IsNode-And names bound (a ∷ b ∷ c ∷ d ∷ ws) i j are = absurd are
+  pub of_constant : (n : Node) (Alone : Type 0) → (Alone → length ws ≡ 1) → ((a : List ℕ) → IsNode names bound w (a ∷ []) n)
+      → IsRead (roles_test names (roles w) ws) (BindsNew names ws (λ m. Alone × (m ≡ n))) r → IsRead (λ k. command_test k names v ws) (IsStatement names bound line v ws) r
+  of_constant n Alone count made = binds _ (λ m is. subst (IsNode names bound w ws) (sym is.1) (by ws (count is.0)))
+    where
+      by : (us : List (List ℕ)) → length us ≡ 1 → IsNode names bound w us n
+      by [] one = absurd (omega arith)
+      by (a ∷ []) one = made a
+      by (a ∷ b ∷ us) one = absurd (omega arith)
 
-pub IsNode-Or : (names : List (List ℕ)) (bound : List ℕ) (ws : List (List ℕ)) (i j : ℕ) → LastTwoAre names bound ws i j → IsNode names bound verb.Or ws (node.Or i j)
-IsNode-Or names bound [] i j are = absurd are
-IsNode-Or names bound (a ∷ []) i j are = absurd are
-IsNode-Or names bound (a ∷ b ∷ []) i j are = absurd are
-IsNode-Or names bound (a ∷ b ∷ c ∷ []) i j are = (i, j, are.0, are.1, refl)
-IsNode-Or names bound (a ∷ b ∷ c ∷ d ∷ ws) i j are = absurd are
+  pub of_unary : (f : ℕ → Node) → ((a b : List ℕ) (i : ℕ) → Names names bound b i → IsNode names bound w (a ∷ b ∷ []) (f i))
+      → IsRead (roles_test names (roles w) ws) (BindsNew names ws (λ m. (i : ℕ) × SecondIs names bound ws i × (m ≡ f i))) r → IsRead (λ k. command_test k names v ws) (IsStatement names bound line v ws) r
+  of_unary f made = binds _ (λ m is. subst (IsNode names bound w ws) (sym is.2) (by ws is.0 is.1))
+    where
+      by : (us : List (List ℕ)) (i : ℕ) → SecondIs names bound us i → IsNode names bound w us (f i)
+      by [] i is = absurd is
+      by (a ∷ []) i is = absurd is
+      by (a ∷ b ∷ []) i is = made a b i is
+      by (a ∷ b ∷ c ∷ us) i is = absurd is
 
-pub IsNode-Diff : (names : List (List ℕ)) (bound : List ℕ) (ws : List (List ℕ)) (i j : ℕ) → LastTwoAre names bound ws i j → IsNode names bound verb.Diff ws (node.Diff i j)
-IsNode-Diff names bound [] i j are = absurd are
-IsNode-Diff names bound (a ∷ []) i j are = absurd are
-IsNode-Diff names bound (a ∷ b ∷ []) i j are = absurd are
-IsNode-Diff names bound (a ∷ b ∷ c ∷ []) i j are = (i, j, are.0, are.1, refl)
-IsNode-Diff names bound (a ∷ b ∷ c ∷ d ∷ ws) i j are = absurd are
-
-pub IsNode-Xor : (names : List (List ℕ)) (bound : List ℕ) (ws : List (List ℕ)) (i j : ℕ) → LastTwoAre names bound ws i j → IsNode names bound verb.Xor ws (node.Xor i j)
-IsNode-Xor names bound [] i j are = absurd are
-IsNode-Xor names bound (a ∷ []) i j are = absurd are
-IsNode-Xor names bound (a ∷ b ∷ []) i j are = absurd are
-IsNode-Xor names bound (a ∷ b ∷ c ∷ []) i j are = (i, j, are.0, are.1, refl)
-IsNode-Xor names bound (a ∷ b ∷ c ∷ d ∷ ws) i j are = absurd are
-
-pub IsNode-Not : (names : List (List ℕ)) (bound : List ℕ) (ws : List (List ℕ)) (i : ℕ) → SecondIs names bound ws i → IsNode names bound verb.Not ws (node.Not i)
-IsNode-Not names bound [] i is = absurd is
-IsNode-Not names bound (a ∷ []) i is = absurd is
-IsNode-Not names bound (a ∷ b ∷ []) i is = (i, is, refl)
-IsNode-Not names bound (a ∷ b ∷ c ∷ ws) i is = absurd is
-
-pub IsNode-Int : (names : List (List ℕ)) (bound : List ℕ) (ws : List (List ℕ)) (i : ℕ) → SecondIs names bound ws i → IsNode names bound verb.Int ws (node.Int i)
-IsNode-Int names bound [] i is = absurd is
-IsNode-Int names bound (a ∷ []) i is = absurd is
-IsNode-Int names bound (a ∷ b ∷ []) i is = (i, is, refl)
-IsNode-Int names bound (a ∷ b ∷ c ∷ ws) i is = absurd is
-
-pub IsNode-Cl : (names : List (List ℕ)) (bound : List ℕ) (ws : List (List ℕ)) (i : ℕ) → SecondIs names bound ws i → IsNode names bound verb.Cl ws (node.Cl i)
-IsNode-Cl names bound [] i is = absurd is
-IsNode-Cl names bound (a ∷ []) i is = absurd is
-IsNode-Cl names bound (a ∷ b ∷ []) i is = (i, is, refl)
-IsNode-Cl names bound (a ∷ b ∷ c ∷ ws) i is = absurd is
-
-pub IsNode-Bd : (names : List (List ℕ)) (bound : List ℕ) (ws : List (List ℕ)) (i : ℕ) → SecondIs names bound ws i → IsNode names bound verb.Bd ws (node.Bd i)
-IsNode-Bd names bound [] i is = absurd is
-IsNode-Bd names bound (a ∷ []) i is = absurd is
-IsNode-Bd names bound (a ∷ b ∷ []) i is = (i, is, refl)
-IsNode-Bd names bound (a ∷ b ∷ c ∷ ws) i is = absurd is
-
-pub IsNode-Reg : (names : List (List ℕ)) (bound : List ℕ) (ws : List (List ℕ)) (i : ℕ) → SecondIs names bound ws i → IsNode names bound verb.Reg ws (node.Reg i)
-IsNode-Reg names bound [] i is = absurd is
-IsNode-Reg names bound (a ∷ []) i is = absurd is
-IsNode-Reg names bound (a ∷ b ∷ []) i is = (i, is, refl)
-IsNode-Reg names bound (a ∷ b ∷ c ∷ ws) i is = absurd is
+  pub of_binary : (f : ℕ → ℕ → Node) → ((a b c : List ℕ) (i j : ℕ) → Names names bound b i → Names names bound c j → IsNode names bound w (a ∷ b ∷ c ∷ []) (f i j))
+      → IsRead (roles_test names (roles w) ws) (BindsNew names ws (λ m. (i : ℕ) × (j : ℕ) × LastTwoAre names bound ws i j × (m ≡ f i j))) r → IsRead (λ k. command_test k names v ws) (IsStatement names bound line v ws) r
+  of_binary f made = binds _ (λ m is. subst (IsNode names bound w ws) (sym is.3) (by ws is.0 is.1 is.2))
+    where
+      by : (us : List (List ℕ)) (i j : ℕ) → LastTwoAre names bound us i j → IsNode names bound w us (f i j)
+      by [] i j are = absurd are
+      by (a ∷ []) i j are = absurd are
+      by (a ∷ b ∷ []) i j are = absurd are
+      by (a ∷ b ∷ c ∷ []) i j are = made a b c i j are.0 are.1
+      by (a ∷ b ∷ c ∷ d ∷ us) i j are = absurd are

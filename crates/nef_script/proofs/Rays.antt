@@ -1,15 +1,8 @@
 -- The numbers of a ray's start are no larger than those that its words spell, since a point has its lowest terms.
-use Rattle.std.proofs.Common.{◌≡◌, ℕ, ◌*◌, ◌<◌, ◌≤◌, ℤ, pos, ◌*ℤ◌, ◌<ℤ◌, nat_abs, sym, ◌∙◌, ap, subst, arith}
+use Rattle.nef_script.proofs.Prelude.{◌≡◌, ℕ, ◌*◌, ◌<◌, ◌≤◌, ℤ, pos, ◌*ℤ◌, ◌<ℤ◌, nat_abs, sym, ◌∙◌, ap, subst, arith, ints, unsigned_abs-mul, le_of_dvd, SamePlace, IsPlaceAtMost, place_at, place_of, Point, IsQuotient, pos-abs}
 use Rattle.std.proofs.Math.IntN.{*ℤ_comm}
 use Rattle.std.proofs.Math.Nat.{mul-le-mul, le_of_mul-le-mul_left, mul_comm}
-use Rattle.std.proofs.lemmas.Int.{ints, unsigned_abs-mul}
-use Rattle.std.proofs.lemmas.Nat.Gcd.{le_of_dvd}
-use Rattle.nef_space.specs.Place.{SamePlace}
-use Rattle.nef_geo.specs.Hits.{IsPlaceAtMost}
-use Rattle.nef_geo.specs.Shapes.{place_at, place_of}
-use Rattle.nef_geo.specs.declared.point.Point.{Point}
 use Rattle.nef_geo.proofs.Euclid.{divides_same}
-use Rattle.nef_script.specs.Meaning.{IsQuotient}
 
 -- x/w is y/v, where v is at most w
 numerator_small : (x y : ℤ) (w v m : ℕ) → x *ℤ pos v ≡ y *ℤ pos w → v ≤ w → 0 < w → nat_abs x ≤ m → nat_abs y ≤ m
@@ -18,9 +11,6 @@ numerator_small x y w v m e le positive small =
     let most : nat_abs x * v ≤ m * w = mul-le-mul small le in
     let turned : w * nat_abs y ≤ w * m = subst (λ n. n ≤ w * m) (mul_comm (nat_abs y) w) (subst (λ n. nat_abs y * w ≤ n) (mul_comm m w) (subst (λ n. n ≤ m * w) sizes most)) in
     le_of_mul-le-mul_left turned positive
-
-as_pos : (w : ℤ) → pos 0 <ℤ w → pos (nat_abs w) ≡ w
-as_pos w positive = omega (arith, ints)
 
 some_size : (w : ℤ) → pos 0 <ℤ w → 0 < nat_abs w
 some_size w positive = omega (arith, ints)
@@ -31,7 +21,7 @@ weight_small p x y z w positive same =
     let m = pos (nat_abs p.w) in
     let n = pos (nat_abs w) in
     let divides = divides_same m n p.x p.y p.z p.w x y z n p.lowest
-    (*ℤ_comm m x ∙ same.along_x) (*ℤ_comm m y ∙ same.along_y) (*ℤ_comm m z ∙ same.along_z) (ap (λ v. v *ℤ n) (as_pos p.w p.proper)) in
+    (*ℤ_comm m x ∙ same.along_x) (*ℤ_comm m y ∙ same.along_y) (*ℤ_comm m z ∙ same.along_z) (ap (λ v. v *ℤ n) (pos-abs p.w p.proper)) in
     le_of_dvd (some_size w positive) divides
 
 pub start_small : (p : Point) (x y z w : ℤ) (m n : ℕ) → IsQuotient p x y z w → nat_abs x ≤ m → nat_abs y ≤ m → nat_abs z ≤ m → nat_abs w ≤ n → IsPlaceAtMost m n (place_of p)

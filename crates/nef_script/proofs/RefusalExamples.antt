@@ -1,7 +1,5 @@
 -- The first refusals of short scripts, by computation.
-use Rattle.std.proofs.Common.{ℕ, List, codes, refl, arith, lit≤, None}
-use Rattle.nef_script.specs.Refusal.{RefusalAt, Passes, FirstRefusal}
-use Rattle.nef_script.specs.Laws.{UnknownCommandExample, WordCountExample, BadNameExample, NameTakenExample, UnknownNameExample, OwnNameExample, NotANumberExample, ZeroNormalExample, BadModeExample, OutOfRangeExample, BadWeightExample, ZeroDirectionExample, LongDirectionExample, FarPointExample, FirstLineExample, AcceptedExample}
+use Rattle.nef_script.proofs.Prelude.{ℕ, List, codes, refl, arith, lit≤, None, RefusalAt, Passes, FirstRefusal, UnknownCommandExample, WordCountExample, BadNameExample, NameTakenExample, UnknownNameExample, OwnNameExample, NotANumberExample, ZeroNormalExample, BadModeExample, OutOfRangeExample, BadWeightExample, ZeroDirectionExample, LongDirectionExample, FarPointExample, FirstLineExample, AcceptedExample}
 use Rattle.nef_script.proofs.LineByLine.{passes_more}
 use Rattle.nef_script.specs.declared.script.ScriptKind.TheVariants as kind
 

@@ -1,12 +1,6 @@
 -- A script is accepted or has one first refusal.
-use Rattle.std.proofs.Common.{◌≡◌, ℕ, zero, suc, ◌+◌, ◌≤◌, List, [], length, take, get_or, Option, Some, None, ◌⊎◌, inl, inr, refl, sym, ◌∙◌, ap, subst, arith}
-use Rattle.std.proofs.lemmas.Bool.{cases_lt}
-use Rattle.std.proofs.lemmas.Option.{slice_get_within, slice_get-get_or}
-use Rattle.nef_lex.specs.Lines.{lines_of}
-use Rattle.nef_script.specs.Refusal.{script_limit, line_refusal, names_of, RefusalAt, Passes, FirstRefusal, IsAccepted}
-use Rattle.nef_script.specs.Laws.{CommandsFound, OneRefusal, NeverBoth, Decided}
+use Rattle.nef_script.proofs.Prelude.{◌≡◌, ℕ, zero, suc, ◌+◌, ◌≤◌, List, [], length, take, get_or, Option, Some, None, ◌⊎◌, inl, inr, refl, sym, ◌∙◌, ap, subst, arith, cases_lt, slice_get_within, slice_get-get_or, lines_of, script_limit, line_refusal, names_of, RefusalAt, Passes, FirstRefusal, IsAccepted, CommandsFound, OneRefusal, NeverBoth, Decided, ScriptKind}
 use Rattle.nef_script.specs.declared.arguments.Verb.TheVariants as verb
-use Rattle.nef_script.specs.declared.script.ScriptKind.{ScriptKind}
 use Rattle.nef_script.specs.declared.script.ScriptKind.TheVariants as kind
 use Rattle.nef_script.proofs.LineByLine.{passes_more}
 

@@ -1,8 +1,6 @@
 -- Words by their number.
-use Rattle.std.proofs.Common.{◌≡◌, ℕ, List, [], ◌∷◌, length, get_or, refl, ap, arith}
-use Rattle.std.proofs.lemmas.List.{length-map}
+use Rattle.nef_script.proofs.Prelude.{◌≡◌, ℕ, List, [], ◌∷◌, length, get_or, refl, ap, arith, length-map, pointed}
 use denote.Ref.{Bor}
-use Rattle.nef_script.specs.Names.{pointed}
 
 -- what reading past the end of a list of words gives
 abbrev pub no_word : Bor (List ℕ)

@@ -1,11 +1,6 @@
 -- The script of boxes that stand as stairs has no refusal.
-use Rattle.std.proofs.Common.{◌≡◌, ℕ, zero, suc, ◌+◌, ◌-◌, ◌*◌, ◌<◌, ◌≤◌, Bool, true, false, ◌&&◌, nat_eq, List, [], ◌∷◌, ◌++◌, length, if◌then◌else◌, refl, sym, subst, arith, append-nil, append_assoc, length-append}
-use Rattle.std.specs.List.{flat_map, range_with_len}
+use Rattle.nef_script.proofs.Prelude.{◌≡◌, ℕ, zero, suc, ◌+◌, ◌-◌, ◌*◌, ◌<◌, ◌≤◌, Bool, true, false, ◌&&◌, nat_eq, List, [], ◌∷◌, ◌++◌, length, if◌then◌else◌, refl, sym, subst, arith, append-nil, append_assoc, length-append, flat_map, range_with_len, most_stairs, names_of, IsAccepted, box_name, whole_name, step_lines, stairs_text, or_line, count_line, step_box, join_lines}
 use Rattle.std.specs.Fmt.{digits}
-use Rattle.nef_space.specs.Limits.{most_stairs}
-use Rattle.nef_script.specs.Refusal.{names_of, IsAccepted}
-use Rattle.nef_script.specs.Stairs.{box_name, whole_name, step_lines, stairs_text}
-use Rattle.nef_script.specs.Boxes.{or_line, count_line, step_box, join_lines}
 use Rattle.nef_script.proofs.Accepted.{passes_after, and_parts, passes_after-append, accepted_lines}
 
 -- the lines of the k boxes from i on pass, one box after the other, and after each box the count of all so far would

@@ -1,14 +1,7 @@
 -- The values of a line's words, as the calls take them.
-use Rattle.std.proofs.Common.{◌≡◌, ℕ, ◌<◌, ◌≤◌, ◌^◌, ℤ, pos, negsuc, ◌<ℤ◌, nat_abs, Bool, true, false, ◌&&◌, refl, subst, arith, w64, to_z, of_z}
-use Rattle.std.proofs.lemmas.Bool.{eqb-true}
-use Rattle.std.proofs.lemmas.Int.{ints, to_z-of_z}
+use Rattle.nef_script.proofs.Prelude.{◌≡◌, ℕ, ◌<◌, ◌≤◌, ◌^◌, ℤ, pos, negsuc, ◌<ℤ◌, nat_abs, Bool, true, false, ◌&&◌, refl, subst, arith, w64, to_z, of_z, eqb-true, ints, to_z-of_z, form, SamePlace, vector, IsZero, place_at, place_of, Point, is_zero, IsQuotient}
 use Rattle.std.specs.Int.Signed.{mag}
-use Rattle.nef_space.specs.Place.{form, SamePlace}
-use Rattle.nef_space.specs.Vectors.{vector, IsZero}
-use Rattle.nef_geo.specs.Shapes.{place_at, place_of}
-use Rattle.nef_geo.specs.declared.point.Point.{Point}
-use Rattle.nef_script.specs.Tests.{is_zero}
-use Rattle.nef_script.specs.Meaning.{IsQuotient}
+use Rattle.nef_script.proofs.Accepted.{and_parts}
 
 pub quotient : (p : Point) (x y z w x' y' z' w' : ℤ) → x' ≡ x → y' ≡ y → z' ≡ z → w' ≡ w → pos 0 <ℤ w → ((positive : pos 0 <ℤ w') → SamePlace (place_at x' y' z' w' positive) (place_of p)) → IsQuotient p x y z w
 quotient p x y z w x' y' z' w' is_x is_y is_z is_w positive same =
@@ -31,18 +24,14 @@ zero-are a b c none = rw (none.0, none.1, none.2) refl
 is-zero : (z : ℤ) → is_zero z ≡ true → z ≡ pos 0
 is-zero z e = (let none = eqb-true (nat_abs z) 0 e in omega (arith, ints, none))
 
-both_parts : (a b : Bool) → (a && b) ≡ true → (a ≡ true) × (b ≡ true)
-both_parts true b e = (refl, e)
-both_parts false b e = cc
-
 pub not-zero : (a b c : ℤ) → (IsZero (vector a b c) → ⊥) → (is_zero a && is_zero b && is_zero c) ≡ false
 not-zero a b c some = by (is_zero a && is_zero b && is_zero c) refl
   where
     by : (t : Bool) → (is_zero a && is_zero b && is_zero c) ≡ t → t ≡ false
     by false e = refl
     by true e =
-        let first = both_parts (is_zero a && is_zero b) (is_zero c) e in
-        let second = both_parts (is_zero a) (is_zero b) first.0 in
+        let first = and_parts (is_zero a && is_zero b) (is_zero c) e in
+        let second = and_parts (is_zero a) (is_zero b) first.0 in
         absurd (some (is-zero a second.0, is-zero b second.1, is-zero c first.1))
 
 -- a small number is passed on as it is

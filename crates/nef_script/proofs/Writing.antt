@@ -1,11 +1,6 @@
 -- The lines of a script written one after the other.
-use Rattle.std.proofs.Common.{◌≡◌, ℕ, zero, suc, ◌+◌, ◌-◌, List, [], ◌∷◌, ◌++◌, codes, refl, sym, ◌∙◌, ap, arith, append-nil, append_assoc}
+use Rattle.nef_script.proofs.Prelude.{◌≡◌, ℕ, zero, suc, ◌+◌, ◌-◌, List, [], ◌∷◌, ◌++◌, codes, refl, sym, ◌∙◌, ap, arith, append-nil, append_assoc, ne_eqb, flat_map, range_with_len, script_of, box_lines, step_lines, stairs_text, box_name, whole_name, filled, or_line, count_line, join_lines}
 use Rattle.std.specs.Prelude.{if◌then◌else◌}
-use Rattle.std.proofs.lemmas.Bool.{ne_eqb}
-use Rattle.std.specs.List.{flat_map, range_with_len}
-use Rattle.nef_script.specs.Laws.{script_of}
-use Rattle.nef_script.specs.Stairs.{box_lines, step_lines, stairs_text, box_name, whole_name}
-use Rattle.nef_script.specs.Boxes.{filled, or_line, count_line, join_lines}
 
 -- ---- bytes after bytes
 

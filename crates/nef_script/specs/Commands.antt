@@ -1,4 +1,4 @@
--- Which nodes the commands of a script speak of.
+-- Which nodes the commands of a script look at and bind.
 use Rattle.std.specs.Prelude.{◌≡◌, ℕ, ◌<◌, List, ◌⊎◌, Some, slice_get, slice_index_or}
 use Rattle.nef_expr.specs.declared.nodes.Node.{Node}
 use Rattle.nef_expr.specs.declared.nodes.Node.TheVariants as node
@@ -7,7 +7,7 @@ use Rattle.nef_expr.specs.Turns.{TurnOf}
 use Rattle.nef_script.specs.declared.script.Command.{Command}
 use Rattle.nef_script.specs.declared.script.Command.TheVariants.{Bind, Turn, Has, Joined, Ray, Same, Count, Print}
 
--- the command looks at the set of node k: it binds a node that has it as an operand, turns it, or asks about it
+-- the command looks at the set of node k: it binds a node with operand k, turns node k, or asks about it
 abbrev pub LooksAt : List Node → Command → ℕ → Type 0
 LooksAt nodes (Bind line n) k = IsOperand k (slice_index_or nodes n node.Empty)
 LooksAt nodes (Turn line n j t) k = k ≡ j
@@ -29,7 +29,7 @@ Binds (Same line i j) k = ⊥
 Binds (Count line n) k = ⊥
 Binds (Print line n name) k = ⊥
 
--- one of the commands binds a name to node k
+-- some command binds a name to node k
 abbrev pub IsBound : List Command → ℕ → Type 0
 IsBound commands k = (i : ℕ) × (c : Command) × (slice_get commands i ≡ Some c) × Binds c k
 
@@ -37,7 +37,7 @@ IsBound commands k = (i : ℕ) × (c : Command) × (slice_get commands i ≡ Som
 abbrev pub AreBoundBefore : List Node → List Command → Type 0
 AreBoundBefore nodes commands = (i : ℕ) (c : Command) → slice_get commands i ≡ Some c → (k : ℕ) → LooksAt nodes c k → (j : ℕ) × (d : Command) × (j < i) × (slice_get commands j ≡ Some d) × Binds d k
 
--- what a command turns is the turned image of the node that it looks at
+-- if the command turns a node, the node that it binds is the turned image of that node
 abbrev pub TurnsRight : List Node → Command → Type 0
 TurnsRight nodes (Bind line n) = Unit {0}
 TurnsRight nodes (Turn line n j t) = TurnOf nodes t j n

@@ -1,4 +1,4 @@
--- What is true of every script: it is accepted or has one first refusal.
+-- Laws of all scripts: a script is accepted or has one first refusal.
 use Rattle.std.specs.Prelude.{◌≡◌, ℕ, List, [], ◌∷◌, ◌++◌, Some, codes, ◌⊎◌}
 use Rattle.nef_script.specs.Table.{shape, verb_of}
 use Rattle.nef_script.specs.Refusal.{FirstRefusal, IsAccepted}
@@ -6,7 +6,7 @@ use Rattle.nef_script.specs.declared.arguments.Verb.{Verb}
 use Rattle.nef_script.specs.declared.script.ScriptKind.{ScriptKind}
 use Rattle.nef_script.specs.declared.script.ScriptKind.TheVariants as kind
 
--- each command is the one that its word is
+-- the word of each command is read as that command
 abbrev pub CommandsFound : Type 0
 CommandsFound = (v : Verb) → verb_of (shape v).0 ≡ Some v
 
@@ -14,20 +14,20 @@ CommandsFound = (v : Verb) → verb_of (shape v).0 ≡ Some v
 abbrev pub OneRefusal : Type 0
 OneRefusal = (bytes : List ℕ) (m n : ℕ) (j k : ScriptKind) → FirstRefusal bytes m j → FirstRefusal bytes n k → (m ≡ n) × (j ≡ k)
 
--- an accepted script has none
+-- an accepted script has no refusal
 abbrev pub NeverBoth : Type 0
 NeverBoth = (bytes : List ℕ) (n : ℕ) (k : ScriptKind) → FirstRefusal bytes n k → IsAccepted bytes → ⊥
 
--- a script that isn't accepted has one
+-- a script that isn't accepted has a refusal
 abbrev pub Decided : Type 0
 Decided = (bytes : List ℕ) → IsAccepted bytes ⊎ ((n : ℕ) × (k : ScriptKind) × FirstRefusal bytes n k)
 
--- the lines, each with its line feed
+-- the bytes of a script with these lines, each with its line feed
 abbrev pub script_of : List (List ℕ) → List ℕ
 script_of [] = []
 script_of (line ∷ lines) = line ++ (10 ∷ script_of lines)
 
--- the definitions at worked examples
+-- worked examples
 abbrev pub UnknownCommandExample : Type 0
 UnknownCommandExample = FirstRefusal (script_of (codes "ball A" ∷ [])) 1 kind.UnknownCommand
 
@@ -70,10 +70,10 @@ LongDirectionExample = FirstRefusal (script_of (codes "empty A" ∷ codes "ray A
 abbrev pub FarPointExample : Type 0
 FarPointExample = FirstRefusal (script_of (codes "empty A" ∷ codes "has A 8796093022209 0 0 1" ∷ [])) 2 kind.OutOfRange
 
--- the first line decides, though its kind comes later in the order
+-- the first line decides, though its kind of refusal comes later in the order
 abbrev pub FirstLineExample : Type 0
 FirstLineExample = FirstRefusal (script_of (codes "half A 1 0 0 0 shut" ∷ codes "ball A" ∷ [])) 1 kind.BadMode
 
--- blanks, tabs, comments and a name like a command
+-- blanks, tabs, comments, and a name that is a command's word
 abbrev pub AcceptedExample : Type 0
 AcceptedExample = IsAccepted (script_of (codes "full has # a set" ∷ codes "" ∷ codes "  not   N has" ∷ codes "has N -0 007 0 1" ∷ []))

@@ -1,19 +1,17 @@
 -- The limits of the numbers of rays.
 use Rattle.nef_space.specs.Limits.{ray_direction_limit, ray_point_limit, ray_weight_limit}
-use Rattle.nef_space.specs.Vectors.{IsAtMost}
-use Rattle.nef_geo.specs.Hits.{IsPlaceAtMost}
-use Rattle.nef_geo.specs.Shapes.{place_of, vector_of}
+use Rattle.nef_geo.specs.Prelude.{IsAtMost, IsPlaceAtMost, place_of, vector_of}
 use Rattle.nef_geo.specs.declared.dir.Dir.{Dir}
 use Rattle.nef_geo.specs.declared.point.Point.{Point}
 use Rattle.nef_script.specs.declared.script.Command.{Command}
 use Rattle.nef_script.specs.declared.script.Command.TheVariants.{Ray}
 
--- the numbers of the ray from the point along the direction are within these limits
+-- the numbers of the ray from p along d are within the limits
 pub record IsRayWithin (p : Point) (d : Dir) : Type 0 where
   pub start : IsPlaceAtMost ray_point_limit ray_weight_limit (place_of p)
   pub direction : IsAtMost ray_direction_limit (vector_of d)
 
--- of a question about a ray its numbers are
+-- if the command asks about a ray, the numbers of this ray are within the limits
 abbrev pub KeepsRayLimits : Command → Type 0
 KeepsRayLimits (Ray line k p d) = IsRayWithin p d
 KeepsRayLimits c = Unit {0}

@@ -1,9 +1,6 @@
 -- What an accepted script means: its nodes and its commands.
-use Rattle.std.specs.Prelude.{◌≡◌, ℕ, ◌+◌, ◌<◌, Bool, true, false, ℤ, pos, ◌<ℤ◌, List, [], ◌∷◌, Some, codes, length, take, filter, not, nat_eq, slice_get}
-use Rattle.std.specs.List.{position}
-use Rattle.std.specs.Str.{bytes_eq}
-use Rattle.nef_space.specs.Place.{form, SamePlace}
-use Rattle.nef_space.specs.Vectors.{vector, SameDirection}
+use Rattle.std.specs.Prelude.{◌≡◌, ◌+◌, ◌<◌, ◌<ℤ◌, ◌∷◌, ℕ, Bool, true, false, ℤ, pos, List, [], Some, codes, length, take, filter, not, nat_eq, slice_get}
+use Rattle.nef_geo.specs.Prelude.{position, bytes_eq, form, SamePlace, vector, SameDirection}
 use Rattle.nef_geo.specs.Shapes.{given_form, place_at, place_of, vector_of}
 use Rattle.nef_geo.specs.Reading.{IsPositiveMultiple}
 use Rattle.nef_geo.specs.declared.plane.Oriented.{Oriented}
@@ -15,8 +12,7 @@ use Rattle.nef_expr.specs.declared.table.Origin.{Origin}
 use Rattle.nef_expr.specs.Nodes.{IsOrdered}
 use Rattle.nef_expr.specs.Turns.{TurnOf}
 use Rattle.nef_expr.specs.Table.{origin, HasOrigin, AreOrigins, IsCopyOf}
-use Rattle.nef_lex.specs.Lines.{lines_of}
-use Rattle.nef_lex.specs.Words.{words_of}
+use Rattle.nef_lex.specs.Prelude.{lines_of, words_of}
 use Rattle.nef_script.specs.Limits.{IsRayWithin}
 use Rattle.nef_script.specs.Table.{verb_of, binds, is_own}
 use Rattle.nef_script.specs.Tests.{number_or_zero}
@@ -27,7 +23,7 @@ use Rattle.nef_script.specs.declared.arguments.Verb.TheVariants as verb
 use Rattle.nef_script.specs.declared.script.Command.{Command}
 use Rattle.nef_script.specs.declared.script.Command.TheVariants.{Bind, Turn, Has, Joined, Ray, Same, Count, Print}
 
--- the oriented plane's given form is the form of these numbers, up to a positive factor
+-- up to a positive factor, the given form of the oriented plane has these numbers
 abbrev pub IsGiven : Oriented → ℤ → ℤ → ℤ → ℤ → Type 0
 IsGiven o a b c d = IsPositiveMultiple (form a b c d) (given_form o)
 
@@ -35,15 +31,15 @@ IsGiven o a b c d = IsPositiveMultiple (form a b c d) (given_form o)
 abbrev pub IsQuotient : Point → ℤ → ℤ → ℤ → ℤ → Type 0
 IsQuotient p x y z w = (positive : pos 0 <ℤ w) × SamePlace (place_at x y z w positive) (place_of p)
 
--- the direction is that of the vector (x, y, z)
+-- d is the direction of the vector (x, y, z)
 abbrev pub IsToward : Dir → ℤ → ℤ → ℤ → Type 0
 IsToward d x y z = SameDirection (vector x y z) (vector_of d)
 
--- the name names the node k: the place of the name among the names is that of k among their nodes
+-- the word names node k: it is name number i, and the node bound by name number i is k
 abbrev pub Names : List (List ℕ) → List ℕ → List ℕ → ℕ → Type 0
 Names names bound word k = (i : ℕ) × (position (bytes_eq word) names ≡ Some i) × (slice_get bound i ≡ Some k)
 
--- the node that a line adds and binds its name to, by the command and the words after it
+-- the node that a line adds and binds to its name, by its command and the words after it
 abbrev pub IsNode : List (List ℕ) → List ℕ → Verb → List (List ℕ) → Node → Type 0
 IsNode names bound verb.Half (name ∷ a ∷ b ∷ c ∷ d ∷ mode ∷ []) n = (o : Oriented) × (n ≡ node.Half o (bytes_eq mode (codes "closed"))) × IsGiven o (number_or_zero a) (number_or_zero b) (number_or_zero c) (number_or_zero d)
 IsNode names bound verb.Empty (name ∷ []) n = n ≡ node.Empty
@@ -69,17 +65,17 @@ IsQuestion names bound line verb.Count (name ∷ []) c = (k : ℕ) × Names name
 IsQuestion names bound line verb.Print (name ∷ []) c = (k : ℕ) × Names names bound name k × (c ≡ Print line k name)
 IsQuestion names bound line _ args c = ⊥
 
--- the nodes of a script with the origin of each, and the node of each name that is bound, in order
+-- the nodes of a script, the origin of each node, and the node of each bound name, in order
 pub record Sets : Type 0 where
   pub nodes : List Node
   pub origins : List Origin
   pub bound : List ℕ
 
--- the line adds the node k, which is the next base
+-- the line adds node k, which is the next base
 abbrev pub IsBind : List (List ℕ) → ℕ → ℕ → Verb → List (List ℕ) → Sets → ℕ → Command → Type 0
 IsBind names bases line v args sets k c = (n : Node) × (slice_get sets.nodes k ≡ Some n) × IsNode names sets.bound v args n × HasOrigin sets.origins k (origin bases 0) × (c ≡ Bind line k)
 
--- the node k is the turned copy of the operand's node
+-- node k is the turned copy of the operand's node
 abbrev pub IsTurn : List (List ℕ) → ℕ → List (List ℕ) → Sets → ℕ → Command → Type 0
 IsTurn names line (name ∷ operand ∷ number ∷ []) sets k c = (from : ℕ) × (t : ℕ) × Names names sets.bound operand from × (number_or_zero number ≡ pos t) × TurnOf sets.nodes t from k × IsCopyOf sets.origins t from k × (c ≡ Turn line k from t)
 IsTurn names line args sets k c = ⊥
@@ -88,7 +84,8 @@ abbrev pub IsBinding : List (List ℕ) → ℕ → ℕ → Verb → List (List �
 IsBinding names bases line verb.Turn args sets k c = IsTurn names line args sets k c
 IsBinding names bases line v args sets k c = IsBind names bases line v args sets k c
 
--- what a line means, whose number counts from 1, after lines that bind these names, and this many of them to nodes of their own. A line that binds a name binds it to the next node of the list
+-- what a line means that has this number and comes after lines that bind these names and add this many bases; a line
+-- that binds a name binds the next entry of the list
 abbrev pub MeansCommand : List (List ℕ) → ℕ → ℕ → Verb → List (List ℕ) → Bool → Sets → Command → Type 0
 MeansCommand names bases line v args true sets c = (k : ℕ) × (slice_get sets.bound (length names) ≡ Some k) × IsBinding names bases line v args sets k c
 MeansCommand names bases line v args false sets c = IsQuestion names sets.bound line v args c
@@ -101,24 +98,25 @@ MeansWords names bases line (word ∷ args) sets c = (v : Verb) × (verb_of word
 abbrev pub has_words : List ℕ → Bool
 has_words line = not (nat_eq (length (words_of line)) 0)
 
--- the line binds its name to a node of its own
+-- the line binds its name to a node that it adds
 abbrev pub adds_base : List ℕ → Bool
 adds_base line = on_command (λ v args. is_own v) (words_of line)
 
 abbrev pub bases_of : List (List ℕ) → ℕ
 bases_of lines = length (filter adds_base lines)
 
--- the lines mean the sets and the commands: each line with words has one command, in order; each line that binds a name has one node
+-- the meaning of lines, in order: a command for each line with words, and a bound node for each line that binds a name
 pub record MeansLines (lines : List (List ℕ)) (sets : Sets) (commands : List Command) : Type 0 where
   pub bound_count : length sets.bound ≡ length (names_of lines)
   pub command_count : length commands ≡ length (filter has_words lines)
   pub each : (n : ℕ) (line : List ℕ) → slice_get lines n ≡ Some line → has_words line ≡ true → (c : Command) × (slice_get commands (length (filter has_words (take n lines))) ≡ Some c) × MeansWords (names_of (take n lines)) (bases_of (take n lines)) (n + 1) (words_of line) sets c
 
--- and each node names earlier nodes only, and is a base or the turned copy of one, with as many bases as there are lines that bind a name to a node of their own; no two nodes have both base and turn in common
+-- the meaning of a script: its lines mean the commands; each node names earlier nodes, and is a base of the lines or a
+-- turned copy of one; no two nodes have both base and turn in common
 abbrev pub MeansScript : List ℕ → List Node → List Command → Type 0
 MeansScript bytes nodes commands = (sets : Sets) × (sets.nodes ≡ nodes) × IsOrdered nodes × MeansLines (lines_of bytes) sets commands × AreOrigins sets.nodes sets.origins (bases_of (lines_of bytes))
 
--- the nodes that a command speaks of are among the first n, and a ray keeps its limits
+-- the nodes of which the command speaks are among the first n, and a ray is within its limits
 abbrev pub IsWithin : ℕ → Command → Type 0
 IsWithin n (Bind line k) = k < n
 IsWithin n (Turn line k j t) = (k < n) × (j < n) × (t < 48)

@@ -1,4 +1,4 @@
--- What is read of the words of a line: a value, or the first kind of refusal that holds for them.
+-- What the words of a line are read as: a value, or the first kind of refusal for these words.
 use Rattle.std.specs.Prelude.{◌≡◌, ℕ, ◌<◌, Bool, true, false, ◌&&◌, ◌||◌, not, nat_eq, nat_le, List, [], ◌∷◌, Option, Some, None, Result, Ok, Err, IfOk, find, length, get_or, pos, if◌then◌else◌}
 use Rattle.std.specs.List.{list_any, zip, position}
 use Rattle.std.specs.Str.{bytes_eq}
@@ -17,7 +17,7 @@ use Rattle.nef_script.specs.declared.script.Command.TheVariants as command
 use Rattle.nef_script.specs.declared.statement.Statement.{Statement}
 use Rattle.nef_script.specs.declared.statement.Statement.TheVariants.{Bind, Turn, Ask, Print}
 
--- the place of a kind in the order of the tests
+-- the number of a kind in the order of the tests
 abbrev pub place : ScriptKind → ℕ
 place kind.LineTooLong = 0
 place kind.BadByte = 1
@@ -35,32 +35,32 @@ place kind.ZeroDirection = 12
 place kind.TooManyNames = 13
 place kind.ScriptTooLong = 14
 
--- the first kind that holds, of those that are tested on a command and its words
+-- the first kind of refusal that holds, of the kinds that are tested on a command and its words
 abbrev pub first_of : (ScriptKind → Bool) → Option ScriptKind
 first_of holds = find holds kinds
 
--- the earlier of two kinds
+-- the earlier of two kinds in the order of the tests
 abbrev pub earlier : ScriptKind → ScriptKind → ScriptKind
 earlier j k = if nat_le (place j) (place k) then j else k
 
--- both values, or the first of the refusals
+-- both values, or the earlier of the refusals
 abbrev pub both : {X Y : Type 0} → Result X ScriptKind → Result Y ScriptKind → Result (X × Y) ScriptKind
 both {X} {Y} (Ok x) (Ok y) = Ok (x, y)
 both {X} {Y} (Ok x) (Err k) = Err k
 both {X} {Y} (Err j) (Ok y) = Err j
 both {X} {Y} (Err j) (Err k) = Err (earlier j k)
 
--- what is refused
+-- the kind of the refusal, if there is one
 abbrev pub refused : {X : Type 0} → Result X ScriptKind → Option ScriptKind
 refused {X} (Ok x) = None
 refused {X} (Err k) = Some k
 
--- the first kind that holds is refused, and where none holds the value is what it is to be
+-- r is the refusal of the first kind that holds, or a value with Means where no kind holds
 pub record IsRead {X : Type 0} (holds : ScriptKind → Bool) (Means : X → Type 0) (r : Result X ScriptKind) : Type 0 where
   pub refusal : refused r ≡ first_of holds
   pub value : IfOk r Means
 
--- ---- what holds for words in their roles, beside the tests on one word
+-- ---- tests on words in their roles, beside those on one word
 
 abbrev pub is_count : ScriptKind → Bool
 is_count kind.WordCount = true
@@ -78,37 +78,37 @@ abbrev pub is_direction : ScriptKind → Bool
 is_direction kind.ZeroDirection = true
 is_direction k = false
 
--- three words spell zeros
+-- the three words spell zeros
 abbrev pub are_zero : List ℕ → List ℕ → List ℕ → Bool
 are_zero x y z = is_zero (number_or_zero x) && is_zero (number_or_zero y) && is_zero (number_or_zero z)
 
--- there is no room for a name more
+-- the kind is "too many names", and the script has no room for another name
 abbrev pub no_room : List (List ℕ) → ScriptKind → Bool
 no_room names k = is_room k && nat_le name_count_limit (length names)
 
--- some word fails the test of its role
+-- for some word the kind holds in the word's role
 abbrev pub some_fails : List (List ℕ) → List Role → List (List ℕ) → ScriptKind → Bool
 some_fails names roles words k = list_any (word_test k names) (zip roles words)
 
--- what holds for the words after a command with these roles, but for zeros
+-- the kinds that hold for the words after a command with these roles, except the kinds about zeros
 abbrev pub roles_test : List (List ℕ) → List Role → List (List ℕ) → ScriptKind → Bool
 roles_test names roles words k = (not (nat_eq (length words) (length roles)) && is_count k) || (some_fails names roles words k || (begins_new roles && no_room names k))
 
 -- ---- what words mean
 
--- the first word is a name that isn't bound yet
+-- the first word is a name that isn't bound yet, and the script has room for one more name
 pub record IsNew (names args : List (List ℕ)) (name : List ℕ) : Type 0 where
   pub some : 0 < length args
   pub first : name ≡ get_or args 0 []
   pub free : position (bytes_eq name) names ≡ None
   pub room : length names < name_count_limit
 
--- a new name is bound to such a node
+-- the statement binds a new name to a node with IsIt
 abbrev pub BindsNew : List (List ℕ) → List (List ℕ) → (Node → Type 0) → Statement → Type 0
 BindsNew names args IsIt (Bind name n) = IsNew names args name.now × IsIt n
 BindsNew names args IsIt s = ⊥
 
--- the third word is the turn of the node that the second one names
+-- the second word names node `from`, and the third is the number of the turn
 pub record IsTurned (names : List (List ℕ)) (bound : List ℕ) (args : List (List ℕ)) (from turn : ℕ) : Type 0 where
   pub count : length args ≡ 3
   pub named : Names names bound (get_or args 1 []) from
@@ -122,11 +122,11 @@ IsStatement names bound line v args (Turn name from t) = (v ≡ verb.Turn) × Is
 IsStatement names bound line v args (Ask c) = (binds v ≡ false) × IsQuestion names bound line v args c × KeepsRayLimits c
 IsStatement names bound line v args (Print k name) = (binds v ≡ false) × IsQuestion names bound line v args (command.Print line k name.now)
 
--- the first test of the command that holds for the words after it is refused, and where none holds the statement is what they mean
+-- r is the refusal of the first test that holds, or the statement that the command and the words after it mean
 abbrev pub Reads : List (List ℕ) → List ℕ → ℕ → Verb → List (List ℕ) → Result Statement ScriptKind → Type 0
 Reads names bound line v args r = IsRead (λ k. command_test k names v args) (IsStatement names bound line v args) r
 
--- and what a line with these words says, if it has words
+-- what a line with these words says, if it has words
 abbrev pub LineSays : List (List ℕ) → List ℕ → ℕ → List (List ℕ) → Option Statement → Type 0
 LineSays names bound line words None = words ≡ []
 LineSays names bound line words (Some s) = (word : List ℕ) × (args : List (List ℕ)) × (v : Verb) × (words ≡ word ∷ args) × (verb_of word ≡ Some v) × IsStatement names bound line v args s

@@ -6,7 +6,7 @@ use Rattle.nef_script.specs.Meaning.{MeansLines, IsWithin, bases_of}
 use Rattle.nef_script.specs.Commands.{AreBoundBefore, IsBound, TurnsRight}
 use Rattle.nef_script.specs.Reading.{State, IsSound, sets_of}
 
--- some of the lines are read, with this state, and these lines with their numbers are left
+-- the lines that are read have this state, and the lines that are left have these numbers
 pub record HasRead (lines : List (List ℕ)) (left : List (ℕ × List ℕ)) (s : State) : Type 0 where
   pub done : List (List ℕ)
   pub rest : List (List ℕ)

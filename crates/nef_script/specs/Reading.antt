@@ -1,4 +1,4 @@
--- What reading one line does.
+-- What the reading of one line does.
 use Rattle.std.specs.Prelude.{◌≡◌, ℕ, ◌+◌, ◌<◌, ◌≤◌, Bool, true, false, ℤ, get_or, List, [], ◌∷◌, ◌++◌, ◌⊎◌, None, Some, length, take, slice_get, if◌then◌else◌}
 use Rattle.nef_space.specs.Place.{Form, form}
 use Rattle.nef_lex.specs.Words.{words_of}
@@ -12,12 +12,12 @@ use Rattle.nef_script.specs.Commands.{LooksAt, Binds, TurnsRight}
 use Rattle.nef_script.specs.declared.arguments.Verb.{Verb}
 use Rattle.nef_script.specs.declared.script.Command.{Command}
 
--- the second word names the node i
+-- there are two words, and the second names node i
 abbrev pub SecondIs : List (List ℕ) → List ℕ → List (List ℕ) → ℕ → Type 0
 SecondIs names bound (first ∷ second ∷ []) i = Names names bound second i
 SecondIs names bound args i = ⊥
 
--- the second and the third word name the nodes i and j
+-- there are three words, and the second and the third name nodes i and j
 abbrev pub LastTwoAre : List (List ℕ) → List ℕ → List (List ℕ) → ℕ → ℕ → Type 0
 LastTwoAre names bound (first ∷ second ∷ third ∷ []) i j = Names names bound second i × Names names bound third j
 LastTwoAre names bound args i j = ⊥
@@ -41,7 +41,7 @@ pub record IsSound (s : State) : Type 0 where
   pub within : (i k : ℕ) → slice_get s.bound i ≡ Some k → k < length s.table.nodes
   pub few : s.table.bases ≤ length s.names
 
--- one command more
+-- the new state has one command more than the old one
 pub record Step (old new : State) (c : Command) : Type 0 where
   pub nodes_stay : Extends old.table.nodes new.table.nodes
   pub origins_stay : Extends old.table.origins new.table.origins
@@ -52,7 +52,7 @@ pub record Step (old new : State) (c : Command) : Type 0 where
   pub looks : (k : ℕ) → LooksAt new.table.nodes c k → (i : ℕ) × (slice_get old.bound i ≡ Some k)
   pub binds : (i k : ℕ) → slice_get new.bound i ≡ Some k → (slice_get old.bound i ≡ Some k) ⊎ Binds c k
 
--- what a command and the words after it add to what is read
+-- what a command and the words after it add to the old state
 pub record AddsWords (number : ℕ) (v : Verb) (args : List (List ℕ)) (old new : State) : Type 0 where
   pub command : Command
   pub names_are : new.names ≡ old.names ++ (if binds v then take 1 args else [])
@@ -61,7 +61,7 @@ pub record AddsWords (number : ℕ) (v : Verb) (args : List (List ℕ)) (old new
   pub step : Step old new command
   pub means : MeansCommand old.names old.table.bases number v args (binds v) (sets_of new) command
 
--- what a line adds to it
+-- what a line adds to the old state: nothing, or a command
 abbrev pub AddsCommand : Bool → ℕ → List ℕ → State → State → Type 0
 AddsCommand false number text old new = (new.bound ≡ old.bound) × (new.table ≡ old.table) × (new.commands ≡ old.commands)
 AddsCommand true number text old new = (c : Command) × Step old new c × MeansWords old.names old.table.bases number (words_of text) (sets_of new) c
@@ -73,7 +73,7 @@ pub record AddsLine (number : ℕ) (text : List ℕ) (old new : State) : Type 0 
   pub sound : IsSound new
   pub command : AddsCommand (has_words text) number text old new
 
--- the number that the word at a place spells, or 0
+-- the number that word i spells, or 0
 abbrev pub number_at : List (List ℕ) → ℕ → ℤ
 number_at args i = number_or_zero (get_or args i [])
 

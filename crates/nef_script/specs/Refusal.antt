@@ -1,17 +1,16 @@
 -- The first refusal of a script: the first line for which some test holds, and the first such test.
-use Rattle.std.specs.Prelude.{◌≡◌, ℕ, ◌+◌, ◌<◌, ◌≤◌, List, [], ◌∷◌, ◌++◌, Option, Some, None, find, option_map, length, take, slice_get, if◌then◌else◌}
-use Rattle.nef_lex.specs.Lines.{lines_of}
-use Rattle.nef_lex.specs.Words.{words_of}
+use Rattle.std.specs.Prelude.{◌≡◌, ◌+◌, ◌<◌, ◌≤◌, ◌∷◌, ◌++◌, if◌then◌else◌, ℕ, List, [], Option, Some, None, find, option_map, length, take, slice_get}
+use Rattle.nef_lex.specs.Prelude.{lines_of, words_of}
 use Rattle.nef_script.specs.Table.{verb_of, binds}
 use Rattle.nef_script.specs.Tests.{line_tests, on_verb}
 use Rattle.nef_script.specs.declared.script.ScriptKind.{ScriptKind}
 use Rattle.nef_script.specs.declared.script.ScriptKind.TheVariants as kind
 
--- the most bytes of a script
+-- how many bytes a script has at most
 abbrev pub script_limit : ℕ
 script_limit = 1048576
 
--- the first kind that holds for a line, against the names bound before
+-- the first kind of refusal that holds for a line, where these names are bound by earlier lines
 abbrev pub line_refusal : List (List ℕ) → List ℕ → Option ScriptKind
 line_refusal names line = option_map (λ t. t.0) (find (λ t. t.1) (line_tests names line))
 
@@ -25,7 +24,7 @@ abbrev pub names_of : List (List ℕ) → List (List ℕ)
 names_of [] = []
 names_of (line ∷ lines) = bound_name (words_of line) ++ names_of lines
 
--- the line with index n, counted from 0, has this first kind of refusal, or none; the names that count are those of the lines before it
+-- line n, counted from 0, has this first kind of refusal, or none, where the lines before it bind the names
 abbrev pub RefusalAt : List (List ℕ) → ℕ → Option ScriptKind → Type 0
 RefusalAt lines n r = (line : List ℕ) × (slice_get lines n ≡ Some line) × (line_refusal (names_of (take n lines)) line ≡ r)
 
@@ -37,7 +36,7 @@ pub data FirstRefusal (bytes : List ℕ) : ℕ → ScriptKind → Type 0 where
   too_long : script_limit < length bytes → FirstRefusal bytes 0 kind.ScriptTooLong
   at_line : (n : ℕ) (k : ScriptKind) → length bytes ≤ script_limit → RefusalAt (lines_of bytes) n (Some k) → Passes (lines_of bytes) n → FirstRefusal bytes (n + 1) k
 
--- the script isn't refused
+-- no line of the script is refused, and the script isn't too long
 pub record IsAccepted (bytes : List ℕ) : Type 0 where
   pub short : length bytes ≤ script_limit
   pub passes : Passes (lines_of bytes) (length (lines_of bytes))

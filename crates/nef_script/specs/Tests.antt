@@ -1,4 +1,4 @@
--- The tests on one line in their order, against the names that earlier lines bound.
+-- The tests on one line in order, where earlier lines have bound the names.
 use Rattle.std.specs.Prelude.{ℕ, Bool, true, false, not, ◌&&◌, ◌||◌, nat_eq, nat_lt, nat_le, nat_abs, int_le, ℤ, pos, List, [], ◌∷◌, Option, Some, None, is_none, unwrap_or, codes, length}
 use Rattle.std.specs.List.{list_any, zip}
 use Rattle.std.specs.Str.{bytes_eq}
@@ -12,18 +12,18 @@ use Rattle.nef_script.specs.Table.{Role, NewName, Operand, Coefficient, Mode, We
 use Rattle.nef_script.specs.declared.script.ScriptKind.{ScriptKind}
 use Rattle.nef_script.specs.declared.script.ScriptKind.TheVariants as kind
 
--- the most bytes of a line without its end, and the most names that one script binds
+-- how many bytes a line has at most, without its end; how many names a script binds at most
 abbrev pub line_limit : ℕ
 line_limit = 256
 
 abbrev pub name_count_limit : ℕ
 name_count_limit = 4096
 
--- neither a tab nor a printable ASCII byte
+-- the byte is neither a tab nor a printable ASCII byte
 abbrev pub is_bad_byte : ℕ → Bool
 is_bad_byte b = not (nat_eq b 9 || (nat_le 32 b && nat_le b 126))
 
--- the whole number that a word spells, or 0, and tests of numbers
+-- the whole number that a word spells, or 0; tests on numbers
 abbrev pub number_or_zero : List ℕ → ℤ
 number_or_zero word = unwrap_or (number_of word) (pos 0)
 
@@ -33,12 +33,12 @@ is_zero z = nat_eq (nat_abs z) 0
 abbrev pub is_from : ℕ → ℕ → ℤ → Bool
 is_from least most z = int_le (pos least) z && int_le z (pos most)
 
--- what a test says of a command, if there is one
+-- the test on a command, which fails where there is no command
 abbrev pub on_verb : (Verb → Bool) → Option Verb → Bool
 on_verb test None = false
 on_verb test (Some v) = test v
 
--- a kind of refusal holds for a word, by what the word is to be and by the names that are bound
+-- whether a kind of refusal holds for a word, by the word's role and the bound names
 abbrev pub word_test : ScriptKind → List (List ℕ) → Role × List ℕ → Bool
 word_test kind.BadName names (NewName, word) = not (is_name word)
 word_test kind.BadName names (Operand, word) = not (is_name word)
@@ -53,17 +53,17 @@ word_test kind.BadMode names (Mode, word) = not (bytes_eq word (codes "open") ||
 word_test kind.BadWeight names (Weight most, word) = not (is_from 1 most (number_or_zero word))
 word_test k names (role, word) = false
 
--- a, b and c of a half are all zero
+-- the command is a half whose a, b and c are all zero
 abbrev pub has_zero_normal : Verb → List (List ℕ) → Bool
 has_zero_normal verb.Half (name ∷ a ∷ b ∷ c ∷ rest) = is_zero (number_or_zero a) && is_zero (number_or_zero b) && is_zero (number_or_zero c)
 has_zero_normal v args = false
 
--- dx, dy and dz of a ray are all zero
+-- the command is a ray whose dx, dy and dz are all zero
 abbrev pub has_zero_direction : Verb → List (List ℕ) → Bool
 has_zero_direction verb.Ray (name ∷ x ∷ y ∷ z ∷ w ∷ dx ∷ dy ∷ dz ∷ rest) = is_zero (number_or_zero dx) && is_zero (number_or_zero dy) && is_zero (number_or_zero dz)
 has_zero_direction v args = false
 
--- the tests of a line that begins with this command, or with a word that is none, and goes on with these words, in their order: each with the kind of refusal that it is for
+-- the tests on a line with this command, or none, and these words after it, in order, each with its kind of refusal
 abbrev pub command_tests : List (List ℕ) → Option Verb → List (List ℕ) → List (ScriptKind × Bool)
 command_tests names None args = (kind.UnknownCommand, true) ∷ []
 command_tests names (Some v) args =

@@ -1,13 +1,7 @@
-//! The words of a line, each read once: the command, and what the words after it give, or the first kind of refusal that holds
-//! for them.
+//! The arguments of a line: what the words after the command give, or the first kind of refusal for these words.
 
 ghost use Rattle.std.specs.Prelude.{◌≡◌, ◌<◌, ◌≤◌, ◌<ℤ◌, ◌&&◌, ◌||◌, ◌∷◌};
-ghost use Rattle.nef_geo.specs.Prelude.{List, ℕ, [], codes, length, nat_abs, None, pos, position, find, bytes_eq, normal_limit, number_limit, offset_limit, query_limit, query_weight_limit, ray_direction_limit, IsAtMost, IsPlaceAtMost, place_of, vector_of};
-ghost use Rattle.nef_script.specs.Meaning.{Names as IsNamed, IsGiven, IsQuotient, IsToward};
-ghost use Rattle.nef_script.specs.Tests.{name_count_limit, number_or_zero, word_test};
-ghost use Rattle.nef_script.specs.Outcome.{earlier, both, IsRead, is_normal, is_direction, are_zero, no_room, some_fails};
-ghost use Rattle.std.specs.Option.{option_map};
-ghost use Rattle.nef_script.specs.Table.{verb_of};
+ghost use Rattle.nef_script.specs.Prelude.{List, ℕ, [], codes, length, nat_abs, None, pos, position, find, bytes_eq, normal_limit, number_limit, offset_limit, query_limit, query_weight_limit, ray_direction_limit, IsAtMost, IsPlaceAtMost, place_of, vector_of, Names as IsNamed, IsGiven, IsQuotient, IsToward, name_count_limit, number_or_zero, word_test, earlier, both, IsRead, is_normal, is_direction, are_zero, no_room, some_fails, option_map, verb_of};
 ghost use Rattle.nef_script.specs.Table as role;
 
 use crate::script::{Names, ScriptKind};
@@ -39,7 +33,6 @@ pub enum Verb {
     Print,
 }
 
-// Each command's word.
 const COMMANDS: [(&[u8], Verb); 19] = [
     (b"half", Verb::Half),
     (b"empty", Verb::Empty),
@@ -62,7 +55,7 @@ const COMMANDS: [(&[u8], Verb); 19] = [
     (b"print", Verb::Print),
 ];
 
-// The first command of the table that has this word.
+// The first command of the table with this word.
 fn verb_in(table: &[(&[u8], Verb)], word: &[u8]) -> Option<Verb>
     ensures found { result ≡ option_map (λ c. c.1) (find (λ c. bytes_eq word.now c.0.now) table.now) }
 {
@@ -71,7 +64,7 @@ fn verb_in(table: &[(&[u8], Verb)], word: &[u8]) -> Option<Verb>
 }
 
 impl Verb {
-    // The command that a word is.
+    // The command with this word.
     pub(crate) fn of(word: &[u8]) -> Option<Verb>
         ensures verb { result ≡ verb_of word.now }
     {
@@ -79,10 +72,8 @@ impl Verb {
     }
 }
 
-// The most names that one script binds.
 const NAME_COUNT_LIMIT: usize = 4096;
 
-// The number of the last turn.
 const LAST_TURN: i64 = 47;
 
 // The modes of a half-space.
@@ -90,7 +81,7 @@ const OPEN: &[u8] = b"open";
 
 const CLOSED: &[u8] = b"closed";
 
-// The earlier of two kinds in the order of the tests.
+// The earlier of two kinds of refusal in the order of the tests.
 fn earlier(first: ScriptKind, second: ScriptKind) -> ScriptKind
     ensures earlier { result ≡ earlier first second }
 {
@@ -101,7 +92,7 @@ fn earlier(first: ScriptKind, second: ScriptKind) -> ScriptKind
     }
 }
 
-/// Both values, or the first of their refusals.
+/// Both values, or the earlier kind of their refusals.
 pub(crate) fn both<A: Drop, B: Drop>(
     first: Result<A, ScriptKind>,
     second: Result<B, ScriptKind>,
@@ -115,7 +106,7 @@ pub(crate) fn both<A: Drop, B: Drop>(
     }
 }
 
-/// The name to be bound.
+/// The word as a new name, which can be bound.
 pub(crate) fn new_name<'a>(names: &Names, word: &'a [u8]) -> Result<&'a [u8], ScriptKind>
     ensures read { IsRead (λ k. word_test k names.now (role.NewName, word.now) || no_room names.now k) (λ name. (name.now ≡ word.now) × (position (bytes_eq word.now) names.now ≡ None) × (length names.now < name_count_limit)) result }
 {
@@ -130,7 +121,7 @@ pub(crate) fn new_name<'a>(names: &Names, word: &'a [u8]) -> Result<&'a [u8], Sc
     }
 }
 
-/// The number of the node that the word names. The nodes stand in the order of their names.
+/// The number of the node that the word names. `bound` has the nodes in the order of the names.
 pub(crate) fn operand(names: &Names, bound: &[usize], word: &[u8]) -> Result<usize, ScriptKind>
     requires level { length bound.now ≡ length names.now }
     ensures read { IsRead (λ k. word_test k names.now (role.Operand, word.now)) (IsNamed names.now bound.now word.now) result }
@@ -144,7 +135,7 @@ pub(crate) fn operand(names: &Names, bound: &[usize], word: &[u8]) -> Result<usi
     }
 }
 
-// The whole number of at most this size.
+// The word as a whole number of at most `limit` in size.
 fn coefficient(limit: u64, word: &[u8]) -> Result<i64, ScriptKind>
     requires readable { limit ≤ number_limit }
     ensures read { (names : List (List ℕ)) → IsRead (λ k. word_test k names (role.Coefficient limit, word.now)) (λ n. (n ≡ number_or_zero word.now) × (nat_abs n ≤ limit)) result }
@@ -156,7 +147,7 @@ fn coefficient(limit: u64, word: &[u8]) -> Result<i64, ScriptKind>
     }
 }
 
-// The whole number from 1 to this one.
+// The word as a whole number from 1 to `most`.
 fn weight(most: u64, word: &[u8]) -> Result<i64, ScriptKind>
     requires readable { most ≤ number_limit }
     ensures read { (names : List (List ℕ)) → IsRead (λ k. word_test k names (role.Weight most, word.now)) (λ n. (n ≡ number_or_zero word.now) × (pos 0 <ℤ n) × (nat_abs n ≤ most)) result }
@@ -168,7 +159,7 @@ fn weight(most: u64, word: &[u8]) -> Result<i64, ScriptKind>
     }
 }
 
-/// The number of a turn.
+/// The word as the number of a turn, from 0 to 47.
 pub(crate) fn turn_number(word: &[u8]) -> Result<u8, ScriptKind>
     ensures read { (names : List (List ℕ)) → IsRead (λ k. word_test k names (role.Index 47, word.now)) (λ turn. (number_or_zero word.now ≡ pos turn) × (turn < 48)) result }
 {
@@ -179,7 +170,7 @@ pub(crate) fn turn_number(word: &[u8]) -> Result<u8, ScriptKind>
     }
 }
 
-/// Whether the mode is `closed`.
+/// Whether the mode is `closed`; a mode that is neither `open` nor `closed` is refused.
 pub(crate) fn is_closed(word: &[u8]) -> Result<bool, ScriptKind>
     ensures read { (names : List (List ℕ)) → IsRead (λ k. word_test k names (role.Mode, word.now)) (λ closed. closed ≡ bytes_eq word.now (codes "closed")) result }
 {
@@ -192,7 +183,7 @@ pub(crate) fn is_closed(word: &[u8]) -> Result<bool, ScriptKind>
     }
 }
 
-/// The plane of the four numbers.
+/// The plane whose four numbers the words give.
 pub(crate) fn plane(a: &[u8], b: &[u8], c: &[u8], d: &[u8]) -> Result<Oriented, ScriptKind>
     ensures read { (names : List (List ℕ)) → IsRead (λ k. some_fails names (role.Coefficient normal_limit ∷ role.Coefficient normal_limit ∷ role.Coefficient normal_limit ∷ role.Coefficient offset_limit ∷ []) (a.now ∷ b.now ∷ c.now ∷ d.now ∷ []) k || (is_normal k && are_zero a.now b.now c.now)) (λ o. IsGiven o (number_or_zero a.now) (number_or_zero b.now) (number_or_zero c.now) (number_or_zero d.now)) result }
 {
@@ -211,8 +202,7 @@ pub(crate) fn plane(a: &[u8], b: &[u8], c: &[u8], d: &[u8]) -> Result<Oriented, 
     }
 }
 
-/// The point of the four numbers: the first three are at most the first limit in size, and the last is from 1 to the
-/// second limit.
+/// The point of four numbers: the first three are at most `limits.0` in size, the last is from 1 to `limits.1`.
 pub(crate) fn point(
     limits: (u64, u64),
     x: &[u8],
@@ -235,7 +225,7 @@ pub(crate) fn point(
     Ok(Point::of(x, y, z, w))
 }
 
-/// The direction of a ray, of three numbers.
+/// The direction of a ray, whose three numbers the words give.
 pub(crate) fn direction(x: &[u8], y: &[u8], z: &[u8]) -> Result<Dir, ScriptKind>
     ensures read { (names : List (List ℕ)) → IsRead (λ k. some_fails names (role.Coefficient ray_direction_limit ∷ role.Coefficient ray_direction_limit ∷ role.Coefficient ray_direction_limit ∷ []) (x.now ∷ y.now ∷ z.now ∷ []) k || (is_direction k && are_zero x.now y.now z.now)) (λ d. IsToward d (number_or_zero x.now) (number_or_zero y.now) (number_or_zero z.now) × IsAtMost ray_direction_limit (vector_of d)) result }
 {

@@ -1,4 +1,4 @@
-//! Scripts: what they mean, and the first refusal of one that is refused.
+//! Scripts: what a script means, or its first refusal.
 #![tactic(auto)]
 
 mod arguments;

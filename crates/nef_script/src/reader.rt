@@ -1,16 +1,7 @@
-//! Reads a script line by line, and says what is true of every script.
+//! Reads a script line by line, and states laws of all scripts.
 
 ghost use Rattle.std.specs.Prelude.{◌≡◌, ◌*◌, ◌≤◌, ◌∷◌, ◌++◌};
-ghost use Rattle.nef_geo.specs.Prelude.{ℕ, length, IfOk, OnOk, Some, None, [], All, position, bytes_eq};
-ghost use Rattle.nef_lex.specs.Lines.{lines_of};
-ghost use Rattle.nef_script.specs.Refusal.{FirstRefusal, IsAccepted, line_refusal};
-ghost use Rattle.nef_script.specs.Meaning.{MeansScript, IsWithin, bases_of};
-ghost use Rattle.nef_script.specs.Commands.{TurnsRight, AreBoundBefore};
-ghost use Rattle.nef_script.specs.Outcome.{IsStatement};
-ghost use Rattle.nef_script.specs.Reading.{IsSound, AddsLine, AddsWords, state};
-ghost use Rattle.nef_script.specs.declared.script.ScriptKind.{ScriptKind as Kind};
-ghost use Rattle.nef_script.specs.declared.arguments.Verb.{Verb as Said};
-ghost use Rattle.nef_script.specs.Laws.{CommandsFound, OneRefusal, NeverBoth, Decided, UnknownCommandExample, WordCountExample, BadNameExample, NameTakenExample, UnknownNameExample, OwnNameExample, NotANumberExample, ZeroNormalExample, BadModeExample, OutOfRangeExample, BadWeightExample, ZeroDirectionExample, LongDirectionExample, FarPointExample, FirstLineExample, AcceptedExample};
+ghost use Rattle.nef_script.specs.Prelude.{ℕ, length, IfOk, OnOk, Some, None, [], All, position, bytes_eq, lines_of, FirstRefusal, IsAccepted, line_refusal, MeansScript, IsWithin, bases_of, TurnsRight, AreBoundBefore, IsStatement, IsSound, AddsLine, AddsWords, state, ScriptKind as Kind, Verb as Said, CommandsFound, OneRefusal, NeverBoth, Decided, UnknownCommandExample, WordCountExample, BadNameExample, NameTakenExample, UnknownNameExample, OwnNameExample, NotANumberExample, ZeroNormalExample, BadModeExample, OutOfRangeExample, BadWeightExample, ZeroDirectionExample, LongDirectionExample, FarPointExample, FirstLineExample, AcceptedExample};
 
 use crate::script::{Command, Name, Names, Script, ScriptFault, ScriptKind};
 use crate::statement::{Statement, read_statement};
@@ -19,21 +10,20 @@ use nef_geo::List;
 use nef_lex::{Line, lines, words};
 use std::alloc::{AllocError, Global};
 
-// The most bytes of a script.
+// How many bytes a script has at most.
 const SCRIPT_LIMIT: usize = 1_048_576;
 
-/// What the lines so far bound, and what they mean.
+/// What the lines so far bound, and what these lines mean.
 #[derive(Drop)]
 struct Reader<'a> {
     names: Names<'a>,
-    /// The node of each name, in order.
+    /// The node of each name, in the order of the names.
     bound: Vec<usize>,
     sets: TurnedNodes,
     commands: List<Command>,
 }
 
 impl<'a> Reader<'a> {
-    // Reads the next line.
     fn read_line(&mut self, alloc: Global, line: Line<'a>) -> Result<(), ScriptFault>
         requires sound { IsSound (state self.old.names self.old.bound.items self.old.sets self.old.commands) }
         ensures adds { IfOk result (λ _. AddsLine line.entry.number line.entry.text.now (state self.old.names self.old.bound.items self.old.sets self.old.commands) (state self.new.names self.new.bound.items self.new.sets self.new.commands)) }
@@ -50,7 +40,7 @@ impl<'a> Reader<'a> {
         }
     }
 
-    // Adds what a line says.
+    // Adds what a line says to what the lines before it say.
     fn add(&mut self, alloc: Global, line: u64, statement: Statement<'a>) -> Result<(), AllocError>
         requires sound { IsSound (state self.old.names self.old.bound.items self.old.sets self.old.commands) }
         requires says { (v : Said) × (args : List (List ℕ)) × IsStatement self.old.names self.old.bound.items line v args statement }
@@ -85,7 +75,7 @@ impl<'a> Reader<'a> {
         }
     }
 
-    // Binds a new name to a node, and adds the command that made it.
+    // Binds a new name to a node, and adds the command of the line.
     fn bind(&mut self, name: &'a [u8], node: usize, command: Command) -> Result<(), AllocError>
         requires new { position (bytes_eq name.now) self.old.names ≡ None }
         ensures names { OnOk result (self.new.names ≡ self.old.names ++ name.now ∷ []) }
@@ -100,13 +90,13 @@ impl<'a> Reader<'a> {
     }
 }
 
-/// The script that the bytes spell. Its commands name nodes that it has, each of which an earlier command binds, and its
-/// rays keep their limits. A node that a line turns to is the turned image of the node that it is turned from, and there
-/// are at most 48 nodes for each line that binds a name and turns nothing.
+/// The script that the bytes spell. Its commands name nodes of the script, each of which an earlier command binds, and
+/// its rays keep their limits. The node of a line that turns is the turned image of the node that it is turned from,
+/// and there are at most 48 nodes for each line that binds a name and turns nothing.
 ///
-/// `Refused` says where the script is refused first, and for what: a script that is too long at
-/// line 0, and otherwise the first line for which some test holds, with the first such test in the
-/// order of `ScriptKind`. `OutOfMemory` says that memory was wanted and not found.
+/// `Refused` says where the script is refused first, and for what: a script that is too long at line 0, and otherwise
+/// the first line for which some test holds, with the first such test in the order of `ScriptKind`. `OutOfMemory` says
+/// that memory was wanted and not found.
 pub fn parse(alloc: Global, bytes: &[u8]) -> Result<Script, ScriptFault>
     ensures script { IfOk result (λ s. IsAccepted bytes.now × MeansScript bytes.now s.nodes s.commands) }
     ensures in_range { IfOk result (λ s. All (IsWithin (length s.nodes)) s.commands) }
@@ -142,8 +132,7 @@ pub fn parse(alloc: Global, bytes: &[u8]) -> Result<Script, ScriptFault>
     })
 }
 
-/// A script is accepted, or it is refused first at one line for one kind, and never both; and the word of each command
-/// is read as that command.
+/// A script is accepted, or refused first at one line for one kind, and never both. Each command is read from its word.
 pub fn refusal_laws()
     ensures one { OneRefusal }
     ensures never_both { NeverBoth }
@@ -151,7 +140,7 @@ pub fn refusal_laws()
     ensures commands { CommandsFound }
 {}
 
-/// Where some short scripts are refused first, and for what.
+/// Short scripts, with the line at which each is refused first, and the kind of the refusal.
 pub fn refusal_examples()
     ensures unknown_command { UnknownCommandExample }
     ensures word_count { WordCountExample }

@@ -1,4 +1,4 @@
-//! The script as it is worked, or why there is none, and the names that its lines have bound.
+//! The script as it is worked, why there is no script, and the names that lines have bound.
 
 ghost use Rattle.std.specs.Prelude.{◌≡◌, ◌∷◌, ◌++◌};
 ghost use Rattle.nef_geo.specs.Prelude.{IfOk, [], length, None, OnOk, position, bytes_eq};
@@ -10,8 +10,7 @@ use std::collections::BTreeMap;
 use std::fmt;
 use std::marker::Model;
 
-/// What a script is refused for. The order is the order of the tests on one line; `ScriptTooLong`
-/// is tested before all of them.
+/// What a script is refused for, in the order of the tests on one line; `ScriptTooLong` is tested before all of them.
 #[derive(Debug, Clone, Copy, PartialEq, Eq)]
 pub enum ScriptKind {
     LineTooLong,
@@ -31,8 +30,7 @@ pub enum ScriptKind {
     ScriptTooLong,
 }
 
-/// Why there is no script: it is refused at a line (numbered from 1; 0 for the whole script), or
-/// memory ran out.
+/// Why there is no script: it is refused at a line (numbered from 1; 0 for the whole script), or memory ran out.
 #[derive(Debug, Clone, Copy, PartialEq, Eq)]
 pub enum ScriptFault {
     Refused { line: u64, kind: ScriptKind },
@@ -88,7 +86,7 @@ impl fmt::Display for ScriptKind {
 }
 
 /// The name of a set, as its bytes.
-#[derive(Debug, Drop)]
+#[derive(Drop)]
 pub struct Name {
     bytes: Vec<u8>,
 }
@@ -126,7 +124,7 @@ pub enum Command {
         line: u64,
         node: usize,
     },
-    /// A name is bound to the node, which is the turned image of the node `from` under the turn `turn`, from 0 to 47.
+    /// A name is bound to the node, which is the image of the node `from` under the turn `turn`, from 0 to 47.
     Turn {
         line: u64,
         node: usize,
@@ -146,9 +144,8 @@ pub enum Command {
         first: Point,
         second: Point,
     },
-    /// Where the label first changes along the ray from the point is asked. The first three numbers of
-    /// the point are at most `2^21` in size, its w is at most `2^10`, and the entries of the direction
-    /// are at most `2^10` in size.
+    /// Where the label first changes along the ray from the point is asked. The first three numbers of the point are at
+    /// most `2^21` in size, its w is at most `2^10`, and the entries of the direction are at most `2^10` in size.
     Ray {
         line: u64,
         node: usize,
@@ -177,8 +174,8 @@ pub enum Command {
 /// The nodes that the lines make, and the commands, one for each line with words.
 #[derive(Drop)]
 pub struct Script {
-    /// The nodes of the lines that bind names, each after its operands: one for each line but those that turn, and for these
-    /// the turned copies that aren't there yet.
+    /// The nodes of the lines that bind names, each after its operands: one for each line that doesn't turn, and for
+    /// lines that turn the copies that aren't there yet.
     pub nodes: Nodes,
     pub(crate) commands: List<Command>,
 }
@@ -192,7 +189,7 @@ impl Script {
     }
 }
 
-/// The names that are bound, in order. The place of a name, counted from 0, is its node's number.
+/// The names that are bound, in order. A name's place, counted from 0, is the place of its node among the bound nodes.
 #[derive(Drop)]
 pub(crate) struct Names<'a> {
     order: Vec<&'a [u8]>,
@@ -226,7 +223,7 @@ impl<'a> Names<'a> {
         self.order.len()
     }
 
-    /// The place of the name, if it is bound.
+    /// The place of the name, if the name is bound.
     pub(crate) fn find(&self, name: &[u8]) -> Option<usize>
         ensures place { result ≡ position (bytes_eq name.now) self.now }
     {

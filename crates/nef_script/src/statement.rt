@@ -1,13 +1,7 @@
 //! What a line says: the command and the words after it, or the first kind of refusal that holds for the line.
 
 ghost use Rattle.std.specs.Prelude.{◌≡◌, ◌∷◌};
-ghost use Rattle.nef_geo.specs.Prelude.{ℕ, List, [], length, IfOk, list_any};
-ghost use Rattle.nef_lex.specs.Words.{words_of};
-ghost use Rattle.nef_script.specs.Tests.{is_bad_byte};
-ghost use Rattle.nef_script.specs.Refusal.{line_refusal};
-ghost use Rattle.nef_script.specs.Names.{pointed};
-ghost use Rattle.nef_script.specs.Reading.{SecondIs, LastTwoAre};
-ghost use Rattle.nef_script.specs.Outcome.{refused, IsRead, Reads, roles_test, BindsNew, LineSays};
+ghost use Rattle.nef_script.specs.Prelude.{ℕ, List, [], length, IfOk, list_any, words_of, is_bad_byte, line_refusal, pointed, SecondIs, LastTwoAre, refused, IsRead, Reads, roles_test, BindsNew, LineSays};
 ghost use Rattle.nef_script.specs.Table as role;
 ghost use Rattle.nef_script.specs.declared.arguments.Verb.TheVariants as verb;
 
@@ -18,10 +12,10 @@ use crate::script::{Command, Names, ScriptKind};
 use nef_expr::Node;
 use nef_space::{QUERY_LIMIT, QUERY_WEIGHT_LIMIT, RAY_LIMIT, RAY_WEIGHT_LIMIT};
 
-// The most bytes of a line without its end.
+// The greatest number of bytes of a line without its end.
 const LINE_LIMIT: usize = 256;
 
-// The limits of the numbers of a point that is asked for, and of a ray's start.
+// The limits of the numbers of a point that is asked for, and of the start of a ray.
 const QUERY: (u64, u64) = (QUERY_LIMIT, QUERY_WEIGHT_LIMIT);
 
 const RAY_START: (u64, u64) = (RAY_LIMIT, RAY_WEIGHT_LIMIT);
@@ -49,10 +43,10 @@ pub(crate) enum Statement<'a> {
     },
 }
 
-// What is read, or the first kind of refusal.
+// The statement of a line, or the first kind of refusal.
 type Said<'a> = Result<Statement<'a>, ScriptKind>;
 
-// The name is bound to the node, which has no operands.
+// Binds the name to a node without operands.
 fn constant<'a>(names: &Names, args: &[&'a [u8]], node: Node) -> Said<'a>
     ensures read { IsRead (roles_test names.now (role.NewName ∷ []) (pointed args.now)) (BindsNew names.now (pointed args.now) (λ n. (length args.now ≡ 1) × (n ≡ node))) result }
 {
@@ -63,7 +57,7 @@ fn constant<'a>(names: &Names, args: &[&'a [u8]], node: Node) -> Said<'a>
     Ok(Statement::Bind { name, node })
 }
 
-// The name is bound to the half-space of the numbers and the mode.
+// Binds the name to the half-space of the numbers and the mode.
 fn half_space<'a>(names: &Names, args: &[&'a [u8]]) -> Said<'a>
     ensures read { (bound : List ℕ) (line : ℕ) → Reads names.now bound line verb.Half (pointed args.now) result }
 {
@@ -76,7 +70,7 @@ fn half_space<'a>(names: &Names, args: &[&'a [u8]]) -> Said<'a>
     Ok(Statement::Bind { name, node })
 }
 
-// The name is bound to the node that is made of one operand.
+// Binds the name to a node of one operand.
 fn unary<'a, F: Fn(usize) -> Node>(
     names: &Names,
     bound: &[usize],
@@ -95,7 +89,7 @@ fn unary<'a, F: Fn(usize) -> Node>(
     Ok(Statement::Bind { name, node })
 }
 
-// The name is bound to the node that is made of two operands.
+// Binds the name to a node of two operands.
 fn binary<'a, F: Fn(usize, usize) -> Node>(
     names: &Names,
     bound: &[usize],
@@ -115,7 +109,7 @@ fn binary<'a, F: Fn(usize, usize) -> Node>(
     Ok(Statement::Bind { name, node })
 }
 
-// The name is bound to the turned image of the operand.
+// Binds the name to the turned image of the operand.
 fn turned<'a>(names: &Names, bound: &[usize], args: &[&'a [u8]]) -> Said<'a>
     requires level { length bound.now ≡ length names.now }
     ensures read { (line : ℕ) → Reads names.now bound.now line verb.Turn (pointed args.now) result }
@@ -128,7 +122,7 @@ fn turned<'a>(names: &Names, bound: &[usize], args: &[&'a [u8]]) -> Said<'a>
     Ok(Statement::Turn { name, from, turn })
 }
 
-// Where the point lies is asked.
+// Asks where the point lies.
 fn has<'a>(line: u64, names: &Names, bound: &[usize], args: &[&'a [u8]]) -> Said<'a>
     requires level { length bound.now ≡ length names.now }
     ensures read { Reads names.now bound.now line verb.Has (pointed args.now) result }
@@ -140,7 +134,7 @@ fn has<'a>(line: u64, names: &Names, bound: &[usize], args: &[&'a [u8]]) -> Said
     Ok(Statement::Ask(Command::Has { line, node, point }))
 }
 
-// Whether the two points are joined is asked.
+// Asks whether the two points are joined.
 fn joined<'a>(line: u64, names: &Names, bound: &[usize], args: &[&'a [u8]]) -> Said<'a>
     requires level { length bound.now ≡ length names.now }
     ensures read { Reads names.now bound.now line verb.Joined (pointed args.now) result }
@@ -158,7 +152,7 @@ fn joined<'a>(line: u64, names: &Names, bound: &[usize], args: &[&'a [u8]]) -> S
     }))
 }
 
-// The end of the ray is asked.
+// Asks for the end of the ray.
 fn ray<'a>(line: u64, names: &Names, bound: &[usize], args: &[&'a [u8]]) -> Said<'a>
     requires level { length bound.now ≡ length names.now }
     ensures read { Reads names.now bound.now line verb.Ray (pointed args.now) result }
@@ -176,7 +170,7 @@ fn ray<'a>(line: u64, names: &Names, bound: &[usize], args: &[&'a [u8]]) -> Said
     }))
 }
 
-// Whether the two sets are the same is asked.
+// Asks whether the two sets are the same.
 fn same<'a>(line: u64, names: &Names, bound: &[usize], args: &[&'a [u8]]) -> Said<'a>
     requires level { length bound.now ≡ length names.now }
     ensures read { Reads names.now bound.now line verb.Same (pointed args.now) result }
@@ -188,7 +182,7 @@ fn same<'a>(line: u64, names: &Names, bound: &[usize], args: &[&'a [u8]]) -> Sai
     Ok(Statement::Ask(Command::Same { line, left, right }))
 }
 
-// The numbers of the set's parts are asked.
+// Asks for the numbers of the set's parts.
 fn count<'a>(line: u64, names: &Names, bound: &[usize], args: &[&'a [u8]]) -> Said<'a>
     requires level { length bound.now ≡ length names.now }
     ensures read { Reads names.now bound.now line verb.Count (pointed args.now) result }
@@ -200,7 +194,7 @@ fn count<'a>(line: u64, names: &Names, bound: &[usize], args: &[&'a [u8]]) -> Sa
     Ok(Statement::Ask(Command::Count { line, node }))
 }
 
-// The text of the set is asked.
+// Asks for the text of the set.
 fn print<'a>(names: &Names, bound: &[usize], args: &[&'a [u8]]) -> Said<'a>
     requires level { length bound.now ≡ length names.now }
     ensures read { (line : ℕ) → Reads names.now bound.now line verb.Print (pointed args.now) result }
@@ -212,7 +206,7 @@ fn print<'a>(names: &Names, bound: &[usize], args: &[&'a [u8]]) -> Said<'a>
     Ok(Statement::Print { node, name })
 }
 
-// What a command and the words after it say.
+// The statement of a command and of the words after it.
 fn command_statement<'a>(
     line: u64,
     names: &Names,
@@ -253,8 +247,8 @@ fn has_bad_byte(text: &[u8]) -> bool
     text.iter().any(|byte| !(*byte == b'\t' || (b' ' <= *byte && *byte <= b'~')))
 }
 
-/// What the line with these words says, if it has words, or the first kind of refusal that holds for it, against the names
-/// that earlier lines bound.
+/// The statement of the line with these words, if it has words, or the first kind of refusal that holds for the line.
+/// `names` are the names that earlier lines bound.
 pub(crate) fn read_statement<'a>(
     line: u64,
     text: &[u8],

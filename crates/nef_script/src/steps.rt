@@ -1,17 +1,13 @@
 //! The script of boxes that stand as stairs.
 
 ghost use Rattle.std.specs.Prelude.{◌≡◌, ◌<◌, ◌≤◌, ◌∷◌, ◌++◌};
-ghost use Rattle.nef_geo.specs.Prelude.{[], IfOk, OnOk, most_stairs};
-ghost use Rattle.nef_script.specs.Laws.{script_of};
-ghost use Rattle.nef_script.specs.Refusal.{IsAccepted};
-ghost use Rattle.nef_script.specs.Stairs.{box_name, whole_name, stairs_text};
-ghost use Rattle.nef_script.specs.Boxes.{bytes_of, filled, count_line, step_box, join_lines};
+ghost use Rattle.nef_script.specs.Prelude.{[], IfOk, OnOk, most_stairs, script_of, IsAccepted, box_name, whole_name, stairs_text, bytes_of, filled, count_line, step_box, join_lines};
 
 use crate::OutOfMemory;
 use itoa::Buffer;
 use std::alloc::Global;
 
-// A box: its half-spaces, and the intersections of the first two of them, of the first three, and so on.
+// A box: its six half-spaces, and the intersections of the first two of these, of the first three, and so on.
 const BOX: &[u8] = b"half @a -1 0 0 < closed\n\
     half @b 1 0 0 -> closed\n\
     half @c 0 -1 0 < closed\n\
@@ -24,20 +20,19 @@ const BOX: &[u8] = b"half @a -1 0 0 < closed\n\
     and @j @i @e\n\
     and @ @j @f\n";
 
-// The line that joins a box to those before it.
+// The line that joins a box to the boxes before it.
 const JOIN: &[u8] = b"or < > @\n";
 
 // The question for the numbers of a set's parts.
 const COUNT: &[u8] = b"count @\n";
 
-// A word: some bytes, and a number after them.
+// A word: bytes followed by a number.
 #[derive(Clone, Copy)]
 struct Word<'a> {
     front: &'a [u8],
     number: u32,
 }
 
-// The name of the box i.
 fn box_name(i: u32) -> Word<'static>
     ensures name { bytes_of result ≡ box_name i }
 {
@@ -47,7 +42,7 @@ fn box_name(i: u32) -> Word<'static>
     }
 }
 
-// The name of the first i + 1 boxes together.
+// The name of the union of the first i + 1 boxes.
 fn whole_name(i: u32) -> Word<'static>
     ensures name { bytes_of result ≡ whole_name i }
 {
@@ -61,7 +56,6 @@ fn whole_name(i: u32) -> Word<'static>
     }
 }
 
-// Adds the word.
 fn add_word(text: &mut Vec<u8>, word: Word) -> Result<(), OutOfMemory>
     ensures added { OnOk result (text.new.items ≡ text.old.items ++ bytes_of word.entry) }
 {
@@ -91,7 +85,6 @@ fn add_filled(
     Ok(())
 }
 
-// Adds the box i.
 fn add_box(text: &mut Vec<u8>, i: u32) -> Result<(), OutOfMemory>
     requires small { i < most_stairs }
     ensures added { OnOk result (text.new.items ≡ text.old.items ++ script_of (step_box i)) }
@@ -107,7 +100,7 @@ fn add_box(text: &mut Vec<u8>, i: u32) -> Result<(), OutOfMemory>
     add_filled(text, BOX, box_name(i), low, high)
 }
 
-// Adds the line that joins the box i to those before it, if there are any.
+// Adds the line that joins box i to the boxes before it, if there are any.
 fn add_join(text: &mut Vec<u8>, i: u32) -> Result<(), OutOfMemory>
     ensures added { OnOk result (text.new.items ≡ text.old.items ++ script_of (join_lines i)) }
 {
@@ -117,7 +110,7 @@ fn add_join(text: &mut Vec<u8>, i: u32) -> Result<(), OutOfMemory>
     add_filled(text, JOIN, box_name(i), whole_name(i), whole_name(i - 1))
 }
 
-// Adds the question for the numbers of the first i + 1 boxes together.
+// Adds the question for the numbers of the union of the first i + 1 boxes.
 fn add_count(text: &mut Vec<u8>, i: u32) -> Result<(), OutOfMemory>
     ensures added { OnOk result (text.new.items ≡ text.old.items ++ script_of (count_line (whole_name i) ∷ [])) }
 {
@@ -125,9 +118,9 @@ fn add_count(text: &mut Vec<u8>, i: u32) -> Result<(), OutOfMemory>
     add_filled(text, COUNT, whole, whole, whole)
 }
 
-/// The script of `n` boxes that stand as stairs, `n` from 1 to `MOST_STAIRS`: each box reaches into
-/// the next, the boxes are joined one after the other, and the last line asks for the numbers of the
-/// whole. The script has no refusal. `OutOfMemory` says that memory was wanted and not found.
+/// The script of `n` boxes that stand as stairs, `n` from 1 to `MOST_STAIRS`: each box reaches into the next, the boxes
+/// are joined one after the other, and the last line asks for the numbers of the whole. The script has no refusal.
+/// `OutOfMemory` says that memory was wanted and not found.
 pub fn stairs(alloc: Global, n: u32) -> Result<Vec<u8>, OutOfMemory>
     requires some { 1 ≤ n }
     requires most { n ≤ most_stairs }

@@ -1,14 +1,8 @@
 -- Sets of operands that are the same are the same.
-use Rattle.std.proofs.Common.{◌≡◌, refl, ◌∙◌, Bool, true, false, inl, inr, ⊎_elim}
-use Rattle.std.specs.Prelude.{◌↔◌, IsTrue}
-use Rattle.nef_space.specs.Place.{Place, Form, form_at, InFrame}
-use Rattle.nef_space.specs.Sets.{Set, Holds, Interior, Closure, InHalf}
-use Rattle.nef_space.specs.Local.{SameSet}
-use Rattle.nef_space.specs.declared.label.Label.TheVariants.{Out, Not, In}
-use Rattle.nef_geo.specs.Reading.{IsPositiveMultiple}
-use Rattle.nef_geo.specs.Signs.{sign_of}
+use Rattle.nef_statement.proofs.Prelude.{◌≡◌, refl, ◌∙◌, Bool, true, false, inl, inr, ⊎_elim, IsTrue, Place, Form, form_at, InFrame, Set, Interior, Closure, InHalf, SameSet, Out, Not, In, IsPositiveMultiple, sign_of, Minus, Zero, Plus}
+use Rattle.std.specs.Prelude.{◌↔◌}
+use Rattle.nef_space.specs.Sets.{Holds}
 use Rattle.nef_geo.specs.declared.sign.Sign.{Sign}
-use Rattle.nef_geo.specs.declared.sign.Sign.TheVariants.{Minus, Zero, Plus}
 use Rattle.nef_geo.proofs.Signs.{sign_of-multiple}
 use Rattle.nef_expr.proofs.Holding.{half-minus, half-zero, half-plus}
 

@@ -1,14 +1,6 @@
 -- A question has one answer.
-use Rattle.std.proofs.Common.{◌≡◌, ℕ, ap, sym, ◌∙◌, List, ◌++◌, inl, inr, if◌then◌else◌}
-use Rattle.std.specs.Prelude.{codes}
-use Rattle.nef_space.specs.Place.{Place}
-use Rattle.nef_space.specs.Sets.{Set}
-use Rattle.nef_space.specs.Vectors.{Vector}
-use Rattle.nef_geo.specs.Shapes.{place_of}
-use Rattle.nef_geo.proofs.Unique.{same_places_equal}
-use Rattle.nef_geo.specs.declared.point.Point.{Point}
+use Rattle.nef_statement.proofs.Prelude.{◌≡◌, ℕ, ap, sym, ◌∙◌, List, ◌++◌, inl, inr, if◌then◌else◌, codes, Place, Set, Vector, place_of, same_places_equal, Point, IsSameAnswer, IsJoinedAnswer, IsRayAnswer, spaced, answer_of}
 use Rattle.nef_ray.proofs.OneEnd.{one-end}
-use Rattle.nef_statement.specs.Output.{IsSameAnswer, IsJoinedAnswer, IsRayAnswer, spaced, answer_of}
 
 pub answered-one : (s t : Set) (x y : List ℕ) → IsSameAnswer s t x → IsSameAnswer s t y → x ≡ y
 answered-one s t x y a b = elim a [

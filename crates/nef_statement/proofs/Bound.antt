@@ -1,28 +1,12 @@
 -- The set of each name is that of its node.
-use Rattle.std.proofs.Common.{◌≡◌, ℕ, zero, suc, ◌+◌, ◌≤◌, nat_abs, Bool, true, false, cond, List, [], ◌∷◌, ◌++◌, length, map, Option, Some, None, slice_get, if◌then◌else◌, refl, sym, ap, ◌∙◌, subst, arith, inl, inr, append-nil}
-use Rattle.std.specs.Prelude.{codes, option_map, option_to_list}
-use Rattle.std.specs.List.{position_from}
-use Rattle.std.specs.Str.{bytes_eq}
-use Rattle.std.proofs.lemmas.Bool.{cases_Bool}
+use Rattle.nef_statement.proofs.Prelude.{◌≡◌, ℕ, zero, suc, ◌+◌, ◌≤◌, nat_abs, Bool, true, false, cond, List, [], ◌∷◌, ◌++◌, length, map, Option, Some, None, slice_get, if◌then◌else◌, refl, sym, ap, ◌∙◌, subst, arith, inl, inr, append-nil, codes, option_map, option_to_list, position_from, bytes_eq, cases_Bool, length-map, Set, SameSet, Node, node_set, set_of, sets_after, IsOrdered, binds, number_or_zero, on_verb, bound_name, Names, IsNode, Sets, IsBind, IsTurn, IsBinding, MeansCommand, MeansWords, Verb, Command, Bindings, set_named, made_of, bound_set, turned_set, bound_after}
 use Rattle.std.proofs.lemmas.Iterator.Adapters.{position_from-zero}
-use Rattle.std.proofs.lemmas.List.{length-map}
-use Rattle.nef_space.specs.Sets.{Set}
-use Rattle.nef_space.specs.Local.{SameSet}
 use Rattle.law_turns.specs.Turned.{turned_set as turned_image}
 use Rattle.law_turns.proofs.Meaning.{same_set-turned}
-use Rattle.nef_expr.specs.declared.nodes.Node.{Node}
 use Rattle.nef_expr.specs.declared.nodes.Node.TheVariants as node
-use Rattle.nef_expr.specs.Nodes.{node_set, set_of, sets_after, IsOrdered}
 use Rattle.nef_expr.proofs.Sets.{each-set}
 use Rattle.nef_expr.proofs.Turns.{node-turned}
-use Rattle.nef_script.specs.Table.{binds}
-use Rattle.nef_script.specs.Tests.{number_or_zero, on_verb}
-use Rattle.nef_script.specs.Refusal.{bound_name}
-use Rattle.nef_script.specs.Meaning.{Names, IsNode, Sets, IsBind, IsTurn, IsBinding, MeansCommand, MeansWords}
-use Rattle.nef_script.specs.declared.arguments.Verb.{Verb}
 use Rattle.nef_script.specs.declared.arguments.Verb.TheVariants as verb
-use Rattle.nef_script.specs.declared.script.Command.{Command}
-use Rattle.nef_statement.specs.Denotes.{Bindings, set_named, made_of, bound_set, turned_set, bound_after}
 use Rattle.nef_statement.proofs.Turning.{set-same}
 use Rattle.nef_statement.proofs.Alike.{same-self, same-half, same-other, same-inside, same-closed, same-border, same-regular, same-both, same-either, same-less, same-one_of}
 

@@ -1,43 +1,13 @@
 -- Numbers within the limits have planes, points and directions of the program, and nodes have turned copies.
-use Rattle.std.proofs.Common.{◌≡◌, ℕ, zero, suc, ◌+◌, ◌<◌, ◌≤◌, ℤ, pos, neg_ℤ, ◌*ℤ◌, ◌<ℤ◌, nat_abs, Bool, true, false, List, [], ◌∷◌, ◌++◌, length, get_or, Some, slice_get, arith, refl, ap, ◌∙◌, inl, inr, subst}
-use Rattle.std.specs.Prelude.{slice_index}
-use Rattle.std.proofs.lemmas.Int.{ints}
-use Rattle.std.proofs.lemmas.Option.{slice_get-get_or}
-use Rattle.nef_space.specs.Limits.{normal_limit, offset_limit, point_limit, weight_limit, ray_direction_limit}
-use Rattle.nef_space.specs.Numbers.{DividesAll}
-use Rattle.nef_space.specs.Place.{Form, form, SamePlace}
-use Rattle.nef_space.specs.Sets.{Set}
-use Rattle.nef_space.specs.Vectors.{vector, IsDirection, IsAtMost, SameDirection, IsNormal}
-use Rattle.nef_geo.specs.Hits.{IsPlaceAtMost}
-use Rattle.nef_geo.specs.Meet.{IsStretched}
-use Rattle.nef_geo.specs.Reading.{IsPositiveMultiple}
-use Rattle.nef_geo.specs.Shapes.{given_form, place_at, place_of, vector_of}
-use Rattle.nef_geo.specs.declared.dir.Dir.{Dir}
-use Rattle.nef_geo.specs.declared.plane.Oriented.{Oriented}
-use Rattle.nef_geo.specs.declared.point.Point.{Point}
+use Rattle.nef_statement.proofs.Prelude.{◌≡◌, ℕ, zero, suc, ◌+◌, ◌<◌, ◌≤◌, ℤ, pos, neg_ℤ, ◌*ℤ◌, ◌<ℤ◌, nat_abs, Bool, true, false, List, [], ◌∷◌, ◌++◌, length, get_or, Some, slice_get, arith, refl, ap, ◌∙◌, inl, inr, subst, slice_index, ints, slice_get-get_or, normal_limit, offset_limit, point_limit, weight_limit, ray_direction_limit, DividesAll, Form, form, SamePlace, Set, vector, IsDirection, IsAtMost, SameDirection, IsNormal, IsPlaceAtMost, IsStretched, IsPositiveMultiple, given_form, place_at, place_of, vector_of, Dir, Oriented, Point, part_small, negated_if, IsComposition, Decided, turned_plane, signed, normal-choice, lowest_form-turned, IsSmallForm, point-with, Node, Stays, IsTurnedNode, OperandsTurned, IsMarked, AreNeeded, Shape, IsOrdered, Table, table, origin, HasOrigin, AreOrigins, IsCopyOf, TurnOf, operand-below, slice_get-left, slice_get-seam, new-names, new-image, ordered-push, origins-push, copy-there, copy-is, copy-image, IsCopying, copying-start, copying-length, copying-operands, copying-more, stays-same, stays-twice, eq-decided}
 use Rattle.nef_geo.proofs.Directions.{IsDirection-part, SameDirection-stretched}
-use Rattle.nef_geo.proofs.Divisors.{divisor_small, part_small, lowest_three}
+use Rattle.nef_geo.proofs.Divisors.{divisor_small, lowest_three}
 use Rattle.nef_geo.proofs.Places.{SamePlace-reduced}
-use Rattle.nef_case.specs.Turns.{negated_if, IsComposition}
 use Rattle.nef_case.proofs.TurnLemmas.{composition-turns, composed-by_numbers}
-use Rattle.law_near.proofs.Decided.{Decided}
-use Rattle.law_turns.specs.Turned.{turned_plane, signed}
-use Rattle.law_turns.proofs.Numbers.{normal-choice, lowest_form-turned}
-use Rattle.law_exist.specs.Laws.{IsSmallForm}
-use Rattle.law_exist.proofs.Classes.{equal-decided}
-use Rattle.law_exist.proofs.Points.{point-with}
 use Rattle.law_exist.proofs.Reduced.{Reduced, reduce-by}
-use Rattle.nef_expr.specs.declared.nodes.Node.{Node}
 use Rattle.nef_expr.specs.declared.nodes.Node.TheVariants as node
 use Rattle.nef_expr.specs.declared.table.Origin.{Origin}
-use Rattle.nef_expr.specs.Copying.{Stays, IsTurnedNode, OperandsTurned, IsMarked, AreNeeded}
-use Rattle.nef_expr.specs.Nodes.{Shape, IsOrdered}
-use Rattle.nef_expr.specs.Table.{Table, table, origin, HasOrigin, AreOrigins, IsCopyOf}
-use Rattle.nef_expr.specs.Turns.{TurnOf}
 use Rattle.nef_expr.proofs.Halves.{half-in_range, half-some, half-read}
-use Rattle.nef_expr.proofs.Operands.{operand-below}
-use Rattle.nef_expr.proofs.Places.{slice_get-left, slice_get-seam}
-use Rattle.nef_expr.proofs.Tables.{new-names, new-image, ordered-push, origins-push, copy-there, copy-is, copy-image, IsCopying, copying-start, copying-length, copying-operands, copying-more, stays-same, stays-twice}
 
 -- ---- points
 -- the point (x/w, y/w, z/w), whose numbers are at most as large as these
@@ -159,7 +129,7 @@ turned-node t copies (node.Reg i) = (node.Reg (slice_index copies i), refl)
 -- some node has the base and the turn, or none has
 origin-decided : (os : List Origin) (o : Origin) → Decided ((l : ℕ) × HasOrigin os l o)
 origin-decided [] o = inr (λ (l, e). cc)
-origin-decided (p ∷ os) o = by (equal-decided p.base o.base) (equal-decided p.turn o.turn) (origin-decided os o)
+origin-decided (p ∷ os) o = by (eq-decided p.base o.base) (eq-decided p.turn o.turn) (origin-decided os o)
   where
     later : (l : ℕ) → ((p ≡ o) → ⊥) → (((l : ℕ) × HasOrigin os l o) → ⊥) → HasOrigin (p ∷ os) l o → ⊥
     later zero n m e = n (cc)

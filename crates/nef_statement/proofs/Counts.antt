@@ -1,12 +1,6 @@
 -- What is counted of a set is one, and the same of sets that are the same.
-use Rattle.std.proofs.Common.{◌≡◌, ℕ, zero, suc, refl, sym, ap, ◌∙◌, List, [], ◌∷◌}
-use Rattle.nef_space.specs.Local.{SameSet}
-use Rattle.nef_space.specs.Sets.{Set}
-use Rattle.law_near.proofs.Alike.{Joined-same, cones-of_same, FlatDim-by_cone}
-use Rattle.nef_conn.specs.Components.{HasComponents}
+use Rattle.nef_statement.proofs.Prelude.{◌≡◌, ℕ, zero, suc, refl, sym, ap, ◌∙◌, List, [], ◌∷◌, SameSet, Set, Joined-same, cones-of_same, FlatDim-by_cone, HasComponents, line, numbers, CountTells}
 use Rattle.nef_conn.proofs.OneCount.{one-count}
-use Rattle.nef_complex.specs.Text.{line, numbers}
-use Rattle.nef_statement.specs.Written.{CountTells}
 use Rattle.nef_statement.proofs.Alike.{same-turned}
 
 components-same : (a s : Set) (k n : ℕ) → SameSet a s → HasComponents s k n → HasComponents a k n

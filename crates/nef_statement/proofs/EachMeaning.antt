@@ -1,41 +1,12 @@
 -- Each accepted script has a meaning.
-use Rattle.std.proofs.Common.{◌≡◌, ℕ, ◌+◌, ◌<◌, ℤ, pos, negsuc, nat_abs, true, false, not, nat_eq, ◌||◌, List, [], ◌∷◌, ◌++◌, length, get_or, Option, Some, None, is_some, slice_get, arith, refl, sym, ap, ◌∙◌, subst}
-use Rattle.std.specs.Prelude.{nat_lt, int_le, codes}
-use Rattle.std.specs.List.{list_any, position, enumerate_from}
-use Rattle.std.specs.Str.{bytes_eq}
-use Rattle.std.proofs.lemmas.Bool.{or_parts, and_parts, eqb-true}
-use Rattle.std.proofs.lemmas.Option.{slice_get-get_or}
-use Rattle.nef_space.specs.Limits.{normal_limit, offset_limit, query_limit, query_weight_limit, ray_direction_limit, ray_point_limit, ray_weight_limit}
-use Rattle.nef_space.specs.Place.{form}
-use Rattle.nef_space.specs.Vectors.{vector, IsAtMost}
-use Rattle.nef_geo.specs.declared.point.Point.{Point}
-use Rattle.nef_expr.specs.declared.nodes.Node.{Node}
+use Rattle.nef_statement.proofs.Prelude.{◌≡◌, ℕ, ◌+◌, ◌<◌, ℤ, pos, negsuc, nat_abs, true, false, not, nat_eq, ◌||◌, List, [], ◌∷◌, ◌++◌, length, get_or, Option, Some, None, is_some, slice_get, arith, refl, sym, ap, ◌∙◌, subst, nat_lt, int_le, codes, list_any, position, enumerate_from, bytes_eq, or_parts, and_parts, eqb-true, slice_get-get_or, normal_limit, offset_limit, query_limit, query_weight_limit, ray_direction_limit, ray_point_limit, ray_weight_limit, form, vector, IsAtMost, Point, Node, table, origin, HasOrigin, AreOrigins, names-from, slice_get-seam, ordered-push, origins-push, base-new, base-image, lines_of, words_of, KeepsRayLimits, Names, IsNode, IsQuestion, IsQuotient, MeansScript, HasRead, State, state, IsSound, AddsWords, AddsLine, sets_of, line_refusal, IsAccepted, verb_of, roles, binds, is_own, number_or_zero, is_from, command_tests, words_tests, Verb, Command, ScriptKind, HasRead-start, HasRead-next, HasRead-refused, HasRead-end, first_state, never_both, EachMeans}
 use Rattle.nef_expr.specs.declared.nodes.Node.TheVariants as node
-use Rattle.nef_expr.specs.Table.{table, origin, HasOrigin, AreOrigins}
-use Rattle.nef_expr.proofs.Operands.{names-from}
-use Rattle.nef_expr.proofs.Places.{slice_get-seam}
-use Rattle.nef_expr.proofs.Tables.{ordered-push, origins-push, base-new, base-image}
-use Rattle.nef_lex.specs.Lines.{lines_of}
-use Rattle.nef_lex.specs.Words.{words_of}
-use Rattle.nef_script.specs.Limits.{KeepsRayLimits}
-use Rattle.nef_script.specs.Meaning.{Names, IsNode, IsQuestion, IsQuotient, MeansScript}
-use Rattle.nef_script.specs.Progress.{HasRead}
-use Rattle.nef_script.specs.Reading.{State, state, IsSound, AddsWords, AddsLine, sets_of}
-use Rattle.nef_script.specs.Refusal.{line_refusal, IsAccepted}
-use Rattle.nef_script.specs.Table.{verb_of, roles, binds, is_own}
-use Rattle.nef_script.specs.Tests.{number_or_zero, is_from, command_tests, words_tests}
-use Rattle.nef_script.specs.declared.arguments.Verb.{Verb}
 use Rattle.nef_script.specs.declared.arguments.Verb.TheVariants as verb
-use Rattle.nef_script.specs.declared.script.Command.{Command}
 use Rattle.nef_script.specs.declared.script.Command.TheVariants as command
-use Rattle.nef_script.specs.declared.script.ScriptKind.{ScriptKind}
 use Rattle.nef_script.specs.declared.script.ScriptKind.TheVariants as kind
 use Rattle.nef_script.proofs.Adding.{AddsWords-node, AddsWords-ask, AddsWords-turn, AddsLine-words, AddsLine-blank}
-use Rattle.nef_script.proofs.LineByLine.{HasRead-start, HasRead-next, HasRead-refused, HasRead-end, first_state}
 use Rattle.nef_script.proofs.Looking.{node-operands}
 use Rattle.nef_script.proofs.Positions.{position-any, position-below}
-use Rattle.nef_script.proofs.RefusalLaws.{never_both}
-use Rattle.nef_statement.specs.Meanings.{EachMeans}
 use Rattle.nef_statement.proofs.Copies.{IsGood, Copy, copy-of, plane-of, point-at, direction-of}
 use Rattle.nef_statement.proofs.SomeOutput.{refusal_in, Passed, passed, words-tested, is-so, within, firsts, all-words, from-one, from-none, some-way}
 

@@ -1,15 +1,6 @@
 -- Which points belong to vertices with edges depends on which edges these are alone, not on their order.
-use Rattle.std.proofs.Common.{◌≡◌, ◌↔◌, ℕ, List, inl, inr, subst}
-use Rattle.nef_space.specs.Place.{Place}
-use Rattle.nef_space.specs.Vectors.{Vector}
-use Rattle.nef_space.specs.declared.label.Label.{Label}
-use Rattle.nef_space.specs.declared.label.Label.TheVariants.{In}
-use Rattle.law_sphere.specs.Maps.{At, Item, dir_of, NearLabel}
-use Rattle.law_sphere.proofs.Lists.{at-one}
-use Rattle.law_complex.specs.Belongs.{SpotMark, Towards, Belongs, on_skeleton, off_skeleton}
-use Rattle.law_complex.specs.Complexes.{Vertex, Edge, Corner, IsCorner, Edges}
-use Rattle.law_complex.specs.Skeleton.{IsEdgePoint, IsOnEdges, IsFacetPoint, Spot, at_vertex, on_edge, in_facet, IsSpot, IsSkeletonPoint}
-use Rattle.nef_statement.specs.Reader.{with_edges, AreEdges}
+use Rattle.nef_statement.proofs.Prelude.{◌≡◌, ◌↔◌, ℕ, List, inl, inr, subst, Place, Vector, Label, In, At, Item, dir_of, NearLabel, at-one, SpotMark, Towards, Belongs, on_skeleton, off_skeleton, Vertex, Corner, IsCorner, Edges, IsEdgePoint, IsOnEdges, IsFacetPoint, Spot, at_vertex, on_edge, in_facet, IsSpot, IsSkeletonPoint, with_edges, AreEdges}
+use Rattle.law_complex.specs.Complexes.{Edge}
 
 -- the sorted edges are the edges
 pub sorted-edges : (vs : List Vertex) (es : List Edge) → Edges vs es → AreEdges vs es

@@ -1,9 +1,5 @@
 -- What is told grows by a front of bytes.
-use Rattle.std.proofs.Common.{◌≡◌, ℕ, sym, ap, ◌∙◌, subst, List, ◌++◌, length, take, Option, Some, None, append-nil, append_assoc}
-use Rattle.std.specs.Prelude.{drop}
-use Rattle.std.proofs.lemmas.List.{take-append-drop}
-use Rattle.std.proofs.Math.Seq.{take-length, take-append_seam}
-use Rattle.nef_io.specs.Bytes.{Grows, GrowsWithin}
+use Rattle.nef_statement.proofs.Prelude.{◌≡◌, ℕ, sym, ap, ◌∙◌, subst, List, ◌++◌, length, take, Option, Some, None, append-nil, append_assoc, drop, take-append-drop, take-length, take-append_seam, Grows, GrowsWithin}
 
 -- the whole is a front
 pub grows_within-all : (a b : Option (List ℕ)) (xs : List ℕ) → Grows a b xs → GrowsWithin a b xs

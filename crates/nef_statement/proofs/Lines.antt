@@ -1,23 +1,14 @@
 -- The rows of bytes that are made of rows.
-use Rattle.std.proofs.Common.{◌≡◌, ℕ, zero, suc, ◌+◌, ◌-◌, ◌*◌, ◌^◌, ◌<◌, ◌≤◌, ◌/◌, ◌%◌, ◌==◌, nat_abs, ℤ, pos, negsuc, neg_ℤ, Bool, true, false, cond, List, [], ◌∷◌, ◌++◌, length, map, Some, None, refl, sym, ap, ◌∙◌, subst, arith, inl, append-nil, append_assoc, length-append}
-use Rattle.std.specs.Prelude.{nat_le, nat_lt, nat_eq, unwrap_or, ◌&&◌, ◌||◌, not}
-use Rattle.std.proofs.lemmas.Bool.{ne_eqb, le-leb}
+use Rattle.nef_statement.proofs.Prelude.{◌≡◌, ℕ, zero, suc, ◌+◌, ◌-◌, ◌*◌, ◌^◌, ◌<◌, ◌≤◌, ◌/◌, ◌%◌, ◌==◌, nat_abs, ℤ, pos, negsuc, neg_ℤ, Bool, true, false, cond, List, [], ◌∷◌, ◌++◌, length, map, Some, None, refl, sym, ap, ◌∙◌, subst, arith, inl, append-nil, append_assoc, length-append, nat_le, nat_lt, unwrap_or, ◌&&◌, ne_eqb, le-leb, All, list_all, flat_map, join_with_byte, digits_onto, digit_glyph, decimal, signed_decimal, All-cons, All-nil, is_line_feed, pieces_of, without_return, words_of, is_gap, LacksFeed, ended, is_word_byte, IsWord, IsGap, IsRest, IsParted, is_digits, decimal_value, number_of, number_or_zero, Word, line, rows_of}
+use Rattle.std.specs.Prelude.{nat_eq, ◌||◌, not}
 use Rattle.std.specs.Char.{is_ascii_digit}
-use Rattle.std.specs.List.{All, list_all, flat_map, join_with_byte}
-use Rattle.std.specs.Fmt.{digits, digits_onto, digit_glyph, decimal, signed_decimal}
+use Rattle.std.specs.Fmt.{digits}
 use Rattle.std.proofs.lemmas.Fmt.{decimal_by_steps}
-use Rattle.std.proofs.lemmas.List.Elements.{All-cons, All-nil}
-use Rattle.nef_lex.specs.Lines.{is_line_feed, pieces_of, without_return}
-use Rattle.nef_lex.specs.Words.{words_of, is_gap}
-use Rattle.nef_lex.specs.Laws.{LacksFeed, ended, is_word_byte, IsWord, IsGap, IsRest, BeginsApart, IsParted, spaced}
-use Rattle.nef_lex.specs.Numbers.{is_digits, decimal_value, number_of}
+use Rattle.nef_lex.specs.Laws.{BeginsApart, spaced}
 use Rattle.nef_lex.proofs.Signs.{number_of_parts}
 use Rattle.nef_lex.proofs.Decimal.{decimal_value-push}
 use Rattle.nef_lex.proofs.LineLaws.{pieces_of_ended}
 use Rattle.nef_lex.proofs.WordLaws.{words_of_spaced}
-use Rattle.nef_script.specs.Tests.{number_or_zero}
-use Rattle.nef_complex.specs.Text.{Word, line}
-use Rattle.nef_statement.specs.Reader.{rows_of}
 
 abbrev pub Row : Type 0
 Row = List Word

@@ -1,27 +1,8 @@
 -- Words and bytes mean one thing, and a run does what is meant.
-use Rattle.std.proofs.Common.{◌≡◌, ℕ, ◌+◌, ◌<◌, ◌≤◌, arith, refl, sym, ap, ◌∙◌, subst, List, [], ◌++◌, length, Option, Some, None, inl, inr, ◌⊎◌, append-nil, length-append}
-use Rattle.std.specs.Prelude.{option_map}
+use Rattle.nef_statement.proofs.Prelude.{◌≡◌, ℕ, ◌+◌, ◌<◌, ◌≤◌, arith, refl, sym, ap, ◌∙◌, subst, List, [], ◌++◌, length, Option, Some, None, inl, inr, ◌⊎◌, append-nil, length-append, option_map, Set, TextVersion, Rose, Grows, GrowsWithin, lines_of, Options, options_in, ScriptKind, script_limit, FirstRefusal, IsAccepted, stairs_text, one_refusal, never_both, Status, Refused, Words, ReadFault, WriteFault, OutOfMemory, ReadSource, IsRead, Means, refusal_line, AreSaid, WroteOf, IsMeant, WroteFront, Ended, Traffic}
 use Rattle.std.specs.Io.KnownBytes.{Consumes, IsAtEnd}
-use Rattle.nef_space.specs.Sets.{Set}
-use Rattle.nef_core.specs.declared.work.TextVersion.{TextVersion}
-use Rattle.nef_io.specs.Bytes.{Rose, Grows, GrowsWithin}
-use Rattle.nef_lex.specs.Lines.{lines_of}
-use Rattle.nef_words.specs.declared.words.Options.{Options}
-use Rattle.nef_words.specs.Grammar.{options_in}
-use Rattle.nef_script.specs.declared.script.ScriptKind.{ScriptKind}
 use Rattle.nef_script.specs.declared.script.ScriptKind.TheVariants.{ScriptTooLong}
-use Rattle.nef_script.specs.Refusal.{script_limit, FirstRefusal, IsAccepted}
-use Rattle.nef_script.specs.Stairs.{stairs_text}
-use Rattle.nef_script.proofs.RefusalLaws.{one_refusal, never_both}
-use Rattle.nef_statement.specs.declared.status.Status.{Status}
-use Rattle.nef_statement.specs.declared.status.Status.TheVariants.{Refused, Words, ReadFault, WriteFault, OutOfMemory}
-use Rattle.nef_statement.specs.Means.{ReadSource, IsRead, Means}
-use Rattle.nef_statement.specs.Output.{refusal_line}
-use Rattle.nef_statement.specs.Said.{AreSaid}
-use Rattle.nef_statement.specs.Same.{WroteOf}
-use Rattle.nef_statement.specs.Statement.{IsMeant, WroteFront, Ended}
 use Rattle.nef_statement.specs.Status.{EndsByItself}
-use Rattle.nef_statement.specs.Traffic.{Traffic}
 use Rattle.nef_statement.proofs.Grown.{grows_within-all, grows_within-none}
 use Rattle.nef_statement.proofs.One.{said-one}
 

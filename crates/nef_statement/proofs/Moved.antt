@@ -1,24 +1,7 @@
 -- Answers about points, directions and sets that are the same.
-use Rattle.std.proofs.Common.{ℕ, Bool, true, false, List, [], ◌∷◌, inl, inr, ⊎_elim}
-use Rattle.nef_space.specs.Local.{HasLabel, IsEven, IsEvenPath, Joined, Germ, SameSet}
-use Rattle.nef_space.specs.Place.{Place, SamePlace, InFrame, toward}
-use Rattle.nef_space.specs.Sets.{Set, Holds}
-use Rattle.nef_space.specs.Vectors.{Vector, SameDirection}
-use Rattle.nef_space.specs.declared.label.Label.{Label}
-use Rattle.nef_space.specs.declared.label.Label.TheVariants.{In}
-use Rattle.law_near.proofs.Mixed.{between-same}
-use Rattle.law_near.proofs.Directions.{direction-left}
-use Rattle.law_near.specs.Cells.{carriers}
-use Rattle.law_near.proofs.Alike.{Joined-same, cones-of_same}
-use Rattle.law_near.proofs.Germs.{Label-cells}
-use Rattle.law_near.proofs.Rays.{signs-same, same-place_sym, Germ-same}
-use Rattle.law_sphere.proofs.Compare.{SameDirection-turned, SameDirection-trans}
-use Rattle.law_complex.proofs.FacetWays.{dim-same}
-use Rattle.law_complex.proofs.Ways.{same-itself, same-place_trans}
+use Rattle.nef_statement.proofs.Prelude.{ℕ, Bool, true, false, List, [], ◌∷◌, inl, inr, ⊎_elim, HasLabel, IsEven, IsEvenPath, Joined, Germ, SameSet, Place, SamePlace, InFrame, toward, Set, Vector, SameDirection, Label, In, between-same, carriers, Joined-same, cones-of_same, Label-cells, signs-same, same-place_sym, Germ-same, dim-same, same-itself, same-place_trans, place_of, IsRayEnd, Changes, IsSameAnswer, IsJoinedAnswer, IsRayAnswer, SameDirection-turned, SameDirection-trans, direction-left}
+use Rattle.nef_space.specs.Sets.{Holds}
 use Rattle.nef_conn.proofs.Leaves.{toward-same}
-use Rattle.nef_geo.specs.Shapes.{place_of}
-use Rattle.nef_ray.specs.Ends.{IsRayEnd, Changes}
-use Rattle.nef_statement.specs.Output.{IsSameAnswer, IsJoinedAnswer, IsRayAnswer}
 use Rattle.nef_statement.proofs.Alike.{same-turned, same-trans}
 
 pub label-moved : (s : Set) (p q : Place) (l : Label) → SamePlace p q → HasLabel s p l → HasLabel s q l

@@ -1,22 +1,6 @@
 -- What lines say is one.
-use Rattle.std.proofs.Common.{◌≡◌, ℕ, ℤ, pos, ◌<ℤ◌, zero, suc, refl, sym, ap, ◌∙◌, subst, List, [], ◌∷◌, ◌++◌, take, Option, Some, append_assoc}
-use Rattle.std.proofs.Props.{props}
-use Rattle.nef_space.specs.Local.{HasLabel}
-use Rattle.nef_space.specs.Place.{Place}
-use Rattle.nef_space.specs.Sets.{Set}
-use Rattle.nef_space.specs.Vectors.{vector}
-use Rattle.nef_space.specs.declared.label.Label.{Label}
-use Rattle.law_near.proofs.Germs.{label-one}
-use Rattle.nef_geo.specs.Shapes.{place_at}
-use Rattle.nef_lex.specs.Words.{words_of}
-use Rattle.nef_script.specs.Table.{verb_of}
-use Rattle.nef_script.specs.Tests.{number_or_zero}
-use Rattle.nef_script.specs.declared.arguments.Verb.{Verb}
+use Rattle.nef_statement.proofs.Prelude.{◌≡◌, ℕ, ℤ, pos, ◌<ℤ◌, zero, suc, refl, sym, ap, ◌∙◌, subst, List, [], ◌∷◌, ◌++◌, take, Option, Some, append_assoc, props, HasLabel, Place, Set, vector, Label, label-one, place_at, words_of, verb_of, number_or_zero, Verb, IsSameAnswer, IsJoinedAnswer, IsRayAnswer, framed, answer_of, Bindings, set_named, bound_after, CountTells, IsSaid, IsSaidBy, AreSaid}
 use Rattle.nef_script.specs.declared.arguments.Verb.TheVariants as verb
-use Rattle.nef_statement.specs.Output.{IsSameAnswer, IsJoinedAnswer, IsRayAnswer, framed, answer_of}
-use Rattle.nef_statement.specs.Denotes.{Bindings, set_named, bound_after}
-use Rattle.nef_statement.specs.Written.{CountTells}
-use Rattle.nef_statement.specs.Said.{IsSaid, IsSaidBy, AreSaid}
 use Rattle.nef_statement.proofs.Answered.{answered-one, joined-one, ended-one}
 use Rattle.nef_statement.proofs.Counts.{count-one}
 

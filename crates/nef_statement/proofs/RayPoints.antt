@@ -1,48 +1,10 @@
 -- A ray of a script has an answer: its end is a point of the program.
-use Rattle.std.proofs.Common.{◌≡◌, ℕ, ◌*◌, ◌^◌, ℤ, pos, ◌+ℤ◌, ◌*ℤ◌, ◌<ℤ◌, neg_ℤ, nat_abs, arith, refl, sym, ap, ◌∙◌, inl, inr, ⊎_elim, List, [], ◌∷◌, Bool, true, false}
-use Rattle.std.proofs.lemmas.Int.{ints}
-use Rattle.nef_space.proofs.Order.{mul_pos}
-use Rattle.nef_space.proofs.Ring.{ring, at, num, neg, ◌⊕◌, ◌⊗◌}
-use Rattle.nef_space.specs.Limits.{normal_limit, ray_direction_limit, ray_point_limit, ray_weight_limit}
-use Rattle.nef_space.specs.Local.{HasLabel}
-use Rattle.nef_space.specs.Place.{Place, Form, form_at, slope, normal_of, SamePlace, toward, InFrame}
-use Rattle.nef_space.specs.Sets.{Set}
-use Rattle.nef_space.specs.Signs.{sign, Lies}
-use Rattle.nef_space.specs.Vectors.{Vector, opposite, IsDirection, SameDirection, IsAtMost}
-use Rattle.nef_space.specs.declared.label.Label.{Label}
-use Rattle.nef_space.specs.declared.label.Label.TheVariants.{Out}
-use Rattle.nef_geo.specs.Hits.{IsCrossing, IsPlaceAtMost, IsReachedBy}
-use Rattle.nef_geo.specs.Shapes.{form_of, place_at, place_of}
-use Rattle.nef_geo.specs.Steps.{HasOppositeSigns, IsZeroStep}
-use Rattle.nef_geo.specs.declared.plane.Plane.{Plane}
-use Rattle.nef_geo.specs.declared.point.Point.{Point}
+use Rattle.nef_statement.proofs.Prelude.{◌≡◌, ℕ, ◌*◌, ◌^◌, ℤ, pos, ◌+ℤ◌, ◌*ℤ◌, ◌<ℤ◌, neg_ℤ, nat_abs, arith, refl, sym, ap, ◌∙◌, inl, inr, ⊎_elim, List, [], ◌∷◌, Bool, true, false, ints, mul_pos, pos-abs, ring, at, num, neg, ◌⊕◌, ◌⊗◌, normal_limit, ray_direction_limit, ray_point_limit, ray_weight_limit, HasLabel, Place, Form, form_at, slope, normal_of, SamePlace, toward, InFrame, Set, sign, Lies, Vector, opposite, IsDirection, SameDirection, IsAtMost, Label, Out, IsCrossing, IsPlaceAtMost, IsReachedBy, form_of, place_at, place_of, HasOppositeSigns, IsZeroStep, Plane, Point, dot_size, normal_within, carriers, between-turned, InFrame-decided, start, start-close, start-between, sign-toward, near-same, label-one, Label-cells, between-same, reach_all, within-self, slope-same, same-place_sym, Germ-same, SamePlane, ahead-back, ahead-same, plane-turned, plane-point, plane-slope, same-itself, same-place_trans, one-crossing, between-way, IsRayEnd, Changes, point-with, answer_of, end_line, IsRayAnswer, SameDirection-turned, SameDirection-trans, dir-self, direction-left}
 use Rattle.nef_geo.proofs.Crossings.{IsCrossing-reached, opposite-crossing}
-use Rattle.nef_geo.proofs.Places.{pos_size}
-use Rattle.nef_geo.proofs.Products.{dot_size, normal_within}
 use Rattle.nef_geo.proofs.Rays.{reached_within}
 use Rattle.nef_geo.proofs.Sizes.{form_size}
-use Rattle.law_near.specs.Cells.{carriers}
-use Rattle.law_near.proofs.Between.{between-turned}
-use Rattle.law_near.proofs.Decided.{InFrame-decided}
-use Rattle.law_near.proofs.Directions.{direction-left}
-use Rattle.law_near.proofs.Edges.{start, start-close, start-between}
-use Rattle.law_near.proofs.Flats.{sign-toward}
-use Rattle.law_near.proofs.Germs.{near-same, label-one, Label-cells}
-use Rattle.law_near.proofs.Mixed.{between-same}
-use Rattle.law_near.proofs.Near.{reach_all}
-use Rattle.law_near.proofs.Rays.{within-self, slope-same, same-place_sym, Germ-same}
-use Rattle.law_sphere.proofs.Compare.{SameDirection-turned, SameDirection-trans, dir-self}
-use Rattle.law_complex.specs.Shows.{SamePlane}
-use Rattle.law_complex.proofs.FacetEdges.{ahead-back, ahead-same}
-use Rattle.law_complex.proofs.Planes.{plane-turned, plane-point, plane-slope}
-use Rattle.law_complex.proofs.Ways.{same-itself, same-place_trans}
-use Rattle.nef_complex.proofs.Lines.{one-crossing}
-use Rattle.law_complex.proofs.Ways.{between-way}
-use Rattle.nef_ray.specs.Ends.{IsRayEnd, Changes}
 use Rattle.nef_ray.proofs.Along.{crossing-or, level-label, IsLevel}
 use Rattle.nef_ray.proofs.SomeEnd.{some-end}
-use Rattle.law_exist.proofs.Points.{point-with}
-use Rattle.nef_statement.specs.Output.{answer_of, end_line, IsRayAnswer}
 use Rattle.nef_statement.proofs.Moved.{label-moved}
 
 slope-zero_back : (h : Form) (d : Vector) → slope h d ≡ pos 0 → slope h (opposite d) ≡ pos 0
@@ -140,7 +102,7 @@ module _ (s : Set) (p : Place) (d : Vector) (some : IsDirection d) where
           where
             along : (x w a c k : ℤ) → pos 0 <ℤ w → pos 0 <ℤ c → x ≡ k *ℤ a → w ≡ k *ℤ c → x *ℤ pos (nat_abs c) ≡ a *ℤ pos (nat_abs w)
             along x w a c k hw hc e f =
-                ap (λ i. x *ℤ i) (pos_size c hc) ∙ ap (λ i. i *ℤ c) e ∙ ring (k ∷ a ∷ c ∷ []) (at 0 ⊗ at 1 ⊗ at 2) (at 1 ⊗ (at 0 ⊗ at 2)) tt ∙ ap (λ i. a *ℤ i) (sym f) ∙ ap (λ i. a *ℤ i) (sym (pos_size w hw))
+                ap (λ i. x *ℤ i) (pos-abs c hc) ∙ ap (λ i. i *ℤ c) e ∙ ring (k ∷ a ∷ c ∷ []) (at 0 ⊗ at 1 ⊗ at 2) (at 1 ⊗ (at 0 ⊗ at 2)) tt ∙ ap (λ i. a *ℤ i) (sym f) ∙ ap (λ i. a *ℤ i) (sym (pos-abs w hw))
 
     pub ray-answer : (x : List ℕ) × IsRayAnswer s p d x
     ray-answer = ⊎_elim (λ inside. ends inside (some-end s p d inside some)) (λ out. (answer_of Out, IsRayAnswer.outside out refl)) (InFrame-decided p)

@@ -1,22 +1,7 @@
 -- Every words and bytes mean something, and two runs that are asked for the same do the same.
-use Rattle.std.proofs.Common.{◌≡◌, ℕ, ◌≤◌, refl, sym, ap, ◌∙◌, subst, List, [], Option, Some, None, inl, inr}
-use Rattle.nef_space.specs.Sets.{Set}
-use Rattle.nef_core.specs.declared.work.TextVersion.{TextVersion}
-use Rattle.nef_lex.specs.Lines.{lines_of}
-use Rattle.nef_words.specs.declared.words.Options.{Options}
-use Rattle.nef_words.specs.Grammar.{options_in}
+use Rattle.nef_statement.proofs.Prelude.{◌≡◌, ℕ, ◌≤◌, refl, sym, ap, ◌∙◌, subst, List, [], Option, Some, None, inl, inr, Set, TextVersion, lines_of, Options, options_in, IsAccepted, stairs_text, decided, Status, Done, Refused, Words, ReadSource, Means, refusal_line, words_line, AreSaid, OneMeaning, AsMeant, AskTheSame, SameOutput, SameStatus, Traffic}
 use Rattle.nef_words.proofs.Formed.{stairs-within}
-use Rattle.nef_script.specs.Refusal.{IsAccepted}
-use Rattle.nef_script.specs.Stairs.{stairs_text}
-use Rattle.nef_script.proofs.RefusalLaws.{decided}
 use Rattle.nef_script.proofs.StairLines.{stairs-accepted}
-use Rattle.nef_statement.specs.declared.status.Status.{Status}
-use Rattle.nef_statement.specs.declared.status.Status.TheVariants.{Done, Refused, Words}
-use Rattle.nef_statement.specs.Means.{ReadSource, Means}
-use Rattle.nef_statement.specs.Output.{refusal_line, words_line}
-use Rattle.nef_statement.specs.Said.{AreSaid}
-use Rattle.nef_statement.specs.Same.{OneMeaning, AsMeant, AskTheSame, SameOutput, SameStatus}
-use Rattle.nef_statement.specs.Traffic.{Traffic}
 use Rattle.nef_statement.proofs.Meant.{some-one, source-read, read-none, read-not_refused, meaning-one, written-so}
 
 module _ (Text : TextVersion → Set → List ℕ → Type 0) (one : (version : TextVersion) (s : Set) (x y : List ℕ) → Text version s x → Text version s y → x ≡ y)

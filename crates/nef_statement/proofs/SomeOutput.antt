@@ -1,43 +1,13 @@
 -- An accepted script has an output.
-use Rattle.std.proofs.Common.{◌≡◌, ℕ, zero, suc, ◌+◌, ◌^◌, ◌<◌, ◌≤◌, ℤ, pos, negsuc, ◌<ℤ◌, nat_abs, arith, refl, sym, ap, ◌∙◌, inl, inr, ⊎_elim, List, [], ◌∷◌, ◌++◌, length, take, drop, get_or, Bool, true, false, not, nat_eq, nat_le, ◌&&◌, ◌||◌, Option, Some, None, find, slice_get, if◌then◌else◌, subst, append-nil, append_assoc, length-append}
-use Rattle.std.specs.Prelude.{nat_lt, int_le, map, option_map, option_to_list, codes}
-use Rattle.std.specs.List.{list_any, zip}
-use Rattle.std.specs.Str.{bytes_eq}
-use Rattle.std.proofs.lemmas.Bool.{or_parts, and_parts, eqb-true, leb-true, leb-false, ltb-false}
-use Rattle.std.proofs.lemmas.Int.{ints}
-use Rattle.nef_space.specs.Limits.{normal_limit, offset_limit, query_weight_limit, ray_direction_limit, ray_point_limit, ray_weight_limit}
-use Rattle.nef_space.specs.Place.{Place, Form, form, InFrame}
-use Rattle.nef_space.specs.Sets.{Set}
-use Rattle.nef_space.specs.Signs.{Lies}
-use Rattle.nef_space.specs.Vectors.{Vector, vector, IsDirection, IsAtMost}
-use Rattle.nef_space.proofs.Lists.{lies-append}
-use Rattle.nef_space.specs.declared.label.Label.TheVariants.{Out}
-use Rattle.nef_geo.specs.Hits.{IsPlaceAtMost}
-use Rattle.nef_geo.specs.Shapes.{place_at}
-use Rattle.law_near.proofs.Decided.{Decided, label_of, InFrame-decided}
-use Rattle.law_sphere.specs.Maps.{At}
-use Rattle.nef_complex.specs.Text.{line, numbers, text}
-use Rattle.nef_core.specs.declared.work.TextVersion.{TextVersion}
-use Rattle.law_exist.proofs.Classes.{equal-decided}
+use Rattle.nef_statement.proofs.Prelude.{◌≡◌, ℕ, zero, suc, ◌+◌, ◌^◌, ◌<◌, ◌≤◌, ℤ, pos, negsuc, ◌<ℤ◌, nat_abs, arith, refl, sym, ap, ◌∙◌, inl, inr, ⊎_elim, List, [], ◌∷◌, ◌++◌, length, take, get_or, Bool, true, false, not, nat_eq, ◌||◌, Option, Some, None, find, slice_get, if◌then◌else◌, subst, append-nil, append_assoc, length-append, nat_lt, int_le, option_map, option_to_list, codes, list_any, zip, bytes_eq, or_parts, and_parts, eqb-true, leb-true, leb-false, ltb-false, ints, normal_limit, offset_limit, query_weight_limit, ray_direction_limit, ray_point_limit, ray_weight_limit, Place, Form, form, InFrame, Set, Lies, Vector, vector, IsDirection, IsAtMost, lies-append, Out, IsPlaceAtMost, place_at, Decided, label_of, InFrame-decided, At, line, numbers, text, TextVersion, IsSmallForm, AreSmall, AreTurnsOf, lines_of, words_of, line_refusal, bound_name, names_of, IsAccepted, verb_of, roles, binds, name_count_limit, line_limit, is_bad_byte, number_or_zero, is_zero, is_from, on_verb, word_test, has_zero_normal, has_zero_direction, command_tests, words_tests, Verb, ScriptKind, Bindings, set_named, made_of, bound_set, turned_set, bound_after, answer_of, framed, line_end, IsSameAnswer, IsJoinedAnswer, IsRayAnswer, IsSaid, IsSaidBy, AreSaid, IsText, CountTells, eq-decided}
+use Rattle.std.proofs.Common.{drop, nat_le, ◌&&◌}
+use Rattle.std.specs.Prelude.{map}
 use Rattle.law_exist.proofs.Connected.{joined-is_decided, components-are_counted}
 use Rattle.law_exist.proofs.Parts.{parts-exist}
-use Rattle.law_exist.specs.Laws.{IsSmallForm, AreSmall, AreTurnsOf}
 use Rattle.law_exist.proofs.Scripts.{turns-half, turns-both, turns-turned, turns-more, carried-by, scripted-shown}
-use Rattle.nef_lex.specs.Lines.{lines_of}
-use Rattle.nef_lex.specs.Words.{words_of}
-use Rattle.nef_script.specs.Refusal.{line_refusal, bound_name, names_of, IsAccepted}
-use Rattle.nef_script.specs.Table.{verb_of, roles, binds}
-use Rattle.nef_script.specs.Tests.{name_count_limit, line_limit, is_bad_byte, number_or_zero, is_zero, is_from, on_verb, word_test, has_zero_normal, has_zero_direction, command_tests, words_tests}
-use Rattle.nef_script.specs.declared.arguments.Verb.{Verb}
 use Rattle.nef_script.specs.declared.arguments.Verb.TheVariants as verb
-use Rattle.nef_script.specs.declared.script.ScriptKind.{ScriptKind}
 use Rattle.nef_script.specs.declared.script.ScriptKind.TheVariants as kind
 use Rattle.nef_script.proofs.Values.{zero-are}
-use Rattle.nef_statement.specs.Denotes.{Bindings, set_named, made_of, bound_set, turned_set, bound_after}
-use Rattle.nef_statement.specs.Output.{answer_of, framed, line_end, IsSameAnswer, IsJoinedAnswer, IsRayAnswer}
-use Rattle.nef_statement.specs.Said.{IsSaid, IsSaidBy, AreSaid}
-use Rattle.nef_statement.specs.Texts.{IsText}
-use Rattle.nef_statement.specs.Written.{CountTells}
 use Rattle.nef_statement.proofs.Alike.{same-self}
 use Rattle.nef_statement.proofs.Bound.{names_in}
 use Rattle.nef_statement.proofs.RayPoints.{ray-answer}
@@ -136,7 +106,7 @@ lists-decided : (xs ys : List ℕ) → Decided (xs ≡ ys)
 lists-decided [] [] = inl refl
 lists-decided [] (y ∷ ys) = inr (λ e. cc)
 lists-decided (x ∷ xs) [] = inr (λ e. cc)
-lists-decided (x ∷ xs) (y ∷ ys) = by (equal-decided x y) (lists-decided xs ys)
+lists-decided (x ∷ xs) (y ∷ ys) = by (eq-decided x y) (lists-decided xs ys)
   where
     by : Decided (x ≡ y) → Decided (xs ≡ ys) → Decided (x ∷ xs ≡ y ∷ ys)
     by (inl e) (inl f) = inl (ap (λ n. n ∷ xs) e ∙ ap (λ (ns : List ℕ). y ∷ ns) f)

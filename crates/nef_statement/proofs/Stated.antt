@@ -1,13 +1,5 @@
 -- The statement, and the laws beside it.
-use Rattle.std.proofs.Common.{◌≡◌, ℕ, ap, ◌∙◌, List, [], ◌++◌, take}
-use Rattle.nef_core.specs.declared.work.TextVersion.{TextVersion}
-use Rattle.nef_space.specs.Sets.{Set}
-use Rattle.nef_lex.specs.Lines.{lines_of}
-use Rattle.nef_script.specs.Refusal.{IsAccepted}
-use Rattle.nef_statement.specs.Said.{AreSaid}
-use Rattle.nef_statement.specs.Same.{OneOutput, FirstLinesSay, OneMeaning, AsMeant, SameOutput, SameStatus}
-use Rattle.nef_statement.specs.Statement.{Statement}
-use Rattle.nef_statement.specs.Texts.{IsText}
+use Rattle.nef_statement.proofs.Prelude.{◌≡◌, ℕ, ap, ◌∙◌, List, [], ◌++◌, take, TextVersion, Set, lines_of, IsAccepted, AreSaid, OneOutput, FirstLinesSay, OneMeaning, AsMeant, SameOutput, SameStatus, Statement, IsText}
 use Rattle.nef_statement.proofs.Alike.{same-self}
 use Rattle.nef_statement.proofs.Meant.{ends-so}
 use Rattle.nef_statement.proofs.One.{said-one, first-said}

@@ -1,34 +1,13 @@
 -- A set has one text, and the text tells it.
-use Rattle.std.proofs.Common.{◌≡◌, ◌↔◌, ℕ, refl, ap, sym, ◌∙◌, subst, List, [], ◌∷◌, ◌++◌, length, map, append_assoc}
-use Rattle.nef_space.specs.Local.{SameSet}
-use Rattle.nef_space.specs.Place.{Place, InFrame}
-use Rattle.nef_space.specs.Sets.{Set, Holds}
-use Rattle.law_complex.specs.Belongs.{Belongs}
-use Rattle.law_complex.specs.Complexes.{Vertex}
-use Rattle.law_complex.specs.Shows.{Shows}
-use Rattle.law_complex.proofs.FacetNames.{facet-at, facet-of}
+use Rattle.nef_statement.proofs.Prelude.{◌≡◌, ◌↔◌, ℕ, refl, ap, sym, ◌∙◌, subst, List, [], ◌∷◌, ◌++◌, length, map, append_assoc, SameSet, Place, InFrame, Set, Holds, Belongs, Vertex, Shows, facet-of, complex_of, vertex_of, edge_of, TextVersion, set-vertices, IsParts, version_word, first_line, vertices_text, edge_line, facet_text, line, numbers, volumes_text, text, Spells, codes, flat_map, Parts, Complex, Edge as ComplexEdge, One, Two, upright-by_maps, rows_of, vertices_told, with_edges, AreEdges, TextSays, count_line, IsWrittenOf, IsText, CountTells}
+use Rattle.law_complex.proofs.FacetNames.{facet-at}
 use Rattle.law_complex.proofs.Skeletons.{belongs-holds}
-use Rattle.nef_complex.specs.Complexes.{complex_of, vertex_of, edge_of}
-use Rattle.nef_core.specs.declared.work.TextVersion.{TextVersion}
-use Rattle.nef_unique.proofs.Vertices.{set-vertices}
 use Rattle.law_text.proofs.SameText.{same-parts, same-set_text, text-set, spelled-holds}
-use Rattle.nef_complex.specs.Numbers.{IsParts}
-use Rattle.nef_complex.specs.Text.{version_word, first_line, vertices_text, edge_line, facet_text, line, numbers, volumes_text, text, Spells}
-use Rattle.std.specs.Prelude.{codes}
-use Rattle.std.specs.List.{flat_map}
 use Rattle.nef_statement.proofs.Counts.{count-same, counted-by}
 use Rattle.nef_statement.proofs.Edged.{sorted-edges, belongs-edged}
-use Rattle.nef_complex.specs.declared.parts.Parts.{Parts}
-use Rattle.nef_complex.specs.declared.complex.Complex.{Complex}
 use Rattle.nef_complex.specs.declared.complex.Vertex.{Vertex as ComplexVertex}
-use Rattle.nef_complex.specs.declared.complex.Edge.{Edge as ComplexEdge}
-use Rattle.nef_core.specs.declared.work.TextVersion.TheVariants.{One, Two}
 use Rattle.law_exist.proofs.Shown.{shown-maps}
 use Rattle.nef_volumes.proofs.Components.{shown-counted}
-use Rattle.nef_volumes.proofs.SideLabels.{upright-by_maps}
-use Rattle.nef_statement.specs.Reader.{rows_of, vertices_told, with_edges, AreEdges, TextSays}
-use Rattle.nef_statement.specs.Texts.{count_line, IsWrittenOf, IsText}
-use Rattle.nef_statement.specs.Written.{CountTells}
 use Rattle.nef_statement.proofs.Alike.{same-alike, same-turned, same-trans}
 use Rattle.nef_statement.proofs.Told.{HasWeights, vertices-told, weights-told}
 

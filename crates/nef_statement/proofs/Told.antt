@@ -1,40 +1,11 @@
 -- A reader of a text is told the vertices of the complex.
-use Rattle.std.proofs.Common.{◌≡◌, ℕ, zero, suc, ◌-◌, ◌^◌, ◌<◌, ◌≤◌, nat_abs, ℤ, pos, ◌<ℤ◌, true, false, List, [], ◌∷◌, ◌++◌, map, Option, Some, None, option_to_list, option_map, slice_get, refl, sym, ap, ◌∙◌, subst, arith, append-nil, append_assoc, if◌then◌else◌}
-use Rattle.std.specs.Prelude.{codes}
-use Rattle.std.proofs.Props.{props}
-use Rattle.std.specs.Str.{bytes_eq}
-use Rattle.std.specs.List.{flat_map}
-use Rattle.std.specs.Fmt.{decimal, signed_decimal}
-use Rattle.nef_space.specs.Limits.{direction_limit, point_limit, weight_limit}
-use Rattle.nef_space.specs.Place.{Place}
-use Rattle.nef_space.specs.Vectors.{Vector, vector}
-use Rattle.nef_space.specs.declared.label.Label.{Label}
-use Rattle.nef_space.specs.declared.label.Label.TheVariants.{Out, Not, In}
-use Rattle.nef_geo.specs.Shapes.{place_of, vector_of}
-use Rattle.nef_geo.specs.declared.dir.Dir.{Dir}
-use Rattle.nef_geo.specs.declared.point.Point.{Point}
-use Rattle.law_sphere.specs.Maps.{MapVertex, Arc, MapSloop}
-use Rattle.law_complex.specs.Complexes.{Vertex as PlainVertex}
-use Rattle.nef_smap.specs.Maps.{svertex_of, arc_of, sloop_of}
-use Rattle.nef_smap.specs.declared.map.SVertex.{SVertex}
-use Rattle.nef_smap.specs.declared.map.SArc.{SArc}
-use Rattle.nef_smap.specs.declared.map.SLoop.{SLoop}
+use Rattle.nef_statement.proofs.Prelude.{◌≡◌, ℕ, zero, suc, ◌-◌, ◌^◌, ◌<◌, ◌≤◌, nat_abs, ℤ, pos, ◌<ℤ◌, true, false, List, [], ◌∷◌, ◌++◌, map, Option, Some, None, slice_get, refl, sym, ap, ◌∙◌, subst, arith, append-nil, append_assoc, if◌then◌else◌, codes, props, bytes_eq, flat_map, decimal, signed_decimal, direction_limit, point_limit, weight_limit, Place, Vector, vector, Label, Out, Not, In, place_of, vector_of, Dir, Point, MapVertex, Arc, MapSloop, Vertex as PlainVertex, svertex_of, arc_of, sloop_of, SVertex, SArc, SLoop, Edge, Complex, vertex_of, TextVersion, One, Two, Cycle, Facet, Parts, Shell, Word, line, label_word, option_word, numbers, svertex_line, arc_line, sloop_line, vertex_line, vertex_text, edge_line, corner_words, cycle_line, facet_line, facet_text, volume_line, sface_line, side_words, shell_line, faced_text, shelled_text, with_rows, counts, version_word, first_line, vertices_text, volumes_text, text, number_or_zero, rows_of, word_at, number_at, Told, with_row, told_by, vertices_told, positive}
+use Rattle.std.proofs.Common.{option_to_list, option_map}
 use Rattle.nef_complex.specs.declared.complex.Vertex.{Vertex}
-use Rattle.nef_complex.specs.declared.complex.Edge.{Edge}
 use Rattle.nef_complex.specs.declared.complex.Corner.{Corner}
-use Rattle.nef_complex.specs.declared.complex.Complex.{Complex}
-use Rattle.nef_complex.specs.Complexes.{vertex_of}
-use Rattle.nef_core.specs.declared.work.TextVersion.{TextVersion}
-use Rattle.nef_core.specs.declared.work.TextVersion.TheVariants.{One, Two}
-use Rattle.nef_complex.specs.declared.parts.Cycle.{Cycle}
-use Rattle.nef_complex.specs.declared.parts.Facet.{Facet}
-use Rattle.nef_complex.specs.declared.parts.Parts.{Parts}
-use Rattle.nef_complex.specs.declared.parts.Shell.{Shell}
 use Rattle.nef_complex.specs.declared.parts.Side.{Side}
-use Rattle.nef_complex.specs.Text.{Word, line, label_word, option_word, numbers, signed, svertex_line, arc_line, sloop_line, vertex_line, vertex_text, edge_line, corner_words, cycle_line, facet_line, facet_text, volume_line, sface_line, side_words, shell_line, faced_text, shelled_text, with_rows, counts, version_word, first_line, vertices_text, volumes_text, text}
+use Rattle.nef_complex.specs.Text.{signed}
 use Rattle.law_text.proofs.Vertices.{with-rows_firsts}
-use Rattle.nef_script.specs.Tests.{number_or_zero}
-use Rattle.nef_statement.specs.Reader.{rows_of, word_at, number_at, Told, with_row, told_by, vertices_told, positive}
 use Rattle.nef_statement.proofs.Lines.{Row, Each, Each-append, IsGood, AreGood, rows-read, signed-read, decimal-read, decimal-good, signed-good}
 
 -- ---- words

@@ -1,19 +1,5 @@
 -- The lines of a script, one after the other, with the names that they bind.
-use Rattle.std.proofs.Common.{◌≡◌, ℕ, ◌+◌, Bool, true, false, cond, List, [], ◌∷◌, ◌++◌, length, take, Some, slice_get, if◌then◌else◌, refl, sym, ap, ◌∙◌, subst, arith, append-nil, append_assoc, length-append, nat_eq, not}
-use Rattle.std.specs.List.{filter}
-use Rattle.std.proofs.Math.Seq.{take-append_seam}
-use Rattle.std.proofs.lemmas.Bool.{ne_eqb}
-use Rattle.std.proofs.lemmas.List.Elements.{filter-append}
-use Rattle.std.proofs.lemmas.Option.{slice_get_within}
-use Rattle.nef_lex.specs.Words.{words_of}
-use Rattle.nef_expr.specs.Nodes.{IsOrdered}
-use Rattle.nef_expr.proofs.Places.{slice_get-seam}
-use Rattle.nef_script.specs.Refusal.{names_of, bound_name}
-use Rattle.nef_script.specs.Meaning.{Names, Sets, MeansWords, MeansLines, has_words, bases_of}
-use Rattle.nef_script.proofs.LineByLine.{names_of-push}
-use Rattle.nef_script.specs.declared.script.Command.{Command}
-use Rattle.nef_statement.specs.Denotes.{Bindings, bound_after, denoted}
-use Rattle.nef_statement.specs.Meanings.{NodesDenote}
+use Rattle.nef_statement.proofs.Prelude.{◌≡◌, ℕ, ◌+◌, Bool, true, false, cond, List, [], ◌∷◌, ◌++◌, length, take, Some, slice_get, if◌then◌else◌, refl, sym, ap, ◌∙◌, subst, arith, append-nil, append_assoc, length-append, nat_eq, not, filter, take-append_seam, ne_eqb, filter-append, slice_get_within, words_of, IsOrdered, slice_get-seam, names_of, bound_name, Names, Sets, MeansWords, MeansLines, has_words, bases_of, names_of-push, Command, Bindings, bound_after, denoted, NodesDenote}
 use Rattle.nef_statement.proofs.Bound.{names_in, Agree, named, words-follow}
 
 pub no-words : (words : List (List ℕ)) → not (nat_eq (length words) 0) ≡ false → words ≡ []

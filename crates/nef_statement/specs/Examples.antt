@@ -1,17 +1,13 @@
 -- The definitions at worked examples.
-use Rattle.std.specs.Prelude.{◌≡◌, pos, negsuc, true, List, [], ◌∷◌, Option, Some, None, codes}
-use Rattle.nef_space.specs.Place.{form}
-use Rattle.nef_space.specs.Sets.{Set}
-use Rattle.nef_space.specs.Vectors.{vector}
-use Rattle.nef_space.specs.declared.label.Label.{Label}
+use Rattle.std.specs.Prelude.{◌≡◌, ◌∷◌, pos, negsuc, true, List, [], Option, Some, None, codes}
+use Rattle.nef_geo.specs.Prelude.{form, Set, vector, Label}
 use Rattle.nef_space.specs.declared.label.Label.TheVariants.{Not, In}
 use Rattle.law_sphere.specs.Maps.{MapVertex, Arc, MapSloop, Map}
-use Rattle.nef_lex.specs.Lines.{lines_of}
-use Rattle.nef_script.specs.Laws.{script_of}
+use Rattle.nef_script.specs.Prelude.{lines_of, script_of}
 use Rattle.nef_statement.specs.Denotes.{denoted}
 use Rattle.nef_statement.specs.Reader.{positive, vertices_told}
 
--- a half-space, its complement, and that turned by the turn 8, which exchanges y and z
+-- a half-space, its complement, and the complement turned by turn 8, which exchanges y and z
 abbrev pub DenotedExample : Type 0
 DenotedExample =
     denoted [] (lines_of (script_of (codes "half A 1 2 3 -4 closed" ∷ codes "" ∷ codes "  not B A # outside" ∷ codes "has B 0 0 0 1" ∷ codes "turn C B 8" ∷ [])))
@@ -20,11 +16,11 @@ DenotedExample =
     ∷ (codes "C", Set.other (Set.half (form (pos 1) (pos 3) (pos 2) (negsuc 3)) true))
     ∷ []
 
--- a map, by all that it has
+-- a map with this mark and these lists, sloop and ground
 abbrev pub map_with : Label → List MapVertex → List Arc → Option MapSloop → Option Label → Map
 map_with mark svertices arcs sloop around = let ground : Option Label = around in record { mark = mark; svertices = svertices; arcs = arcs; sloop = sloop; ground = ground }
 
--- a vertex with an svertex and an arc, and one with a sloop, among rows that tell no vertex
+-- a vertex with a svertex and an arc, and a vertex with a sloop, among rows that tell no vertex
 abbrev pub ToldExample : Type 0
 ToldExample =
     vertices_told (script_of (codes "nef3 1 2 0 0 2" ∷ codes "v -1 2 3 4 i -" ∷ codes "s 1 0 0 n i" ∷ codes "a 0 0 0 0 -1 i n i" ∷ codes "v 0 0 0 1 n i" ∷ codes "l 1 2 3 i n n" ∷ codes "w o" ∷ []))

@@ -1,13 +1,12 @@
--- What a run is asked for by its words and by the bytes that its source has: how it ends and what it writes, where no stream fails and memory is there.
-use Rattle.std.specs.Prelude.{◌≡◌, ℕ, ◌+◌, List, [], Option, Some, None, option_map, length, ◌⊎◌}
+-- What a run is asked for by its words and its source's bytes: how it ends and what it writes, where nothing fails.
+use Rattle.std.specs.Prelude.{◌≡◌, ◌+◌, ◌⊎◌}
+use Rattle.nef_geo.specs.Prelude.{ℕ, List, [], Option, Some, None, option_map, length, Set}
 use Rattle.std.specs.Io.KnownBytes.{Consumes, IsAtEnd}
-use Rattle.nef_space.specs.Sets.{Set}
 use Rattle.nef_core.specs.declared.work.TextVersion.{TextVersion}
-use Rattle.nef_lex.specs.Lines.{lines_of}
+use Rattle.nef_script.specs.Prelude.{lines_of, stairs_text}
 use Rattle.nef_words.specs.Grammar.{options_in}
 use Rattle.nef_words.specs.declared.words.Options.{Options}
 use Rattle.nef_script.specs.Refusal.{script_limit, FirstRefusal, IsAccepted}
-use Rattle.nef_script.specs.Stairs.{stairs_text}
 use Rattle.nef_script.specs.declared.script.ScriptKind.{ScriptKind}
 use Rattle.nef_statement.specs.declared.status.Status.{Status}
 use Rattle.nef_statement.specs.declared.status.Status.TheVariants.{Done, Refused, Words}
@@ -18,11 +17,12 @@ use Rattle.nef_statement.specs.Said.{AreSaid}
 abbrev pub ReadSource : List (List ℕ) → Type 0
 ReadSource words = option_map (λ options. options.stairs) (options_in words) ≡ Some None
 
--- the bytes that were read: all that the source still had, or one more than a script may have
+-- the bytes that were read: all that the source still had, or one byte more than a script may have
 abbrev pub IsRead : Option (List ℕ) → Option (List ℕ) → List ℕ → Type 0
 IsRead old new bytes = Consumes old new bytes × (IsAtEnd new ⊎ (length bytes ≡ script_limit + 1))
 
--- words that are refused; a script of the source that is refused; one that is accepted; and the generated script, which is never refused
+-- the status and the output that words and bytes mean: for refused words, a refused script, an accepted script, and the
+-- generated script, which is never refused
 pub data Means (Text : TextVersion → Set → List ℕ → Type 0) (words : List (List ℕ)) (bytes : List ℕ) : Status → List ℕ → Type 0 where
   refused_words : options_in words ≡ None → Means Text words bytes Words words_line
   refused : (line : ℕ) (kind : ScriptKind) → ReadSource words → FirstRefusal bytes line kind → Means Text words bytes (Refused line kind) (refusal_line line kind)

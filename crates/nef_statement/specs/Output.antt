@@ -1,19 +1,12 @@
 -- The lines that a run writes.
-use Rattle.std.specs.Prelude.{◌≡◌, ℕ, ℤ, List, [], ◌∷◌, ◌++◌, ◌⊎◌, codes, decimal, if◌then◌else◌}
-use Rattle.std.specs.Fmt.{signed_decimal}
-use Rattle.nef_space.specs.Local.{Joined as AreJoined, SameSet}
-use Rattle.nef_space.specs.Place.{Place, InFrame}
-use Rattle.nef_space.specs.Vectors.{Vector}
-use Rattle.nef_space.specs.Sets.{Set}
-use Rattle.nef_space.specs.declared.label.Label.{Label}
-use Rattle.nef_space.specs.declared.label.Label.TheVariants.{Out, Not, In}
-use Rattle.nef_geo.specs.Shapes.{place_of}
+use Rattle.std.specs.Prelude.{◌≡◌, ◌∷◌, ◌++◌, ◌⊎◌, if◌then◌else◌, ℕ, ℤ, List, [], codes, decimal}
+use Rattle.nef_complex.specs.Prelude.{signed_decimal, Joined as AreJoined, SameSet, Place, InFrame, Vector, Set, Label, Out, Not, In, place_of}
 use Rattle.nef_ray.specs.Ends.{IsRayEnd}
 use Rattle.nef_ray.specs.declared.ray.RayEnd.{RayEnd}
 use Rattle.nef_script.specs.declared.script.ScriptKind.{ScriptKind}
 use Rattle.nef_script.specs.Texts.{kind_text}
 
--- each line ends with LF
+-- the end of each line: a line feed
 abbrev pub line_end : List ℕ
 line_end = 10 ∷ []
 
@@ -28,19 +21,19 @@ refusal_line line kind = codes "line " ++ decimal line ++ codes ": " ++ kind_tex
 abbrev pub words_line : List ℕ
 words_line = codes "words refused" ++ line_end
 
--- a number, and a blank
+-- a number with a blank after it
 abbrev pub spaced : ℤ → List ℕ
 spaced n = signed_decimal n ++ 32 ∷ []
 
--- where a ray ends: whether the label changes at the point itself or just after it, the point in lowest terms, whose w is positive, and the new label
+-- the line of a ray's end: whether the label changes at the point or just after it, the point, and the new label
 abbrev pub end_line : RayEnd → List ℕ
 end_line e = (if e.after then codes "after " else codes "at ") ++ spaced e.point.x ++ spaced e.point.y ++ spaced e.point.z ++ spaced e.point.w ++ answer_of e.label
 
--- a text between the lines that name it and end it
+-- a text between the line that names it and the line that ends it
 abbrev pub framed : List ℕ → List ℕ → List ℕ
 framed name x = codes "polyhedron " ++ name ++ line_end ++ x ++ codes "end" ++ line_end
 
--- the answer to whether s and t are one
+-- the answer to whether s and t are one set
 abbrev pub IsSameAnswer : Set → Set → List ℕ → Type 0
 IsSameAnswer s t piece = (SameSet s t × (piece ≡ codes "same" ++ line_end)) ⊎ ((SameSet s t → ⊥) × (piece ≡ codes "differs" ++ line_end))
 

@@ -1,27 +1,21 @@
--- What a reader makes of a text: its rows of words, the vertices that they tell, and the points that belong to them.
-use Rattle.std.specs.Prelude.{◌≡◌, ℕ, suc, ◌+◌, ◌-◌, ◌<◌, ℤ, pos, ◌<ℤ◌, nat_abs, List, [], ◌∷◌, ◌++◌, Option, Some, None, codes, get_or, slice_get, map, if◌then◌else◌, ◌↔◌}
-use Rattle.std.specs.Str.{bytes_eq}
+-- What a reader makes of a text: its rows of words, the vertices that they tell, and the points that belong to these.
+use Rattle.std.specs.Prelude.{◌≡◌, ◌+◌, ◌-◌, ◌<◌, ◌<ℤ◌, ◌∷◌, ◌++◌, if◌then◌else◌, ◌↔◌, ℕ, suc, ℤ, pos, nat_abs, List, [], Option, Some, None, codes, get_or, slice_get, map}
+use Rattle.nef_script.specs.Prelude.{bytes_eq, lines_of, words_of, number_or_zero}
 use Rattle.std.proofs.Common.{arith}
-use Rattle.nef_space.specs.Place.{Place, InFrame}
-use Rattle.nef_space.specs.Sets.{Set, Holds}
-use Rattle.nef_space.specs.Vectors.{Vector, vector}
-use Rattle.nef_space.specs.declared.label.Label.{Label}
-use Rattle.nef_space.specs.declared.label.Label.TheVariants.{Out, Not, In}
+use Rattle.nef_space.specs.Prelude.{Place, InFrame, Set, Holds, Vector, vector}
+use Rattle.nef_complex.specs.Prelude.{Label, Out, Not, In}
 use Rattle.law_sphere.specs.Maps.{At, MapVertex, Arc, MapSloop}
 use Rattle.law_complex.specs.Belongs.{Belongs}
 use Rattle.law_complex.specs.Complexes.{Vertex, Edge, Complex, IsEdge}
-use Rattle.nef_lex.specs.Lines.{lines_of}
-use Rattle.nef_lex.specs.Words.{words_of}
 use Rattle.nef_core.specs.declared.work.TextVersion.{TextVersion}
 use Rattle.nef_complex.specs.Text.{version_word}
-use Rattle.nef_script.specs.Tests.{number_or_zero}
 use Rattle.nef_statement.specs.Written.{CountTells}
 
--- the words of each line, as of a script
+-- the words of each line, as in a script
 abbrev pub rows_of : List ℕ → List (List (List ℕ))
 rows_of x = map words_of (lines_of x)
 
--- the word with this number in a row, counted from 0: as it stands, as a number, as a count, as a label, and as one that may be missing
+-- word n of a row, counted from 0: as it stands, as a number, a count, a label, or a label that may be missing
 abbrev pub word_at : List (List ℕ) → ℕ → List ℕ
 word_at row n = get_or row n []
 
@@ -37,7 +31,7 @@ label_at row n = if bytes_eq (word_at row n) (codes "i") then In else (if bytes_
 abbrev pub option_at : List (List ℕ) → ℕ → Option Label
 option_at row n = if bytes_eq (word_at row n) (codes "-") then None else Some (label_at row n)
 
--- three and four words as a direction and as a point (x/w, y/w, z/w), whose w is positive in each text (`weights` below)
+-- three words as a direction; four words as a point (x/w, y/w, z/w), whose w is positive in each text (`weights` below)
 abbrev pub vector_at : List (List ℕ) → ℕ → Vector
 vector_at row n = vector (number_at row n) (number_at row (n + 1)) (number_at row (n + 2))
 
@@ -47,18 +41,18 @@ positive n = omega arith
 abbrev pub place_in : List (List ℕ) → ℕ → Place
 place_in row n = record { x = number_at row n; y = number_at row (n + 1); z = number_at row (n + 2); w = suc (count_at row (n + 3) - 1); proper = positive (count_at row (n + 3) - 1) }
 
--- what rows tell: vertices, and before them the svertices, arcs and sloop of the vertex whose row stands above
+-- what rows tell: vertices, and the svertices, arcs and sloop of a vertex whose row comes before them
 pub record Told : Type 0 where
   pub svertices : List MapVertex
   pub arcs : List Arc
   pub sloop : Option MapSloop
   pub vertices : List Vertex
 
--- the vertex of a row, with what is told of it
+-- the vertex of a row, with what the rows after it tell of its map
 abbrev pub vertex_told : List (List ℕ) → Told → Vertex
 vertex_told row t = let ground : Option Label = option_at row 6 in record { point = place_in row 1; map = record { mark = label_at row 5; svertices = t.svertices; arcs = t.arcs; sloop = t.sloop; ground = ground } }
 
--- one row more at the front, by its first word: a vertex, an svertex, an arc or a sloop. A row that begins otherwise tells nothing
+-- what rows tell with one more row in front: by its first word a vertex, a svertex, an arc or a sloop, or nothing
 abbrev pub with_row : List (List ℕ) → Told → Told
 with_row row t = if bytes_eq (word_at row 0) (codes "v") then record { svertices = []; arcs = []; sloop = None; vertices = vertex_told row t ∷ t.vertices }
     else (if bytes_eq (word_at row 0) (codes "s") then record t { svertices = record { dir = vector_at row 1; mark = label_at row 4; around = option_at row 5 } ∷ t.svertices }
@@ -75,11 +69,12 @@ vertices_told x = (told_by (rows_of x)).vertices
 abbrev pub with_edges : List Vertex → List Edge → Complex
 with_edges vertices edges = record { carriers = []; vertices = vertices; edges = edges }
 
--- these are the edges of the vertices
+-- es has exactly the edges of the vertices
 abbrev pub AreEdges : List Vertex → List Edge → Type 0
 AreEdges vertices es = (e : Edge) → IsEdge vertices e ↔ ((k : ℕ) × At es k e)
 
--- the text begins with its format, its version and the counted numbers of the set; its vertices have positive w, and with their edges a point of the frame belongs to them exactly where the set holds
+-- the text begins with its format, its version and the counted numbers of the set; its vertices have positive w, and a
+-- point of the frame belongs to them with their edges exactly where the set holds
 pub record TextSays (version : TextVersion) (s : Set) (x : List ℕ) : Type 0 where
   pub first : (counted : List ℕ) × (rest : List ℕ) × CountTells s counted × (x ≡ codes "nef3 " ++ version_word version ++ codes " " ++ counted ++ rest)
   pub weights : (n : ℕ) (row : List (List ℕ)) → slice_get (rows_of x) n ≡ Some row → word_at row 0 ≡ codes "v" → pos 0 <ℤ number_at row 4

@@ -1,30 +1,24 @@
--- What the lines of a script say. Text s x is to say that x is the text of the set s.
-use Rattle.std.specs.Prelude.{◌≡◌, ℕ, pos, ◌<ℤ◌, List, [], ◌∷◌, ◌++◌, Option, Some}
-use Rattle.nef_space.specs.Local.{HasLabel}
-use Rattle.nef_space.specs.Place.{Place}
-use Rattle.nef_space.specs.Sets.{Set}
-use Rattle.nef_space.specs.Vectors.{vector}
-use Rattle.nef_space.specs.declared.label.Label.{Label}
+-- What the lines of a script say. Text s x stands for: x is the text of the set s.
+use Rattle.std.specs.Prelude.{◌≡◌, ◌<ℤ◌, ◌∷◌, ◌++◌}
+use Rattle.nef_geo.specs.Prelude.{ℕ, pos, List, [], Option, Some, HasLabel, Place, Set, vector, Label}
 use Rattle.nef_geo.specs.Shapes.{place_at}
-use Rattle.nef_lex.specs.Words.{words_of}
-use Rattle.nef_script.specs.Table.{verb_of}
-use Rattle.nef_script.specs.Tests.{number_or_zero}
+use Rattle.nef_script.specs.Prelude.{words_of, verb_of, number_or_zero}
 use Rattle.nef_script.specs.declared.arguments.Verb.{Verb}
 use Rattle.nef_script.specs.declared.arguments.Verb.TheVariants as verb
 use Rattle.nef_statement.specs.Output.{answer_of, framed, IsSameAnswer, IsJoinedAnswer, IsRayAnswer}
 use Rattle.nef_statement.specs.Written.{CountTells}
 use Rattle.nef_statement.specs.Denotes.{Bindings, set_named, bound_set, bound_after}
 
--- P is so of the point (x/w, y/w, z/w), whose w is positive
+-- P holds of the point (x/w, y/w, z/w), whose w is positive
 abbrev pub AtPoint : List ℕ → List ℕ → List ℕ → List ℕ → (Place → Type 0) → Type 0
 AtPoint x y z w P = (proper : pos 0 <ℤ number_or_zero w) × P (place_at (number_or_zero x) (number_or_zero y) (number_or_zero z) (number_or_zero w) proper)
 
--- P is so of the set of the name, which is bound
+-- P holds of the set of the name, which is bound
 abbrev pub OfName : Bindings → List ℕ → (Set → Type 0) → Type 0
 OfName sets name P = (s : Set) × (set_named sets name ≡ Some s) × P s
 
--- what a command says, by the words after it: the answer to what it asks, and nothing where it binds a name to a set. Of a wrong number of words, an operand that isn't
--- bound and a w that isn't positive nothing can be said, not even this: no script of which all is said has such a line
+-- what a command says, by the words after it: the answer to its question, and nothing where it binds a name to a set.
+-- With a wrong number of words, an unbound operand or a w that isn't positive nothing holds: no such line is said
 abbrev pub IsSaid : (Set → List ℕ → Type 0) → Bindings → Option Verb → List (List ℕ) → List ℕ → Type 0
 IsSaid Text sets (Some verb.Has) (name ∷ x ∷ y ∷ z ∷ w ∷ []) said = OfName sets name (λ s. AtPoint x y z w (λ p. (l : Label) × HasLabel s p l × (said ≡ answer_of l)))
 IsSaid Text sets (Some verb.Joined) (name ∷ x ∷ y ∷ z ∷ w ∷ x2 ∷ y2 ∷ z2 ∷ w2 ∷ []) said = OfName sets name (λ s. AtPoint x y z w (λ p. AtPoint x2 y2 z2 w2 (λ q. IsJoinedAnswer s p q said)))

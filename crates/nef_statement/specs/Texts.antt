@@ -1,21 +1,18 @@
--- The text of a set, and what is counted of it, by the complexes that show it.
-use Rattle.std.specs.Prelude.{◌≡◌, ℕ, List}
-use Rattle.nef_space.specs.Local.{SameSet}
-use Rattle.nef_space.specs.Sets.{Set}
+-- The text of a set, and the numbers that are counted of it, by the complexes that show the set.
+use Rattle.std.specs.Prelude.{◌≡◌}
+use Rattle.nef_complex.specs.Prelude.{ℕ, List, SameSet, Set, complex_of, IsParts}
 use Rattle.law_complex.specs.Shows.{Shows}
 use Rattle.nef_complex.specs.declared.complex.Complex.{Complex}
-use Rattle.nef_complex.specs.Complexes.{complex_of}
 use Rattle.nef_core.specs.declared.work.TextVersion.{TextVersion}
 use Rattle.nef_complex.specs.declared.parts.Parts.{Parts}
-use Rattle.nef_complex.specs.Numbers.{IsParts}
 use Rattle.nef_complex.specs.Text.{line, numbers, counts, text}
 
--- the numbers of vertices, edges, facets and volumes
+-- the line with the numbers of vertices, edges, facets and volumes
 abbrev pub count_line : Complex → Parts → List ℕ
 count_line c p = line (numbers (counts c p))
 
--- what is written of a complex that shows s, with its parts. The set determines the complex but for its carriers, which nothing writes, so any complex will do:
--- there is one such piece
+-- what is written of a complex that shows s, with its parts: any such complex will do, since the set determines it but
+-- for its carriers, which nothing writes
 abbrev pub IsWrittenOf : Set → (Complex → Parts → List ℕ) → List ℕ → Type 0
 IsWrittenOf s written piece = (c : Complex) × (p : Parts) × Shows s (complex_of c) × IsParts (complex_of c) p × (piece ≡ written c p)
 

@@ -1,4 +1,4 @@
-//! How a run ends, and what all runs say.
+//! How a run ends, and the laws of all runs.
 
 ghost use Rattle.nef_statement.specs.Examples.{DenotedExample, ToldExample};
 ghost use Rattle.nef_statement.specs.Meanings.{EachMeans, NodesDenote};
@@ -10,8 +10,8 @@ use nef_io::{Failed, ReadAll};
 use nef_script::{ScriptFault, ScriptKind};
 use std::alloc::AllocError;
 
-/// How a run ended, and what it wrote by then.
-#[derive(Debug, Clone, Copy, PartialEq, Eq)]
+/// How a run ended, and what it wrote.
+#[derive(Debug, Clone, Copy)]
 pub enum Status {
     /// The whole output of the script.
     Done,
@@ -82,11 +82,11 @@ impl From<AllocError> for Status {
 }
 
 /// Two texts are equal exactly where their sets are one, and a text tells its set. An accepted script has one output;
-/// lines say one output at most, whatever they are, and the first of them a front of it. Words and bytes mean one status and
-/// one output; a run whose source tells its bytes writes of that output, and it ends so where no count of faults rises and
-/// memory isn't wanted. So runs that are asked for the same write fronts of one output, however they end, and those that
-/// come to an end of their own write all of it and end alike. Each accepted script has a meaning, in nodes and commands;
-/// the nodes of each meaning of lines have the sets that the lines give the names.
+/// lines say one output at most, and the first of them a front of it. Words and bytes mean one status and one output; a
+/// run whose source tells its bytes writes a front of this output, and ends with this status where no count of faults
+/// rises and memory isn't wanted. So runs that are asked for the same write fronts of one output, however they end, and
+/// runs that end by themselves write all of it and end alike. Each accepted script has a meaning, in nodes and
+/// commands; the nodes of each meaning of lines have the sets that the lines give the names.
 pub fn statement_laws()
     ensures states { Statement IsText }
     ensures one_output { OneOutput IsText }

@@ -1,9 +1,8 @@
 -- Words that are accepted and refused, by the grammar and by clap.
-use Rattle.std.proofs.Common.{◌≡◌, ℕ, true, false, List, [], ◌∷◌, Option, Some, None, refl, codes}
+use Rattle.nef_words.proofs.Prelude.{◌≡◌, ℕ, true, false, List, [], ◌∷◌, Option, Some, None, refl, codes, Options}
 use Rattle.clap.proofs.OnLiterals.{clap_on_literals}
 use Rattle.nef_words.specs.Chosen.{options_of}
 use Rattle.nef_words.specs.Grammar.{read, options_in}
-use Rattle.nef_words.specs.declared.words.Options.{Options}
 use Rattle.nef_core.specs.declared.work.BoardKind.TheVariants.{Lock, Free}
 use Rattle.nef_core.specs.declared.work.TextVersion.TheVariants.{One, Two}
 

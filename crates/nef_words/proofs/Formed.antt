@@ -1,15 +1,9 @@
 -- A value of `--stairs` that words choose is within its limit.
-use Rattle.std.proofs.Common.{◌≡◌, ℕ, ◌≤◌, refl, sym, ap, ◌∙◌, List, [], Option, Some, None, Bool, true, false, ◌&&◌, nat_le, if◌then◌else◌}
-use Rattle.std.specs.Prelude.{option_map, option_and_then, codes}
+use Rattle.nef_words.proofs.Prelude.{◌≡◌, ℕ, ◌≤◌, refl, sym, ap, ◌∙◌, List, [], Option, Some, None, Bool, true, false, ◌&&◌, nat_le, option_map, option_and_then, most_stairs, BoardKind, TextVersion, is_digits, decimal_value, number_to, stairs_of, value_of, read, all_formed, choice, Given, Options}
+use Rattle.std.proofs.Common.{if◌then◌else◌}
+use Rattle.std.specs.Prelude.{codes}
 use Rattle.std.proofs.lemmas.Bool.{and_parts, leb-true}
-use Rattle.nef_space.specs.Limits.{most_stairs}
-use Rattle.nef_core.specs.declared.work.BoardKind.{BoardKind}
-use Rattle.nef_core.specs.declared.work.TextVersion.{TextVersion}
-use Rattle.nef_lex.specs.Numbers.{is_digits, decimal_value}
-use Rattle.nef_words.specs.Chosen.{number_to, stairs_of}
-use Rattle.nef_words.specs.Grammar.{value_of, read, all_formed, choice, options_in}
-use Rattle.nef_words.specs.Values.{Given}
-use Rattle.nef_words.specs.declared.words.Options.{Options}
+use Rattle.nef_words.specs.Grammar.{options_in}
 
 formed-stairs : (a : Option ℕ) (b : Option BoardKind) (s : Option (Option ℕ)) (t : Option TextVersion) (h : Bool) (o : Options) → all_formed a b s t h ≡ Some o → s ≡ Some o.stairs
 formed-stairs (Some a) (Some b) (Some s) (Some t) h o e =

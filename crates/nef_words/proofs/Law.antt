@@ -1,20 +1,7 @@
 -- Clap's definitions and the grammar choose the same options.
-use Rattle.std.proofs.Common.{◌≡◌, ◌∙◌, ◌==◌, ◌+◌, suc, ℕ, Bool, take, drop, not, true, false, List, [], ◌∷◌, ◌++◌, Option, Some, None, refl, sym, ap, subst, codes, inl, inr, arith}
-use Rattle.std.specs.Prelude.{fold, find, bytes_eq, option_and_then, unwrap_or, if◌then◌else◌}
-use Rattle.std.specs.List.{list_any, before_first, after_first, prefix_len}
-use Rattle.std.proofs.lemmas.Slice.Eq.{bytes_eq-Decides}
+use Rattle.nef_words.proofs.Prelude.{◌≡◌, ◌∙◌, ◌==◌, ◌+◌, suc, ℕ, Bool, take, drop, not, true, false, List, [], ◌∷◌, ◌++◌, Option, Some, None, refl, sym, ap, subst, codes, inl, inr, arith, fold, find, bytes_eq, option_and_then, unwrap_or, if◌then◌else◌, list_any, before_first, after_first, prefix_len, bytes_eq-Decides, long_of, Row, Text, idle, option, has_row, first_of, used, with_default, more_values, reading_by, check_fault, use_fault, DefaultValue, BoardKind, TextVersion, most_stairs, Options, options_of, options_from, number_to, board_named, version_named, Given, options_of_values, value_of, once, option_in, all_formed, choice}
 use Rattle.std.proofs.lemmas.Bool.Decides.{Decides-eqb, nat_tests}
-use Rattle.clap.specs.Lexer.{long_of}
-use Rattle.clap.specs.Walk.{Row, Text, idle, option, has_row, first_of, used, with_default, more_values, reading_by}
-use Rattle.clap.specs.Faults.{check_fault, use_fault}
-use Rattle.clap.specs.declared.parser.matches.ValueSource.TheVariants.{DefaultValue}
-use Rattle.nef_core.specs.declared.work.BoardKind.{BoardKind}
-use Rattle.nef_core.specs.declared.work.TextVersion.{TextVersion}
-use Rattle.nef_space.specs.Limits.{most_stairs}
-use Rattle.nef_words.specs.declared.words.Options.{Options}
-use Rattle.nef_words.specs.Chosen.{options_of, options_from, number_to, board_named, version_named}
-use Rattle.nef_words.specs.Values.{Given, options_of_values}
-use Rattle.nef_words.specs.Grammar.{value_of, once, option_in, read, all_formed, choice, options_in}
+use Rattle.nef_words.specs.Grammar.{read, options_in}
 use Rattle.nef_words.proofs.Walked.{at, clear, answer, rules, top, valued_rule, ahead_rule, at_end, after_end, end_word, chosen, last_fault, options_answer}
 use Rattle.nef_words.proofs.Turns.{Opt, workers, board, stairs, text, name, Arm, unknown, valued, ahead, help, arm, by_id, long_unknown, long_value, long_waits, long_ahead, long_ahead_value, long_help, other_refused}
 use Rattle.nef_words.proofs.Waits.{is_dashed, no_value, waiting_word, settle}

@@ -1,3 +1,4 @@
+pub mod Prelude
 pub mod Parsed
 pub mod Examples
 pub mod Walked

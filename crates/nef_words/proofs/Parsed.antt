@@ -1,18 +1,13 @@
 -- What clap says of the one command, and what the words then choose.
-use Rattle.std.proofs.Common.{◌≡◌, ℕ, Bool, List, [], ◌∷◌, Option, Result, Ok, Err, IfOk, IfErr, None, refl, true, subst, sym, ap, ◌∙◌, inl, inr, codes}
-use Rattle.clap.specs.Words.{App, Text, Kinds, IsAmong, is_simple, is_simple_and_free, fault_of, found_of, matches_of, rows_of, first_of, first_value, kind_of, HasKind, FailsBy, HasMatchesOf}
+use Rattle.nef_words.proofs.Prelude.{◌≡◌, ℕ, Bool, List, [], ◌∷◌, Option, Result, Ok, Err, IfOk, IfErr, None, refl, true, subst, sym, ap, ◌∙◌, inl, inr, codes, App, IsAmong, is_simple, is_simple_and_free, fault_of, found_of, matches_of, rows_of, first_value, kind_of, HasKind, FailsBy, HasMatchesOf, BoardKind, TextVersion, Options, usage, given, stairs_of, options_from, workers_of, board_of, text_of, is_given, options_of_values}
+use Rattle.clap.specs.Words.{Text, Kinds, first_of}
 use Rattle.clap.specs.declared.ArgMatches.{ArgMatches}
 use Rattle.clap.specs.declared.Error.{Error}
 use Rattle.clap.specs.declared.error.ErrorKind.{ErrorKind}
 use Rattle.clap.specs.declared.error.ErrorKind.TheVariants.{OutOfMemory}
 use Rattle.clap.proofs.OnLiterals.{clap_on_literals}
 use Rattle.clap.proofs.WalkLemmas.{first_value-rows}
-use Rattle.nef_core.specs.declared.work.BoardKind.{BoardKind}
-use Rattle.nef_core.specs.declared.work.TextVersion.{TextVersion}
-use Rattle.nef_words.specs.declared.words.Options.{Options}
-use Rattle.nef_words.specs.Usage.{usage, given}
-use Rattle.nef_words.specs.Chosen.{stairs_of, options_from, options_of}
-use Rattle.nef_words.specs.Values.{workers_of, board_of, text_of, is_given, options_of_values}
+use Rattle.nef_words.specs.Chosen.{options_of}
 
 pub usage_simple : is_simple usage ≡ true
 unfolding clap_on_literals

@@ -1,12 +1,6 @@
 -- The rows of clap's matches, as the list of what was given.
-use Rattle.std.proofs.Common.{◌≡◌, ◌∙◌, ◌||◌, Bool, true, false, List, [], ◌∷◌, ◌++◌, Option, Some, None, refl, sym, ap, codes}
-use Rattle.std.specs.Prelude.{fold, find, bytes_eq, slice_get, option_and_then, option_map, if◌then◌else◌}
-use Rattle.std.specs.List.{list_any}
-use Rattle.clap.specs.Walk.{Row, Rule, Text, at_row, more_values, without, has_row, first_of, used, reading_by, with_default}
-use Rattle.clap.specs.Faults.{default_fault, defaults_fault}
-use Rattle.clap.specs.declared.parser.matches.ValueSource.TheVariants.{CommandLine}
-use Rattle.nef_words.specs.Grammar.{value_of}
-use Rattle.nef_words.specs.Values.{Given}
+use Rattle.nef_words.proofs.Prelude.{◌≡◌, ◌∙◌, ◌||◌, Bool, true, false, List, [], ◌∷◌, ◌++◌, Option, Some, None, refl, sym, ap, codes, fold, find, bytes_eq, slice_get, option_and_then, option_map, if◌then◌else◌, list_any, Row, Rule, Text, at_row, more_values, without, has_row, first_of, used, reading_by, with_default, default_fault, CommandLine, value_of, Given}
+use Rattle.clap.specs.Faults.{defaults_fault}
 use Rattle.nef_words.proofs.Walked.{rules, valued_rule, ahead_rule, last_rule}
 
 module _ {X : Type 0} (p : X → Bool) where

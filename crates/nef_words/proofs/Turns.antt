@@ -1,13 +1,8 @@
 -- What each kind of word does to clap's walk.
-use Rattle.std.proofs.Common.{◌≡◌, ◌∙◌, ◌==◌, ℕ, zero, suc, Bool, true, false, List, [], ◌∷◌, length, Option, Some, None, refl, codes, inl, inr, ◌⊎◌}
-use Rattle.std.specs.Prelude.{bytes_eq, slice_get}
-use Rattle.std.specs.Str.{chars}
+use Rattle.nef_words.proofs.Prelude.{◌≡◌, ◌∙◌, ◌==◌, ℕ, zero, suc, Bool, true, false, List, [], ◌∷◌, length, Option, Some, None, refl, codes, inl, inr, ◌⊎◌, bytes_eq, slice_get, chars, long_of, short_of, Kinds, or_else, Row, Text, Held, idle, option, arg_by_id, arg_by_long, arg_by_short, arg_by_index, settled_rows, used, turn_fault, settle_fault, react_fault, Options}
 use Rattle.clap.specs.declared.error.kind.ErrorKind.{ErrorKind}
-use Rattle.clap.specs.Lexer.{long_of, short_of}
-use Rattle.clap.specs.Kinds.{Kinds, or_else}
-use Rattle.clap.specs.Walk.{Row, Text, Held, idle, option, walked, arg_by_id, arg_by_long, arg_by_short, arg_by_index, settled_rows, used, bundle_met}
-use Rattle.clap.specs.Faults.{turn_fault, settle_fault, react_fault, flags_fault}
-use Rattle.nef_words.specs.declared.words.Options.{Options}
+use Rattle.clap.specs.Walk.{walked, bundle_met}
+use Rattle.clap.specs.Faults.{flags_fault}
 use Rattle.nef_words.proofs.Walked.{at, clear, answer, step, rules, top, valued_rule, ahead_rule, last_rule}
 
 pub data Opt : Type 0 where

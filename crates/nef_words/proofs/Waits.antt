@@ -1,14 +1,8 @@
 -- A word after an option that waits for its value, and what it comes to that a value was given.
-use Rattle.std.proofs.Common.{◌≡◌, ◌∙◌, ◌==◌, ℕ, zero, suc, Bool, true, false, List, [], ◌∷◌, length, Option, Some, None, refl, sym, ap, codes, inl, inr, ◌⊎◌}
-use Rattle.std.specs.Prelude.{bytes_eq, slice_get}
-use Rattle.std.specs.Str.{chars}
-use Rattle.std.proofs.lemmas.Slice.Eq.{bytes_eq-Decides}
+use Rattle.nef_words.proofs.Prelude.{◌≡◌, ◌∙◌, ◌==◌, ℕ, zero, suc, Bool, true, false, List, [], ◌∷◌, length, Option, Some, None, refl, sym, ap, codes, inl, inr, ◌⊎◌, bytes_eq, slice_get, chars, bytes_eq-Decides, long_of, short_of, Kinds, Row, Text, Walk, idle, option, arg_by_short, settled_rows, option_word, arg_by_id, turn_fault, Options}
 use Rattle.clap.specs.declared.error.kind.ErrorKind.TheVariants.{InvalidValue}
-use Rattle.clap.specs.Lexer.{long_of, short_of}
-use Rattle.clap.specs.Kinds.{Kinds}
-use Rattle.clap.specs.Walk.{Row, Text, Walk, idle, option, walked, arg_by_short, settled_rows, option_word, arg_by_id, bundle_met}
-use Rattle.clap.specs.Faults.{turn_fault, flags_fault}
-use Rattle.nef_words.specs.declared.words.Options.{Options}
+use Rattle.clap.specs.Walk.{walked, bundle_met}
+use Rattle.clap.specs.Faults.{flags_fault}
 use Rattle.nef_words.proofs.Walked.{at, clear, clear_None, answer, step, rules, top, last_rule, at_end, after_end, end_word}
 use Rattle.nef_words.proofs.Turns.{Opt, workers, board, stairs, text, name, held, settling, Arm, unknown, valued, ahead, help, arm, short_arm, clear_or, long_unknown, long_value, long_waits, long_ahead, long_ahead_value, long_help, other_refused}
 

@@ -1,16 +1,9 @@
 -- Clap's walk over the words of the one command, a word at a time.
-use Rattle.std.proofs.Common.{◌≡◌, ◌∙◌, ℕ, Bool, true, false, List, [], ◌∷◌, Option, Some, None, refl, codes}
-use Rattle.std.specs.Prelude.{fold, unwrap_or, bytes_eq, is_some}
+use Rattle.nef_words.proofs.Prelude.{◌≡◌, ◌∙◌, ℕ, Bool, true, false, List, [], ◌∷◌, Option, Some, None, refl, codes, fold, unwrap_or, bytes_eq, is_some, Kinds, or_else, Shape, built, filled, with_index, help_rule, entered, Rule, Row, Text, Held, Walk, Waiting, idle, walk_from, nothing_held, settled, settled_rows, finished, first_of, with_default, turn_fault, settle_fault, defaults_fault, check_fault, entered_fault, BoardKind, TextVersion, Options, usage, option_named, number_to, board_named, version_named, stairs_of, options_from}
 use Rattle.clap.specs.declared.builder.ArgAction.TheVariants.{Set, SetTrue}
-use Rattle.clap.specs.Kinds.{Kinds, or_else}
-use Rattle.clap.specs.Simple.{Shape, built, filled, with_index, help_rule, entered}
-use Rattle.clap.specs.Walk.{Rule, Row, Text, Held, Walk, Waiting, idle, walked, walk_from, nothing_held, settled, settled_rows, finished, first_of, with_default}
-use Rattle.clap.specs.Faults.{walk_fault, turn_fault, settle_fault, defaults_fault, check_fault, entered_fault}
-use Rattle.nef_core.specs.declared.work.BoardKind.{BoardKind}
-use Rattle.nef_core.specs.declared.work.TextVersion.{TextVersion}
-use Rattle.nef_words.specs.declared.words.Options.{Options}
-use Rattle.nef_words.specs.Usage.{usage, option_named}
-use Rattle.nef_words.specs.Chosen.{number_to, board_named, version_named, stairs_of, options_from, options_of}
+use Rattle.clap.specs.Walk.{walked}
+use Rattle.clap.specs.Faults.{walk_fault}
+use Rattle.nef_words.specs.Chosen.{options_of}
 
 -- a walk with nothing to skip
 abbrev pub at : List Row → Option (Text × List Text) → Waiting → Bool → Walk

@@ -1,6 +1,4 @@
-//! The words of the command line.
-//!
-//! They are read as one simple command with five options, of which four take one value each. The options
+//! The words of the command line: one simple command with five options, of which four take one value each. The options
 //! are a function of the words.
 #![tactic(auto)]
 

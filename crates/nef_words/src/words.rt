@@ -1,4 +1,4 @@
-//! The words of the command line: what they choose, or why they choose nothing.
+//! The options that the words of the command line choose, or why the words are refused.
 
 ghost use Rattle.std.specs.Prelude.{◌≡◌, ◌≤◌, ◌↔◌};
 ghost use Rattle.nef_space.specs.Prelude.{false, [], Some, None, IfOk, IfErr, IfSome, MatchResult, map, string_bytes, IsOkAnd, IsErrAnd, drop, most_stairs, error_kind, InvalidData};
@@ -27,8 +27,8 @@ pub const MOST_WORKERS: u32 = 64;
 pub struct Options {
     /// By how many workers, 1 to [`MOST_WORKERS`], and over which board.
     pub how: How,
-    /// The number of boxes of the generated script that is run in place of the input, 1 to
-    /// `MOST_STAIRS` of `nef_space`. It is `None` where no word gives it: then the input is run.
+    /// The number of boxes of the generated script that is run in place of the input, 1 to `MOST_STAIRS` of
+    /// `nef_space`, or `None` where no word gives this number and the input is run.
     pub stairs: Option<u32>,
     /// The version of the texts that are printed.
     pub text: TextVersion,
@@ -39,9 +39,9 @@ pub struct Options {
 /// Why the words gave no options.
 #[derive(Debug, Clone, Copy, PartialEq, Eq)]
 pub enum WordsFault {
-    /// The words aren't those of the command.
+    /// The program has no command line of these words.
     Refused,
-    /// There was no memory to read them.
+    /// There was no memory to read the words.
     OutOfMemory,
 }
 
@@ -53,7 +53,7 @@ fn option_named<'a>(alloc: Global, name: &'a str, action: ArgAction) -> Arg<'a>
     Arg::new(alloc, name).long(name).action(action)
 }
 
-// What the words give each option.
+// The value that the words give to each option.
 fn matched<'a>(alloc: Global, words: &'a [String]) -> Result<ArgMatches<'a>, Error>
     ensures ok { IfOk result (λ m. (fault_of usage (map string_bytes words.entry.now) ≡ []) × (rows_of (found_of m) ≡ matches_of usage (map string_bytes words.entry.now))) }
     ensures err { IfErr result (λ e. HasKind (fault_of usage (map string_bytes words.entry.now)) e) }
@@ -68,13 +68,12 @@ fn matched<'a>(alloc: Global, words: &'a [String]) -> Result<ArgMatches<'a>, Err
     command.try_get_matches_from(words)
 }
 
-// The number from 1 to `most` that one or more digits spell, and `None` for any other text. Leading
-// zeros are accepted.
+// The number from 1 to `most` that one or more digits spell, or `None` for any other text. Leading zeros are accepted.
 fn read_number(text: &[u8], most: u32) -> Option<u32>
     ensures number { result ≡ number_to most text.now }
     ensures range { IfSome result (λ n. (1 ≤ n) × (n ≤ most)) }
 {
-    // A sign is no digit.
+    // a sign is no digit
     if let [b'-', ..] = text {
         return None;
     }
@@ -140,7 +139,7 @@ fn is_given(value: Option<&str>) -> bool
     matches!(value, Some("true"))
 }
 
-// The options that five values choose, where each has its form.
+// The options that five values choose, or `None` where a value isn't of its form.
 fn chosen(
     workers: Option<&str>,
     board: Option<&str>,
@@ -166,13 +165,12 @@ fn chosen(
 
 /// The options that the words choose. `words` are those after the program's name.
 ///
-/// `--workers` takes a number from 1 to [`MOST_WORKERS`], and is [`DEFAULT_WORKERS`] where it isn't
-/// given. `--board` takes `lock` or `free`, and is `lock` where it isn't given. `--stairs` takes a number
-/// from 1 to [`MOST_STAIRS`], and is `None` where it isn't given. A number is one or more digits. `--text`
-/// takes `1` or `2`, and is `1` where it isn't given. `--ahead` takes no value.
-/// `Refused` comes exactly where the words aren't those of a command with these five options, each given
-/// once at most, or a value isn't of its form; a word for help or for the version is no such word. Which
-/// words are taken is the plain grammar of `Grammar` in specs/ ([`crate::words_laws`]).
+/// `--workers` takes a number from 1 to [`MOST_WORKERS`], by default [`DEFAULT_WORKERS`]. `--board` takes `lock` or
+/// `free`, by default `lock`. `--stairs` takes a number from 1 to [`MOST_STAIRS`], and is `None` where it isn't given.
+/// A number is one or more digits. `--text` takes `1` or `2`, by default `1`. `--ahead` takes no value.
+/// `Refused` comes exactly where the words aren't those of a command with these five options, each given once at most,
+/// or a value isn't of its form; a word for help or for the version is refused too. The plain grammar of these words is
+/// `Grammar` in specs/ ([`crate::words_laws`]).
 pub fn read_words(alloc: Global, words: &[String]) -> Result<Options, WordsFault>
     ensures accepted { IfOk result (λ options. options_in (map string_bytes words.now) ≡ Some options) }
     ensures stairs { IfOk result (λ o. IfSome o.stairs (λ n. (1 ≤ n) × (n ≤ most_stairs))) }
@@ -198,7 +196,7 @@ pub fn read_words(alloc: Global, words: &[String]) -> Result<Options, WordsFault
     }
 }
 
-// The words but the first, which is the program's name.
+// The words of the line but the first, which is the program's name.
 fn after_name(line: &[String]) -> &[String]
     ensures words { result.now ≡ drop 1 line.now }
 {
@@ -208,9 +206,8 @@ fn after_name(line: &[String]) -> &[String]
     }
 }
 
-/// The words after the program's name, from the words that `std::env::args` gives. `Refused` comes
-/// exactly where some word of the command line isn't text, and `OutOfMemory` where the words can't be
-/// had for another reason.
+/// The words after the program's name, from the words that `std::env::args` gives. `Refused` comes exactly where some
+/// word of the command line isn't text, and `OutOfMemory` where the words can't be had for another reason.
 pub fn line_words(line: &io::Result<Vec<String>>) -> Result<&[String], WordsFault>
     ensures words { IfOk result (λ words. IsOkAnd line.now (λ all. words.now ≡ drop 1 all.items)) }
     ensures refused { (result ≡ Err WordsFault.Refused) ↔ IsErrAnd line.now (λ e. error_kind e ≡ InvalidData) }

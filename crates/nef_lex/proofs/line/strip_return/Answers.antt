@@ -1,4 +1,4 @@
-use Rattle.std.proofs.Common.{sym}
+use Rattle.nef_lex.proofs.Prelude.{sym}
 use Rattle.nef_lex.proofs.Pieces.{without_return-last, without_return-other}
 use Rattle.nef_lex.proofs.line.strip_return.Goals as goal
 

@@ -1,4 +1,4 @@
-use Rattle.std.proofs.Common.{◌+◌, arith}
+use Rattle.nef_lex.proofs.Prelude.{◌+◌, arith}
 use Rattle.nef_lex.proofs.Decimal.{decimal_value-more, decimal_value-take}
 use Rattle.nef_lex.proofs.word.magnitude.Goals as goal
 

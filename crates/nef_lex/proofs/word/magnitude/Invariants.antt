@@ -1,6 +1,5 @@
-use Rattle.std.proofs.Common.{◌≡◌, ◌≤◌, take}
+use Rattle.nef_lex.proofs.Prelude.{◌≡◌, ◌≤◌, take, decimal_value}
 use Rattle.nef_space.specs.Limits.{number_limit}
-use Rattle.nef_lex.specs.Numbers.{decimal_value}
 use Rattle.nef_lex.proofs.word.magnitude.Given as goal
 
 abbrev pub invariant-loop-b : goal.invariant-loop-b

@@ -1,8 +1,6 @@
-use Rattle.std.proofs.Common.{rules, ◌==◌}
-use Rattle.std.specs.List.{before_first}
+use Rattle.nef_lex.proofs.Prelude.{rules, ◌==◌, before_first, comment_mark, is_gap, is_filled}
 use Rattle.std.proofs.lemmas.Iterator.Splits.{YieldsList-from_slice_split}
 use Rattle.std.proofs.lemmas.Iterator.Consumers.{YieldsList-from_filter, map_from_collect}
-use Rattle.nef_lex.specs.Words.{comment_mark, is_gap, is_filled}
 use Rattle.nef_lex.proofs.word.words.Goals as goal
 use borrow.Author.Tests.{tests}
 

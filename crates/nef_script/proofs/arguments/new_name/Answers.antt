@@ -1,9 +1,5 @@
-use Rattle.std.proofs.Common.{◌≡◌, ◌∙◌, true, false, Option, Some, None, ℕ, is_some, length, refl, sym, ap, arith}
-use Rattle.std.proofs.lemmas.Bool.{le-leb}
+use Rattle.nef_script.proofs.Prelude.{◌≡◌, ◌∙◌, true, false, Option, Some, None, ℕ, is_some, length, refl, sym, ap, arith, le-leb, list_any, bytes_eq, name_count_limit}
 use Rattle.std.specs.Prelude.{nat_le}
-use Rattle.std.specs.List.{list_any}
-use Rattle.std.specs.Str.{bytes_eq}
-use Rattle.nef_script.specs.Tests.{name_count_limit}
 use Rattle.nef_script.proofs.Positions.{position-any}
 use Rattle.nef_script.proofs.Firsts.{above, new-first}
 use Rattle.nef_script.proofs.arguments.new_name.Goals as goal

@@ -1,7 +1,4 @@
-use Rattle.std.proofs.Common.{◌≡◌, ◌∙◌, true, false, Some, is_some, sym, ap, arith}
-use Rattle.std.specs.List.{list_any, position}
-use Rattle.std.specs.Str.{bytes_eq}
-use Rattle.std.proofs.lemmas.Option.{slice_get-get_or}
+use Rattle.nef_script.proofs.Prelude.{◌≡◌, ◌∙◌, true, false, Some, is_some, sym, ap, arith, list_any, position, bytes_eq, slice_get-get_or}
 use Rattle.nef_script.proofs.Positions.{position-any, position-below}
 use Rattle.nef_script.proofs.Firsts.{known-first}
 use Rattle.nef_script.proofs.arguments.operand.Goals as goal

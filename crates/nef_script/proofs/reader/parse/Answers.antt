@@ -1,14 +1,4 @@
-use Rattle.std.proofs.Common.{◌≡◌, ◌≤◌, ◌*◌, ℕ, Err, List, length, sym, ◌∙◌, ap, subst}
-use Rattle.std.proofs.lemmas.Result.{err_from_is_err_and}
-use Rattle.std.specs.List.{All}
-use Rattle.nef_expr.specs.declared.nodes.Node.{Node}
-use Rattle.nef_expr.specs.Table.{AreOrigins}
-use Rattle.nef_lex.specs.Lines.{lines_of}
-use Rattle.nef_script.specs.Refusal.{FirstRefusal}
-use Rattle.nef_script.specs.Meaning.{IsWithin}
-use Rattle.nef_script.specs.Commands.{AreBoundBefore, TurnsRight}
-use Rattle.nef_script.specs.Reading.{state, sets_of}
-use Rattle.nef_script.specs.Progress.{HasRead}
+use Rattle.nef_script.proofs.Prelude.{◌≡◌, ◌≤◌, ◌*◌, ℕ, Err, List, length, sym, ◌∙◌, ap, subst, err_from_is_err_and, All, Node, AreOrigins, lines_of, FirstRefusal, IsWithin, AreBoundBefore, TurnsRight, state, sets_of, HasRead}
 use Rattle.nef_script.specs.declared.script.ScriptFault.TheVariants.{Refused}
 use Rattle.nef_script.specs.declared.script.ScriptKind.TheVariants.{ScriptTooLong}
 use Rattle.nef_script.proofs.LineByLine.{HasRead-next, HasRead-refused, HasRead-end}
@@ -37,42 +27,19 @@ returns-in_err-read_line-clause-refused c = λ line k e.
     let refused = c.read_line.ensures.refused line k fault in
     subst (λ n. FirstRefusal c.args.bytes.now n k) (sym refused.0) (HasRead-refused c.args.bytes.now _ _ _ _ k c.if-bytes-gt-SCRIPT_LIMIT.false left refused.1)
 
-pub returns-clause-script : goal.returns-clause-script
-returns-clause-script c =
+pub returns : goal.returns
+returns c =
     let after = c.loop-line.reader in
     let s = state after.names after.bound.items after.sets after.commands in
     let read = subst (λ l. HasRead (lines_of c.args.bytes.now) l s) c.in-None.ensures.steps.0 c.loop-line.invariant.2 in
     let ends = HasRead-end _ s read in
-    let origins = subst (λ (n : ℕ). AreOrigins after.sets.nodes after.sets.origins n) ends.2 (subst (λ (ns : List Node). AreOrigins ns after.sets.origins after.sets.bases) c.into_nodes.ensures.nodes c.into_nodes.ensures.origins) in (
-      record { short = c.if-bytes-gt-SCRIPT_LIMIT.false; passes = ends.0 },
-      (sets_of s, sym c.into_nodes.ensures.nodes, c.into_nodes.ensures.ordered, ends.1, origins),
-    )
-
-pub returns-clause-turned : goal.returns-clause-turned
-returns-clause-turned c =
-    let after = c.loop-line.reader in
-    let s = state after.names after.bound.items after.sets after.commands in
-    let read = subst (λ l. HasRead (lines_of c.args.bytes.now) l s) c.in-None.ensures.steps.0 c.loop-line.invariant.2 in
-    subst (λ (ns : List Node). All (TurnsRight ns) after.commands) (sym c.into_nodes.ensures.nodes) read.turns
-
-pub returns-clause-in_range : goal.returns-clause-in_range
-returns-clause-in_range c =
-    let after = c.loop-line.reader in
-    let s = state after.names after.bound.items after.sets after.commands in
-    let read = subst (λ l. HasRead (lines_of c.args.bytes.now) l s) c.in-None.ensures.steps.0 c.loop-line.invariant.2 in
-    subst (λ (ns : List Node). All (IsWithin (length ns)) after.commands) (sym c.into_nodes.ensures.nodes) read.within
-
-pub returns-clause-bound_before : goal.returns-clause-bound_before
-returns-clause-bound_before c =
-    let after = c.loop-line.reader in
-    let s = state after.names after.bound.items after.sets after.commands in
-    let read = subst (λ l. HasRead (lines_of c.args.bytes.now) l s) c.in-None.ensures.steps.0 c.loop-line.invariant.2 in
-    subst (λ (ns : List Node). AreBoundBefore ns after.commands) (sym c.into_nodes.ensures.nodes) read.before
-
-pub returns-clause-few : goal.returns-clause-few
-returns-clause-few c =
-    let after = c.loop-line.reader in
-    let s = state after.names after.bound.items after.sets after.commands in
-    let read = subst (λ l. HasRead (lines_of c.args.bytes.now) l s) c.in-None.ensures.steps.0 c.loop-line.invariant.2 in
-    let ends = HasRead-end _ s read in
-    subst (λ (n : ℕ). length c.into_nodes.result ≤ 48 * n) ends.2 c.into_nodes.ensures.few
+    let nodes = sym c.into_nodes.ensures.nodes in
+    let origins = subst (λ (n : ℕ). AreOrigins after.sets.nodes after.sets.origins n) ends.2 (subst (λ (ns : List Node). AreOrigins ns after.sets.origins after.sets.bases) c.into_nodes.ensures.nodes c.into_nodes.ensures.origins) in
+    record {
+      script = (record { short = c.if-bytes-gt-SCRIPT_LIMIT.false; passes = ends.0 }, (sets_of s, nodes, c.into_nodes.ensures.ordered, ends.1, origins));
+      turned = subst (λ (ns : List Node). All (TurnsRight ns) after.commands) nodes read.turns;
+      in_range = subst (λ (ns : List Node). All (IsWithin (length ns)) after.commands) nodes read.within;
+      bound_before = subst (λ (ns : List Node). AreBoundBefore ns after.commands) nodes read.before;
+      few = subst (λ (n : ℕ). length c.into_nodes.result ≤ 48 * n) ends.2 c.into_nodes.ensures.few;
+      refused = λ line k e. cc;
+    }

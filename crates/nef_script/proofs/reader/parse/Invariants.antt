@@ -1,6 +1,4 @@
-use Rattle.nef_lex.specs.Lines.{lines_of}
-use Rattle.nef_script.specs.Reading.{state}
-use Rattle.nef_script.specs.Progress.{HasRead}
+use Rattle.nef_script.proofs.Prelude.{lines_of, state, HasRead}
 use Rattle.nef_script.proofs.reader.parse.Given as goal
 
 abbrev pub invariant-loop-line : goal.invariant-loop-line

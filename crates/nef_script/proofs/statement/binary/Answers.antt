@@ -1,11 +1,8 @@
-use Rattle.std.proofs.Common.{◌≡◌, ℕ, [], ◌∷◌, length, Ok, sym, subst, arith}
-use Rattle.nef_script.specs.Outcome.{IsRead, BindsNew, roles_test}
+use Rattle.nef_script.proofs.Prelude.{◌≡◌, ℕ, [], ◌∷◌, length, Ok, sym, subst, arith, IsRead, BindsNew, roles_test, LastTwoAre, NewName, Operand}
 use Rattle.nef_script.specs.declared.statement.Statement.TheVariants as statement
 use Rattle.nef_script.proofs.Firsts.{IsRead-both, IsRead-made, IsRead-returned, is-new}
 use Rattle.nef_script.proofs.CommandTests as tests
 use Rattle.nef_script.proofs.Shapes.{word_at, three_words}
-use Rattle.nef_script.specs.Reading.{LastTwoAre}
-use Rattle.nef_script.specs.Table.{NewName, Operand}
 use Rattle.nef_script.proofs.statement.binary.Goals as goal
 
 pub returns-in_err-name : goal.returns-in_err-name

@@ -1,6 +1,4 @@
-use Rattle.std.proofs.Common.{◌≡◌, [], ◌∷◌, length, Ok, refl, sym, subst, arith}
-use Rattle.nef_script.specs.Outcome.{IsRead, BindsNew, roles_test}
-use Rattle.nef_script.specs.Table.{NewName}
+use Rattle.nef_script.proofs.Prelude.{◌≡◌, [], ◌∷◌, length, Ok, refl, sym, subst, arith, IsRead, BindsNew, roles_test, NewName}
 use Rattle.nef_script.specs.declared.statement.Statement.TheVariants as statement
 use Rattle.nef_script.proofs.Firsts.{IsRead-made, IsRead-returned, is-new}
 use Rattle.nef_script.proofs.CommandTests as tests

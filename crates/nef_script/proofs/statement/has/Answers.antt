@@ -1,8 +1,4 @@
-use Rattle.std.proofs.Common.{◌≡◌, length, Ok, refl, sym, subst, arith}
-use Rattle.nef_script.specs.Checks.{command_test}
-use Rattle.nef_script.specs.Outcome.{IsRead, IsStatement}
-use Rattle.nef_script.specs.declared.script.Command.TheVariants.{Has}
-use Rattle.nef_script.specs.declared.statement.Statement.TheVariants.{Ask}
+use Rattle.nef_script.proofs.Prelude.{◌≡◌, length, Ok, refl, sym, subst, arith, command_test, IsRead, IsStatement, Has, Ask}
 use Rattle.nef_script.specs.declared.arguments.Verb.TheVariants as verb
 use Rattle.nef_script.proofs.Firsts.{IsRead-both, IsRead-made, IsRead-returned}
 use Rattle.nef_script.proofs.CommandTests.{of-Has}

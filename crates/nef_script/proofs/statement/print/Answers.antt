@@ -1,6 +1,4 @@
-use Rattle.std.proofs.Common.{◌≡◌, length, get_or, Ok, refl, sym, subst, arith}
-use Rattle.nef_script.specs.Checks.{command_test}
-use Rattle.nef_script.specs.Outcome.{IsRead, IsStatement}
+use Rattle.nef_script.proofs.Prelude.{◌≡◌, length, get_or, Ok, refl, sym, subst, arith, command_test, IsRead, IsStatement}
 use Rattle.nef_script.specs.declared.statement.Statement.TheVariants as statement
 use Rattle.nef_script.specs.declared.arguments.Verb.TheVariants as verb
 use Rattle.nef_script.proofs.Firsts.{IsRead-made, IsRead-returned}

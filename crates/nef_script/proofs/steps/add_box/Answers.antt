@@ -1,8 +1,5 @@
-use Rattle.std.proofs.Common.{◌++◌, ◌+◌, ◌*◌, ◌∙◌, sym, ap}
+use Rattle.nef_script.proofs.Prelude.{◌++◌, ◌+◌, ◌*◌, ◌∙◌, sym, ap, on_ok_weaker, filled, box_name}
 use Rattle.std.specs.Fmt.{decimal}
-use Rattle.std.proofs.lemmas.Result.{on_ok_weaker}
-use Rattle.nef_script.specs.Boxes.{filled}
-use Rattle.nef_script.specs.Stairs.{box_name}
 use Rattle.nef_script.proofs.Writing.{box_template, box-filled}
 use Rattle.nef_script.proofs.steps.add_box.Goals as goal
 

@@ -1,5 +1,4 @@
-use Rattle.std.proofs.Common.{◌≡◌, ◌++◌, drop}
-use Rattle.nef_script.specs.Boxes.{bytes_of, filled}
+use Rattle.nef_script.proofs.Prelude.{◌≡◌, ◌++◌, drop, bytes_of, filled}
 use Rattle.nef_script.proofs.steps.add_filled.Given as goal
 
 abbrev pub invariant-loop-byte : goal.invariant-loop-byte

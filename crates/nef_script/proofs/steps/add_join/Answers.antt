@@ -1,5 +1,4 @@
-use Rattle.std.proofs.Common.{◌++◌, ◌∙◌, ap}
-use Rattle.std.proofs.lemmas.Result.{on_ok_weaker}
+use Rattle.nef_script.proofs.Prelude.{◌++◌, ◌∙◌, ap, on_ok_weaker}
 use Rattle.nef_script.proofs.Writing.{join-filled}
 use Rattle.nef_script.proofs.steps.add_join.Goals as goal
 

@@ -1,7 +1,4 @@
-use Rattle.std.proofs.Common.{◌≡◌, ◌++◌, [], arith}
-use Rattle.nef_script.specs.Laws.{script_of}
-use Rattle.nef_script.specs.Stairs.{step_lines}
-use Rattle.nef_script.specs.Boxes.{step_box, join_lines}
+use Rattle.nef_script.proofs.Prelude.{◌≡◌, ◌++◌, [], arith, script_of, step_lines, step_box, join_lines}
 use Rattle.nef_script.proofs.StairLines.{stairs-accepted}
 use Rattle.nef_script.proofs.Writing.{box-next, lines-next, stairs-written}
 use Rattle.nef_script.proofs.steps.stairs.Goals as goal

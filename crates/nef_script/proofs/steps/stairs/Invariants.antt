@@ -1,7 +1,4 @@
-use Rattle.std.proofs.Common.{◌≡◌}
-use Rattle.std.specs.List.{flat_map, range_with_len}
-use Rattle.nef_script.specs.Laws.{script_of}
-use Rattle.nef_script.specs.Stairs.{step_lines}
+use Rattle.nef_script.proofs.Prelude.{◌≡◌, flat_map, range_with_len, script_of, step_lines}
 use Rattle.nef_script.proofs.steps.stairs.Given as goal
 
 abbrev pub invariant-loop-i : goal.invariant-loop-i

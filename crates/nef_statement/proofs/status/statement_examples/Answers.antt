@@ -1,4 +1,4 @@
-use Rattle.std.proofs.Common.{refl}
+use Rattle.nef_statement.proofs.Prelude.{refl}
 use Rattle.nef_statement.proofs.status.statement_examples.Goals as goal
 
 pub returns-clause-denoted : goal.returns-clause-denoted

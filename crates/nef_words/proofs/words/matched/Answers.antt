@@ -1,7 +1,4 @@
-use Rattle.std.proofs.Common.{◌≡◌, ap, ap₂, ◌∙◌}
-use Rattle.clap.specs.Words.{app_of, with_rule}
-use Rattle.clap.specs.Simple.{app_of_fields}
-use Rattle.nef_words.specs.Usage.{usage, without_name}
+use Rattle.nef_words.proofs.Prelude.{◌≡◌, ap, ap₂, ◌∙◌, app_of, with_rule, app_of_fields, usage, without_name}
 use Rattle.nef_words.proofs.Parsed.{usage_simple, usage_free, took}
 use Rattle.nef_words.proofs.words.matched.Goals as goal
 

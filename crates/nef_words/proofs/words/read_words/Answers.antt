@@ -1,5 +1,4 @@
-use Rattle.std.proofs.Common.{◌≡◌, ◌∙◌, refl, sym, Result, Err}
-use Rattle.nef_words.specs.declared.words.Options.{Options}
+use Rattle.nef_words.proofs.Prelude.{◌≡◌, ◌∙◌, refl, sym, Result, Err, Options}
 use Rattle.nef_words.specs.declared.words.WordsFault.{WordsFault}
 use Rattle.nef_words.specs.declared.words.WordsFault.TheVariants.{Refused, OutOfMemory}
 use Rattle.nef_words.proofs.Law.{words-by_grammar}

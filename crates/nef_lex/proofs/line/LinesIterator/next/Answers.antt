@@ -1,6 +1,4 @@
-use Rattle.std.proofs.Common.{◌<◌, ◌≡◌, ◌∷◌, ◌+◌, ◌∙◌, ap, length, arith, sym}
-use Rattle.std.proofs.lemmas.Grind.{common_steps}
-use Rattle.nef_lex.specs.Lines.{numbered_lines}
+use Rattle.nef_lex.proofs.Prelude.{◌<◌, ◌≡◌, ◌∷◌, ◌+◌, ◌∙◌, ap, length, arith, sym, common_steps, numbered_lines}
 use Rattle.nef_lex.proofs.Pieces.{numbered_lines-first}
 use Rattle.nef_lex.proofs.line.LinesIterator.next.Goals as goal
 

@@ -1,12 +1,6 @@
 -- What a line says is added.
-use Rattle.std.proofs.Common.{◌≡◌, ℕ, List, [], ◌∷◌, ◌++◌, length, refl, sym, subst, arith}
-use Rattle.nef_expr.specs.Turns.{TurnOf}
-use Rattle.nef_expr.specs.Table.{IsCopyOf}
+use Rattle.nef_script.proofs.Prelude.{◌≡◌, ℕ, List, [], ◌∷◌, ◌++◌, length, refl, sym, subst, arith, TurnOf, IsCopyOf, IsQuestion, IsStatement, state, AddsWords, Verb}
 use Rattle.nef_expr.proofs.Operands.{names-from}
-use Rattle.nef_script.specs.Meaning.{IsQuestion}
-use Rattle.nef_script.specs.Outcome.{IsStatement}
-use Rattle.nef_script.specs.Reading.{state, AddsWords}
-use Rattle.nef_script.specs.declared.arguments.Verb.{Verb}
 use Rattle.nef_script.specs.declared.arguments.Verb.TheVariants as verb
 use Rattle.nef_script.specs.declared.script.Command.TheVariants as command
 use Rattle.nef_script.proofs.Adding.{AddsWords-node, AddsWords-turn, AddsWords-ask}

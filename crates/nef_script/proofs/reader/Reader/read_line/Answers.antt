@@ -1,8 +1,5 @@
-use Rattle.std.proofs.Common.{◌≡◌, ◌∙◌, ℕ, List, Some, None, sym, ap, subst}
+use Rattle.nef_script.proofs.Prelude.{◌≡◌, ◌∙◌, ℕ, List, Some, None, sym, ap, subst, words_of, line_refusal, refused, LineSays}
 use Rattle.std.specs.Prelude.{IfOk}
-use Rattle.nef_lex.specs.Words.{words_of}
-use Rattle.nef_script.specs.Refusal.{line_refusal}
-use Rattle.nef_script.specs.Outcome.{refused, LineSays}
 use Rattle.nef_script.proofs.Adding.{AddsLine-words}
 use Rattle.nef_script.proofs.reader.Reader.read_line.Goals as goal
 

@@ -1,9 +1,4 @@
-use Rattle.std.proofs.Common.{◌≡◌, [], ◌∷◌, ◌++◌, length, ◌∙◌, ap, sym, subst, arith, None}
-use Rattle.std.specs.List.{position}
-use Rattle.std.specs.Str.{bytes_eq}
-use Rattle.std.proofs.lemmas.Grind.{common_steps}
-use Rattle.std.proofs.lemmas.List.{map-append}
-use Rattle.nef_script.specs.Names.{pointed, HasPlaces}
+use Rattle.nef_script.proofs.Prelude.{◌≡◌, [], ◌∷◌, ◌++◌, length, ◌∙◌, ap, sym, subst, arith, None, position, bytes_eq, common_steps, map-append, pointed, HasPlaces}
 use Rattle.nef_script.proofs.Bound.{HasPlaces-push}
 use Rattle.nef_script.proofs.script.Names.push.Goals as goal
 
