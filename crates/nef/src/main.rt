@@ -1,7 +1,6 @@
-//! The program `nef`: works a script, from standard input where no option says otherwise, and writes
-//! what its commands answer to standard output. The words after the program's name are options.
-//!
-//! Its stored run cuts a hole into a plate, and then makes 24 by 24 columns out of crossing slabs.
+//! The program `nef`: works a script, from standard input where no option says otherwise, and writes what its commands
+//! answer to standard output. The words after the program's name are options. Its stored run cuts a hole into a plate,
+//! and then makes 24 by 24 columns out of crossing slabs.
 #![tactic(auto)]
 
 use nef_io::{FromReader, IntoWriter};

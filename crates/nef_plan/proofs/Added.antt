@@ -1,29 +1,19 @@
 -- Which sets the steps make that are added to a plan, and that none of these is made too early.
-use Rattle.std.proofs.Common.{◌≡◌, ◌∙◌, ℕ, ◌<◌, ◌≤◌, ◌+◌, refl, ap, sym, subst, arith, List, [], ◌∷◌, ◌++◌, length, inl, inr, ◌⊎◌, ⊎_elim, length-append, append-nil, append_assoc, filter, take, drop, Some}
-use Rattle.std.specs.Prelude.{All, slice_get}
-use Rattle.std.proofs.lemmas.List.Elements.{All-append, All-cons, All-head, All-nil, All-tail, All-weaker, filter-append}
-use Rattle.std.proofs.lemmas.List.{take-append-drop, take-take}
-use Rattle.nef_expr.specs.declared.nodes.Node.{Node}
-use Rattle.nef_script.specs.declared.script.Command.{Command}
-use Rattle.nef_script.specs.Commands.{Binds}
-use Rattle.nef_plan.specs.declared.planner.Step.{Step}
-use Rattle.nef_plan.specs.declared.planner.Plan.{Plan}
-use Rattle.nef_plan.specs.Rows.{HasAdded, MakesOnly}
-use Rattle.nef_plan.specs.Steps.{AreTimely, HasMore, IsDue, asked, is_question}
+use Rattle.nef_plan.proofs.Prelude.{◌≡◌, ◌∙◌, ℕ, ◌<◌, ◌≤◌, ◌+◌, refl, ap, sym, subst, arith, List, [], ◌∷◌, ◌++◌, length, inl, inr, ◌⊎◌, ⊎_elim, length-append, append-nil, append_assoc, filter, take, drop, Some, All, slice_get, All-append, All-cons, All-head, All-nil, All-tail, All-weaker, filter-append, take-append-drop, take-take, Node, Command, Binds, Draft, Drafts, HasAdded, MakesOnly, AreTimely, HasMore, asked, IsDue, is_question}
 use Rattle.nef_plan.proofs.Growth.{asked-append}
 
 -- ---- what is made
 -- more nodes may be named, and fewer be counted
-wider : (m n : ℕ) (P Q : ℕ → Type 0) → m ≤ n → ((k : ℕ) → P k → Q k) → (s : Step) → MakesOnly n P s → MakesOnly m Q s
+wider : (m n : ℕ) (P Q : ℕ → Type 0) → m ≤ n → ((k : ℕ) → P k → Q k) → (s : Draft) → MakesOnly n P s → MakesOnly m Q s
 wider m n P Q few f s only k makes = ⊎_elim (λ p. inl (f k p)) (λ o. inr (let past = o.0 in omega arith, o.1)) (only k makes)
 
-pub added-none : (plan : Plan) (P : ℕ → Type 0) → HasAdded plan plan P
+pub added-none : (plan : Drafts) (P : ℕ → Type 0) → HasAdded plan plan P
 added-none plan P = record { added = []; steps = sym (append-nil plan.steps.items); each = All-nil (MakesOnly (length plan.nodes) P) }
 
-pub added-one : (old new : Plan) (P : ℕ → Type 0) (s : Step) → new.steps.items ≡ old.steps.items ++ s ∷ [] → MakesOnly (length old.nodes) P s → HasAdded old new P
+pub added-one : (old new : Drafts) (P : ℕ → Type 0) (s : Draft) → new.steps.items ≡ old.steps.items ++ s ∷ [] → MakesOnly (length old.nodes) P s → HasAdded old new P
 added-one old new P s is only = record { added = s ∷ []; steps = is; each = All-cons (MakesOnly (length old.nodes) P) s [] only (All-nil (MakesOnly (length old.nodes) P)) }
 
-pub added-trans : (a b c : Plan) (P Q : ℕ → Type 0) → HasMore a.nodes b.nodes → ((k : ℕ) → P k → Q k) → HasAdded a b P → HasAdded b c Q → HasAdded a c Q
+pub added-trans : (a b c : Drafts) (P Q : ℕ → Type 0) → HasMore a.nodes b.nodes → ((k : ℕ) → P k → Q k) → HasAdded a b P → HasAdded b c Q → HasAdded a c Q
 added-trans a b c P Q more f g h = record {
   added = g.added ++ h.added;
   steps = h.steps ∙ ap (λ z. z ++ h.added) g.steps ∙ append_assoc a.steps.items g.added h.added;
@@ -32,7 +22,7 @@ added-trans a b c P Q more f g h = record {
       (All-weaker (MakesOnly (length b.nodes) Q) (MakesOnly (length a.nodes) Q) (wider (length a.nodes) (length b.nodes) Q Q more.as_many (λ k q. q)) h.added h.each);
 }
 
-pub added-wider : (a b : Plan) (P Q : ℕ → Type 0) → ((k : ℕ) → P k → Q k) → HasAdded a b P → HasAdded a b Q
+pub added-wider : (a b : Drafts) (P Q : ℕ → Type 0) → ((k : ℕ) → P k → Q k) → HasAdded a b P → HasAdded a b Q
 added-wider a b P Q f g = record { added = g.added; steps = g.steps; each = All-weaker (MakesOnly (length a.nodes) P) (MakesOnly (length a.nodes) Q) (wider (length a.nodes) (length a.nodes) P Q (omega arith) f) g.added g.each }
 
 -- ---- when it is made
@@ -66,28 +56,28 @@ questions-fewer commands p n few =
     omega (arith, count)
 
 -- a node that one of the first lines and the next binds is due where the questions of the first lines are asked
-pub due-now : (commands : List Command) (steps : List Step) (n k : ℕ) → asked steps ≡ filter is_question (take n commands) → BindsBefore commands (n + 1) k → IsDue commands steps k
+pub due-now : (commands : List Command) (steps : List Draft) (n k : ℕ) → asked steps ≡ filter is_question (take n commands) → BindsBefore commands (n + 1) k → IsDue commands (length (asked steps)) k
 due-now commands steps n k is (p, c, below, at, binds) =
     let few = questions-fewer commands p n (omega (arith, below)) in
     let count = ap length is in
     (p, c, at, binds, omega (arith, few, count))
 
 -- a node whose line has no more questions before it than are asked stays so
-due-later : (commands : List Command) (front more : List Step) (k : ℕ) → IsDue commands front k → IsDue commands (front ++ more) k
-due-later commands front more k (p, c, at, binds, few) =
-    let longer : length (asked (front ++ more)) ≡ length (asked front) + length (asked more) = ap length (asked-append front more) ∙ length-append (asked front) (asked more) in
-    (p, c, at, binds, omega (arith, few, longer))
+pub due-later : (commands : List Command) (q : ℕ) (front more steps : List Draft) (k : ℕ) → q ≤ length (asked front) → steps ≡ front ++ more → IsDue commands q k → IsDue commands (length (asked steps)) k
+due-later commands q front more steps k asks is (p, c, at, binds, few) =
+    let longer : length (asked steps) ≡ length (asked front) + length (asked more) = ap (λ z. length (asked z)) is ∙ ap length (asked-append front more) ∙ length-append (asked front) (asked more) in
+    (p, c, at, binds, omega (arith, asks, few, longer))
 
-pub timely-none : (nodes : List Node) (commands : List Command) (steps : List Step) → steps ≡ [] → AreTimely nodes commands steps
+pub timely-none : (nodes : List Node) (commands : List Command) (steps : List Draft) → steps ≡ [] → AreTimely nodes commands steps
 timely-none nodes commands steps none = record { each = λ front rest s is. absurd (let n = ap length (sym none ∙ is) in let m = length-append front (s ∷ rest) in omega (arith, n, m)) }
 
-pub timely-added : (nodes : List Node) (commands : List Command) (old new : Plan) (P : ℕ → Type 0) → HasMore nodes old.nodes → ((k : ℕ) → P k → IsDue commands old.steps.items k)
+pub timely-added : (nodes : List Node) (commands : List Command) (old new : Drafts) (P : ℕ → Type 0) → HasMore nodes old.nodes → ((k : ℕ) → P k → IsDue commands (length (asked old.steps.items)) k)
     → AreTimely nodes commands old.steps.items → HasAdded old new P → AreTimely nodes commands new.steps.items
 timely-added nodes commands old new P more due are h = record {
   each = λ front rest s is k makes. ⊎_elim
       (λ l. are.each front l.0 s l.1 k makes)
       (λ r. ⊎_elim
-      (λ p. inl (subst (λ z. IsDue commands z k) (sym r.1) (due-later commands old.steps.items r.0 k (due k p))))
+      (λ p. inl (due-later commands (length (asked old.steps.items)) old.steps.items r.0 front k (omega arith) r.1 (due k p)))
       (λ o. inr (let past = o.0 in let few = more.as_many in omega arith, o.1))
       (all-at (MakesOnly (length old.nodes) P) r.0 rest s (subst (All (MakesOnly (length old.nodes) P)) r.2 h.each) k makes))
       (parted old.steps.items h.added front rest s (sym h.steps ∙ is));

@@ -1,18 +1,12 @@
 -- Which expressions are alike: those of alike operands, and those that group the operands of a row in another way.
-use Rattle.std.proofs.Common.{◌≡◌, refl, sym, ⊎_elim, List, ◌++◌, subst, append_assoc}
-use Rattle.std.specs.Prelude.{◌↔◌}
-use Rattle.nef_space.specs.Local.{HasLabel, SameSet}
-use Rattle.nef_space.specs.Place.{Place, Form}
-use Rattle.nef_space.specs.Sets.{Set, Holds, halves}
-use Rattle.nef_space.specs.Signs.{Lies}
-use Rattle.nef_space.specs.declared.label.Label.{Label}
-use Rattle.nef_space.specs.declared.label.Label.TheVariants.{Out, Not, In}
-use Rattle.nef_space.proofs.Lists.{lies-left, lies-right, lies-append}
-use Rattle.law_near.specs.Cones.{label_and, label_or, label_less, label_one_of}
-use Rattle.law_near.proofs.Combine.{ByLabels, or-label, less-label, one_of-label}
+use Rattle.nef_plan.proofs.Prelude.{◌≡◌, ℕ, refl, sym, ⊎_elim, List, ◌++◌, subst, append_assoc, ◌↔◌, HasLabel, SameSet, InFrame, Place, Form, Closure, Interior, Set, halves, Lies, Label, Out, Not, In, lies-left, lies-right, label_and, label_or, label_less, label_one_of, turned_set, AreAlike}
+use Rattle.nef_space.specs.Sets.{Holds}
+use Rattle.nef_space.proofs.Lists.{lies-append}
+use Rattle.law_near.proofs.Combine.{ByLabels, and-label, or-label, less-label, one_of-label}
 use Rattle.law_near.proofs.Decided.{label_of}
 use Rattle.law_near.proofs.Germs.{label-one}
-use Rattle.nef_plan.specs.Alike.{AreAlike}
+use Rattle.law_turns.proofs.Carriers.{halves-from, halves-there}
+use Rattle.law_turns.proofs.Meaning.{same_set-turned}
 
 -- ---- an equivalence
 pub alike-refl : (s : Set) → AreAlike s s
@@ -79,6 +73,9 @@ planes-grouped a b c f =
     (λ h. subst (λ (fs : List Form). Lies fs f) e h, λ h. subst (λ (fs : List Form). Lies fs f) (sym e) h)
 
 -- ---- alike operands make alike sets
+pub both-alike : (a a' b b' : Set) → AreAlike a a' → AreAlike b b' → AreAlike (Set.both a b) (Set.both a' b')
+both-alike a a' b b' s t = record { same = same-node Set.both label_and and-label a a' b b' s.same t.same; planes = planes-both a a' b b' s t }
+
 pub either-alike : (a a' b b' : Set) → AreAlike a a' → AreAlike b b' → AreAlike (Set.either a b) (Set.either a' b')
 either-alike a a' b b' s t = record { same = same-node Set.either label_or or-label a a' b b' s.same t.same; planes = planes-both a a' b b' s t }
 
@@ -87,6 +84,65 @@ one_of-alike a a' b b' s t = record { same = same-node Set.one_of label_one_of o
 
 pub less-alike : (a a' b b' : Set) → AreAlike a a' → AreAlike b b' → AreAlike (Set.less a b) (Set.less a' b')
 less-alike a a' b b' s t = record { same = same-node Set.less label_less less-label a a' b b' s.same t.same; planes = planes-both a a' b b' s t }
+
+-- ---- sets that hold at the same points of the frame are the same
+same-held : (s t : Set) → ((p : Place) → InFrame p → Holds s p ↔ Holds t p) → SameSet s t
+same-held s t h p Out = (λ i. i, λ i. i)
+same-held s t h p Not = (λ i. (i.0, λ k. i.1 ((h p i.0).1 k)), λ i. (i.0, λ k. i.1 ((h p i.0).0 k)))
+same-held s t h p In = (λ i. (i.0, (h p i.0).0 i.1), λ i. (i.0, (h p i.0).1 i.1))
+
+module _ (a c : Set) (f : AreAlike a c) where
+  held : (p : Place) → InFrame p → Holds a p ↔ Holds c p
+  held p i = (λ k. ((f.same p In).0 (i, k)).1, λ k. ((f.same p In).1 (i, k)).1)
+
+  interior : (p : Place) → Interior (Holds a) p ↔ Interior (Holds c) p
+  interior p = (λ (n, some, h). (n, some, λ q i w. (held q i).0 (h q i w)), λ (n, some, h). (n, some, λ q i w. (held q i).1 (h q i w)))
+
+  closure : (p : Place) → Closure (Holds a) p ↔ Closure (Holds c) p
+  closure p = (
+    λ h n some. let r = h n some in (r.0, r.1, r.2, (held r.0 r.1).0 r.3),
+    λ h n some. let r = h n some in (r.0, r.1, r.2, (held r.0 r.1).1 r.3),
+  )
+
+  pub other-alike : AreAlike (Set.other a) (Set.other c)
+  unfolding Holds
+  other-alike = record { same = same-held (Set.other a) (Set.other c) (λ p i. (λ h k. h ((held p i).1 k), λ h k. h ((held p i).0 k))); planes = f.planes }
+
+  pub inside-alike : AreAlike (Set.inside a) (Set.inside c)
+  unfolding Holds
+  inside-alike = record { same = same-held (Set.inside a) (Set.inside c) (λ p i. interior p); planes = f.planes }
+
+  pub closed-alike : AreAlike (Set.closed a) (Set.closed c)
+  unfolding Holds
+  closed-alike = record { same = same-held (Set.closed a) (Set.closed c) (λ p i. closure p); planes = f.planes }
+
+  pub border-alike : AreAlike (Set.border a) (Set.border c)
+  unfolding Holds
+  border-alike = record {
+    same = same-held (Set.border a) (Set.border c) (λ p i. (λ h. ((closure p).0 h.0, λ k. h.1 ((interior p).1 k)), λ h. ((closure p).1 h.0, λ k. h.1 ((interior p).0 k))));
+    planes = f.planes;
+  }
+
+  pub regular-alike : AreAlike (Set.regular a) (Set.regular c)
+  unfolding Holds
+  regular-alike = record {
+    same = same-held (Set.regular a) (Set.regular c) (λ p i. (
+      λ h n some. let r = h n some in (r.0, r.1, r.2, (interior r.0).0 r.3),
+      λ h n some. let r = h n some in (r.0, r.1, r.2, (interior r.0).1 r.3),
+    ));
+    planes = f.planes;
+  }
+
+planes-turned : (k : ℕ) (s t : Set) → AreAlike s t → (f : Form) → Lies (halves (turned_set k s)) f → Lies (halves (turned_set k t)) f
+planes-turned k s t a f l =
+    let (h, there, is) = halves-from k s f l in
+    subst (Lies (halves (turned_set k t))) (sym is) (halves-there k t h ((a.planes h).0 there))
+
+pub turned-alike : (k : ℕ) (s t : Set) → AreAlike s t → AreAlike (turned_set k s) (turned_set k t)
+turned-alike k s t a = record {
+  same = (same_set-turned k s t).1 a.same;
+  planes = λ f. (planes-turned k s t a f, planes-turned k t s (alike-sym s t a) f);
+}
 
 -- ---- a row's operands grouped in another way
 or-grouped : (l m k : Label) → label_or (label_or l m) k ≡ label_or l (label_or m k)

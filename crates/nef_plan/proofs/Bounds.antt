@@ -1,29 +1,18 @@
 -- What is known of the nodes, while it's told of one and the plan grows.
-use Rattle.std.proofs.Common.{◌≡◌, ◌∙◌, ℕ, ◌<◌, ap, refl, sym, subst, List, ◌++◌, length, Option, None, Some, inl, inr}
-use Rattle.std.specs.Prelude.{◌⊎◌, IfSome, slice_get, slice_set}
-use Rattle.std.proofs.lemmas.Bool.{cases_eq}
-use Rattle.std.proofs.lemmas.Option.{slice_get_within}
+use Rattle.nef_plan.proofs.Prelude.{◌≡◌, ◌∙◌, ℕ, ◌<◌, ap, refl, sym, subst, List, ◌++◌, length, Option, None, Some, inl, inr, IfSome, slice_get, slice_set, cases_eq, slice_get_within, Set, node_set, Command, Drafts, Row, RowKind, Bound, No, Made, Deferred, ArePlanned, GoesOn, HasAdded, HasGrown, IsBound, IsThere, Tells, combined, parts}
+use Rattle.std.specs.Prelude.{◌⊎◌}
 use Rattle.nef_core.proofs.Places.{get_set_here, get_set_other}
-use Rattle.nef_space.specs.Sets.{Set}
-use Rattle.nef_expr.specs.Nodes.{node_set}
-use Rattle.nef_script.specs.declared.script.Command.{Command}
-use Rattle.nef_plan.specs.declared.planner.Plan.{Plan}
-use Rattle.nef_plan.specs.declared.row.Row.{Row}
-use Rattle.nef_plan.specs.declared.row.RowKind.{RowKind}
-use Rattle.nef_plan.specs.declared.row.Bound.{Bound}
-use Rattle.nef_plan.specs.declared.row.Bound.TheVariants.{No, Made, Deferred}
-use Rattle.nef_plan.specs.Rows.{ArePlanned, GoesOn, HasAdded, HasGrown, IsBound, IsThere, Tells, combined, parts}
 use Rattle.nef_plan.proofs.Growth.{grown-trans, ready-grown}
 use Rattle.nef_plan.proofs.Added.{added-trans, added-wider}
 use Rattle.nef_plan.proofs.Rows.{row-grown}
 
-tells-grown : (old new : Plan) (l : List Command) (k : ℕ) (b : Bound) → HasGrown old new l → Tells old k b → Tells new k b
+tells-grown : (old new : Drafts) (l : List Command) (k : ℕ) (b : Bound) → HasGrown old new l → Tells old k b → Tells new k b
 tells-grown old new l k No h tells = tt
 tells-grown old new l k Made h tells = ready-grown old new l k h tells
 tells-grown old new l k (Deferred row) h tells = row-grown old new l row.kind (parts row) k h tells
 
 -- a plan that has grown, with something told of one node
-planned-set : (old new : Plan) (l : List Command) (bounds : List Bound) (n : ℕ) (b : Bound) → ArePlanned old bounds → HasGrown old new l → n < length bounds → Tells new n b → ArePlanned new (slice_set bounds n b)
+planned-set : (old new : Drafts) (l : List Command) (bounds : List Bound) (n : ℕ) (b : Bound) → ArePlanned old bounds → HasGrown old new l → n < length bounds → Tells new n b → ArePlanned new (slice_set bounds n b)
 planned-set old new l bounds n b are h within tells = record {
   steps = h.steps;
   told = λ k d at. elim (cases_eq k n) [
@@ -35,7 +24,7 @@ planned-set old new l bounds n b are h within tells = record {
   ];
 }
 
-planned-grown : (old new : Plan) (l : List Command) (bounds : List Bound) → ArePlanned old bounds → HasGrown old new l → ArePlanned new bounds
+planned-grown : (old new : Drafts) (l : List Command) (bounds : List Bound) → ArePlanned old bounds → HasGrown old new l → ArePlanned new bounds
 planned-grown old new l bounds are h = record { steps = h.steps; told = λ k d at. tells-grown old new l k d h (are.told k d at) }
 
 pub bound-here : (bounds : List Bound) (n : ℕ) (b : Bound) → n < length bounds → IsThere b → IsBound (slice_set bounds n b) n
@@ -60,7 +49,7 @@ bound-same bounds n b here k is = elim (bound-before bounds n b k is) [
   | inr e ↦ subst (IsBound bounds) (sym e) here
 ]
 
-pub on-set : (old new : Plan) (l : List Command) (bounds : List Bound) (n : ℕ) (b : Bound) → ArePlanned old bounds → HasGrown old new l → n < length bounds → IsThere b → Tells new n b → HasAdded old new (λ k. k ≡ n) → GoesOn old bounds new (slice_set bounds n b) l
+pub on-set : (old new : Drafts) (l : List Command) (bounds : List Bound) (n : ℕ) (b : Bound) → ArePlanned old bounds → HasGrown old new l → n < length bounds → IsThere b → Tells new n b → HasAdded old new (λ k. k ≡ n) → GoesOn old bounds new (slice_set bounds n b) l
 on-set old new l bounds n b are h within there tells adds = record {
   grown = h;
   still = bound-still bounds n b within there;
@@ -68,10 +57,10 @@ on-set old new l bounds n b are h within there tells adds = record {
   added = added-wider old new (λ k. k ≡ n) (IsBound (slice_set bounds n b)) (λ k e. subst (IsBound (slice_set bounds n b)) (sym e) (bound-here bounds n b within there)) adds;
 }
 
-pub on-grown : (old new : Plan) (l : List Command) (bounds : List Bound) → ArePlanned old bounds → HasGrown old new l → HasAdded old new (IsBound bounds) → GoesOn old bounds new bounds l
+pub on-grown : (old new : Drafts) (l : List Command) (bounds : List Bound) → ArePlanned old bounds → HasGrown old new l → HasAdded old new (IsBound bounds) → GoesOn old bounds new bounds l
 on-grown old new l bounds are h adds = record { grown = h; still = λ k is. is; planned = planned-grown old new l bounds are h; added = adds }
 
-pub on-trans : (a b c : Plan) (k l m : List Bound) (qs rs : List Command) → GoesOn a k b l qs → GoesOn b l c m rs → GoesOn a k c m (qs ++ rs)
+pub on-trans : (a b c : Drafts) (k l m : List Bound) (qs rs : List Command) → GoesOn a k b l qs → GoesOn b l c m rs → GoesOn a k c m (qs ++ rs)
 on-trans a b c k l m qs rs f g = record { grown = grown-trans a b c qs rs f.grown g.grown; still = λ n is. g.still n (f.still n is); planned = g.planned; added = added-trans a b c (IsBound l) (IsBound m) f.grown.nodes g.still f.added g.added }
 
 -- what holds of each node that there is
@@ -80,7 +69,7 @@ some-all None P all = tt
 some-all (Some k) P all = all k refl
 
 -- a node that is bound is there
-pub bound-node : (plan : Plan) (bounds : List Bound) (k : ℕ) → ArePlanned plan bounds → IsBound bounds k → k < length plan.nodes
+pub bound-node : (plan : Drafts) (bounds : List Bound) (k : ℕ) → ArePlanned plan bounds → IsBound bounds k → k < length plan.nodes
 bound-node plan bounds k are (No, at, there) = absurd there
 bound-node plan bounds k are (Made, at, there) = (are.told k Made at).within
 bound-node plan bounds k are (Deferred row, at, there) = (are.told k (Deferred row) at).within
@@ -95,7 +84,7 @@ bound-made bounds k b (Made, at, there) here other = let e : Some b ≡ Some Mad
 bound-made bounds k b (Deferred row, at, there) here other = absurd (other row (let e : Some b ≡ Some (Deferred row) = sym here ∙ at in cc))
 
 -- the set of a node is still made of those of two nodes that are bound
-pub set-grown : (old new : Plan) (l : List Command) (bounds : List Bound) (kind : RowKind) (i j k : ℕ) → HasGrown old new l → ArePlanned old bounds → IsBound bounds i → IsBound bounds j → k < length old.nodes
+pub set-grown : (old new : Drafts) (l : List Command) (bounds : List Bound) (kind : RowKind) (i j k : ℕ) → HasGrown old new l → ArePlanned old bounds → IsBound bounds i → IsBound bounds j → k < length old.nodes
     → node_set old.nodes k ≡ combined kind (node_set old.nodes i) (node_set old.nodes j) → node_set new.nodes k ≡ combined kind (node_set new.nodes i) (node_set new.nodes j)
 set-grown old new l bounds kind i j k h are first second within is =
     let e = h.nodes.sets i (bound-node old bounds i are first) in

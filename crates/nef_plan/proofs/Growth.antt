@@ -1,23 +1,7 @@
 -- What stays where nodes and steps are added.
-use Rattle.std.proofs.Common.{◌≡◌, ◌∙◌, ℕ, ◌<◌, ◌≤◌, refl, ap, sym, subst, arith, List, [], ◌∷◌, ◌++◌, length, inl, inr, length-append, append-nil, append_assoc}
-use Rattle.std.proofs.lemmas.Option.{slice_get_within}
-use Rattle.nef_space.specs.Sets.{Set}
-use Rattle.law_turns.specs.Turned.{turned_set}
-use Rattle.nef_expr.specs.declared.nodes.Node.{Node}
-use Rattle.nef_expr.specs.Nodes.{node_set, set_of, sets_after, NamesBelow}
-use Rattle.nef_expr.proofs.Operands.{names-wider}
-use Rattle.nef_expr.proofs.Places.{slice_get-left, slice_get-seam, place-push}
-use Rattle.nef_expr.proofs.Sets.{earlier-sets_stay, new-set, set_of-same}
-use Rattle.nef_script.specs.declared.script.Command.{Command}
+use Rattle.nef_plan.proofs.Prelude.{◌≡◌, ◌∙◌, ℕ, ◌<◌, ◌≤◌, refl, ap, sym, subst, arith, List, [], ◌∷◌, ◌++◌, length, inl, inr, length-append, append-nil, append_assoc, slice_get_within, Set, turned_set, Node, node_set, set_of, sets_after, NamesBelow, names-wider, slice_get-left, slice_get-seam, place-push, earlier-sets_stay, new-set, set_of-same, Command, IsWithin, Draft, Make, Turn, Ask, Drafts, AreAlike, IsReady, HasGrown, AreDrafts, HasMore, IsMade, IsMadeAs, IsRight, LooksAt, Makes, asked}
 use Rattle.nef_script.specs.declared.script.Command.TheVariants as command
-use Rattle.nef_script.specs.Meaning.{IsWithin}
-use Rattle.nef_plan.specs.declared.planner.Step.{Step}
-use Rattle.nef_plan.specs.declared.planner.Step.TheVariants.{Make, Turn, Ask}
-use Rattle.nef_plan.specs.declared.planner.Plan.{Plan}
-use Rattle.nef_plan.specs.Alike.{AreAlike}
 use Rattle.nef_plan.proofs.Alike.{alike-refl}
-use Rattle.nef_plan.specs.Rows.{IsReady, HasGrown}
-use Rattle.nef_plan.specs.Steps.{AreSteps, HasMore, IsMade, IsMadeAs, IsRight, LooksAt, Makes, asked}
 
 -- ---- nodes
 pub more-same : (old new : List Node) → new ≡ old → HasMore old new
@@ -46,7 +30,7 @@ within-wider m n (command.Same line i j) l h = (omega (arith, l, h.0), omega (ar
 within-wider m n (command.Count line k) l h = omega (arith, l, h)
 within-wider m n (command.Print line k name) l h = omega (arith, l, h)
 
-pub right-more : (old new : List Node) (s : Step) → HasMore old new → IsRight old s → IsRight new s
+pub right-more : (old new : List Node) (s : Draft) → HasMore old new → IsRight old s → IsRight new s
 right-more old new (Make n m) h r = record {
   within = omega (arith, r.within, h.as_many);
   operands = names-wider (length old) (length new) m h.as_many r.operands;
@@ -61,23 +45,23 @@ right-more old new (Turn n j t) h r = record {
 right-more old new (Ask c) h r = (r.0, within-wider (length old) (length new) c.now h.as_many r.1)
 
 -- the node whose set a step makes is there, and the step asks nothing
-pub makes-within : (nodes : List Node) (s : Step) (k : ℕ) → IsRight nodes s → Makes s k → k < length nodes
+pub makes-within : (nodes : List Node) (s : Draft) (k : ℕ) → IsRight nodes s → Makes s k → k < length nodes
 makes-within nodes (Make n m) k right is = subst (λ z. z < length nodes) (sym is) right.within
 makes-within nodes (Turn n j t) k right is = subst (λ z. z < length nodes) (sym is) right.within
 makes-within nodes (Ask c) k right is = absurd is
 
 -- a step makes one node at most
-pub makes-one : (s : Step) (n k : ℕ) → Makes s n → Makes s k → k ≡ n
+pub makes-one : (s : Draft) (n k : ℕ) → Makes s n → Makes s k → k ≡ n
 makes-one (Make m d) n k first second = second ∙ sym first
 makes-one (Turn m j t) n k first second = second ∙ sym first
 makes-one (Ask c) n k first second = absurd first
 
-pub asked-none : (s : Step) (k : ℕ) → Makes s k → asked (s ∷ []) ≡ []
+pub asked-none : (s : Draft) (k : ℕ) → Makes s k → asked (s ∷ []) ≡ []
 asked-none (Make n m) k is = refl
 asked-none (Turn n j t) k is = refl
 asked-none (Ask c) k is = absurd is
 
-pub steps-more : (old new : List Node) (steps : List Step) → HasMore old new → AreSteps old steps → AreSteps new steps
+pub steps-more : (old new : List Node) (steps : List Draft) → HasMore old new → AreDrafts old steps → AreDrafts new steps
 steps-more old new steps h are = record { right = λ i s at. right-more old new s h (are.right i s at); made_before = are.made_before }
 
 -- a node that is added is made as it says
@@ -99,13 +83,13 @@ made-grown old new n m h within below is = record {
 }
 
 -- ---- steps
-pub made-push : (steps : List Step) (s : Step) (k : ℕ) → IsMade steps k → IsMade (steps ++ s ∷ []) k
+pub made-push : (steps : List Draft) (s : Draft) (k : ℕ) → IsMade steps k → IsMade (steps ++ s ∷ []) k
 made-push steps s k (j, d, at, makes) = (j, d, slice_get-left steps (s ∷ []) j d at, makes)
 
-pub made-last : (steps : List Step) (s : Step) (k : ℕ) → Makes s k → IsMade (steps ++ s ∷ []) k
+pub made-last : (steps : List Draft) (s : Draft) (k : ℕ) → Makes s k → IsMade (steps ++ s ∷ []) k
 made-last steps s k makes = (length steps, s, slice_get-seam steps s [], makes)
 
-pub steps-push : (nodes : List Node) (steps : List Step) (s : Step) → AreSteps nodes steps → IsRight nodes s → ((k : ℕ) → LooksAt s k → IsMade steps k) → AreSteps nodes (steps ++ s ∷ [])
+pub steps-push : (nodes : List Node) (steps : List Draft) (s : Draft) → AreDrafts nodes steps → IsRight nodes s → ((k : ℕ) → LooksAt s k → IsMade steps k) → AreDrafts nodes (steps ++ s ∷ [])
 steps-push nodes steps s are is made = record {
   right = λ i d at. elim (place-push steps s i d at) [
     | inl o ↦ are.right i d o.1
@@ -114,26 +98,26 @@ steps-push nodes steps s are is made = record {
   made_before = λ i d at k looks. elim (place-push steps s i d at) [
     | inl o ↦ (let (j, e, low, there, makes) = are.made_before i d o.1 k looks in (j, e, low, slice_get-left steps (s ∷ []) j e there, makes))
     | inr l ↦ (
-        let (j, e, there, makes) = made k (subst (λ (z : Step). LooksAt z k) l.1 looks) in
+        let (j, e, there, makes) = made k (subst (λ (z : Draft). LooksAt z k) l.1 looks) in
         let below = slice_get_within steps j e there in
         (j, e, omega (arith, below, l.0), slice_get-left steps (s ∷ []) j e there, makes))
   ];
 }
 
-pub asked-append : (front rest : List Step) → asked (front ++ rest) ≡ asked front ++ asked rest
+pub asked-append : (front rest : List Draft) → asked (front ++ rest) ≡ asked front ++ asked rest
 asked-append [] rest = refl
 asked-append (Make n m ∷ front) rest = asked-append front rest
 asked-append (Turn n j t ∷ front) rest = asked-append front rest
 asked-append (Ask c ∷ front) rest = ap (λ (z : List Command). c.now ∷ z) (asked-append front rest)
 
-pub asked-push : (steps : List Step) (s : Step) → asked (steps ++ s ∷ []) ≡ asked steps ++ asked (s ∷ [])
+pub asked-push : (steps : List Draft) (s : Draft) → asked (steps ++ s ∷ []) ≡ asked steps ++ asked (s ∷ [])
 asked-push steps s = asked-append steps (s ∷ [])
 
 -- ---- both
-pub grown-refl : (plan : Plan) → AreSteps plan.nodes plan.steps.items → HasGrown plan plan []
+pub grown-refl : (plan : Drafts) → AreDrafts plan.nodes plan.steps.items → HasGrown plan plan []
 grown-refl plan steps = record { nodes = more-same plan.nodes plan.nodes refl; steps = steps; made = λ k made. made; asked = sym (append-nil (asked plan.steps.items)) }
 
-pub grown-trans : (a b c : Plan) (l m : List Command) → HasGrown a b l → HasGrown b c m → HasGrown a c (l ++ m)
+pub grown-trans : (a b c : Drafts) (l m : List Command) → HasGrown a b l → HasGrown b c m → HasGrown a c (l ++ m)
 grown-trans a b c l m f g = record {
   nodes = more-trans a.nodes b.nodes c.nodes f.nodes g.nodes;
   steps = g.steps;
@@ -141,5 +125,5 @@ grown-trans a b c l m f g = record {
   asked = g.asked ∙ ap (λ (z : List Command). z ++ m) f.asked ∙ append_assoc (asked a.steps.items) l m;
 }
 
-pub ready-grown : (old new : Plan) (l : List Command) (k : ℕ) → HasGrown old new l → IsReady old k → IsReady new k
+pub ready-grown : (old new : Drafts) (l : List Command) (k : ℕ) → HasGrown old new l → IsReady old k → IsReady new k
 ready-grown old new l k h is = record { within = let m = h.nodes.as_many in let w = is.within in omega arith; made = h.made k is.made }

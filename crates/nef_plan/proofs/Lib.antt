@@ -1,3 +1,4 @@
+pub mod Prelude
 pub mod Alike
 pub mod Growth
 pub mod Added
@@ -5,3 +6,7 @@ pub mod Rows
 pub mod Bounds
 pub mod Grouping
 pub mod Ordering
+pub mod Valued
+pub mod Ended
+pub mod Followed
+pub mod Planned

@@ -1,9 +1,6 @@
 -- Expressions for one set that are made of the same halves.
 use Rattle.std.specs.Prelude.{◌↔◌}
-use Rattle.nef_space.specs.Local.{SameSet}
-use Rattle.nef_space.specs.Place.{Form}
-use Rattle.nef_space.specs.Sets.{Set, halves}
-use Rattle.nef_space.specs.Signs.{Lies}
+use Rattle.nef_space.specs.Prelude.{SameSet, Form, Set, halves, Lies}
 
 -- both are one set, and the halves of either have the same planes
 pub record AreAlike (s t : Set) : Type 0 where

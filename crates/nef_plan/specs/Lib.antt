@@ -1,5 +1,9 @@
+pub mod Prelude
 pub mod Alike
 pub mod Blocks
+pub mod Drafts
 pub mod Groups
+pub mod Numbers
+pub mod Questions
 pub mod Rows
-pub mod Steps
+pub mod Values

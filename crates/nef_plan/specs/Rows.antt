@@ -4,15 +4,15 @@ use Rattle.nef_space.specs.Sets.{Set}
 use Rattle.nef_expr.specs.declared.nodes.Node.{Node}
 use Rattle.nef_expr.specs.Nodes.{node_set}
 use Rattle.nef_script.specs.declared.script.Command.{Command}
-use Rattle.nef_plan.specs.declared.planner.Plan.{Plan}
-use Rattle.nef_plan.specs.declared.planner.Step.{Step}
+use Rattle.nef_plan.specs.declared.planner.Drafts.{Drafts}
+use Rattle.nef_plan.specs.declared.planner.Draft.{Draft}
 use Rattle.nef_plan.specs.declared.row.RowKind.{RowKind}
 use Rattle.nef_plan.specs.declared.row.RowKind.TheVariants.{Union, Exclusive, Difference}
 use Rattle.nef_plan.specs.declared.row.Row.{Row}
 use Rattle.nef_plan.specs.declared.row.Bound.{Bound}
 use Rattle.nef_plan.specs.declared.row.Bound.TheVariants.{No, Made, Deferred}
 use Rattle.nef_plan.specs.Alike.{AreAlike}
-use Rattle.nef_plan.specs.Steps.{AreSteps, HasMore, IsMade, IsOfOthers, Makes, asked}
+use Rattle.nef_plan.specs.Drafts.{AreDrafts, HasMore, IsMade, IsOfOthers, Makes, asked}
 
 -- both are of one kind, whatever they are differences from
 abbrev pub AreOfOneKind : RowKind → RowKind → Type 0
@@ -54,7 +54,7 @@ abbrev pub row_set : List Node → RowKind → List ℕ → Set
 row_set nodes kind parts = ended nodes kind (joined_after nodes kind Set.empty parts)
 
 -- the node is there, and a step makes its set
-pub record IsReady (plan : Plan) (k : ℕ) : Type 0 where
+pub record IsReady (plan : Drafts) (k : ℕ) : Type 0 where
   pub within : k < length plan.nodes
   pub made : IsMade plan.steps.items k
 
@@ -65,12 +65,12 @@ BeginsWith Exclusive k = Unit {0}
 BeginsWith (Difference from) k = k ≡ from
 
 -- the nodes of a row with these parts are ready
-pub record AreReady (plan : Plan) (kind : RowKind) (parts : List ℕ) : Type 0 where
+pub record AreReady (plan : Drafts) (kind : RowKind) (parts : List ℕ) : Type 0 where
   pub from : (k : ℕ) → kind ≡ Difference k → IsReady plan k
   pub each : (i : ℕ) (p : ℕ) → slice_get parts i ≡ Some p → IsReady plan p
 
 -- the row with these parts makes the set of node k, of sets that are ready
-pub record MakesSet (plan : Plan) (kind : RowKind) (parts : List ℕ) (k : ℕ) : Type 0 where
+pub record MakesSet (plan : Drafts) (kind : RowKind) (parts : List ℕ) (k : ℕ) : Type 0 where
   pub within : k < length plan.nodes
   pub ready : AreReady plan kind parts
   pub set : AreAlike (row_set plan.nodes kind parts) (node_set plan.nodes k)
@@ -78,18 +78,18 @@ pub record MakesSet (plan : Plan) (kind : RowKind) (parts : List ℕ) (k : ℕ) 
 abbrev pub parts : Row → List ℕ
 parts row = row.others.items ++ row.last ∷ []
 
-abbrev pub IsRowOf : Plan → Row → ℕ → Type 0
+abbrev pub IsRowOf : Drafts → Row → ℕ → Type 0
 IsRowOf plan row k = MakesSet plan row.kind (parts row) k
 
 -- what is told of node k
-abbrev pub Tells : Plan → ℕ → Bound → Type 0
+abbrev pub Tells : Drafts → ℕ → Bound → Type 0
 Tells plan k No = Unit {0}
 Tells plan k Made = IsReady plan k
 Tells plan k (Deferred row) = IsRowOf plan row k
 
 -- the steps are right, and so is what is told of each node
-pub record ArePlanned (plan : Plan) (bounds : List Bound) : Type 0 where
-  pub steps : AreSteps plan.nodes plan.steps.items
+pub record ArePlanned (plan : Drafts) (bounds : List Bound) : Type 0 where
+  pub steps : AreDrafts plan.nodes plan.steps.items
   pub told : (k : ℕ) (b : Bound) → slice_get bounds k ≡ Some b → Tells plan k b
 
 -- a name is bound to the node of which this is known
@@ -103,24 +103,24 @@ abbrev pub IsBound : List Bound → ℕ → Type 0
 IsBound bounds k = (b : Bound) × (slice_get bounds k ≡ Some b) × IsThere b
 
 -- the later plan has nodes and steps more, which are right, and of which these are questions
-pub record HasGrown (old new : Plan) (questions : List Command) : Type 0 where
+pub record HasGrown (old new : Drafts) (questions : List Command) : Type 0 where
   pub nodes : HasMore old.nodes new.nodes
-  pub steps : AreSteps new.nodes new.steps.items
+  pub steps : AreDrafts new.nodes new.steps.items
   pub made : (k : ℕ) → IsMade old.steps.items k → IsMade new.steps.items k
   pub asked : asked new.steps.items ≡ asked old.steps.items ++ questions
 
 -- the step makes nodes that are named, or nodes that aren't among the first n, of others
-abbrev pub MakesOnly : ℕ → (ℕ → Type 0) → Step → Type 0
+abbrev pub MakesOnly : ℕ → (ℕ → Type 0) → Draft → Type 0
 MakesOnly n named s = (k : ℕ) → Makes s k → named k ⊎ IsOfOthers n s k
 
 -- the later plan has steps more behind those of the earlier one, which make nodes that are named, or new nodes of others
-pub record HasAdded (old new : Plan) (named : ℕ → Type 0) : Type 0 where
-  pub added : List Step
+pub record HasAdded (old new : Drafts) (named : ℕ → Type 0) : Type 0 where
+  pub added : List Draft
   pub steps : new.steps.items ≡ old.steps.items ++ added
   pub each : All (MakesOnly (length old.nodes) named) added
 
 -- and what was bound is bound, what is told of each node is right, and the nodes that were made are bound, or new
-pub record GoesOn (old : Plan) (bounds : List Bound) (new : Plan) (later : List Bound) (questions : List Command) : Type 0 where
+pub record GoesOn (old : Drafts) (bounds : List Bound) (new : Drafts) (later : List Bound) (questions : List Command) : Type 0 where
   pub grown : HasGrown old new questions
   pub still : (k : ℕ) → IsBound bounds k → IsBound later k
   pub planned : ArePlanned new later

@@ -8,8 +8,7 @@
 //! that is little beside what its making cost: so it has to be made of half-spaces for this row alone.
 
 ghost use Rattle.std.specs.Prelude.{◌≡◌, ◌<◌, ◌≤◌};
-ghost use Rattle.nef_space.specs.Prelude.{ℕ, All, IfOk, IfSome, OnOk, length, vec_len};
-ghost use Rattle.nef_script.specs.Meaning.{IsWithin};
+ghost use Rattle.nef_plan.specs.Prelude.{ℕ, All, IfOk, IfSome, OnOk, length, vec_len, IsWithin};
 
 use crate::OutOfMemory;
 use crate::blocks::{Block, no_three_meet};

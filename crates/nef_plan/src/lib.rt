@@ -11,10 +11,12 @@ mod blocks;
 mod hints;
 mod needed;
 mod notes;
+mod numbering;
 mod planner;
 mod planning;
 mod row;
+mod step;
 
-pub use planner::{Plan, Step};
-pub use planning::{asked_nodes, looked_at, plan};
+pub use planning::plan;
 pub use std::alloc::AllocError as OutOfMemory;
+pub use step::{Plan, Step, Task};

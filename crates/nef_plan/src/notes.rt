@@ -2,9 +2,7 @@
 //! is made of, and its block.
 
 ghost use Rattle.std.specs.Prelude.{◌≡◌, ◌<◌};
-ghost use Rattle.nef_space.specs.Prelude.{ℕ, All, IfOk, IfSome, length, vec_len};
-ghost use Rattle.nef_expr.specs.Nodes.{NamesBelow};
-ghost use Rattle.nef_script.specs.Meaning.{IsWithin};
+ghost use Rattle.nef_plan.specs.Prelude.{ℕ, All, IfOk, IfSome, length, vec_len, NamesBelow, IsWithin};
 
 use crate::OutOfMemory;
 use crate::blocks::{Block, blocks_of};

@@ -1,12 +1,7 @@
-//! Steps, and those that make the sets of nodes.
+//! Drafts of steps, and those that make the sets of nodes.
 
 ghost use Rattle.std.specs.Prelude.{◌≡◌, ◌<◌, ◌≤◌, ◌∷◌, ◌++◌, ◌⊎◌};
-ghost use Rattle.nef_space.specs.Prelude.{ℕ, IfOk, IfSome, OnOk, length, Some, true, []};
-ghost use Rattle.nef_expr.specs.Nodes.{node_set, set_of, sets_after, IsOperand};
-ghost use Rattle.nef_plan.specs.Rows.{AreReady, ArePlanned, GoesOn, HasAdded, HasGrown, IsBound, IsReady, IsRowOf, AreOfOneKind, BeginsWith, combined, joined, parts, spare};
-ghost use Rattle.nef_script.specs.Meaning.{IsWithin};
-ghost use Rattle.nef_plan.specs.Steps.{AreSteps, AsksAbout, IsMade, IsRight, LooksAt, Makes, asked, is_question};
-ghost use Rattle.nef_plan.specs.declared.planner.Plan.{Plan as State};
+ghost use Rattle.nef_plan.specs.Prelude.{ℕ, IfOk, IfSome, OnOk, length, Some, true, [], node_set, set_of, sets_after, IsOperand, AreReady, ArePlanned, GoesOn, HasAdded, HasGrown, IsBound, IsReady, IsRowOf, AreOfOneKind, BeginsWith, combined, joined, parts, spare, IsWithin, AreDrafts, IsMade, IsRight, LooksAt, Makes, asked, AsksAbout, is_question, Drafts as State};
 
 use crate::OutOfMemory;
 use crate::hints::Hint;
@@ -17,9 +12,9 @@ use nef_script::Command;
 use std::alloc::Global;
 use std::mem;
 
-/// A step of a script's work.
+/// The draft of a step, which speaks of the sets of nodes.
 #[derive(Clone, Copy)]
-pub enum Step<'a> {
+pub(crate) enum Draft<'a> {
     /// The set of the node is made, of the sets of other nodes. Where it is one of a row that is joined as a tree, it isn't
     /// made as its line says.
     Make { node: usize, made: Node },
@@ -29,16 +24,17 @@ pub enum Step<'a> {
     Ask(&'a Command),
 }
 
-/// What is worked of a script: its nodes, with more behind them for sets that no name is bound to, and the steps in order.
+/// What is worked of a script: its nodes, with more behind them for sets that no name is bound to, and the drafts of its
+/// steps, in order.
 #[derive(Drop)]
-pub struct Plan<'a> {
+pub(crate) struct Drafts<'a> {
     pub nodes: Nodes,
-    pub steps: Vec<Step<'a>>,
+    pub steps: Vec<Draft<'a>>,
 }
 
 // Adds a step behind those that make what it looks at.
-fn add_step<'a>(plan: &mut Plan<'a>, step: Step<'a>) -> Result<(), OutOfMemory>
-    requires steps { AreSteps plan.old.nodes plan.old.steps.items }
+fn add_step<'a>(plan: &mut Drafts<'a>, step: Draft<'a>) -> Result<(), OutOfMemory>
+    requires steps { AreDrafts plan.old.nodes plan.old.steps.items }
     requires right { IsRight plan.old.nodes step }
     requires made { (k : ℕ) → LooksAt step k → IsMade plan.old.steps.items k }
     ensures grown { OnOk result (HasGrown plan.old plan.new (asked (step.entry ∷ []))) }
@@ -52,12 +48,12 @@ fn add_step<'a>(plan: &mut Plan<'a>, step: Step<'a>) -> Result<(), OutOfMemory>
 
 // Makes one part of two.
 fn joined_part(
-    plan: &mut Plan,
+    plan: &mut Drafts,
     kind: RowKind,
     first: usize,
     second: usize,
 ) -> Result<usize, OutOfMemory>
-    requires steps { AreSteps plan.old.nodes plan.old.steps.items }
+    requires steps { AreDrafts plan.old.nodes plan.old.steps.items }
     requires first { IsReady plan.old first }
     requires second { IsReady plan.old second }
     ensures grown { IfOk result (λ p. HasGrown plan.old plan.new []) }
@@ -67,13 +63,13 @@ fn joined_part(
 {
     let made = kind.join(first, second);
     let node = plan.nodes.push(made)?;
-    add_step(plan, Step::Make { node, made })?;
+    add_step(plan, Draft::Make { node, made })?;
     Ok(node)
 }
 
 // Joins the last two parts of the row, if there are two.
-fn join_last(plan: &mut Plan, row: &mut Row) -> Result<(), OutOfMemory>
-    requires steps { AreSteps plan.old.nodes plan.old.steps.items }
+fn join_last(plan: &mut Drafts, row: &mut Row) -> Result<(), OutOfMemory>
+    requires steps { AreDrafts plan.old.nodes plan.old.steps.items }
     requires ready { AreReady plan.old row.old.kind (parts row.old) }
     ensures grown { OnOk result (HasGrown plan.old plan.new []) }
     ensures ready { OnOk result (AreReady plan.new row.new.kind (parts row.new)) }
@@ -89,8 +85,8 @@ fn join_last(plan: &mut Plan, row: &mut Row) -> Result<(), OutOfMemory>
 }
 
 // Joins last parts of the row, until no more than so many others are left.
-fn join_parts(plan: &mut Plan, row: &mut Row, others: usize) -> Result<(), OutOfMemory>
-    requires steps { AreSteps plan.old.nodes plan.old.steps.items }
+fn join_parts(plan: &mut Drafts, row: &mut Row, others: usize) -> Result<(), OutOfMemory>
+    requires steps { AreDrafts plan.old.nodes plan.old.steps.items }
     requires ready { AreReady plan.old row.old.kind (parts row.old) }
     ensures grown { OnOk result (HasGrown plan.old plan.new []) }
     ensures added { OnOk result (HasAdded plan.old plan.new (λ k. ⊥)) }
@@ -105,8 +101,8 @@ fn join_parts(plan: &mut Plan, row: &mut Row, others: usize) -> Result<(), OutOf
 }
 
 // Joins the parts of the node's row, and makes its set of them.
-fn finish(plan: &mut Plan, row: &mut Row, node: usize) -> Result<(), OutOfMemory>
-    requires steps { AreSteps plan.old.nodes plan.old.steps.items }
+fn finish(plan: &mut Drafts, row: &mut Row, node: usize) -> Result<(), OutOfMemory>
+    requires steps { AreDrafts plan.old.nodes plan.old.steps.items }
     requires row { IsRowOf plan.old row.old node }
     ensures grown { OnOk result (HasGrown plan.old plan.new []) }
     ensures added { OnOk result (HasAdded plan.old plan.new (λ k. k ≡ node)) }
@@ -115,11 +111,11 @@ fn finish(plan: &mut Plan, row: &mut Row, node: usize) -> Result<(), OutOfMemory
     let spare = row.spare();
     join_parts(plan, row, spare)?;
     let made = row.ending();
-    add_step(plan, Step::Make { node, made })
+    add_step(plan, Draft::Make { node, made })
 }
 
 // Makes the set of the node, if there is one, which is bound then, unless it is made.
-fn demand(plan: &mut Plan, bounds: &mut [Bound], wanted: Option<usize>) -> Result<(), OutOfMemory>
+fn demand(plan: &mut Drafts, bounds: &mut [Bound], wanted: Option<usize>) -> Result<(), OutOfMemory>
     requires planned { ArePlanned plan.old bounds.old }
     requires bound { IfSome wanted (IsBound bounds.old) }
     ensures goes_on { OnOk result (GoesOn plan.old bounds.old plan.new bounds.new []) }
@@ -136,7 +132,7 @@ fn demand(plan: &mut Plan, bounds: &mut [Bound], wanted: Option<usize>) -> Resul
 }
 
 // Makes the sets that the step looks at, which are bound.
-fn demand_all(plan: &mut Plan, bounds: &mut [Bound], step: &Step) -> Result<(), OutOfMemory>
+fn demand_all(plan: &mut Drafts, bounds: &mut [Bound], step: &Draft) -> Result<(), OutOfMemory>
     requires planned { ArePlanned plan.old bounds.old }
     requires looks { (k : ℕ) → LooksAt step.now k → IsBound bounds.old k }
     ensures goes_on { OnOk result (GoesOn plan.old bounds.old plan.new bounds.new []) }
@@ -151,7 +147,7 @@ fn demand_all(plan: &mut Plan, bounds: &mut [Bound], step: &Step) -> Result<(), 
 
 /// Adds the question behind the steps that make what it asks about, which is bound.
 pub(crate) fn add_question<'a>(
-    plan: &mut Plan<'a>,
+    plan: &mut Drafts<'a>,
     bounds: &mut [Bound],
     command: &'a Command,
 ) -> Result<(), OutOfMemory>
@@ -162,7 +158,7 @@ pub(crate) fn add_question<'a>(
     ensures goes_on { OnOk result (GoesOn plan.old bounds.old plan.new bounds.new (command.entry.now ∷ [])) }
     ensures only { OnOk result ((k : ℕ) → IsBound bounds.new k → IsBound bounds.old k) }
 {
-    let step = Step::Ask(command);
+    let step = Draft::Ask(command);
     demand_all(plan, bounds, &step)?;
     add_step(plan, step)?;
     Ok(())
@@ -188,7 +184,7 @@ fn row_at(
 // both begin a row.
 fn row_of(
     alloc: Global,
-    plan: &mut Plan,
+    plan: &mut Drafts,
     bounds: &mut [Bound],
     kind: RowKind,
     first: usize,
@@ -214,7 +210,7 @@ fn row_of(
 // Binds the node to the operation on both nodes, whose row is ended there unless the node's hint is that it goes on.
 fn bind_row(
     alloc: Global,
-    plan: &mut Plan,
+    plan: &mut Drafts,
     bounds: &mut [Bound],
     hints: &[Hint],
     node: usize,
@@ -250,10 +246,10 @@ fn bind_row(
 
 /// Binds the node, whose set the step makes.
 pub(crate) fn bind_made<'a>(
-    plan: &mut Plan<'a>,
+    plan: &mut Drafts<'a>,
     bounds: &mut [Bound],
     node: usize,
-    step: Step<'a>,
+    step: Draft<'a>,
 ) -> Result<(), OutOfMemory>
     requires planned { ArePlanned plan.old bounds.old }
     requires looks { (k : ℕ) → LooksAt step k → IsBound bounds.old k }
@@ -273,7 +269,7 @@ pub(crate) fn bind_made<'a>(
 /// Binds the node, whose set is the one that `made` makes.
 pub(crate) fn bind(
     alloc: Global,
-    plan: &mut Plan,
+    plan: &mut Drafts,
     bounds: &mut [Bound],
     hints: &[Hint],
     node: usize,
@@ -293,7 +289,7 @@ pub(crate) fn bind(
         Node::Or(i, j) => (RowKind::Union, i, j),
         Node::Xor(i, j) => (RowKind::Exclusive, i, j),
         Node::Diff(i, j) => (RowKind::Difference { from: i }, i, j),
-        _ => return bind_made(plan, bounds, node, Step::Make { node, made }),
+        _ => return bind_made(plan, bounds, node, Draft::Make { node, made }),
     };
     bind_row(alloc, plan, bounds, hints, node, kind, first, second)
 }

@@ -1,19 +1,17 @@
-//! The steps of a script.
+//! The plan of a script.
 
 ghost use Rattle.std.specs.Prelude.{◌≡◌, ◌↔◌, ◌⊎◌, ◌<◌, ◌∷◌};
-ghost use Rattle.nef_space.specs.Prelude.{ℕ, List, true, Some, IfOk, IfSome, OnOk, filter, length, vec_len, slice_get, []};
-ghost use Rattle.nef_expr.specs.declared.nodes.Node.{Node};
-ghost use Rattle.nef_script.specs.Commands.{LooksAt, Binds, TurnsRight};
-ghost use Rattle.nef_script.specs.Meaning.{IsWithin};
-ghost use Rattle.nef_plan.specs.Rows.{ArePlanned, GoesOn, IsBound};
-ghost use Rattle.nef_plan.specs.Steps.{AreWorkable, AreNeeded, AreSteps, AreTimely, AsksAbout, HasMore, IsRight, LooksAt as StepLooksAt, asked, is_question};
+ghost use Rattle.nef_plan.specs.Prelude.{ℕ, List, true, Some, IfOk, IfSome, OnOk, filter, length, vec_len, slice_get, [], Node, Binds, TurnsRight, IsWithin, ArePlanned, GoesOn, IsBound, AreNeeded, AreDrafts, AreTimely, HasMore, IsRight, LooksAt as DraftLooksAt, asked, AreWorkable, AsksAbout, first_asked, is_question, second_asked, IsPlanOf};
+ghost use Rattle.nef_script.specs.Commands.{LooksAt};
 ghost use Rattle.nef_plan.specs.declared.row.Bound.TheVariants as bound;
 
 use crate::OutOfMemory;
 use crate::hints::{Hint, hints_of};
 use crate::needed::as_needed;
-use crate::planner::{Plan, Step, add_question, bind, bind_made};
+use crate::numbering::{ended, tasks_of};
+use crate::planner::{Draft, Drafts, add_question, bind, bind_made};
 use crate::row::Bound;
+use crate::step::Plan;
 use nef_expr::Nodes;
 use nef_script::{Command, Script};
 use std::alloc::Global;
@@ -50,7 +48,9 @@ fn is_bound(bounds: &[Bound], node: usize) -> bool
 }
 
 /// The nodes whose sets the command asks about: none, where it binds one.
-pub fn asked_nodes(command: &Command) -> (Option<usize>, Option<usize>)
+pub(crate) fn asked_nodes(command: &Command) -> (Option<usize>, Option<usize>)
+    ensures first { result.0 ≡ first_asked command.now }
+    ensures second { result.1 ≡ second_asked command.now }
     ensures asked { (k : ℕ) → AsksAbout command.now k ↔ ((result.0 ≡ Some k) ⊎ (result.1 ≡ Some k)) }
     ensures within { (n : ℕ) → IsWithin n command.now → IfSome result.0 (λ k. k < n) × IfSome result.1 (λ k. k < n) }
 {
@@ -66,21 +66,21 @@ pub fn asked_nodes(command: &Command) -> (Option<usize>, Option<usize>)
 }
 
 /// The nodes whose sets the step looks at: those of which it makes another, or those that it asks about.
-pub fn looked_at(step: &Step) -> (Option<usize>, Option<usize>)
-    ensures looked_at { (k : ℕ) → StepLooksAt step.now k ↔ ((result.0 ≡ Some k) ⊎ (result.1 ≡ Some k)) }
+pub(crate) fn looked_at(step: &Draft) -> (Option<usize>, Option<usize>)
+    ensures looked_at { (k : ℕ) → DraftLooksAt step.now k ↔ ((result.0 ≡ Some k) ⊎ (result.1 ≡ Some k)) }
     ensures within { (nodes : List Node) → IsRight nodes step.now → IfSome result.0 (λ k. k < length nodes) × IfSome result.1 (λ k. k < length nodes) }
 {
     match step {
-        Step::Make { made, .. } => made.operands(),
-        Step::Turn { from, .. } => (Some(*from), None),
-        Step::Ask(command) => asked_nodes(command),
+        Draft::Make { made, .. } => made.operands(),
+        Draft::Turn { from, .. } => (Some(*from), None),
+        Draft::Ask(command) => asked_nodes(command),
     }
 }
 
 // Adds the steps of the command. A line that binds a name to a node of its own is the first that binds the node.
 fn add_command<'a>(
     alloc: Global,
-    plan: &mut Plan<'a>,
+    plan: &mut Drafts<'a>,
     bounds: &mut [Bound],
     hints: &[Hint],
     nodes: &Nodes,
@@ -111,7 +111,7 @@ fn add_command<'a>(
                 // Each node names earlier ones, so the image of a node has the turned set.
                 let _count = nodes.len();
                 let (node, from, turn) = (*node, *from, *turn);
-                bind_made(plan, bounds, node, Step::Turn { node, from, turn })
+                bind_made(plan, bounds, node, Draft::Turn { node, from, turn })
             }
         }
         _ => add_question(plan, bounds, command),
@@ -121,7 +121,7 @@ fn add_command<'a>(
 // Adds the steps of all commands, in order.
 fn add_commands<'a>(
     alloc: Global,
-    plan: &mut Plan<'a>,
+    plan: &mut Drafts<'a>,
     bounds: &mut [Bound],
     hints: &[Hint],
     script: &'a Script,
@@ -133,7 +133,7 @@ fn add_commands<'a>(
     requires more { HasMore script.now.nodes plan.old.nodes }
     requires none { plan.old.steps.items ≡ [] }
     requires unbound { (k : ℕ) → IsBound bounds.old k → ⊥ }
-    ensures steps { OnOk result (AreSteps plan.new.nodes plan.new.steps.items) }
+    ensures steps { OnOk result (AreDrafts plan.new.nodes plan.new.steps.items) }
     ensures nodes { OnOk result (HasMore script.entry.now.nodes plan.new.nodes) }
     ensures asked { OnOk result (asked plan.new.steps.items ≡ filter is_question script.entry.now.commands) }
     ensures timely { OnOk result (AreTimely script.entry.now.nodes script.entry.now.commands plan.new.steps.items) }
@@ -145,31 +145,29 @@ fn add_commands<'a>(
     Ok(())
 }
 
-/// The steps of the script, in which its questions stand in their order, each behind the steps that make the sets that it
-/// asks about. A set is made before the first question that needs it and behind the one before that, and behind the last
+/// The steps of the script, in which its questions stand in their order, each behind the steps that make the values that it
+/// asks about. A value is made before the first question that needs it and behind the one before that, and behind the last
 /// question if none needs it. `OutOfMemory` says that memory was wanted and not found.
 pub fn plan<'a>(alloc: Global, script: &'a Script) -> Result<Plan<'a>, OutOfMemory>
     requires workable { AreWorkable script.now.nodes script.now.commands }
-    ensures steps { IfOk result (λ p. AreSteps p.nodes p.steps.items) }
-    ensures nodes { IfOk result (λ p. HasMore script.entry.now.nodes p.nodes) }
-    ensures asked { IfOk result (λ p. asked p.steps.items ≡ filter is_question script.entry.now.commands) }
-    ensures timely { IfOk result (λ p. AreTimely script.entry.now.nodes script.entry.now.commands p.steps.items) }
-    ensures needed { IfOk result (λ p. AreNeeded p.steps.items) }
+    ensures plan { IfOk result (λ p. IsPlanOf script.entry.now.nodes script.entry.now.commands p.steps.items) }
 {
     let nodes = &script.nodes;
     let hints = hints_of(alloc, script)?;
     let mut bounds = unbound(alloc, nodes.len())?;
-    let mut plan = Plan {
+    let mut drafts = Drafts {
         nodes: copied(alloc, nodes)?,
         steps: Vec::new(alloc),
     };
     add_commands(
         alloc,
-        &mut plan,
+        &mut drafts,
         bounds.as_mut_slice(),
         hints.as_slice(),
         script,
     )?;
-    plan.steps = as_needed(alloc, &plan.nodes, &plan.steps)?;
-    Ok(plan)
+    let ordered = as_needed(alloc, &drafts.nodes, &drafts.steps)?;
+    let tasks = tasks_of(alloc, &drafts.nodes, &ordered)?;
+    let steps = ended(alloc, &tasks)?;
+    Ok(Plan { steps })
 }

@@ -1,11 +1,7 @@
 //! Rows of operations of one kind, of which each has the set of the one before as its first operand.
 
 ghost use Rattle.std.specs.Prelude.{◌≡◌, ◌⊎◌, ◌<◌, ◌≤◌, ◌∷◌, ◌++◌};
-ghost use Rattle.nef_space.specs.Prelude.{ℕ, true, IfOk, OnOk, List, length, [], Set};
-ghost use Rattle.nef_expr.specs.Nodes.{node_set, set_of, operand, IsOperand, NamesBelow};
-ghost use Rattle.nef_plan.specs.Rows.{AreOfOneKind, BeginsWith, AreReady, IsReady, IsRowOf, combined, joined, parts, spare};
-ghost use Rattle.nef_plan.specs.Steps.{IsMadeAs, IsMade};
-ghost use Rattle.nef_plan.specs.declared.planner.Plan.{Plan as State};
+ghost use Rattle.nef_plan.specs.Prelude.{ℕ, true, IfOk, OnOk, List, length, [], Set, node_set, set_of, operand, IsOperand, NamesBelow, AreOfOneKind, BeginsWith, AreReady, IsReady, IsRowOf, combined, joined, parts, spare, IsMadeAs, IsMade, Drafts as State};
 
 use crate::OutOfMemory;
 use nef_expr::Node;

@@ -1,17 +1,11 @@
 -- Why there is no script to work.
-use Rattle.std.proofs.Common.{◌≡◌, ℕ, ◌+◌, List, Option, None, Result, Err, length, arith, inr}
+use Rattle.nef_shell.proofs.Prelude.{◌≡◌, ℕ, ◌+◌, List, Option, None, Result, Err, length, arith, inr, Rose, script_limit, FirstRefusal, ScriptKind, IsRead, unread, unaccepted, HasNoScript}
 use Rattle.std.specs.Io.KnownBytes.{Consumes}
-use Rattle.nef_io.specs.Bytes.{Rose}
 use Rattle.nef_io.specs.declared.traits.ReadAll.{ReadAll}
 use Rattle.nef_io.specs.declared.traits.ReadAll.TheVariants as read
-use Rattle.nef_script.specs.Refusal.{script_limit, FirstRefusal}
 use Rattle.nef_script.specs.declared.script.ScriptFault.{ScriptFault}
 use Rattle.nef_script.specs.declared.script.ScriptFault.TheVariants as fault
-use Rattle.nef_script.specs.declared.script.ScriptKind.{ScriptKind}
 use Rattle.nef_script.specs.declared.script.ScriptKind.TheVariants.{ScriptTooLong}
-use Rattle.nef_statement.specs.Means.{IsRead}
-use Rattle.nef_statement.specs.Status.{unread, unaccepted}
-use Rattle.nef_shell.specs.Answers.{HasNoScript}
 
 -- more bytes were read than a script may have
 too-long : (bytes : List ℕ) → length bytes ≡ script_limit + 1 → FirstRefusal bytes 0 ScriptTooLong

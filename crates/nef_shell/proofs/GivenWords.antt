@@ -1,6 +1,5 @@
 -- The words behind the program's name, from what the environment gave.
-use Rattle.std.proofs.Common.{◌≡◌, ℕ, refl, sym, ap, subst, ◌∙◌, arith, List, [], ◌∷◌, None, map, Result, Ok, Err, string_bytes}
-use Rattle.std.specs.Prelude.{drop, IsOkAnd, IsErrAnd}
+use Rattle.nef_shell.proofs.Prelude.{◌≡◌, ℕ, refl, sym, ap, subst, ◌∙◌, arith, List, [], ◌∷◌, None, map, Result, Ok, Err, string_bytes, drop, IsOkAnd, IsErrAnd, Status, Done, Refused, Words, ReadFault, WriteFault, OutOfMemory, status_code, Traffic, RunSays, ProgramSays, IsText, RunEnds}
 use Rattle.std.specs.Vec.Iter.{into_iter_items}
 use Rattle.std.specs.IoError.{error_kind}
 use Rattle.std.specs.declared.io.Error.{Error}
@@ -11,13 +10,6 @@ use Rattle.std.specs.declared.string.String.{String}
 use Rattle.nef_words.specs.Grammar.{read, options_in}
 use Rattle.nef_words.specs.declared.words.WordsFault.{WordsFault}
 use Rattle.nef_words.specs.declared.words.WordsFault.TheVariants as fault
-use Rattle.nef_statement.specs.declared.status.Status.{Status}
-use Rattle.nef_statement.specs.declared.status.Status.TheVariants.{Done, Refused, Words, ReadFault, WriteFault, OutOfMemory}
-use Rattle.nef_statement.specs.Status.{status_code}
-use Rattle.nef_statement.specs.Traffic.{Traffic}
-use Rattle.nef_statement.specs.Statement.{RunSays, ProgramSays}
-use Rattle.nef_statement.specs.Texts.{IsText}
-use Rattle.nef_shell.specs.Ended.{RunEnds}
 use Rattle.nef_shell.specs.Program.{IsCollected, ProgramEnds}
 
 abbrev IsRefused : {X : Type 0} → Result X WordsFault → Type 0

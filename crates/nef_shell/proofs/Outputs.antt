@@ -1,25 +1,8 @@
 -- Output that grows by one piece after another.
-use Rattle.std.proofs.Common.{◌≡◌, ◌↔◌, ℕ, zero, suc, ◌+◌, ◌<◌, Bool, true, false, refl, sym, ap, ◌∙◌, List, [], ◌∷◌, ◌++◌, length, take, drop, Option, Some, None, Result, Err, append_assoc, append-nil, subst, get_or, inl, inr}
-use Rattle.std.proofs.lemmas.List.{take_more, take-append-drop}
+use Rattle.nef_shell.proofs.Prelude.{◌≡◌, ◌↔◌, ℕ, zero, suc, ◌+◌, ◌<◌, Bool, true, false, refl, sym, ap, ◌∙◌, List, [], ◌∷◌, ◌++◌, length, take, Option, Some, None, Result, Err, append_assoc, append-nil, subst, get_or, inl, inr, take_more, take-append-drop, IsTrue, SameSet, Place, InFrame, Set, Grows, GrowsWithin, TextVersion, Node, Step, asked_values, asked_values-append, Command, Status, OutOfMemory, FrontOf, WorkEnds, IsSameAnswer, IsJoinedAnswer, grows_within-none, IsPiece, IsOutput, same_answer, joined_answer}
+use Rattle.std.proofs.Common.{drop}
 use Rattle.std.proofs.Math.Seq.{take-append-add}
-use Rattle.std.specs.Prelude.{IsTrue}
-use Rattle.nef_space.specs.Local.{Joined, SameSet}
-use Rattle.nef_space.specs.Place.{Place, InFrame}
-use Rattle.nef_space.specs.Sets.{Set}
-use Rattle.nef_io.specs.Bytes.{Grows, GrowsWithin}
-use Rattle.nef_core.specs.declared.work.TextVersion.{TextVersion}
-use Rattle.nef_expr.specs.declared.nodes.Node.{Node}
-use Rattle.nef_plan.specs.declared.planner.Step.{Step}
-use Rattle.nef_plan.specs.declared.planner.Step.TheVariants.{Make, Turn, Ask}
-use Rattle.nef_plan.specs.Steps.{asked}
-use Rattle.nef_script.specs.declared.script.Command.{Command}
-use Rattle.nef_statement.specs.declared.status.Status.{Status}
-use Rattle.nef_statement.specs.declared.status.Status.TheVariants.{OutOfMemory}
-use Rattle.nef_shell.specs.Working.{FrontOf, WorkEnds}
-use Rattle.nef_statement.specs.Output.{IsSameAnswer, IsJoinedAnswer}
-use Rattle.nef_statement.proofs.Grown.{grows_within-none}
-use Rattle.nef_shell.specs.Output.{IsPiece, IsOutput}
-use Rattle.nef_shell.specs.Pieces.{same_answer, joined_answer}
+use Rattle.nef_space.specs.Local.{Joined}
 
 -- the output of commands, and of more
 pub output-append : (version : TextVersion) (nodes : List Node) (cs ds : List Command) (x y : List ℕ) → IsOutput version nodes cs x → IsOutput version nodes ds y → IsOutput version nodes (cs ++ ds) (x ++ y)
@@ -42,20 +25,14 @@ pub grows_within-more : (a b c : Option (List ℕ)) (xs ys : List ℕ) → Grows
 grows_within-more a b c xs ys h (n, k) =
     (length xs + n, subst (λ z. Grows a c z) (sym (take-append-add xs ys n)) (grows-more a b c xs (take n ys) h k))
 
-asked-append : (xs ys : List Step) → asked (xs ++ ys) ≡ asked xs ++ asked ys
-asked-append [] ys = refl
-asked-append (Make n m ∷ xs) ys = asked-append xs ys
-asked-append (Turn n j t ∷ xs) ys = asked-append xs ys
-asked-append (Ask c ∷ xs) ys = ap (λ z. c.now ∷ z) (asked-append xs ys)
-
 -- the questions of the steps so far, and of one more
-asked-next : (steps : List Step) (i : ℕ) (s : Step) → i < length steps → s ≡ get_or steps i s → asked (take (i + 1) steps) ≡ asked (take i steps) ++ asked (s ∷ [])
-asked-next steps i s within at = ap asked (take_more steps i s within ∙ ap (λ z. take i steps ++ z ∷ []) (sym at)) ∙ asked-append (take i steps) (s ∷ [])
+asked-next : (steps : List Step) (i : ℕ) (s : Step) → i < length steps → s ≡ get_or steps i s → asked_values (take (i + 1) steps) ≡ asked_values (take i steps) ++ asked_values (s ∷ [])
+asked-next steps i s within at = ap asked_values (take_more steps i s within ∙ ap (λ z. take i steps ++ z ∷ []) (sym at)) ∙ asked_values-append (take i steps) (s ∷ [])
 
-pub output-next : (version : TextVersion) (nodes : List Node) (steps : List Step) (i : ℕ) (s : Step) (x y : List ℕ) → i < length steps → s ≡ get_or steps i s → IsOutput version nodes (asked (take i steps)) x → IsOutput version nodes (asked (s ∷ [])) y
-    → IsOutput version nodes (asked (take (i + 1) steps)) (x ++ y)
+pub output-next : (version : TextVersion) (nodes : List Node) (steps : List Step) (i : ℕ) (s : Step) (x y : List ℕ) → i < length steps → s ≡ get_or steps i s → IsOutput version nodes (asked_values (take i steps)) x → IsOutput version nodes (asked_values (s ∷ [])) y
+    → IsOutput version nodes (asked_values (take (i + 1) steps)) (x ++ y)
 output-next version nodes steps i s x y within at so_far is =
-    subst (λ z. IsOutput version nodes z (x ++ y)) (sym (asked-next steps i s within at)) (output-append version nodes (asked (take i steps)) (asked (s ∷ [])) x y so_far is)
+    subst (λ z. IsOutput version nodes z (x ++ y)) (sym (asked-next steps i s within at)) (output-append version nodes (asked_values (take i steps)) (asked_values (s ∷ [])) x y so_far is)
 
 -- the first of some commands are the first of more
 first-of-more : (cs ds : List Command) (n : ℕ) → (m : ℕ) × (take m (cs ++ ds) ≡ take n cs)
@@ -65,15 +42,15 @@ first-of-more (c ∷ cs) ds zero = (0, refl)
 first-of-more (c ∷ cs) ds (suc n) = let (m, same) = first-of-more cs ds n in (suc m, ap (λ z. c ∷ z) same)
 
 -- what was written where the work stopped at a step
-pub front-at : (version : TextVersion) (nodes : List Node) (steps : List Step) (i : ℕ) (s : Step) (first before after : Option (List ℕ)) (output : List ℕ) → i < length steps → s ≡ get_or steps i s → IsOutput version nodes (asked (take i steps)) output → Grows first before output
-    → FrontOf version nodes (asked (s ∷ [])) before after → FrontOf version nodes (asked steps) first after
+pub front-at : (version : TextVersion) (nodes : List Node) (steps : List Step) (i : ℕ) (s : Step) (first before after : Option (List ℕ)) (output : List ℕ) → i < length steps → s ≡ get_or steps i s → IsOutput version nodes (asked_values (take i steps)) output → Grows first before output
+    → FrontOf version nodes (asked_values (s ∷ [])) before after → FrontOf version nodes (asked_values steps) first after
 front-at version nodes steps i s first before after output within at so_far grown (count, piece, is, part) =
-    let done = asked (take i steps) in
-    let now = asked (s ∷ []) in
-    let (m, same) = first-of-more (done ++ now) (asked (drop (i + 1) steps)) (length done + count) in
-    let whole : (done ++ now) ++ asked (drop (i + 1) steps) ≡ asked steps =
-    ap (λ z. z ++ asked (drop (i + 1) steps)) (sym (asked-next steps i s within at)) ∙ (sym (asked-append (take (i + 1) steps) (drop (i + 1) steps)) ∙ ap asked (take-append-drop (i + 1) steps)) in
-    let these : take m (asked steps) ≡ done ++ take count now = ap (take m) (sym whole) ∙ (same ∙ take-append-add done now count) in (
+    let done = asked_values (take i steps) in
+    let now = asked_values (s ∷ []) in
+    let (m, same) = first-of-more (done ++ now) (asked_values (drop (i + 1) steps)) (length done + count) in
+    let whole : (done ++ now) ++ asked_values (drop (i + 1) steps) ≡ asked_values steps =
+    ap (λ z. z ++ asked_values (drop (i + 1) steps)) (sym (asked-next steps i s within at)) ∙ (sym (asked_values-append (take (i + 1) steps) (drop (i + 1) steps)) ∙ ap asked_values (take-append-drop (i + 1) steps)) in
+    let these : take m (asked_values steps) ≡ done ++ take count now = ap (take m) (sym whole) ∙ (same ∙ take-append-add done now count) in (
       m,
       output ++ piece,
       subst (λ z. IsOutput version nodes z (output ++ piece)) (sym these) (output-append version nodes done (take count now) output piece so_far is),
@@ -85,9 +62,9 @@ pub ends-before : {A : Type 0} (version : TextVersion) (nodes : List Node) (cs :
 ends-before version nodes cs before faults r is = rw is (record { done = tt; quiet = tt; stopped = refl; front = (0, [], refl, grows_within-none before []) })
 
 -- the work of one step ends as that of the same step
-pub ends-alike : {A : Type 0} (version : TextVersion) (nodes : List Node) (s d : Step) (before after : Option (List ℕ)) (faults faults' : ℕ) (r : Result A Status) → Some s ≡ Some d → WorkEnds version nodes (asked (s ∷ [])) before after faults faults' r
-    → WorkEnds version nodes (asked (d ∷ [])) before after faults faults' r
-ends-alike version nodes s d before after faults faults' r e ends = let same : s ≡ d = cc in subst (λ z. WorkEnds version nodes (asked (z ∷ [])) before after faults faults' r) same ends
+pub ends-alike : {A : Type 0} (version : TextVersion) (nodes : List Node) (s d : Step) (before after : Option (List ℕ)) (faults faults' : ℕ) (r : Result A Status) → Some s ≡ Some d → WorkEnds version nodes (asked_values (s ∷ [])) before after faults faults' r
+    → WorkEnds version nodes (asked_values (d ∷ [])) before after faults faults' r
+ends-alike version nodes s d before after faults faults' r e ends = let same : s ≡ d = cc in subst (λ z. WorkEnds version nodes (asked_values (z ∷ [])) before after faults faults' r) same ends
 
 -- the output of one command
 pub one-output : (version : TextVersion) (nodes : List Node) (c : Command) (piece : List ℕ) → IsPiece version nodes c piece → IsOutput version nodes (c ∷ []) piece

@@ -1,22 +1,8 @@
 -- A command has one piece, and the text in it tells its set.
-use Rattle.std.proofs.Common.{◌≡◌, ℕ, refl, ap, sym, ◌∙◌, subst, List, [], ◌∷◌, ◌++◌, length, codes, append_assoc}
-use Rattle.std.proofs.lemmas.List.{append_cancel_left, append_cancel_right}
-use Rattle.nef_space.specs.Local.{SameSet}
-use Rattle.nef_space.specs.Sets.{Set}
-use Rattle.law_near.proofs.Germs.{label-one}
-use Rattle.nef_geo.specs.Shapes.{place_of, vector_of}
-use Rattle.nef_core.specs.declared.work.TextVersion.{TextVersion}
-use Rattle.nef_complex.specs.Text.{text}
-use Rattle.nef_expr.specs.declared.nodes.Node.{Node}
-use Rattle.nef_expr.specs.Nodes.{node_set}
-use Rattle.nef_script.specs.declared.script.Command.{Command}
-use Rattle.nef_script.specs.declared.script.Command.TheVariants.{Bind, Turn, Has, Joined, Ray, Same, Count, Print}
-use Rattle.nef_statement.specs.Output.{framed, line_end, answer_of}
-use Rattle.nef_statement.specs.Texts.{IsWrittenOf}
+use Rattle.nef_shell.proofs.Prelude.{◌≡◌, ℕ, refl, ap, sym, ◌∙◌, subst, List, [], ◌∷◌, ◌++◌, length, codes, append_assoc, append_cancel_left, append_cancel_right, SameSet, Set, label-one, place_of, vector_of, TextVersion, text, Node, node_set, Command, Bind, Has, Joined, Ray, Same, Count, Print, framed, line_end, answer_of, IsWrittenOf, same-texts, counted-one, text-spells, text-holds, IsPiece, IsOutput, printed}
+use Rattle.nef_script.specs.declared.script.Command.TheVariants.{Turn}
 use Rattle.nef_statement.proofs.Alike.{same-self}
 use Rattle.nef_statement.proofs.Answered.{answered-one, joined-one, ended-one}
-use Rattle.nef_statement.proofs.Texts.{same-texts, counted-one, text-spells, text-holds}
-use Rattle.nef_shell.specs.Output.{IsPiece, IsOutput, printed}
 use Rattle.nef_shell.specs.Prints.{IsPrinted, AreTextsCompared, AreTextsMeant}
 use Rattle.nef_shell.specs.Written.{TextTells}
 

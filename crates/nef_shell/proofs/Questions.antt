@@ -1,22 +1,7 @@
 -- What is written of the questions among commands is what is written of all of them.
-use Rattle.std.proofs.Common.{◌≡◌, ℕ, zero, suc, Bool, true, false, refl, subst, List, [], ◌∷◌, length, take, Option, Result, Ok, Err, arith}
-use Rattle.std.specs.Prelude.{All, cond, filter}
-use Rattle.nef_space.specs.Local.{HasLabel}
-use Rattle.nef_space.specs.Sets.{Set}
-use Rattle.nef_space.specs.declared.label.Label.{Label}
-use Rattle.nef_geo.specs.Shapes.{place_of, vector_of}
-use Rattle.nef_core.specs.declared.work.TextVersion.{TextVersion}
-use Rattle.nef_expr.specs.declared.nodes.Node.{Node}
-use Rattle.nef_expr.specs.Nodes.{node_set}
-use Rattle.nef_plan.specs.Steps.{HasMore, is_question}
-use Rattle.nef_script.specs.declared.script.Command.{Command}
-use Rattle.nef_script.specs.declared.script.Command.TheVariants.{Bind, Turn, Has, Joined, Ray, Same, Count, Print}
-use Rattle.nef_script.specs.Meaning.{IsWithin}
-use Rattle.nef_statement.specs.Output.{answer_of, IsSameAnswer, IsJoinedAnswer, IsRayAnswer}
-use Rattle.nef_statement.specs.Texts.{IsWrittenOf, count_line}
-use Rattle.nef_statement.specs.declared.status.Status.{Status}
-use Rattle.nef_shell.specs.Output.{printed, IsPiece, IsOutput}
-use Rattle.nef_shell.specs.Working.{WorkEnds}
+use Rattle.nef_shell.proofs.Prelude.{◌≡◌, ℕ, zero, suc, Bool, true, false, refl, sym, subst, List, [], ◌∷◌, ◌++◌, length, take, Option, None, Some, Result, Ok, Err, arith, All, cond, filter, slice_get, TextVersion, Node, Step, Task, Make, Ask, is_question, AreAnswered, IsAnswered, asked_values, questions_of, AreAsked, AsksOf, Command, Bind, Has, Joined, Ray, Same, Count, Print, IsWithin, Status, IsPiece, IsOutput, WorkEnds}
+use Rattle.nef_plan.specs.declared.step.Task.TheVariants as task
+use Rattle.nef_script.specs.declared.script.Command.TheVariants.{Turn}
 
 -- a command that isn't a question writes nothing
 silent : (version : TextVersion) (nodes : List Node) (c : Command) → is_question c ≡ false → IsPiece version nodes c []
@@ -29,51 +14,80 @@ silent version nodes (Same line i j) not = absurd (let f : true ≡ false = not 
 silent version nodes (Count line n) not = absurd (let f : true ≡ false = not in cc)
 silent version nodes (Print line n name) not = absurd (let f : true ≡ false = not in cc)
 
-module _ (version : TextVersion) (old new : List Node) (more : HasMore old new) where
-  -- a command within the earlier nodes writes the same where there are more
-  piece : (c : Command) (x : List ℕ) → IsWithin (length old) c → IsPiece version new c x → IsPiece version old c x
-  piece (Bind line n) x within is = is
-  piece (Turn line n j t) x within is = is
-  piece (Has line n p) x within is = subst (λ (s : Set). (l : Label) × HasLabel s (place_of p) l × (x ≡ answer_of l)) (more.sets n within) is
-  piece (Joined line n p q) x within is = subst (λ s. IsJoinedAnswer s (place_of p) (place_of q) x) (more.sets n within) is
-  piece (Ray line n p d) x within is = subst (λ s. IsRayAnswer s (place_of p) (vector_of d) x) (more.sets n within.0) is
-  piece (Same line i j) x within is = subst (λ s. IsSameAnswer s (node_set old j) x) (more.sets i within.0) (subst (λ s. IsSameAnswer (node_set new i) s x) (more.sets j within.1) is)
-  piece (Count line n) x within is = subst (λ s. IsWrittenOf s count_line x) (more.sets n within) is
-  piece (Print line n name) x within is = subst (λ s. IsWrittenOf s (printed version name) x) (more.sets n within) is
-
-  rest-within : (c : Command) (cs : List Command) → All (IsWithin (length old)) (c ∷ cs) → All (IsWithin (length old)) cs
-  rest-within c cs within k d low = within (suc k) d (omega (arith, low))
-
-  output : (cs : List Command) (x : List ℕ) → All (IsWithin (length old)) cs → IsOutput version new (filter is_question cs) x → IsOutput version old cs x
-  output [] x within is = is
-  output (c ∷ cs) x within is = by (is_question c) refl (λ y. output cs y (rest-within c cs within)) is
+module _ (version : TextVersion) (nodes : List Node) where
+  output : (cs : List Command) (x : List ℕ) → IsOutput version nodes (filter is_question cs) x → IsOutput version nodes cs x
+  output [] x is = is
+  output (c ∷ cs) x is = by (is_question c) refl (output cs) is
     where
-      by : (b : Bool) → is_question c ≡ b → ((y : List ℕ) → IsOutput version new (filter is_question cs) y → IsOutput version old cs y) → IsOutput version new (cond b (c ∷ filter is_question cs) (filter is_question cs)) x → IsOutput version old (c ∷ cs) x
-      by true asks others (first, rest, is, later, whole) = (first, rest, piece c first (within 0 c (omega arith)) is, others rest later, whole)
-      by false asks others is = ([], x, silent version old c asks, others x is, refl)
+      by : (b : Bool) → is_question c ≡ b → ((y : List ℕ) → IsOutput version nodes (filter is_question cs) y → IsOutput version nodes cs y) → IsOutput version nodes (cond b (c ∷ filter is_question cs) (filter is_question cs)) x → IsOutput version nodes (c ∷ cs) x
+      by true asks others (first, rest, is, later, whole) = (first, rest, is, others rest later, whole)
+      by false asks others is = ([], x, silent version nodes c asks, others x is, refl)
 
   -- and so it is of the first questions
-  none-output : (n : ℕ) (x : List ℕ) → IsOutput version new (take n []) x → IsOutput version old [] x
+  none-output : (n : ℕ) (x : List ℕ) → IsOutput version nodes (take n []) x → IsOutput version nodes [] x
   none-output zero x is = is
   none-output (suc n) x is = is
 
-  front : (cs : List Command) (n : ℕ) (x : List ℕ) → All (IsWithin (length old)) cs → IsOutput version new (take n (filter is_question cs)) x → (m : ℕ) × IsOutput version old (take m cs) x
-  front [] n x within is = (0, none-output n x is)
-  front (c ∷ cs) n x within is = by (is_question c) refl n (λ m y. front cs m y (rest-within c cs within)) is
+  front : (cs : List Command) (n : ℕ) (x : List ℕ) → IsOutput version nodes (take n (filter is_question cs)) x → (m : ℕ) × IsOutput version nodes (take m cs) x
+  front [] n x is = (0, none-output n x is)
+  front (c ∷ cs) n x is = by (is_question c) refl n (front cs) is
     where
-      by : (b : Bool) → is_question c ≡ b → (n : ℕ) → ((k : ℕ) (y : List ℕ) → IsOutput version new (take k (filter is_question cs)) y → (m : ℕ) × IsOutput version old (take m cs) y)
-          → IsOutput version new (take n (cond b (c ∷ filter is_question cs) (filter is_question cs))) x → (m : ℕ) × IsOutput version old (take m (c ∷ cs)) x
+      by : (b : Bool) → is_question c ≡ b → (n : ℕ) → ((k : ℕ) (y : List ℕ) → IsOutput version nodes (take k (filter is_question cs)) y → (m : ℕ) × IsOutput version nodes (take m cs) y)
+          → IsOutput version nodes (take n (cond b (c ∷ filter is_question cs) (filter is_question cs))) x → (m : ℕ) × IsOutput version nodes (take m (c ∷ cs)) x
       by true asks zero others is = (0, is)
-      by true asks (suc n) others (first, rest, is, later, whole) = let (m, all) = others n rest later in (suc m, (first, rest, piece c first (within 0 c (omega arith)) is, all, whole))
-      by false asks n others is = let (m, all) = others n x is in (suc m, ([], x, silent version old c asks, all, refl))
+      by true asks (suc n) others (first, rest, is, later, whole) = let (m, all) = others n rest later in (suc m, (first, rest, is, all, whole))
+      by false asks n others is = let (m, all) = others n x is in (suc m, ([], x, silent version nodes c asks, all, refl))
 
 -- how the work of all commands ends, from that of the questions among them
-pub ends-all : {A : Type 0} (version : TextVersion) (old new : List Node) (cs questions : List Command) (before after : Option (List ℕ)) (faults faults' : ℕ) (r : Result A Status) → HasMore old new → All (IsWithin (length old)) cs → questions ≡ filter is_question cs
-    → WorkEnds version new questions before after faults faults' r → WorkEnds version old cs before after faults faults' r
-ends-all version old new cs questions before after faults faults' (Ok a) more within same ends =
+pub ends-all : {A : Type 0} (version : TextVersion) (nodes : List Node) (cs questions : List Command) (before after : Option (List ℕ)) (faults faults' : ℕ) (r : Result A Status) → questions ≡ filter is_question cs → WorkEnds version nodes questions before after faults faults' r → WorkEnds version nodes cs before after faults faults' r
+ends-all version nodes cs questions before after faults faults' (Ok a) same ends =
     let (x, is, grown) = ends.done in
-    record { done = (x, output version old new more cs x within (subst (λ z. IsOutput version new z x) same is), grown); quiet = ends.quiet; stopped = tt; front = tt }
-ends-all version old new cs questions before after faults faults' (Err stop) more within same ends =
+    record { done = (x, output version nodes cs x (subst (λ z. IsOutput version nodes z x) same is), grown); quiet = ends.quiet; stopped = tt; front = tt }
+ends-all version nodes cs questions before after faults faults' (Err stop) same ends =
     let (n, x, is, part) = ends.front in
-    let (m, all) = front version old new more cs n x within (subst (λ z. IsOutput version new (take n z) x) same is) in
+    let (m, all) = front version nodes cs n x (subst (λ z. IsOutput version nodes (take n z) x) same is) in
     record { done = tt; quiet = tt; stopped = ends.stopped; front = (m, x, all, part) }
+
+-- ---- what the questions of steps ask about
+all-head : (P : Command → Type 0) (c : Command) (cs : List Command) → All P (c ∷ cs) → P c
+all-head P c cs all = all 0 c (omega arith)
+
+all-tail : (P : Command → Type 0) (c : Command) (cs : List Command) → All P (c ∷ cs) → All P cs
+all-tail P c cs all k d low = all (suc k) d (omega (arith, low))
+
+all-next : (P : Command → Type 0) (c : Command) (cs : List Command) → P c → All P cs → All P (c ∷ cs)
+all-next P c cs first rest zero d low = first
+all-next P c cs first rest (suc k) d low = rest k d (omega (arith, low))
+
+all-filter : (P : Command → Type 0) (cs : List Command) → All P cs → All P (filter is_question cs)
+all-filter P [] all = all
+all-filter P (c ∷ cs) all = by (is_question c) (all-filter P cs (all-tail P c cs all))
+  where
+    by : (b : Bool) → All P (filter is_question cs) → All P (cond b (c ∷ filter is_question cs) (filter is_question cs))
+    by true rest = all-next P c _ (all-head P c cs all) rest
+    by false rest = rest
+
+abbrev HasEach : (Command → Type 0) → Task → Type 0
+HasEach P (Make m) = Unit {0}
+HasEach P (task.Turn j t) = Unit {0}
+HasEach P (Ask c i second) = P c.now
+
+each-asked : (P : Command → Type 0) (steps : List Step) → All P (asked_values steps) → (i : ℕ) (s : Step) → slice_get steps i ≡ Some s → HasEach P s.task
+each-asked P [] all i s e = let f : None ≡ Some s = e in cc
+each-asked P (d ∷ steps) all i s e = by d.task refl all i e (λ others j f. each-asked P steps others j s f)
+  where
+    by : (t : Task) → d.task ≡ t → All P (questions_of t ++ asked_values steps) → (i : ℕ) → slice_get (d ∷ steps) i ≡ Some s → (All P (asked_values steps) → (j : ℕ) → slice_get steps j ≡ Some s → HasEach P s.task) → HasEach P s.task
+    by (Make m) is all zero e later = let same : d ≡ s = cc in subst (λ (z : Step). HasEach P z.task) same (subst (HasEach P) (sym is) tt)
+    by (task.Turn j t) is all zero e later = let same : d ≡ s = cc in subst (λ (z : Step). HasEach P z.task) same (subst (HasEach P) (sym is) tt)
+    by (Ask c j second) is all zero e later = let same : d ≡ s = cc in subst (λ (z : Step). HasEach P z.task) same (subst (HasEach P) (sym is) (all-head P c.now _ all))
+    by (Make m) is all (suc i) e later = later all i e
+    by (task.Turn j t) is all (suc i) e later = later all i e
+    by (Ask c j second) is all (suc i) e later = later (all-tail P c.now _ all) i e
+
+pub are-asked : (nodes : List Node) (commands : List Command) (steps : List Step) → All (IsWithin (length nodes)) commands → AreAnswered nodes commands steps → AreAsked nodes steps
+are-asked nodes commands steps within answered i s at = both s.task (answered.right i s at) (each-asked (IsWithin (length nodes)) steps (subst (All (IsWithin (length nodes))) (sym answered.asked) (all-filter (IsWithin (length nodes)) commands within)) i s at)
+  where
+    both : (t : Task) → IsAnswered nodes steps t → HasEach (IsWithin (length nodes)) t → AsksOf nodes steps t
+    both (Make m) a b = tt
+    both (task.Turn j t) a b = tt
+    both (Ask c j second) a b = (a, b)

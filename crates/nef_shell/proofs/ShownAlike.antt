@@ -1,17 +1,7 @@
 -- A complex that shows a set shows each set that is alike.
-use Rattle.std.proofs.Common.{⊎_elim, List}
-use Rattle.nef_space.specs.Place.{Form}
-use Rattle.nef_space.specs.Sets.{Set, halves}
-use Rattle.nef_space.specs.Signs.{Lies}
-use Rattle.nef_space.proofs.Lists.{lies-left, lies-right, lies-append}
-use Rattle.law_near.specs.Cells.{frame, carriers}
-use Rattle.law_near.proofs.Alike.{cones-of_same, FlatDim-by_cone}
+use Rattle.nef_shell.proofs.Prelude.{⊎_elim, List, Form, Set, halves, Lies, lies-left, lies-right, lies-append, frame, carriers, cones-of_same, FlatDim-by_cone, Carriers, Shows, complex_of, ShowsSet, Complex, AreAlike}
 use Rattle.law_complex.specs.Complexes.{Complex as PlainComplex}
-use Rattle.law_complex.specs.Shows.{Carriers, Shows}
-use Rattle.nef_complex.specs.Complexes.{complex_of, ShowsSet}
-use Rattle.nef_complex.specs.declared.complex.Complex.{Complex}
 use Rattle.nef_unique.proofs.Vertices.{cone-carried}
-use Rattle.nef_plan.specs.Alike.{AreAlike}
 use Rattle.nef_plan.proofs.Alike.{alike-sym}
 
 carriers-alike : (s t : Set) → AreAlike s t → (f : Form) → Lies (carriers s) f → Lies (carriers t) f

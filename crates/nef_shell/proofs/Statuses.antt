@@ -1,25 +1,7 @@
 -- What each status says, from what the calls below say.
-use Rattle.std.proofs.Common.{◌≡◌, ℕ, refl, ap, ◌∙◌, sym, subst, List, [], Option, Some, None, inl, inr}
-use Rattle.nef_io.specs.Bytes.{Rose, Grows, GrowsWithin}
-use Rattle.nef_lex.specs.Lines.{lines_of}
-use Rattle.nef_script.specs.declared.script.ScriptKind.{ScriptKind}
-use Rattle.nef_script.specs.Refusal.{FirstRefusal, IsAccepted}
-use Rattle.nef_words.specs.declared.words.Options.{Options}
-use Rattle.nef_words.specs.Grammar.{options_in}
-use Rattle.nef_statement.specs.declared.status.Status.{Status}
-use Rattle.nef_statement.specs.declared.status.Status.TheVariants.{Done, Refused, Words, ReadFault, WriteFault, OutOfMemory}
-use Rattle.nef_statement.specs.Means.{ReadSource, IsRead, Means}
-use Rattle.nef_statement.specs.Output.{refusal_line, words_line}
-use Rattle.nef_statement.specs.Said.{AreSaid}
-use Rattle.nef_statement.specs.Statement.{IsMeant, WroteFront, Ended, RunSays}
-use Rattle.nef_statement.specs.Texts.{IsText}
-use Rattle.nef_statement.specs.Traffic.{Traffic, Streams}
-use Rattle.nef_statement.proofs.Grown.{grows_within-longer}
-use Rattle.nef_statement.proofs.Meant.{source-read, read-none, read-not_refused}
+use Rattle.nef_shell.proofs.Prelude.{◌≡◌, ℕ, refl, ap, ◌∙◌, sym, subst, List, [], Option, Some, None, inl, inr, Rose, Grows, GrowsWithin, lines_of, ScriptKind, FirstRefusal, IsAccepted, Options, options_in, Status, Done, Refused, Words, ReadFault, WriteFault, OutOfMemory, ReadSource, IsRead, Means, refusal_line, words_line, AreSaid, IsMeant, WroteFront, Ended, RunSays, IsText, Traffic, Streams, grows_within-longer, source-read, read-none, read-not_refused, IsScriptFor, HasNoScript, HasOutput, HasFront, HasEnded, RunEnds}
 use Rattle.nef_statement.proofs.Stated.{whole-output}
 use Rattle.nef_shell.specs.Status.{MatchStatus}
-use Rattle.nef_shell.specs.Answers.{IsScriptFor, HasNoScript, HasOutput, HasFront, HasEnded}
-use Rattle.nef_shell.specs.Ended.{RunEnds}
 use Rattle.nef_shell.proofs.Pieces.{texts-compared, texts-meant}
 use Rattle.nef_shell.proofs.Walk.{output-said, front-said}
 

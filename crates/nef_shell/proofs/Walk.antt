@@ -1,31 +1,11 @@
 -- What the commands of a script write is what its lines say.
-use Rattle.std.proofs.Common.{◌≡◌, ℕ, zero, suc, ◌+◌, Bool, true, false, List, [], ◌∷◌, ◌++◌, length, take, Some, refl, sym, subst}
-use Rattle.nef_space.specs.Sets.{Set}
-use Rattle.nef_space.specs.Vectors.{vector}
-use Rattle.nef_geo.specs.Shapes.{place_at, place_of, vector_of}
-use Rattle.law_near.proofs.Rays.{same-place_sym}
-use Rattle.law_sphere.proofs.Compare.{SameDirection-turned}
-use Rattle.nef_lex.specs.Lines.{lines_of}
-use Rattle.nef_lex.specs.Words.{words_of}
-use Rattle.nef_core.specs.declared.work.TextVersion.{TextVersion}
-use Rattle.nef_expr.specs.declared.nodes.Node.{Node}
-use Rattle.nef_expr.specs.Nodes.{node_set, IsOrdered}
-use Rattle.nef_script.specs.Table.{binds}
-use Rattle.nef_script.specs.Meaning.{Names, Sets, IsBinding, MeansCommand, MeansWords, MeansLines, MeansScript, has_words, bases_of}
-use Rattle.nef_script.specs.declared.arguments.Verb.{Verb}
+use Rattle.nef_shell.proofs.Prelude.{◌≡◌, ℕ, zero, suc, ◌+◌, Bool, true, false, List, [], ◌∷◌, ◌++◌, length, take, Some, refl, sym, subst, Set, vector, place_at, place_of, vector_of, same-place_sym, lines_of, words_of, TextVersion, Node, node_set, IsOrdered, binds, Names, Sets, IsBinding, MeansCommand, MeansWords, MeansLines, MeansScript, has_words, bases_of, Verb, Command, Bind, Has, Joined, Ray, Same, Count, Print, text, Bindings, bound_set, bound_after, IsSaid, IsSaidBy, AreSaid, IsText, count-tells, IsPiece, IsOutput, SameDirection-turned}
 use Rattle.nef_script.specs.declared.arguments.Verb.TheVariants as verb
-use Rattle.nef_script.specs.declared.script.Command.{Command}
-use Rattle.nef_script.specs.declared.script.Command.TheVariants.{Bind, Turn, Has, Joined, Ray, Same, Count, Print}
-use Rattle.nef_complex.specs.Text.{text}
-use Rattle.nef_statement.specs.Denotes.{Bindings, bound_set, bound_after}
-use Rattle.nef_statement.specs.Said.{IsSaid, IsSaidBy, AreSaid}
-use Rattle.nef_statement.specs.Texts.{IsText}
+use Rattle.nef_script.specs.declared.script.Command.TheVariants.{Turn}
 use Rattle.nef_statement.proofs.Bound.{names_in, Agree, IsFound, named, bound-same}
 use Rattle.nef_statement.proofs.Counts.{count-same}
 use Rattle.nef_statement.proofs.Moved.{label-moved, joined-answer-moved, ray-answer-moved, same-answer, joined-answer, ray-answer}
-use Rattle.nef_statement.proofs.Texts.{count-tells}
 use Rattle.nef_statement.proofs.Walk.{no-words, Walked, begun, next, after-empty, none-left}
-use Rattle.nef_shell.specs.Output.{IsPiece, IsOutput}
 
 -- ---- one line
 module _ (version : TextVersion) (ss : Sets) (ordered : IsOrdered ss.nodes) (sets : Bindings) (agree : Agree ss.nodes sets ss.bound) where

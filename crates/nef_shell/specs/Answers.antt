@@ -1,15 +1,12 @@
 -- What a run with accepted words leaves of the source and of the sink.
-use Rattle.std.specs.Prelude.{◌≡◌, ℕ, List, Option, None, Some, take, ◌⊎◌}
+use Rattle.std.specs.Prelude.{◌≡◌, ◌⊎◌, ℕ, List, Option, None, Some, take}
 use Rattle.std.specs.Io.KnownBytes.{Consumes, IsAtEnd}
 use Rattle.nef_io.specs.Bytes.{Rose, Grows, GrowsWithin}
-use Rattle.nef_expr.specs.declared.nodes.Node.{Node}
+use Rattle.nef_plan.specs.Prelude.{Node, Command}
 use Rattle.nef_words.specs.Grammar.{options_in}
 use Rattle.nef_words.specs.declared.words.Options.{Options}
 use Rattle.nef_script.specs.declared.script.ScriptKind.{ScriptKind}
-use Rattle.nef_script.specs.declared.script.Command.{Command}
-use Rattle.nef_script.specs.Refusal.{FirstRefusal, IsAccepted}
-use Rattle.nef_script.specs.Meaning.{MeansScript}
-use Rattle.nef_script.specs.Stairs.{stairs_text}
+use Rattle.nef_script.specs.Prelude.{FirstRefusal, IsAccepted, MeansScript, stairs_text}
 use Rattle.nef_statement.specs.declared.status.Status.{Status}
 use Rattle.nef_statement.specs.Output.{refusal_line}
 use Rattle.nef_statement.specs.Means.{ReadSource, IsRead}

@@ -1,3 +1,4 @@
+pub mod Prelude
 pub mod Status
 pub mod Output
 pub mod Pieces
@@ -6,7 +7,9 @@ pub mod Written
 pub mod Prints
 pub mod Ended
 pub mod Program
-pub mod Uses
 pub mod Operations
+pub mod Held
+pub mod Lean
+pub mod Asked
+pub mod Early
 pub mod Working
-pub mod Bindings

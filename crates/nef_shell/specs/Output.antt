@@ -1,15 +1,10 @@
 -- What the commands of a script write.
-use Rattle.std.specs.Prelude.{◌≡◌, ℕ, List, [], ◌∷◌, ◌++◌}
-use Rattle.nef_space.specs.Local.{HasLabel}
-use Rattle.nef_space.specs.declared.label.Label.{Label}
-use Rattle.nef_geo.specs.Shapes.{place_of, vector_of}
+use Rattle.std.specs.Prelude.{◌≡◌, ◌∷◌, ◌++◌}
+use Rattle.nef_complex.specs.Prelude.{ℕ, List, [], HasLabel, Label, place_of, vector_of, text}
 use Rattle.nef_complex.specs.declared.complex.Complex.{Complex}
 use Rattle.nef_core.specs.declared.work.TextVersion.{TextVersion}
 use Rattle.nef_complex.specs.declared.parts.Parts.{Parts}
-use Rattle.nef_complex.specs.Text.{text}
-use Rattle.nef_expr.specs.declared.nodes.Node.{Node}
-use Rattle.nef_expr.specs.Nodes.{node_set}
-use Rattle.nef_script.specs.declared.script.Command.{Command}
+use Rattle.nef_plan.specs.Prelude.{Node, node_set, Command}
 use Rattle.nef_script.specs.declared.script.Command.TheVariants.{Bind, Turn, Has, Joined, Ray, Same, Count, Print}
 use Rattle.nef_statement.specs.Output.{answer_of, framed, IsSameAnswer, IsJoinedAnswer, IsRayAnswer}
 use Rattle.nef_statement.specs.Texts.{IsWrittenOf, count_line}

@@ -1,10 +1,8 @@
 -- The texts in an output, and what they tell of their sets and of each other.
-use Rattle.std.specs.Prelude.{◌≡◌, ℕ, List, ◌∷◌, ◌++◌, ◌↔◌, length}
+use Rattle.std.specs.Prelude.{◌≡◌, ◌∷◌, ◌++◌, ◌↔◌}
+use Rattle.nef_plan.specs.Prelude.{ℕ, List, length, Node, node_set, Command}
 use Rattle.nef_space.specs.Local.{SameSet}
 use Rattle.nef_core.specs.declared.work.TextVersion.{TextVersion}
-use Rattle.nef_expr.specs.declared.nodes.Node.{Node}
-use Rattle.nef_expr.specs.Nodes.{node_set}
-use Rattle.nef_script.specs.declared.script.Command.{Command}
 use Rattle.nef_script.specs.declared.script.Command.TheVariants.{Print}
 use Rattle.nef_statement.specs.Output.{framed}
 use Rattle.nef_shell.specs.Output.{IsOutput}

@@ -1,26 +1,11 @@
 -- What is written while steps are worked.
-use Rattle.std.specs.Prelude.{◌≡◌, ◌⊎◌, ℕ, ◌<◌, ◌≤◌, List, Option, Some, Result, OnOk, IfErr, slice_get, take}
-use Rattle.nef_complex.specs.declared.complex.Complex.{Complex}
+use Rattle.std.specs.Prelude.{◌≡◌, ℕ, List, Option, Result, OnOk, IfErr, take}
 use Rattle.nef_core.specs.declared.work.TextVersion.{TextVersion}
-use Rattle.nef_expr.specs.declared.nodes.Node.{Node}
+use Rattle.nef_plan.specs.Prelude.{Node, Command}
 use Rattle.nef_io.specs.Bytes.{Rose, Grows, GrowsWithin}
-use Rattle.nef_plan.specs.declared.planner.Step.{Step}
-use Rattle.nef_plan.specs.Steps.{IsRight, LooksAt, Makes}
-use Rattle.nef_script.specs.declared.script.Command.{Command}
 use Rattle.nef_statement.specs.declared.status.Status.{Status}
-use Rattle.nef_shell.specs.Operations.{IsKept}
 use Rattle.nef_shell.specs.Output.{IsOutput}
 use Rattle.nef_shell.specs.Status.{MatchStatus}
-
--- what is known of a step that comes next: it is right, and what it looks at is there
-pub record IsDue (nodes : List Node) (list : List (Option Complex)) (s : Step) : Type 0 where
-  pub right : IsRight nodes s
-  pub kept : (k : ℕ) → LooksAt s k → IsKept nodes list k
-
--- what is known when the first n steps are worked: what each later step looks at is there, or a later step before it makes it
-abbrev pub AreReady : List Node → List Step → ℕ → List (Option Complex) → Type 0
-AreReady nodes steps n list = (i : ℕ) (s : Step) → n ≤ i → slice_get steps i ≡ Some s → (k : ℕ) → LooksAt s k
-    → IsKept nodes list k ⊎ ((j : ℕ) × (d : Step) × (n ≤ j) × (j < i) × (slice_get steps j ≡ Some d) × Makes d k)
 
 -- the output of all commands was written
 abbrev pub HasWrittenAll : TextVersion → List Node → List Command → Option (List ℕ) → Option (List ℕ) → Type 0

@@ -1,8 +1,6 @@
 -- What is written of sets tells which sets are one, and which points belong to them.
-use Rattle.std.specs.Prelude.{◌≡◌, ℕ, List, ◌↔◌}
-use Rattle.nef_space.specs.Local.{SameSet}
-use Rattle.nef_space.specs.Place.{Place, InFrame}
-use Rattle.nef_space.specs.Sets.{Set, Holds}
+use Rattle.std.specs.Prelude.{◌≡◌, ◌↔◌}
+use Rattle.nef_space.specs.Prelude.{ℕ, List, SameSet, Place, InFrame, Set, Holds}
 use Rattle.law_complex.specs.Belongs.{Belongs}
 use Rattle.nef_complex.specs.declared.complex.Complex.{Complex}
 use Rattle.nef_complex.specs.Complexes.{complex_of}

@@ -1,15 +1,12 @@
-//! Works sets of a block of steps ahead of them, side by side.
+//! Works values of a block of steps ahead of it, side by side.
 
-ghost use Rattle.std.specs.Prelude.{◌≡◌, ◌<◌};
-ghost use Rattle.nef_complex.specs.Prelude.{ℕ, IfOk, OnOk, Some, length, slice_get, slice_index, vec_len};
-ghost use Rattle.nef_plan.specs.Steps.{AreSteps};
-ghost use Rattle.nef_shell.specs.declared.bindings.Binding.{Binding};
-ghost use Rattle.nef_shell.specs.Bindings.{AreBindings, ArePut};
-ghost use Rattle.nef_shell.specs.Operations.{AreMeans, AreHeld, AreMore};
+ghost use Rattle.std.specs.Prelude.{◌≡◌, ◌≤◌, ◌<◌};
+ghost use Rattle.nef_shell.specs.Prelude.{ℕ, IfOk, OnOk, length, slice_get, vec_len, Some, AreEnds, AreSteps, Early, AreEarly, AreLate, ArePut, AreHeld, AreMore, AreMeans};
 
-use crate::bindings::{Binding, bindings_of, work_bindings};
+use crate::early::{Early, add_early, of_block, work_early};
+use crate::held::Value;
 use crate::operation::Means;
-use crate::sets::{Sets, put_at};
+use crate::values::put_at;
 use nef_io::Gate;
 use nef_plan::Step;
 use nef_words::Options;
@@ -26,88 +23,121 @@ fn begins_block(options: &Options, now: usize) -> bool {
     options.ahead && 1 < options.how.workers && now % BLOCK == 0
 }
 
-// Whether two of the bindings or more have this level.
-fn is_broad(bindings: &[Binding], level: usize) -> bool {
-    let mut found = false;
-    for binding in bindings {
-        if binding.level == level {
-            if found {
-                return true;
-            }
-            found = true;
-        }
+// The level of a set whose operand this is, if it has that one: one more than the operand's, or 0 if the block doesn't make
+// the operand.
+fn level_after(levels: &[Option<usize>], now: usize, operand: Option<usize>) -> usize {
+    match of_block(levels, now, operand) {
+        Some(level) => level.saturating_add(1),
+        None => 0,
     }
-    false
 }
 
-// How many levels there are before the first that has fewer than two bindings. A set that is alone gains nothing, and where
-// its step makes it, its operands can be given away.
-fn broad_levels(bindings: &[Binding]) -> usize {
-    for level in 0..bindings.len() {
-        if !is_broad(bindings, level) {
+// The level of each step from `now` on and before `end`, if a later step looks at what it makes: 0 where no step of these
+// makes an operand, and else one more than the highest level of those that do.
+fn levels_of(
+    alloc: Global,
+    steps: &[Step],
+    now: usize,
+    end: usize,
+) -> Result<Vec<Option<usize>>, AllocError>
+    requires end { end ≤ length steps.now }
+{
+    let mut levels = Vec::new(alloc);
+    for value in now..end {
+        let step = &steps[value];
+        let (first, second) = step.task.looked_at();
+        let level = level_after(&levels, now, first).max(level_after(&levels, now, second));
+        levels.push(if step.ends_made { None } else { Some(level) })?;
+    }
+    Ok(levels)
+}
+
+// How many sets have each level, for each that is below the number of steps.
+fn counts_of(alloc: Global, levels: &[Option<usize>]) -> Result<Vec<usize>, AllocError> {
+    let mut counts = vec![in alloc; 0usize; levels.len()]?;
+    let places = counts.as_mut_slice();
+    for level in levels {
+        if let Some(level) = *level
+            && level < places.len()
+        {
+            places[level] = places[level].saturating_add(1);
+        }
+    }
+    Ok(counts)
+}
+
+// How many levels there are before the first that has fewer than two sets. A set that is alone gains nothing, and where its
+// step makes it, its operands can be given away.
+fn broad_levels(counts: &[usize]) -> usize {
+    for level in 0..counts.len() {
+        if counts[level] < 2 {
             return level;
         }
     }
-    bindings.len()
+    counts.len()
 }
 
-// The bindings that are worked ahead of the block which begins with this step.
-fn block_bindings(
+// The values that are worked ahead of the block which begins with this step.
+fn early_values(
     alloc: Global,
-    sets: &Sets,
+    values: &[Value],
     steps: &[Step],
     now: usize,
-    uses: &[usize],
-) -> Result<Vec<Binding>, AllocError>
-    requires steps { AreSteps sets.now.nodes.now steps.now }
-    requires uses { length uses.now ≡ length sets.now.nodes.now }
-    ensures are { IfOk result (λ v. AreBindings sets.now.nodes.now sets.now.list.items v.items) }
-    ensures awaited { IfOk result (λ v. (n : ℕ) (b : Binding) → slice_get v.items n ≡ Some b → now < slice_index uses.now b.node) }
+) -> Result<Vec<Early>, AllocError>
+    requires steps { AreSteps steps.now }
+    requires ends { AreEnds steps.now }
+    ensures early { IfOk result (λ v. AreEarly steps.now values.now v.items) }
+    ensures late { IfOk result (λ v. AreLate now v.items) }
 {
     let end = steps.len().min(now.saturating_add(BLOCK));
-    let all = bindings_of(alloc, sets, steps, now, end, uses, usize::MAX)?;
-    let levels = broad_levels(&all);
-    bindings_of(alloc, sets, steps, now, end, uses, levels)
+    let levels = levels_of(alloc, steps, now, end)?;
+    let broad = broad_levels(&counts_of(alloc, &levels)?);
+    let mut early = Vec::new(alloc);
+    let mut index = Vec::new(alloc);
+    for value in now..end {
+        let is_wanted = of_block(&levels, now, Some(value)).is_some_and(|level| level < broad);
+        let number = add_early(&mut early, &index, values, steps, now, value, is_wanted)?;
+        index.push(number)?;
+    }
+    Ok(early)
 }
 
-// Puts each thing to the place of the node that its binding binds.
-fn put_each<X: Drop>(places: &mut Vec<Option<X>>, bindings: &[Binding], mut things: Vec<X>)
-    requires within { (n : ℕ) (b : Binding) → slice_get bindings.now n ≡ Some b → b.node < length places.old.items }
-    requires count { vec_len things ≡ length bindings.now }
-    ensures put { ArePut bindings.now things.items places.old.items places.new.items }
-    ensures len { vec_len places.new ≡ vec_len places.old }
+// Puts each thing to the place of its value.
+fn put_each<X: Drop>(places: &mut [Option<X>], early: &[Early], mut things: Vec<Option<X>>)
+    requires within { (n : ℕ) (e : Early) → slice_get early.now n ≡ Some e → e.value < length places.old }
+    requires count { vec_len things ≡ length early.now }
+    ensures put { ArePut early.now things.items places.old places.new }
 {
     while let Some(thing) = things.pop() {
-        put_at(places, bindings[things.len()].node, Some(thing));
+        put_at(places, early[things.len()].value, thing);
     }
 }
 
-/// Where a block begins with this step, works sets of its steps side by side, if the options say so: those at which a later
-/// step looks, and whose operands are there or are worked with them. `now` is the number of the step, counted from 0, and
-/// `uses` has the last uses. `AllocError` says that memory was wanted and not found.
+/// Where a block begins with this step, works values of its steps side by side, if the options say so: those at which a later
+/// step looks, and whose operands are kept or are worked with them. `now` is the number of the step, counted from 0.
+/// `AllocError` says that memory was wanted and not found.
 pub(crate) fn work_ahead<R: Threads + Wait + Sync, G: Gate + Sync>(
     rt: &R,
     alloc: Global,
-    sets: &mut Sets,
+    values: &mut [Value],
     steps: &[Step],
     now: usize,
-    uses: &[usize],
     means: &Means,
     gate: &G,
 ) -> Result<(), AllocError>
     requires means { AreMeans means.now }
-    requires steps { AreSteps sets.old.nodes.now steps.now }
-    requires uses { length uses.now ≡ length sets.old.nodes.now }
-    requires held { AreHeld means.now.options.text sets.old.nodes.now sets.old.list.items sets.old.parts.items sets.old.texts.items }
-    ensures held { OnOk result (AreHeld means.now.options.text sets.old.nodes.now sets.new.list.items sets.new.parts.items sets.new.texts.items) }
-    ensures more { OnOk result (AreMore uses.now now sets.old.list.items sets.new.list.items) }
-    ensures nodes { sets.new.nodes ≡ sets.old.nodes }
+    requires steps { AreSteps steps.now }
+    requires ends { AreEnds steps.now }
+    requires count { length values.old ≡ length steps.now }
+    requires held { AreHeld means.now.options.text steps.now values.old }
+    ensures held { OnOk result (AreHeld means.now.options.text steps.now values.new) }
+    ensures more { OnOk result (AreMore steps.now now values.old values.new) }
 {
     if !begins_block(&means.options, now) {
         return Ok(());
     }
-    let bindings = block_bindings(alloc, sets, steps, now, uses)?;
-    let complexes = work_bindings(rt, alloc, sets.nodes, &sets.list, &bindings, means, gate)?;
-    put_each(&mut sets.list, &bindings, complexes);
+    let early = early_values(alloc, values, steps, now)?;
+    let made = work_early(rt, alloc, values, steps, &early, means, gate)?;
+    put_each(values, &early, made);
     Ok(())
 }

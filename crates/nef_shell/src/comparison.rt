@@ -1,8 +1,7 @@
 //! What the texts of sets tell of them.
 
 ghost use Rattle.std.specs.Prelude.{◌≡◌, ◌↔◌};
-ghost use Rattle.nef_complex.specs.Prelude.{IfOk, IsTrue, SameSet, Set, ShowsSet, complex_of, IsParts, text};
-ghost use Rattle.nef_shell.specs.Written.{TextsTellSets, PiecesAreOne, TextHolds, CountsComponents};
+ghost use Rattle.nef_shell.specs.Prelude.{IfOk, IsTrue, SameSet, Set, ShowsSet, complex_of, IsParts, text, TextsTellSets, PiecesAreOne, TextHolds, CountsComponents};
 
 use nef_canon::write_text;
 use nef_complex::{Complex, Parts};

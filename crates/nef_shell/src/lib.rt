@@ -5,21 +5,22 @@
 //! read first. The definitions in specs/ here are for the proofs, and for those who take apart what
 //! the texts tell of facets and shells: `Output` says what each command writes, `Ended` what a run
 //! that is done has written. `work_steps` and `work_step` are public for what they say of memory: no set
-//! is kept past its last use (`Uses`).
+//! is kept past its last use (`Lean`).
 #![tactic(auto)]
 
 mod ahead;
-mod bindings;
 mod comparison;
+mod early;
+mod held;
 mod operation;
 mod piece;
-mod sets;
 mod top;
+mod values;
 mod work;
 
 pub use comparison::{same_text, written_laws};
+pub use held::{Held, Value};
 pub use nef_statement::Status;
-pub use operation::{Means, last_uses};
-pub use sets::Sets;
+pub use operation::Means;
 pub use top::{code, program, run};
 pub use work::{work_step, work_steps};

@@ -1,18 +1,10 @@
 //! What is written of a command that asks.
 
 ghost use Rattle.std.specs.Prelude.{◌≡◌, ◌++◌};
-ghost use Rattle.nef_complex.specs.Prelude.{ℕ, IfOk, OnOk, length, HasLabel, Set, place_of, vector_of, ShowsSet};
-ghost use Rattle.nef_expr.specs.Nodes.{node_set};
-ghost use Rattle.nef_script.specs.Limits.{IsRayWithin};
-ghost use Rattle.nef_script.specs.Meaning.{IsWithin};
-ghost use Rattle.nef_plan.specs.Steps.{AsksAbout};
-ghost use Rattle.nef_shell.specs.Operations.{IsKept, AreHeld};
-ghost use Rattle.nef_shell.specs.Output.{IsPiece};
-ghost use Rattle.nef_shell.specs.Pieces.{piece_bytes, same_answer, joined_answer};
-ghost use Rattle.nef_statement.specs.Output.{answer_of, spaced, end_line, framed, IsJoinedAnswer, IsRayAnswer};
-ghost use Rattle.nef_statement.specs.Texts.{count_line};
+ghost use Rattle.nef_shell.specs.Prelude.{ℕ, List, None, Some, IfOk, IfSome, OnOk, HasLabel, Set, place_of, vector_of, ShowsSet, IsRayWithin, IsWithin, second_asked, IsAskedOf, IsAskedOfOther, IsHeld, IsHeldAt, AreStill, complex_at, IsShown, Node as Expression, IsPiece, printed, piece_bytes, same_answer, joined_answer, answer_of, spaced, end_line, framed, IsJoinedAnswer, IsRayAnswer, IsSameAnswer, IsWrittenOf, count_line};
 
-use crate::sets::Sets;
+use crate::held::{Held, Value, complex_at};
+use crate::values::{put_at, taken_from};
 use itoa::Buffer;
 use nef_complex::{Complex, Parts};
 use nef_geo::{Dir, Label, Point};
@@ -71,12 +63,11 @@ fn joined_answer(joined: bool) -> &'static [u8]
     if joined { b"joined\n" } else { b"apart\n" }
 }
 
-// The label of the point for the node.
-fn label_at(sets: &Sets, node: usize, point: &Point) -> Label
-    requires kept { IsKept sets.now.nodes.now sets.now.list.items node }
-    ensures label { HasLabel (node_set sets.now.nodes.now node) (place_of point.now) result }
+// The label of the point in the set that the complex shows.
+fn label_at(complex: &Complex, point: &Point) -> Label
+    requires shows { (s : Set) × ShowsSet s complex.now }
+    ensures label { (s : Set) → ShowsSet s complex.now → HasLabel s (place_of point.now) result }
 {
-    let complex = sets.get(node);
     if point.in_frame() {
         place_label(complex, &locate(complex, point))
     } else {
@@ -84,24 +75,19 @@ fn label_at(sets: &Sets, node: usize, point: &Point) -> Label
     }
 }
 
-// The line that says whether the points are joined in the node's set, or that one of them lies outside the frame. The
-// set's parts are worked where both lie in it, unless they are there. `AllocError` says that memory was wanted and not
-// found.
+// The line that says whether the points are joined in the set, or that one of them lies outside the frame. The set's parts
+// are worked where both lie in it, unless they are kept. `AllocError` says that memory was wanted and not found.
 fn joined_piece<R: Threads + Sync>(
     rt: &R,
     alloc: Global,
-    sets: &mut Sets,
-    node: usize,
+    held: &mut Held,
     first: &Point,
     second: &Point,
     options: &Options,
 ) -> Result<&'static [u8], AllocError>
-    requires kept { IsKept sets.old.nodes.now sets.old.list.items node }
-    requires held { AreHeld options.now.text sets.old.nodes.now sets.old.list.items sets.old.parts.items sets.old.texts.items }
-    ensures piece { IfOk result (λ v. IsJoinedAnswer (node_set sets.old.nodes.now node) (place_of first.now) (place_of second.now) v.now) }
-    ensures held { OnOk result (AreHeld options.now.text sets.old.nodes.now sets.old.list.items sets.new.parts.items sets.new.texts.items) }
-    ensures list { sets.new.list ≡ sets.old.list }
-    ensures nodes { sets.new.nodes ≡ sets.old.nodes }
+    requires held { (s : Set) × IsHeld options.now.text s held.old }
+    ensures piece { IfOk result (λ v. (s : Set) → IsHeld options.now.text s held.old → IsJoinedAnswer s (place_of first.now) (place_of second.now) v.now) }
+    ensures held { OnOk result ((s : Set) → IsHeld options.now.text s held.old → IsHeld options.now.text s held.new) }
 {
     if !first.in_frame() {
         return Ok(answer(Label::Out));
@@ -109,9 +95,10 @@ fn joined_piece<R: Threads + Sync>(
     if !second.in_frame() {
         return Ok(answer(Label::Out));
     }
-    sets.work_parts(rt, alloc, node, options)?;
-    let (complex, parts) = sets.get_with_parts(node);
-    Ok(joined_answer(joined(complex, parts, first, second)))
+    let parts = held.take_parts(rt, alloc, options)?;
+    let line = joined_answer(joined(&held.complex, &parts, first, second));
+    held.parts = Some(parts);
+    Ok(line)
 }
 
 // Adds the number and a blank.
@@ -174,7 +161,7 @@ fn count_line(alloc: Global, complex: &Complex, parts: &Parts) -> Result<Vec<u8>
 }
 
 // The text under its name.
-fn printed(alloc: Global, name: &Name, text: &[u8]) -> Result<Vec<u8>, AllocError>
+fn framed_text(alloc: Global, name: &Name, text: &[u8]) -> Result<Vec<u8>, AllocError>
     ensures bytes { IfOk result (λ v. v.items ≡ framed name.now text.now) }
 {
     let mut bytes = Vec::from_slice(alloc, b"polyhedron ")?;
@@ -185,59 +172,117 @@ fn printed(alloc: Global, name: &Name, text: &[u8]) -> Result<Vec<u8>, AllocErro
     Ok(bytes)
 }
 
-/// What is written of the command, with a text of the version that the options choose: nothing, where it binds a name.
-/// Of the set that it asks about, parts and text are kept when they are worked. `AllocError` says that memory was wanted
-/// and not found.
-pub(crate) fn piece_of<R: Threads + Sync>(
+// The line that counts the set's parts, which are worked unless they are kept.
+fn count_piece<R: Threads + Sync>(
     rt: &R,
     alloc: Global,
-    sets: &mut Sets,
+    held: &mut Held,
+    options: &Options,
+) -> Result<Vec<u8>, AllocError>
+    requires held { (s : Set) × IsHeld options.now.text s held.old }
+    ensures piece { IfOk result (λ v. (s : Set) → IsHeld options.now.text s held.old → IsWrittenOf s count_line v.items) }
+    ensures held { OnOk result ((s : Set) → IsHeld options.now.text s held.old → IsHeld options.now.text s held.new) }
+{
+    let parts = held.take_parts(rt, alloc, options)?;
+    let line = count_line(alloc, &held.complex, &parts)?;
+    held.parts = Some(parts);
+    Ok(line)
+}
+
+// The set's text under its name, which is worked unless it is kept.
+fn print_piece<R: Threads + Sync>(
+    rt: &R,
+    alloc: Global,
+    held: &mut Held,
+    name: &Name,
+    options: &Options,
+) -> Result<Vec<u8>, AllocError>
+    requires held { (s : Set) × IsHeld options.now.text s held.old }
+    ensures piece { IfOk result (λ v. (s : Set) → IsHeld options.now.text s held.old → IsWrittenOf s (printed options.now.text name.now) v.items) }
+    ensures held { OnOk result ((s : Set) → IsHeld options.now.text s held.old → IsHeld options.now.text s held.new) }
+{
+    let text = held.take_text(rt, alloc, options)?;
+    let piece = framed_text(alloc, name, &text)?;
+    held.text = Some(text);
+    Ok(piece)
+}
+
+// What is written of a command that asks about one set, and nothing of another one. Parts and text of the set are kept when
+// they are worked.
+fn single_piece<R: Threads + Sync>(
+    rt: &R,
+    alloc: Global,
+    held: &mut Held,
     command: &Command,
     options: &Options,
 ) -> Result<Piece, AllocError>
-    requires within { IsWithin (length sets.old.nodes.now) command.now }
-    requires kept { (k : ℕ) → AsksAbout command.now k → IsKept sets.old.nodes.now sets.old.list.items k }
-    requires held { AreHeld options.now.text sets.old.nodes.now sets.old.list.items sets.old.parts.items sets.old.texts.items }
-    ensures piece { IfOk result (λ p. IsPiece options.now.text sets.old.nodes.now command.now (piece_bytes p)) }
-    ensures held { OnOk result (AreHeld options.now.text sets.old.nodes.now sets.old.list.items sets.new.parts.items sets.new.texts.items) }
-    ensures list { sets.new.list ≡ sets.old.list }
-    ensures nodes { sets.new.nodes ≡ sets.old.nodes }
+    requires within { (count : ℕ) × IsWithin count command.now }
+    requires held { (s : Set) × IsHeld options.now.text s held.old }
+    ensures piece { IfOk result (λ p. (nodes : List Expression) → IsAskedOf nodes command.now (λ s. IsHeld options.now.text s held.old) → second_asked command.now ≡ None → IsPiece options.now.text nodes command.now (piece_bytes p)) }
+    ensures held { OnOk result ((s : Set) → IsHeld options.now.text s held.old → IsHeld options.now.text s held.new) }
 {
     match command {
-        Command::Bind { .. } => Ok(Piece::Line(b"")),
-        Command::Turn { .. } => Ok(Piece::Line(b"")),
-        Command::Has { node, point, .. } => Ok(Piece::Line(answer(label_at(sets, *node, point)))),
-        Command::Joined {
-            node,
-            first,
-            second,
-            ..
-        } => {
-            let line = joined_piece(rt, alloc, sets, *node, first, second, options)?;
+        Command::Has { point, .. } => Ok(Piece::Line(answer(label_at(&held.complex, point)))),
+        Command::Joined { first, second, .. } => {
+            let line = joined_piece(rt, alloc, held, first, second, options)?;
             Ok(Piece::Line(line))
         }
-        Command::Ray {
-            node,
-            point,
-            dir,
-            ..
-        } => {
-            let text = ray_piece(alloc, sets.get(*node), point, dir)?;
+        Command::Ray { point, dir, .. } => {
+            let text = ray_piece(alloc, &held.complex, point, dir)?;
             Ok(Piece::Text(text))
         }
-        Command::Same { left, right, .. } => {
-            Ok(Piece::Line(same_answer(same(sets.get(*left), sets.get(*right)))))
-        }
-        Command::Count { node, .. } => {
-            sets.work_parts(rt, alloc, *node, options)?;
-            let (complex, parts) = sets.get_with_parts(*node);
-            let text = count_line(alloc, complex, parts)?;
+        Command::Count { .. } => {
+            let text = count_piece(rt, alloc, held, options)?;
             Ok(Piece::Text(text))
         }
-        Command::Print { node, name, .. } => {
-            sets.work_text(rt, alloc, *node, options)?;
-            let text = printed(alloc, name, sets.text(*node))?;
+        Command::Print { name, .. } => {
+            let text = print_piece(rt, alloc, held, name, options)?;
             Ok(Piece::Text(text))
         }
+        Command::Bind { .. } => Ok(Piece::Line(b"")),
+        Command::Turn { .. } => Ok(Piece::Line(b"")),
+        Command::Same { .. } => Ok(Piece::Line(b"")),
+    }
+}
+
+// The line that says whether two values are one set, if both are kept.
+fn same_piece(values: &[Value], first: usize, second: usize) -> Piece
+    requires first { (s : Set) × IsShown s (complex_at values.now (Some first)) }
+    requires second { (t : Set) × IsShown t (complex_at values.now (Some second)) }
+    ensures piece { (s t : Set) → IsShown s (complex_at values.now (Some first)) → IsShown t (complex_at values.now (Some second)) → IsSameAnswer s t (piece_bytes result) }
+{
+    match complex_at(values, Some(first)).zip(complex_at(values, Some(second))) {
+        Some((a, b)) => Piece::Line(same_answer(same(a, b))),
+        None => Piece::Line(b""),
+    }
+}
+
+/// What is written of the question about these values, with a text of the version that the options choose. Of a set that it
+/// asks about, parts and text are kept when they are worked. `AllocError` says that memory was wanted and not found.
+pub(crate) fn piece_of<R: Threads + Sync>(
+    rt: &R,
+    alloc: Global,
+    values: &mut [Value],
+    command: &Command,
+    first: usize,
+    second: Option<usize>,
+    options: &Options,
+) -> Result<Piece, AllocError>
+    requires within { (count : ℕ) × IsWithin count command.now }
+    requires first { (s : Set) × IsHeldAt options.now.text s values.old first }
+    requires second { IfSome second (λ j. (t : Set) × IsHeldAt options.now.text t values.old j) }
+    ensures piece { IfOk result (λ p. (nodes : List Expression) → IsAskedOf nodes command.now (λ s. IsHeldAt options.now.text s values.old first) → IsAskedOfOther nodes command.now second (λ j s. IsHeldAt options.now.text s values.old j) → IsPiece options.now.text nodes command.now (piece_bytes p)) }
+    ensures still { OnOk result (AreStill options.now.text values.old values.new) }
+{
+    if let Some(second) = second {
+        return Ok(same_piece(values, first, second));
+    }
+    match taken_from(values, first) {
+        Some(mut held) => {
+            let piece = single_piece(rt, alloc, &mut held, command, options)?;
+            put_at(values, first, Some(held));
+            Ok(piece)
+        }
+        None => Ok(Piece::Line(b"")),
     }
 }

@@ -1,19 +1,7 @@
 //! The top call, and the program: from the words of the command line to the exit status.
 
 ghost use Rattle.std.specs.Prelude.{◌≡◌, ◌≤◌};
-ghost use Rattle.nef_complex.specs.Prelude.{ℕ, List, Some, IfOk, IfSome, IsOk, IsErr, map, string_bytes, IfErr, exit_status, most_stairs};
-ghost use Rattle.nef_io.specs.Bytes.{Rose, Grows, GrowsWithin};
-ghost use Rattle.nef_shell.specs.Status.{MatchStatus};
-ghost use Rattle.nef_statement.specs.Output.{refusal_line, words_line};
-ghost use Rattle.nef_words.specs.Grammar.{options_in};
-ghost use Rattle.nef_statement.specs.Statement.{RunSays, ProgramSays};
-ghost use Rattle.nef_statement.specs.Status.{status_code};
-ghost use Rattle.nef_statement.specs.Texts.{IsText};
-ghost use Rattle.nef_shell.specs.Answers.{HasEnded, HasNoScript, IsScriptFor, IsWorked};
-ghost use Rattle.nef_shell.specs.Ended.{RunEnds};
-ghost use Rattle.nef_shell.specs.Program.{IsCollected, ProgramEnds};
-ghost use Rattle.nef_statement.specs.Traffic.{traffic};
-ghost use Rattle.nef_plan.specs.Steps.{AreWorkable};
+ghost use Rattle.nef_shell.specs.Prelude.{ℕ, List, Some, IfOk, IfSome, IsOk, IsErr, map, string_bytes, IfErr, exit_status, most_stairs, Rose, Grows, GrowsWithin, MatchStatus, refusal_line, words_line, options_in, RunSays, ProgramSays, status_code, IsText, HasEnded, HasNoScript, IsScriptFor, IsWorked, RunEnds, IsCollected, ProgramEnds, traffic, AreWorkable};
 
 use crate::work::work;
 use itoa::Buffer;

@@ -1,166 +1,173 @@
 //! Works a script: the steps of its plan, in order.
 
-ghost use Rattle.std.specs.Prelude.{◌≡◌, ◌+◌, ◌<◌, ◌⊎◌, ◌∷◌};
-ghost use Rattle.nef_complex.specs.Prelude.{ℕ, [], Some, OnOk, length, slice_get, slice_index};
-ghost use Rattle.nef_plan.specs.declared.planner.Step.{Step};
-ghost use Rattle.nef_plan.specs.Steps.{AreWorkable, AreSteps, IsRight, Makes, asked};
-ghost use Rattle.nef_shell.specs.Bindings.{Asks};
-ghost use Rattle.nef_shell.specs.Operations.{AreMeans, IsKept, AreBound, AreHeld};
-ghost use Rattle.nef_shell.specs.Uses.{AreLastUses, AreUses, IsLean};
-ghost use Rattle.nef_shell.specs.Working.{IsDue, AreReady, WorkEnds};
+ghost use Rattle.std.specs.Prelude.{◌≡◌, ◌+◌, ◌<◌, ◌∷◌};
+ghost use Rattle.nef_shell.specs.Prelude.{ℕ, List, [], Some, IfSome, OnOk, Set, length, slice_get, Node as Expression, AreWorkable, AreEnds, AreSteps, asked_values, Step, IsWithin, AreAsked, IsAskedOf, IsAskedOfOther, AreHeld, AreStill, IsHeldAt, AreReady, HasDone, IsLean, AreMeans, WorkEnds};
 
 use crate::ahead::work_ahead;
-use crate::operation::{Means, bound, last_uses};
+use crate::held::Value;
+use crate::operation::Means;
 use crate::piece::piece_of;
-use crate::sets::Sets;
-use nef_expr::Nodes;
+use crate::values::{make_value, release};
 use nef_io::{Gate, Sink, put_all};
 use nef_ops::constant;
-use nef_plan::{Step, plan};
+use nef_plan::{Step, Task, plan};
 use nef_sched::empty_places;
-use nef_script::Script;
+use nef_script::{Command, Script};
 use nef_statement::Status;
 use nef_words::Options;
-use std::alloc::{AllocError, Global};
+use std::alloc::Global;
 use std::sync::Wait;
 use std::thread::Threads;
 
-// Works the node whose set the step makes, if it makes one, unless its complex is there. What it is made of may go where no
-// step after this one looks at it.
-fn bind_step<R: Threads + Wait + Sync, G: Gate + Sync>(
+// Writes the answer to the question about these values, with a text of the version that the options choose.
+fn write_answer<R: Threads + Sync, K: Sink>(
     rt: &R,
     alloc: Global,
-    sets: &mut Sets,
-    step: &Step,
-    now: usize,
-    uses: &[usize],
-    means: &Means,
-    gate: &G,
-) -> Result<(), AllocError>
-    requires means { AreMeans means.now }
-    requires uses { length uses.now ≡ length sets.old.nodes.now }
-    requires due { IsDue sets.old.nodes.now sets.old.list.items step.now }
-    requires held { AreHeld means.now.options.text sets.old.nodes.now sets.old.list.items sets.old.parts.items sets.old.texts.items }
-    ensures held { OnOk result (AreHeld means.now.options.text sets.old.nodes.now sets.new.list.items sets.new.parts.items sets.new.texts.items) }
-    ensures bound { OnOk result (AreBound sets.old.nodes.now (Makes step.now) (λ k. (now < slice_index uses.now k) ⊎ Asks step.now k) sets.old.list.items sets.new.list.items) }
-    ensures nodes { sets.new.nodes ≡ sets.old.nodes }
-{
-    match bound(sets.nodes, step) {
-        Some((node, operation)) => sets.bind(rt, alloc, node, operation, now, uses, means, gate),
-        None => Ok(()),
-    }
-}
-
-// Writes the answer, with a text of the version that the options choose, where the step is a question.
-fn write_piece<R: Threads + Sync, K: Sink>(
-    rt: &R,
-    alloc: Global,
-    sets: &mut Sets,
-    step: &Step,
+    values: &mut [Value],
+    command: &Command,
+    first: usize,
+    second: Option<usize>,
     options: &Options,
     sink: &mut K,
 ) -> Result<(), Status>
-    requires right { IsRight sets.old.nodes.now step.now }
-    requires kept { (k : ℕ) → Asks step.now k → IsKept sets.old.nodes.now sets.old.list.items k }
-    requires held { AreHeld options.now.text sets.old.nodes.now sets.old.list.items sets.old.parts.items sets.old.texts.items }
-    ensures ends { WorkEnds options.now.text sets.old.nodes.now (asked (step.now ∷ [])) (K.written sink.old) (K.written sink.new) (K.faults sink.old) (K.faults sink.new) result }
-    ensures held { OnOk result (AreHeld options.now.text sets.old.nodes.now sets.old.list.items sets.new.parts.items sets.new.texts.items) }
-    ensures list { sets.new.list ≡ sets.old.list }
-    ensures nodes { sets.new.nodes ≡ sets.old.nodes }
+    requires within { (count : ℕ) × IsWithin count command.now }
+    requires first { (s : Set) × IsHeldAt options.now.text s values.old first }
+    requires second { IfSome second (λ j. (t : Set) × IsHeldAt options.now.text t values.old j) }
+    ensures ends { (nodes : List Expression) → IsAskedOf nodes command.now (λ s. IsHeldAt options.now.text s values.old first) → IsAskedOfOther nodes command.now second (λ j s. IsHeldAt options.now.text s values.old j) → WorkEnds options.now.text nodes (command.now ∷ []) (K.written sink.old) (K.written sink.new) (K.faults sink.old) (K.faults sink.new) result }
+    ensures still { OnOk result (AreStill options.now.text values.old values.new) }
 {
-    let Step::Ask(command) = *step else {
-        return Ok(());
-    };
-    let piece = piece_of(rt, alloc, sets, command, options)?;
+    let piece = piece_of(rt, alloc, values, command, first, second, options)?;
     put_all(sink, piece.as_bytes())?;
     Ok(())
 }
 
-/// Works the step with this number, counted from 0: makes its set, or writes its answer, with a text of the version that
-/// the options choose. Then it lets go what no later step looks at. Where each set that is there before is one at which
-/// this step or a later one looks, each that is there afterwards is one at which a later step looks: none is kept past its
+// Makes the value of the step with this number, or writes its answer.
+fn do_task<R: Threads + Wait + Sync, K: Sink, G: Gate + Sync>(
+    rt: &R,
+    alloc: Global,
+    values: &mut [Value],
+    steps: &[Step],
+    now: usize,
+    means: &Means,
+    sink: &mut K,
+    gate: &G,
+) -> Result<(), Status>
+    requires means { AreMeans means.now }
+    requires steps { AreSteps steps.now }
+    requires ends { AreEnds steps.now }
+    requires asked { (nodes : List Expression) × AreAsked nodes steps.now }
+    requires now { now < length steps.now }
+    requires count { length values.old ≡ length steps.now }
+    requires ready { AreReady steps.now now values.old }
+    requires held { AreHeld means.now.options.text steps.now values.old }
+    ensures ends { (nodes : List Expression) (step : Step) → AreAsked nodes steps.now → slice_get steps.now now ≡ Some step → WorkEnds means.now.options.text nodes (asked_values (step ∷ [])) (K.written sink.old) (K.written sink.new) (K.faults sink.old) (K.faults sink.new) result }
+    ensures held { OnOk result (AreHeld means.now.options.text steps.now values.new) }
+    ensures done { OnOk result (HasDone steps.now now values.old values.new) }
+{
+    match &steps[now].task {
+        Task::Ask {
+            command,
+            first,
+            second,
+        } => {
+            write_answer(
+                rt,
+                alloc,
+                values,
+                command,
+                *first,
+                *second,
+                &means.options,
+                sink,
+            )
+        }
+        _ => {
+            make_value(rt, alloc, values, steps, now, means, gate)?;
+            Ok(())
+        }
+    }
+}
+
+/// Works the step with this number, counted from 0: makes its value, or writes its answer, with a text of the version that
+/// the options choose. Then it lets go what no later step looks at. Where each value that is kept before is one at which
+/// this step or a later one looks, each that is kept afterwards is one at which a later step looks: none is kept past its
 /// last use.
 pub fn work_step<R: Threads + Wait + Sync, K: Sink, G: Gate + Sync>(
     rt: &R,
     alloc: Global,
-    sets: &mut Sets,
+    values: &mut [Value],
     steps: &[Step],
     now: usize,
-    uses: &[usize],
     means: &Means,
     sink: &mut K,
     gate: &G,
 ) -> Result<(), Status>
     requires means { AreMeans means.now }
-    requires steps { AreSteps sets.old.nodes.now steps.now }
+    requires steps { AreSteps steps.now }
+    requires ends { AreEnds steps.now }
+    requires asked { (nodes : List Expression) × AreAsked nodes steps.now }
     requires now { now < length steps.now }
-    requires uses { length uses.now ≡ length sets.old.nodes.now }
-    requires last { AreLastUses steps.now uses.now }
-    requires used { AreUses sets.old.nodes.now steps.now uses.now }
-    requires ready { AreReady sets.old.nodes.now steps.now now sets.old.list.items }
-    requires held { AreHeld means.now.options.text sets.old.nodes.now sets.old.list.items sets.old.parts.items sets.old.texts.items }
-    requires lean { IsLean steps.now now sets.old.list.items }
-    ensures ends { (step : Step) → slice_get steps.now now ≡ Some step → WorkEnds means.now.options.text sets.old.nodes.now (asked (step ∷ [])) (K.written sink.old) (K.written sink.new) (K.faults sink.old) (K.faults sink.new) result }
-    ensures ready { OnOk result (AreReady sets.old.nodes.now steps.now (now + 1) sets.new.list.items) }
-    ensures held { OnOk result (AreHeld means.now.options.text sets.old.nodes.now sets.new.list.items sets.new.parts.items sets.new.texts.items) }
-    ensures lean { OnOk result (IsLean steps.now (now + 1) sets.new.list.items) }
-    ensures nodes { sets.new.nodes ≡ sets.old.nodes }
+    requires count { length values.old ≡ length steps.now }
+    requires ready { AreReady steps.now now values.old }
+    requires held { AreHeld means.now.options.text steps.now values.old }
+    requires lean { IsLean steps.now now values.old }
+    ensures ends { (nodes : List Expression) (step : Step) → AreAsked nodes steps.now → slice_get steps.now now ≡ Some step → WorkEnds means.now.options.text nodes (asked_values (step ∷ [])) (K.written sink.old) (K.written sink.new) (K.faults sink.old) (K.faults sink.new) result }
+    ensures count { OnOk result (length values.new ≡ length steps.now) }
+    ensures ready { OnOk result (AreReady steps.now (now + 1) values.new) }
+    ensures held { OnOk result (AreHeld means.now.options.text steps.now values.new) }
+    ensures lean { OnOk result (IsLean steps.now (now + 1) values.new) }
 {
-    let step = &steps[now];
-    bind_step(rt, alloc, sets, step, now, uses, means, gate)?;
-    write_piece(rt, alloc, sets, step, &means.options, sink)?;
-    sets.release(step, now, uses);
+    do_task(rt, alloc, values, steps, now, means, sink, gate)?;
+    release(values, &steps[now], now);
     Ok(())
 }
 
-/// Works the steps in order, and writes each answer when its question's turn comes. Where the options say so, sets of a block
-/// of steps are worked ahead of it, several at the same time. Before and after each step, each set that is there is one at
-/// which a later step looks; so none is left at the end.
+/// Works the steps in order, and writes each answer when its question's turn comes. Where the options say so, values of a
+/// block of steps are worked ahead of it, several at the same time. Before and after each step, each value that is kept is
+/// one at which a later step looks; so none is left at the end.
 pub fn work_steps<R: Threads + Wait + Sync, K: Sink, G: Gate + Sync>(
     rt: &R,
     alloc: Global,
-    sets: &mut Sets,
+    values: &mut [Value],
     steps: &[Step],
-    uses: &[usize],
     means: &Means,
     sink: &mut K,
     gate: &G,
 ) -> Result<(), Status>
     requires means { AreMeans means.now }
-    requires steps { AreSteps sets.old.nodes.now steps.now }
-    requires uses { length uses.now ≡ length sets.old.nodes.now }
-    requires last { AreLastUses steps.now uses.now }
-    requires used { AreUses sets.old.nodes.now steps.now uses.now }
-    requires lean { IsLean steps.now 0 sets.old.list.items }
-    requires held { AreHeld means.now.options.text sets.old.nodes.now sets.old.list.items sets.old.parts.items sets.old.texts.items }
-    ensures ends { WorkEnds means.now.options.text sets.old.nodes.now (asked steps.now) (K.written sink.old) (K.written sink.new) (K.faults sink.old) (K.faults sink.new) result }
-    ensures lean { OnOk result (IsLean steps.now (length steps.now) sets.new.list.items) }
+    requires steps { AreSteps steps.now }
+    requires ends { AreEnds steps.now }
+    requires asked { (nodes : List Expression) × AreAsked nodes steps.now }
+    requires count { length values.old ≡ length steps.now }
+    requires held { AreHeld means.now.options.text steps.now values.old }
+    requires lean { IsLean steps.now 0 values.old }
+    ensures ends { (nodes : List Expression) → AreAsked nodes steps.now → WorkEnds means.now.options.text nodes (asked_values steps.now) (K.written sink.old) (K.written sink.new) (K.faults sink.old) (K.faults sink.new) result }
+    ensures lean { OnOk result (IsLean steps.now (length steps.now) values.new) }
 {
     for now in 0..steps.len() {
-        work_ahead(rt, alloc, sets, steps, now, uses, means, gate)?;
-        work_step(rt, alloc, sets, steps, now, uses, means, sink, gate)?;
+        work_ahead(rt, alloc, values, steps, now, means, gate)?;
+        work_step(rt, alloc, values, steps, now, means, sink, gate)?;
     }
     Ok(())
 }
 
-// Works the steps, of which none has made a set yet.
+// Works the steps, of which none has made a value yet.
 fn work_all<R: Threads + Wait + Sync, K: Sink, G: Gate + Sync>(
     rt: &R,
     alloc: Global,
-    nodes: &Nodes,
     steps: &[Step],
     means: &Means,
     sink: &mut K,
     gate: &G,
 ) -> Result<(), Status>
     requires means { AreMeans means.now }
-    requires steps { AreSteps nodes.now steps.now }
-    ensures ends { WorkEnds means.now.options.text nodes.now (asked steps.now) (K.written sink.old) (K.written sink.new) (K.faults sink.old) (K.faults sink.new) result }
+    requires steps { AreSteps steps.now }
+    requires ends { AreEnds steps.now }
+    requires asked { (nodes : List Expression) × AreAsked nodes steps.now }
+    ensures ends { (nodes : List Expression) → AreAsked nodes steps.now → WorkEnds means.now.options.text nodes (asked_values steps.now) (K.written sink.old) (K.written sink.new) (K.faults sink.old) (K.faults sink.new) result }
 {
-    let uses = last_uses(alloc, nodes, steps)?;
-    let list = empty_places(alloc, nodes.len())?;
-    let mut sets = Sets::of(alloc, nodes, list)?;
-    work_steps(rt, alloc, &mut sets, steps, &uses, means, sink, gate)
+    let mut values = empty_places(alloc, steps.len())?;
+    work_steps(rt, alloc, values.as_mut_slice(), steps, means, sink, gate)
 }
 
 /// Works the script, and writes what its commands ask for, in their order. Where the options say so, sets of later steps are
@@ -182,7 +189,7 @@ pub(crate) fn work<R: Threads + Wait + Sync, K: Sink, G: Gate + Sync>(
         whole: &whole,
         options: *options,
     };
-    let ended = work_all(rt, alloc, &plan.nodes, &plan.steps, &means, sink, gate);
+    let ended = work_all(rt, alloc, &plan.steps, &means, sink, gate);
     drop(whole);
     ended
 }

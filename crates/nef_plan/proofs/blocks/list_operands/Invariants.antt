@@ -1,5 +1,4 @@
-use Rattle.std.proofs.Common.{◌<◌, length}
-use Rattle.std.specs.Prelude.{All}
+use Rattle.nef_plan.proofs.Prelude.{◌<◌, length, All}
 use Rattle.nef_plan.proofs.blocks.list_operands.Given as goal
 
 abbrev pub invariant-loop-place : goal.invariant-loop-place

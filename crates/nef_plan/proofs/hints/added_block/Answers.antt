@@ -1,5 +1,4 @@
-use Rattle.std.proofs.Common.{length, arith}
-use Rattle.nef_expr.proofs.Operands.{names-wider}
+use Rattle.nef_plan.proofs.Prelude.{length, arith, names-wider}
 use Rattle.nef_plan.proofs.hints.added_block.Goals as goal
 
 pub operand_note-requires : goal.operand_note-requires

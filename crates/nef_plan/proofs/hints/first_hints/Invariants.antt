@@ -1,4 +1,4 @@
-use Rattle.std.proofs.Common.{◌≡◌, vec_len}
+use Rattle.nef_plan.proofs.Prelude.{◌≡◌, vec_len}
 use Rattle.nef_plan.proofs.hints.first_hints.Given as goal
 
 abbrev pub invariant-loop : goal.invariant-loop

@@ -1,5 +1,4 @@
-use Rattle.std.proofs.Common.{◌<◌, length}
-use Rattle.std.specs.Prelude.{IfSome}
+use Rattle.nef_plan.proofs.Prelude.{◌<◌, length, IfSome}
 use Rattle.nef_plan.proofs.hints.hint_differences.Given as goal
 
 abbrev pub invariant-loop-node : goal.invariant-loop-node

@@ -1,4 +1,4 @@
-use Rattle.std.proofs.Common.{◌≤◌, ◌+◌}
+use Rattle.nef_plan.proofs.Prelude.{◌≤◌, ◌+◌}
 use Rattle.nef_plan.proofs.hints.hint_tree.Given as goal
 
 abbrev pub invariant-loop-node : goal.invariant-loop-node

@@ -1,4 +1,4 @@
-use Rattle.std.proofs.Common.{◌≡◌, vec_len, length}
+use Rattle.nef_plan.proofs.Prelude.{◌≡◌, vec_len, length}
 use Rattle.nef_plan.proofs.hints.hints_of.Given as goal
 
 abbrev pub invariant-loop-end : goal.invariant-loop-end

@@ -1,5 +1,4 @@
-use Rattle.std.proofs.Common.{length, arith}
-use Rattle.nef_expr.proofs.Operands.{names-wider}
+use Rattle.nef_plan.proofs.Prelude.{length, arith, names-wider}
 use Rattle.nef_plan.proofs.hints.node_before.Goals as goal
 
 pub row_goes_on-requires : goal.row_goes_on-requires

@@ -1,4 +1,4 @@
-use Rattle.std.proofs.Common.{◌≡◌, vec_len}
+use Rattle.nef_plan.proofs.Prelude.{◌≡◌, vec_len}
 use Rattle.nef_plan.proofs.notes.first_notes.Given as goal
 
 abbrev pub invariant-loop-block : goal.invariant-loop-block

@@ -1,4 +1,4 @@
-use Rattle.std.proofs.Common.{length}
+use Rattle.nef_plan.proofs.Prelude.{length}
 use Rattle.nef_plan.proofs.notes.is_own.Goals as goal
 
 pub is_operand_own-requires : goal.is_operand_own-requires

@@ -1,6 +1,4 @@
-use Rattle.std.proofs.Common.{length, arith}
-use Rattle.std.proofs.lemmas.Option.{slice_get_within}
-use Rattle.nef_expr.proofs.Operands.{names-wider}
+use Rattle.nef_plan.proofs.Prelude.{length, arith, slice_get_within, names-wider}
 use Rattle.nef_plan.proofs.notes.note_command.Goals as goal
 
 pub note_made-requires-clause-operands : goal.note_made-requires-clause-operands

@@ -1,4 +1,4 @@
-use Rattle.std.proofs.Common.{length}
+use Rattle.nef_plan.proofs.Prelude.{length}
 use Rattle.nef_plan.proofs.notes.note_made.Goals as goal
 
 pub note_both-requires : goal.note_both-requires

@@ -1,6 +1,4 @@
-use Rattle.std.proofs.Common.{◌≡◌, ◌∙◌, ap, refl, sym, subst, List, [], ◌∷◌, ◌++◌}
-use Rattle.nef_plan.specs.declared.planner.Step.{Step}
-use Rattle.nef_plan.specs.Steps.{AreSteps, IsMade, asked}
+use Rattle.nef_plan.proofs.Prelude.{◌≡◌, ◌∙◌, ap, refl, sym, subst, List, [], ◌∷◌, ◌++◌, Draft, AreDrafts, IsMade, asked}
 use Rattle.nef_plan.proofs.Growth.{more-same, steps-push, made-push, made-last, asked-push}
 use Rattle.nef_plan.proofs.planner.add_step.Goals as goal
 
@@ -10,8 +8,8 @@ returns-clause-grown c =
     let items : c.push.new.self.items ≡ old ++ c.args.step ∷ [] = c.in_ok-push.ensures.items in
     record {
       nodes = more-same c.args.plan.now.nodes c.args.plan.now.nodes refl;
-      steps = subst (AreSteps c.args.plan.now.nodes) (sym items) (steps-push c.args.plan.now.nodes old c.args.step c.requires.steps c.requires.right c.requires.made);
-      made = λ k made. subst (λ (z : List Step). IsMade z k) (sym items) (made-push old c.args.step k made);
+      steps = subst (AreDrafts c.args.plan.now.nodes) (sym items) (steps-push c.args.plan.now.nodes old c.args.step c.requires.steps c.requires.right c.requires.made);
+      made = λ k made. subst (λ (z : List Draft). IsMade z k) (sym items) (made-push old c.args.step k made);
       asked = ap asked items ∙ asked-push old c.args.step;
     }
 
@@ -19,4 +17,4 @@ pub returns-clause-made : goal.returns-clause-made
 returns-clause-made c k makes =
     let old = c.args.plan.now.steps.items in
     let items : c.push.new.self.items ≡ old ++ c.args.step ∷ [] = c.in_ok-push.ensures.items in
-    subst (λ (z : List Step). IsMade z k) (sym items) (made-last old c.args.step k makes)
+    subst (λ (z : List Draft). IsMade z k) (sym items) (made-last old c.args.step k makes)

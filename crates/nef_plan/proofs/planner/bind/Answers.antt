@@ -1,5 +1,4 @@
-use Rattle.std.proofs.Common.{refl, length}
-use Rattle.nef_expr.proofs.Operands.{names-from}
+use Rattle.nef_plan.proofs.Prelude.{refl, length, names-from}
 use Rattle.nef_plan.proofs.Growth.{made-grown, more-same}
 use Rattle.nef_plan.proofs.Bounds.{bound-node}
 use Rattle.nef_plan.proofs.planner.bind.Goals as goal

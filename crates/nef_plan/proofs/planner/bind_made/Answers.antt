@@ -1,6 +1,4 @@
-use Rattle.std.proofs.Common.{◌≡◌, ◌<◌, [], length, arith, subst, inl, inr}
-use Rattle.nef_plan.specs.declared.row.Bound.TheVariants.{Made}
-use Rattle.nef_plan.specs.Rows.{HasAdded, HasGrown, IsReady}
+use Rattle.nef_plan.proofs.Prelude.{◌≡◌, ◌<◌, [], length, arith, subst, inl, inr, Made, HasAdded, HasGrown, IsReady}
 use Rattle.nef_plan.proofs.Growth.{asked-none, makes-one, makes-within, right-more}
 use Rattle.nef_plan.proofs.Added.{added-one}
 use Rattle.nef_plan.proofs.Bounds.{on-set, on-trans, bound-before, bound-here}

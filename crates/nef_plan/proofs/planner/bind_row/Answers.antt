@@ -1,8 +1,4 @@
-use Rattle.std.proofs.Common.{◌≡◌, ◌<◌, ◌⊎◌, ℕ, [], length, arith, inl, inr, ⊎_elim}
-use Rattle.std.specs.Prelude.{slice_set}
-use Rattle.nef_plan.specs.declared.row.Bound.{Bound}
-use Rattle.nef_plan.specs.declared.row.Bound.TheVariants.{Made, Deferred}
-use Rattle.nef_plan.specs.Rows.{IsBound, IsRowOf}
+use Rattle.nef_plan.proofs.Prelude.{◌≡◌, ◌<◌, ◌⊎◌, ℕ, [], length, arith, inl, inr, ⊎_elim, slice_set, Bound, Made, Deferred, IsBound, IsRowOf}
 use Rattle.nef_plan.proofs.Added.{added-wider}
 use Rattle.nef_plan.proofs.Bounds.{on-set, on-trans, bound-before, bound-here, set-grown}
 use Rattle.nef_plan.proofs.planner.bind_row.Goals as goal

@@ -1,9 +1,4 @@
-use Rattle.std.proofs.Common.{◌≡◌, ◌∙◌, [], ap, refl, sym, subst, Some, length}
-use Rattle.std.specs.Prelude.{slice_get, slice_set}
-use Rattle.std.proofs.lemmas.Option.{slice_get_read, slice_get-get_or}
-use Rattle.nef_plan.specs.declared.row.Bound.{Bound}
-use Rattle.nef_plan.specs.declared.row.Bound.TheVariants.{Made, Deferred}
-use Rattle.nef_plan.specs.Rows.{GoesOn, IsBound}
+use Rattle.nef_plan.proofs.Prelude.{◌≡◌, ◌∙◌, [], ap, refl, sym, subst, Some, length, slice_get, slice_set, slice_get_read, slice_get-get_or, Bound, Made, Deferred, GoesOn, IsBound}
 use Rattle.nef_plan.proofs.Growth.{grown-refl}
 use Rattle.nef_plan.proofs.Added.{added-none}
 use Rattle.nef_plan.proofs.Bounds.{on-set, on-grown, bound-place, bound-made, bound-same}

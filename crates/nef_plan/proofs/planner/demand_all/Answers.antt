@@ -1,6 +1,4 @@
-use Rattle.std.proofs.Common.{ℕ, Option, [], subst, inl, inr}
-use Rattle.std.specs.Prelude.{IfSome}
-use Rattle.nef_plan.specs.Rows.{IsBound, IsReady}
+use Rattle.nef_plan.proofs.Prelude.{ℕ, Option, [], subst, inl, inr, IfSome, IsBound, IsReady}
 use Rattle.nef_plan.proofs.Growth.{ready-grown}
 use Rattle.nef_plan.proofs.Bounds.{on-trans, some-all}
 use Rattle.nef_plan.proofs.planner.demand_all.Goals as goal

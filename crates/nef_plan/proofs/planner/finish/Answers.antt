@@ -1,7 +1,4 @@
-use Rattle.std.proofs.Common.{◌≡◌, ◌<◌, ◌≤◌, [], ap, length, refl, subst, sym, ◌∙◌, inl}
-use Rattle.std.proofs.lemmas.Result.{on_ok_weaker}
-use Rattle.nef_plan.specs.Rows.{IsReady, IsRowOf, spare}
-use Rattle.nef_plan.specs.declared.planner.Step.TheVariants.{Make}
+use Rattle.nef_plan.proofs.Prelude.{◌≡◌, ◌<◌, ◌≤◌, [], ap, length, refl, subst, sym, ◌∙◌, inl, on_ok_weaker, IsReady, IsRowOf, spare, Make}
 use Rattle.nef_plan.proofs.Growth.{grown-trans}
 use Rattle.nef_plan.proofs.Added.{added-one, added-trans}
 use Rattle.nef_plan.proofs.planner.finish.Goals as goal

@@ -1,5 +1,4 @@
-use Rattle.std.proofs.Common.{◌≡◌, ℕ, subst, List, [], ◌∷◌, ◌++◌}
-use Rattle.nef_plan.specs.Rows.{AreReady, MakesSet}
+use Rattle.nef_plan.proofs.Prelude.{◌≡◌, ℕ, subst, List, [], ◌∷◌, ◌++◌, AreReady, MakesSet}
 use Rattle.nef_plan.proofs.Rows.{Each, each-front, each-last, are-joined-grown, row-joined-grown}
 use Rattle.nef_plan.proofs.planner.join_last.Goals as goal
 

@@ -1,4 +1,4 @@
-use Rattle.std.proofs.Common.{[], refl, ◌∙◌}
+use Rattle.nef_plan.proofs.Prelude.{[], refl, ◌∙◌}
 use Rattle.nef_plan.proofs.Growth.{grown-refl, grown-trans}
 use Rattle.nef_plan.proofs.Added.{added-none, added-trans}
 use Rattle.nef_plan.proofs.planner.join_parts.Goals as goal

@@ -1,5 +1,4 @@
-use Rattle.std.proofs.Common.{◌≡◌, ℕ, [], length}
-use Rattle.nef_plan.specs.Rows.{AreReady, HasAdded, HasGrown, IsRowOf, parts}
+use Rattle.nef_plan.proofs.Prelude.{◌≡◌, ℕ, [], length, AreReady, HasAdded, HasGrown, IsRowOf, parts}
 use Rattle.nef_plan.proofs.planner.join_parts.Given as goal
 
 abbrev pub invariant-loop-plan : goal.invariant-loop-plan

@@ -1,11 +1,4 @@
-use Rattle.std.proofs.Common.{◌≡◌, ◌∙◌, ℕ, ap, refl, sym, subst, arith, append-nil, length-append, List, [], ◌∷◌, ◌++◌, length, inl, inr}
-use Rattle.nef_expr.specs.declared.nodes.Node.{Node}
-use Rattle.nef_expr.specs.Nodes.{node_set, sets_after}
-use Rattle.nef_expr.proofs.Sets.{new-set}
-use Rattle.nef_plan.specs.declared.planner.Plan.{Plan}
-use Rattle.nef_plan.specs.declared.planner.Step.TheVariants.{Make}
-use Rattle.nef_plan.specs.Rows.{HasGrown}
-use Rattle.nef_plan.specs.Steps.{HasMore, IsMade, IsMadeAs, asked}
+use Rattle.nef_plan.proofs.Prelude.{◌≡◌, ◌∙◌, ℕ, ap, refl, sym, subst, arith, append-nil, length-append, List, [], ◌∷◌, ◌++◌, length, inl, inr, Node, node_set, sets_after, new-set, Drafts, Make, HasGrown, HasMore, IsMade, IsMadeAs, asked}
 use Rattle.nef_plan.proofs.Growth.{more-push, steps-more, made-new, grown-trans}
 use Rattle.nef_plan.proofs.Added.{added-one}
 use Rattle.nef_plan.proofs.planner.joined_part.Goals as goal
@@ -34,7 +27,7 @@ add_step-requires-clause-made c k is = elim (c.join-made.ensures.operands k is) 
 pub returns-clause-grown : goal.returns-clause-grown
 returns-clause-grown c =
     let old = c.args.plan.now in
-    let middle : Plan = record old { nodes = c.push.new.self } in
+    let middle : Drafts = record old { nodes = c.push.new.self } in
     let added : c.push.new.self ≡ old.nodes ++ c.join-made.result ∷ [] = c.in_ok-node.ensures.added in
     let more : HasMore old.nodes middle.nodes = subst (HasMore old.nodes) (sym added) (more-push old.nodes c.join-made.result) in
     let first : HasGrown old middle [] = record { nodes = more; steps = steps-more old.nodes middle.nodes old.steps.items more c.requires.steps; made = λ k is. is; asked = sym (append-nil (asked old.steps.items)) } in

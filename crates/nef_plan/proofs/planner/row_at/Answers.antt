@@ -1,9 +1,4 @@
-use Rattle.std.proofs.Common.{refl, ◌≡◌, ◌∙◌, ap, sym, subst, Some}
-use Rattle.std.proofs.lemmas.Option.{slice_get_within, slice_get_read}
-use Rattle.nef_plan.specs.declared.row.Row.{Row}
-use Rattle.nef_plan.specs.declared.row.RowKind.{RowKind}
-use Rattle.nef_plan.specs.declared.row.Bound.TheVariants.{Deferred}
-use Rattle.nef_plan.specs.Rows.{AreOfOneKind}
+use Rattle.nef_plan.proofs.Prelude.{refl, ◌≡◌, ◌∙◌, ap, sym, subst, Some, slice_get_within, slice_get_read, Row, RowKind, Deferred, AreOfOneKind}
 use Rattle.nef_plan.proofs.Rows.{row-copied}
 use Rattle.nef_plan.proofs.planner.row_at.Goals as goal
 

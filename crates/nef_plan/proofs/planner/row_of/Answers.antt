@@ -1,7 +1,4 @@
-use Rattle.std.proofs.Common.{◌≡◌, ◌∙◌, ℕ, [], ap, sym, subst}
-use Rattle.std.proofs.lemmas.Result.{IfOk-weaker}
-use Rattle.nef_expr.specs.Nodes.{node_set}
-use Rattle.nef_plan.specs.Rows.{IsReady, combined}
+use Rattle.nef_plan.proofs.Prelude.{◌≡◌, ◌∙◌, ℕ, [], ap, sym, subst, IfOk-weaker, node_set, IsReady, combined}
 use Rattle.nef_plan.proofs.Growth.{ready-grown}
 use Rattle.nef_plan.proofs.Rows.{combined-same, row-added}
 use Rattle.nef_plan.proofs.Bounds.{on-trans}

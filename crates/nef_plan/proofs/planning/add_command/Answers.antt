@@ -1,18 +1,8 @@
 use Rattle.std.specs.Prelude.{◌⊎◌}
-use Rattle.std.proofs.Common.{◌≡◌, ◌∙◌, ℕ, inl, true, false, List, [], ◌∷◌, filter, ap, refl, sym, subst, length, arith}
-use Rattle.std.proofs.lemmas.Option.{slice_get_within}
-use Rattle.std.proofs.lemmas.Result.{on_ok_weaker}
-use Rattle.law_turns.specs.Turned.{turned_set}
-use Rattle.nef_expr.proofs.Operands.{names-wider}
-use Rattle.nef_expr.proofs.Sets.{each-set}
+use Rattle.nef_plan.proofs.Prelude.{◌≡◌, ◌∙◌, ℕ, None, Some, inl, inr, ⊎_elim, true, false, List, [], ◌∷◌, filter, ap, refl, sym, subst, length, arith, slice_get_within, on_ok_weaker, turned_set, names-wider, each-set, Node, Command, Binds, TurnsRight, IsWithin, GoesOn, IsBound, IsTurnedFrom, AsksAbout, is_question}
 use Rattle.nef_expr.proofs.Turns.{node-turned}
-use Rattle.nef_expr.specs.declared.nodes.Node.{Node}
-use Rattle.nef_script.specs.declared.script.Command.{Command}
 use Rattle.nef_script.specs.declared.script.Command.TheVariants.{Bind, Turn, Has, Joined, Ray, Same, Count, Print}
-use Rattle.nef_script.specs.Commands.{Binds, LooksAt, TurnsRight}
-use Rattle.nef_script.specs.Meaning.{IsWithin}
-use Rattle.nef_plan.specs.Rows.{GoesOn, IsBound}
-use Rattle.nef_plan.specs.Steps.{AsksAbout, IsTurnedFrom, is_question}
+use Rattle.nef_script.specs.Commands.{LooksAt}
 use Rattle.nef_plan.proofs.Growth.{set-more, within-wider}
 use Rattle.nef_plan.proofs.planning.add_command.Goals as goal
 
@@ -38,15 +28,21 @@ question-alone (Count line n) asks = refl
 question-alone (Print line n name) asks = refl
 
 -- it looks at what it asks about
+some-same : (n k : ℕ) → Some n ≡ Some k → k ≡ n
+some-same n k e = cc
+
+nothing-some : (k : ℕ) → None ≡ Some k → ⊥
+nothing-some k e = absurd (cc)
+
 asked-looks : (nodes : List Node) (c : Command) (k : ℕ) → AsksAbout c k → LooksAt nodes c k
-asked-looks nodes (Bind line n) k asks = absurd asks
-asked-looks nodes (Turn line n j t) k asks = absurd asks
-asked-looks nodes (Has line n p) k asks = asks
-asked-looks nodes (Joined line n p q) k asks = asks
-asked-looks nodes (Ray line n p d) k asks = asks
-asked-looks nodes (Same line i j) k asks = asks
-asked-looks nodes (Count line n) k asks = asks
-asked-looks nodes (Print line n name) k asks = asks
+asked-looks nodes (Bind line n) k asks = absurd (⊎_elim (nothing-some k) (nothing-some k) asks)
+asked-looks nodes (Turn line n j t) k asks = absurd (⊎_elim (nothing-some k) (nothing-some k) asks)
+asked-looks nodes (Has line n p) k asks = ⊎_elim (some-same n k) (λ e. absurd (nothing-some k e)) asks
+asked-looks nodes (Joined line n p q) k asks = ⊎_elim (some-same n k) (λ e. absurd (nothing-some k e)) asks
+asked-looks nodes (Ray line n p d) k asks = ⊎_elim (some-same n k) (λ e. absurd (nothing-some k e)) asks
+asked-looks nodes (Same line i j) k asks = ⊎_elim (λ e. inl (some-same i k e)) (λ e. inr (some-same j k e)) asks
+asked-looks nodes (Count line n) k asks = ⊎_elim (some-same n k) (λ e. absurd (nothing-some k e)) asks
+asked-looks nodes (Print line n name) k asks = ⊎_elim (some-same n k) (λ e. absurd (nothing-some k e)) asks
 
 pub bind-requires-clause-set : goal.bind-requires-clause-set
 bind-requires-clause-set c =

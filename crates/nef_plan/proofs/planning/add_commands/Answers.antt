@@ -1,12 +1,4 @@
-use Rattle.std.proofs.Common.{◌≡◌, ◌∙◌, ◌+◌, ◌∷◌, ◌++◌, ℕ, [], ap, refl, sym, subst, take, filter, inl, inr, arith}
-use Rattle.std.proofs.lemmas.Bool.{cases_lt}
-use Rattle.std.proofs.lemmas.List.{take_more}
-use Rattle.std.proofs.lemmas.List.Elements.{filter-append}
-use Rattle.std.proofs.lemmas.Option.{get_or_from_slice_get, slice_get_read}
-use Rattle.nef_script.specs.declared.script.Command.{Command}
-use Rattle.nef_script.specs.Commands.{Binds}
-use Rattle.nef_plan.specs.Rows.{GoesOn, IsBound}
-use Rattle.nef_plan.specs.Steps.{asked, is_question}
+use Rattle.nef_plan.proofs.Prelude.{◌≡◌, ◌∙◌, ◌+◌, ◌∷◌, ◌++◌, ℕ, [], ap, refl, sym, subst, take, filter, inl, inr, arith, cases_lt, take_more, filter-append, get_or_from_slice_get, slice_get_read, Command, Binds, GoesOn, IsBound, asked, is_question}
 use Rattle.nef_plan.proofs.Growth.{grown-refl, more-trans}
 use Rattle.nef_plan.proofs.Added.{BindsBefore, added-none, due-now, timely-added, timely-none}
 use Rattle.nef_plan.proofs.Bounds.{on-grown, on-trans}

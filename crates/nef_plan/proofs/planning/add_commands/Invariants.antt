@@ -1,9 +1,4 @@
-use Rattle.std.proofs.Common.{◌≡◌, ℕ, ◌<◌, Some, take, filter}
-use Rattle.std.specs.Prelude.{slice_get}
-use Rattle.nef_script.specs.declared.script.Command.{Command}
-use Rattle.nef_script.specs.Commands.{Binds}
-use Rattle.nef_plan.specs.Rows.{ArePlanned, GoesOn, IsBound}
-use Rattle.nef_plan.specs.Steps.{AreTimely, is_question}
+use Rattle.nef_plan.proofs.Prelude.{◌≡◌, ℕ, ◌<◌, Some, take, filter, slice_get, Command, Binds, ArePlanned, GoesOn, IsBound, AreTimely, is_question}
 use Rattle.nef_plan.proofs.Added.{BindsBefore}
 use Rattle.nef_plan.proofs.planning.add_commands.Given as goal
 

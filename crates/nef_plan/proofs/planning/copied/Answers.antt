@@ -1,7 +1,4 @@
-use Rattle.std.proofs.Common.{◌≡◌, ◌∙◌, ◌∷◌, ◌++◌, [], List, ap, sym, take}
-use Rattle.std.proofs.lemmas.List.{take_more}
-use Rattle.std.proofs.lemmas.Option.{slice_get_within, get_or_from_slice_get}
-use Rattle.nef_expr.specs.declared.nodes.Node.{Node}
+use Rattle.nef_plan.proofs.Prelude.{◌≡◌, ◌∙◌, ◌∷◌, ◌++◌, [], List, ap, sym, take, take_more, slice_get_within, get_or_from_slice_get, Node}
 use Rattle.nef_plan.proofs.planning.copied.Goals as goal
 
 pub loop-k-preserved : goal.loop-k-preserved

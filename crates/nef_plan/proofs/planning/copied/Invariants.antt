@@ -1,4 +1,4 @@
-use Rattle.std.proofs.Common.{◌≡◌, take}
+use Rattle.nef_plan.proofs.Prelude.{◌≡◌, take}
 use Rattle.nef_plan.proofs.planning.copied.Given as goal
 
 abbrev pub invariant-loop-k : goal.invariant-loop-k

@@ -1,4 +1,4 @@
-use Rattle.std.proofs.Common.{length}
+use Rattle.nef_plan.proofs.Prelude.{length}
 use Rattle.nef_plan.proofs.planning.looked_at.Goals as goal
 
 pub returns-in-Make-clause-looked_at : goal.returns-in-Make-clause-looked_at

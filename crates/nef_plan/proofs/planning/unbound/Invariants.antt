@@ -1,7 +1,4 @@
-use Rattle.std.proofs.Common.{◌≡◌, ℕ, Some, vec_len}
-use Rattle.std.specs.Prelude.{slice_get}
-use Rattle.nef_plan.specs.declared.row.Bound.{Bound}
-use Rattle.nef_plan.specs.declared.row.Bound.TheVariants.{No}
+use Rattle.nef_plan.proofs.Prelude.{◌≡◌, ℕ, Some, vec_len, slice_get, Bound, No}
 use Rattle.nef_plan.proofs.planning.unbound.Given as goal
 
 abbrev pub invariant-loop : goal.invariant-loop

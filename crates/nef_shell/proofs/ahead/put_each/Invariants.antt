@@ -1,12 +1,11 @@
-use Rattle.std.proofs.Common.{◌≡◌, ◌≤◌, ℕ, length, Some, slice_get}
-use Rattle.nef_shell.specs.Bindings.{ArePut}
+use Rattle.nef_shell.proofs.Prelude.{◌≡◌, ◌≤◌, ℕ, length, Some, ArePut}
+use Rattle.std.proofs.Common.{slice_get}
 use Rattle.nef_shell.proofs.ahead.put_each.Given as goal
 
 abbrev pub invariant-loop-thing : goal.invariant-loop-thing
 invariant-loop-thing g l = record {
-  put : ArePut l.bindings l.fn.things.items l.fn.places.items l.places.items;
-  len : length l.places.items ≡ length l.fn.places.items;
-  count : length l.things.items ≤ length l.bindings;
+  put : ArePut l.early l.fn.things.items l.fn.places l.places;
+  count : length l.things.items ≤ length l.early;
   front : (n : ℕ) (x : _) → slice_get l.things.items n ≡ Some x → slice_get l.fn.things.items n ≡ Some x;
 }
 

@@ -1,8 +1,5 @@
-use Rattle.std.proofs.Common.{◌∙◌, refl, sym}
+use Rattle.nef_shell.proofs.Prelude.{◌∙◌, refl, sym, Decides-eqb, text, same-texts}
 use Rattle.std.proofs.lemmas.Slice.Eq.{slice_eq-Decides}
-use Rattle.std.proofs.lemmas.Bool.Decides.{Decides-eqb}
-use Rattle.nef_complex.specs.Text.{text}
-use Rattle.nef_statement.proofs.Texts.{same-texts}
 use Rattle.nef_shell.proofs.comparison.same_text.Goals as goal
 
 pub returns-clause-same : goal.returns-clause-same

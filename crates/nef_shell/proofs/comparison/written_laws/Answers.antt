@@ -1,4 +1,4 @@
-use Rattle.nef_statement.proofs.Texts.{same-texts, count-tells, counted-one}
+use Rattle.nef_shell.proofs.Prelude.{same-texts, count-tells, counted-one}
 use Rattle.nef_shell.proofs.Pieces.{printed-one, text-tells}
 use Rattle.nef_shell.proofs.comparison.written_laws.Goals as goal
 

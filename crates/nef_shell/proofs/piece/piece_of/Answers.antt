@@ -1,45 +1,27 @@
-use Rattle.std.proofs.Common.{refl, subst}
-use Rattle.nef_complex.specs.Complexes.{ShowsSet}
-use Rattle.nef_expr.specs.Nodes.{node_set}
-use Rattle.nef_complex.specs.Text.{text}
-use Rattle.nef_statement.specs.Texts.{IsWrittenOf}
-use Rattle.nef_shell.proofs.Held.{text-printed}
-use Rattle.nef_shell.proofs.Outputs.{same-piece}
+use Rattle.nef_shell.proofs.Prelude.{◌∙◌, ap, subst, sym, None, Some, length-set, slice_get_within, IsHeld}
+use Rattle.nef_shell.proofs.Asking.{same-written}
+use Rattle.nef_shell.proofs.Kept.{held-shown, still-put}
 use Rattle.nef_shell.proofs.piece.piece_of.Goals as goal
 
-pub returns-in-Bind-clause-piece : goal.returns-in-Bind-clause-piece
-returns-in-Bind-clause-piece g c = rw c.in-Bind.is refl
-
-pub returns-in-Turn-clause-piece : goal.returns-in-Turn-clause-piece
-returns-in-Turn-clause-piece g c = rw c.in-Turn.is refl
-
-pub returns-in-Has-clause-piece : goal.returns-in-Has-clause-piece
-returns-in-Has-clause-piece g c = rw c.in-Has.is (c.label_at.result, c.label_at.ensures.label, c.answer.ensures.bytes)
-
-pub returns-in_ok-line-in-Joined-clause-piece : goal.returns-in_ok-line-in-Joined-clause-piece
-returns-in_ok-line-in-Joined-clause-piece g c = rw c.in-Joined.is c.in_ok-line-in-Joined.ensures.piece
-
-pub ray_piece-requires : goal.ray_piece-requires
-ray_piece-requires g c =
-    let within = rw c.in-Ray.is at c.requires.within in
-    record { shows = (node_set c.args.sets.now.nodes.now c.in-Ray.node, c.get.ensures.shows); within = within.1 }
-
-pub returns-in_ok-text-in-Ray-clause-piece : goal.returns-in_ok-text-in-Ray-clause-piece
-returns-in_ok-text-in-Ray-clause-piece g c = rw c.in-Ray.is (c.in_ok-text-in-Ray.ensures.piece (node_set c.args.sets.now.nodes.now c.in-Ray.node) c.get.ensures.shows)
-
-pub returns-in-Same-clause-piece : goal.returns-in-Same-clause-piece
-returns-in-Same-clause-piece g c = rw (c.in-Same.is, c.same_answer.ensures.bytes) (same-piece _ _ c.compare.result (c.compare.ensures.same _ _ c.get-in-Same.ensures.shows c.get-in-Same-2.ensures.shows))
-
-pub returns-in_ok-text-in-Count-clause-piece : goal.returns-in_ok-text-in-Count-clause-piece
-returns-in_ok-text-in-Count-clause-piece g c =
-    let both = c.get_with_parts in
-    let shows = subst (λ z. ShowsSet (node_set z.now c.in-Count.node) both.result.0.now) c.in_ok-work_parts-in-Count.ensures.nodes both.ensures.shows in
-    rw c.in-Count.is (both.result.0.now, both.result.1.now, shows.shows, both.ensures.parts, c.in_ok-text-in-Count.ensures.bytes)
-
-pub returns-in_ok-text-in-Print-clause-piece : goal.returns-in_ok-text-in-Print-clause-piece
-returns-in_ok-text-in-Print-clause-piece g c =
-    let did = c.in_ok-work_text-in-Print.ensures in
+pub returns-in-Some-clause-piece : goal.returns-in-Some-clause-piece
+returns-in-Some-clause-piece g c nodes asked other =
     let version = c.args.options.now.text in
-    let x = c.text.result.now in
-    let written = subst (λ z. IsWrittenOf (node_set z.now c.in-Print.node) (text version) x) did.nodes (c.text.ensures.written version did.has) in
-    rw c.in-Print.is (text-printed version (node_set c.args.sets.now.nodes.now c.in-Print.node) _ x _ written c.in_ok-text-in-Print.ensures.bytes)
+    let values = c.args.values.now in
+    let (m, one, first) = asked in
+    let (n, two, second) = rw c.in-Some.is at other in
+    same-written version nodes c.args.command.now m n _ one two (c.same_piece.ensures.piece _ _ (held-shown version _ values c.args.first first) (held-shown version _ values c.in-Some.second second))
+
+pub taken_from-requires : goal.taken_from-requires
+taken_from-requires g c = let (s, (b, at, held)) = c.requires.first in record { within = slice_get_within c.args.values.now c.args.first _ at }
+
+pub put_at-requires : goal.put_at-requires
+put_at-requires g c =
+    let (s, (b, at, held)) = c.requires.first in
+    let low = slice_get_within c.args.values.now c.args.first _ at in
+    record { within = rw (c.taken_from.ensures.put, length-set c.args.values.now c.args.first None) low }
+
+pub returns-in_ok-piece-in-Some-taken_from-clause-still : goal.returns-in_ok-piece-in-Some-taken_from-clause-still
+returns-in_ok-piece-in-Some-taken_from-clause-still g c =
+    let version = c.args.options.now.text in
+    let at = c.taken_from.ensures.taken ∙ ap Some c.in-Some-taken_from.is in
+    rw (c.put_at.ensures.put, c.taken_from.ensures.put) (still-put version c.args.values.now c.args.first c.in-Some-taken_from.held _ at (λ s h. c.in_ok-piece-in-Some-taken_from.ensures.held s (subst (IsHeld version s) (sym c.deref_mut.ensures.value) h)))

@@ -1,5 +1,4 @@
-use Rattle.std.proofs.lemmas.Result.{IfOk-weaker}
-use Rattle.nef_statement.specs.Output.{IsRayAnswer}
+use Rattle.nef_shell.proofs.Prelude.{IfOk-weaker, IsRayAnswer}
 use Rattle.nef_shell.proofs.piece.ray_piece.Goals as goal
 
 pub returns : goal.returns

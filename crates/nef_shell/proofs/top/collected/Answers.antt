@@ -1,6 +1,5 @@
-use Rattle.std.proofs.Common.{refl}
+use Rattle.nef_shell.proofs.Prelude.{refl, YieldsList-from_vec}
 use Rattle.std.proofs.lemmas.Iterator.{items_from_collect}
-use Rattle.std.proofs.lemmas.Iterator.Adapters.{YieldsList-from_vec}
 use Rattle.nef_shell.proofs.top.collected.Goals as goal
 
 pub returns-in_ok-collect-in-Ok : goal.returns-in_ok-collect-in-Ok

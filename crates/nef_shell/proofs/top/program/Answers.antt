@@ -1,7 +1,5 @@
-use Rattle.std.proofs.Common.{◌≡◌, ◌∙◌, refl, ap, map, [], ◌∷◌, string_bytes, Err}
+use Rattle.nef_shell.proofs.Prelude.{◌≡◌, ◌∙◌, refl, ap, map, [], ◌∷◌, string_bytes, Err, status_code, traffic}
 use Rattle.std.specs.Process.{exit_status}
-use Rattle.nef_statement.specs.Status.{status_code}
-use Rattle.nef_statement.specs.Traffic.{traffic}
 use Rattle.nef_shell.proofs.GivenWords.{HasSaid, words-given, no-text, still-no-text, refused-alone, empty-refused, ended-run, ended-refused, ended-wanting}
 use Rattle.nef_shell.proofs.Statuses.{refused-says, line-had_memory}
 use Rattle.nef_shell.proofs.top.program.Goals as goal

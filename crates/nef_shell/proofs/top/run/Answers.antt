@@ -1,5 +1,4 @@
-use Rattle.std.proofs.Common.{◌≡◌, ◌∙◌, refl, ap, Err}
-use Rattle.nef_statement.specs.declared.status.Status.TheVariants.{Done, OutOfMemory}
+use Rattle.nef_shell.proofs.Prelude.{◌≡◌, ◌∙◌, refl, ap, Err, Done, OutOfMemory}
 use Rattle.nef_shell.proofs.Statuses.{accepted-says, refused-says, wanting-says, output-had, line-ends, run-ends}
 use Rattle.nef_shell.proofs.top.run.Goals as goal
 

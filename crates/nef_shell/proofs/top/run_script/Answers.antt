@@ -1,7 +1,4 @@
-use Rattle.std.proofs.Common.{◌∙◌, refl}
-use Rattle.nef_statement.specs.Traffic.{traffic}
-use Rattle.nef_statement.proofs.Meant.{source-read}
-use Rattle.nef_shell.specs.Answers.{HasFront}
+use Rattle.nef_shell.proofs.Prelude.{◌∙◌, refl, traffic, source-read, HasFront}
 use Rattle.nef_shell.proofs.Statuses.{refused-status, none-status, stopped-status}
 use Rattle.nef_shell.proofs.top.run_script.Goals as goal
 

@@ -1,9 +1,4 @@
-use Rattle.std.proofs.Common.{◌≡◌, ◌∙◌, refl, sym, subst, inl, None, Some}
-use Rattle.std.proofs.lemmas.Result.{err_from_is_err_and}
-use Rattle.nef_script.specs.Refusal.{IsAccepted}
-use Rattle.nef_script.specs.Stairs.{stairs_text}
-use Rattle.nef_script.proofs.RefusalLaws.{never_both}
-use Rattle.nef_shell.specs.Answers.{IsScriptFor}
+use Rattle.nef_shell.proofs.Prelude.{◌≡◌, ◌∙◌, refl, sym, subst, inl, None, Some, err_from_is_err_and, IsAccepted, stairs_text, never_both, IsScriptFor}
 use Rattle.nef_shell.proofs.Causes.{none-read, none-accepted}
 use Rattle.nef_shell.proofs.top.script_for.Goals as goal
 use Rattle.nef_shell.proofs.top.script_for.Goals.{in-None+in_ok-bytes-in-None, in-Some+in_ok-bytes-in-Some}

@@ -1,5 +1,4 @@
-use Rattle.std.proofs.Common.{◌≡◌, ◌∙◌, ap, inl, inr, [], ◌∷◌, ◌++◌}
-use Rattle.nef_plan.specs.Rows.{spare}
+use Rattle.nef_plan.proofs.Prelude.{◌≡◌, ◌∙◌, ap, inl, inr, [], ◌∷◌, ◌++◌, spare}
 use Rattle.nef_plan.proofs.Rows.{row-begun, row-begun-less}
 use Rattle.nef_plan.proofs.row.Row.begun.Goals as goal
 use Rattle.nef_plan.proofs.row.Row.begun.Goals.{in-Union+in_ok-push-in-Union, in-Difference}

@@ -1,9 +1,4 @@
-use Rattle.std.proofs.Common.{◌≡◌, ◌-◌, ◌≤◌, ℕ, ap, sym, subst, refl, List, [], ◌∷◌, ◌++◌, Some, None, length, inl, inr}
-use Rattle.std.specs.Prelude.{slice_get}
-use Rattle.nef_expr.specs.Nodes.{sets_after}
-use Rattle.nef_plan.specs.declared.row.RowKind.{RowKind}
-use Rattle.nef_plan.specs.Rows.{MakesSet, parts, spare}
-use Rattle.nef_plan.specs.Steps.{IsMade}
+use Rattle.nef_plan.proofs.Prelude.{◌≡◌, ◌-◌, ◌≤◌, ℕ, ap, sym, subst, refl, List, [], ◌∷◌, ◌++◌, Some, None, length, inl, inr, slice_get, sets_after, RowKind, MakesSet, parts, spare, IsMade}
 use Rattle.nef_plan.proofs.Rows.{Each, made-less, made-joined, made-one, last-one, last-none}
 use Rattle.nef_plan.proofs.row.Row.ending.Goals as goal
 

@@ -1,0 +1,97 @@
+-- The steps of a plan are those of its drafts.
+use Rattle.nef_plan.proofs.Prelude.{◌≡◌, ◌∙◌, ℕ, ◌<◌, ◌≤◌, refl, sym, subst, List, ◌∷◌, ◌++◌, length, inl, inr, ⊎_elim, Option, None, Some, filter, All, IfSome, unwrap_or, All-filter, Node, node_set, Command, IsWithin, Draft, Step, AreAlike, AreDrafts, AreNeeded, AreTimely, HasMore, IsRight, LooksAt, Makes, asked, task_over, tasks_in, tasks_over, value_of, AsksAbout, IsDue, first_asked, is_question, second_asked, AreEnds, IsAnswered, IsPlanOf, IsTask, IsTimely, IsValueOf, MakesValue, value_set}
+use Rattle.std.proofs.Common.{slice_get, slice_index}
+use Rattle.nef_script.specs.declared.script.Command.TheVariants as command
+use Rattle.nef_plan.specs.declared.planner.Draft.TheVariants as draft
+use Rattle.nef_plan.proofs.Added.{all-at}
+use Rattle.nef_plan.proofs.Growth.{asked-append, makes-within}
+use Rattle.nef_plan.proofs.Valued.{asks-some, task-is, value-makes}
+use Rattle.nef_plan.proofs.Followed.{Follows, FollowsAt, IsHeld, asked-follows, asked-here, follows-each, follows-none, looked-at, looks-held, looks-here, name-here, name_in, needed-names, right-here, set-here, task-here}
+
+-- what a command asks about are nodes of the script
+within-asked : (n : ℕ) (c : Command) → IsWithin n c → IfSome (first_asked c) (λ k. k < n) × IfSome (second_asked c) (λ k. k < n)
+within-asked n (command.Bind line i) h = (tt, tt)
+within-asked n (command.Turn line i j t) h = (tt, tt)
+within-asked n (command.Has line i p) h = (h, tt)
+within-asked n (command.Joined line i p q) h = (h, tt)
+within-asked n (command.Ray line i p d) h = (h.0, tt)
+within-asked n (command.Same line i j) h = (h.0, h.1)
+within-asked n (command.Count line i) h = (h, tt)
+within-asked n (command.Print line i name) h = (h, tt)
+
+some-holds : (o : Option ℕ) (P : ℕ → Type 0) (k : ℕ) → IfSome o P → o ≡ Some k → P k
+some-holds o P k h e = subst (λ (z : Option ℕ). IfSome z P) e h
+
+-- ---- questions
+value-first : (given : List Node) (steps : List Step) (values : List ℕ) (o : Option ℕ) → ((k : ℕ) → o ≡ Some k → AreAlike (value_set steps (slice_index values k)) (node_set given k)) → (k : ℕ) × (o ≡ Some k) → IsValueOf given steps o (Some (unwrap_or (value_of values o) 0))
+value-first given steps values None h some = absurd (let e : None ≡ Some some.0 = some.1 in cc)
+value-first given steps values (Some k) h some = h k refl
+
+value-second : (given : List Node) (steps : List Step) (values : List ℕ) (o : Option ℕ) → ((k : ℕ) → o ≡ Some k → AreAlike (value_set steps (slice_index values k)) (node_set given k)) → IsValueOf given steps o (value_of values o)
+value-second given steps values None h = tt
+value-second given steps values (Some k) h = h k refl
+
+answered : (given nodes : List Node) (steps : List Step) (values : List ℕ) (n : ℕ) (drafts : List Draft) (d : Draft) (df dr : List Draft) → HasMore given nodes → IsRight nodes d → ((k : ℕ) → LooksAt d k → IsHeld nodes drafts steps n (slice_index values k) k) → All (IsWithin (length given)) (asked (df ++ d ∷ dr))
+    → IsAnswered given steps (task_over values d)
+answered given nodes steps values n drafts (draft.Make i m) df dr more right held within = tt
+answered given nodes steps values n drafts (draft.Turn i j t) df dr more right held within = tt
+answered given nodes steps values n drafts (draft.Ask c) df dr more right held within = record {
+  first = value-first given steps values (first_asked c.now) (λ k e. about k (some-holds (first_asked c.now) (λ j. j < length given) k asked-in.0 e) (inl e)) (asks-some c.now right.0);
+  second = value-second given steps values (second_asked c.now) (λ k e. about k (some-holds (second_asked c.now) (λ j. j < length given) k asked-in.1 e) (inr e));
+}
+  where
+    asked-in : IfSome (first_asked c.now) (λ k. k < length given) × IfSome (second_asked c.now) (λ k. k < length given)
+    asked-in = within-asked (length given) c.now (all-at (IsWithin (length given)) (asked df) (asked dr) c.now (subst (All (IsWithin (length given))) (asked-append df (draft.Ask c ∷ dr)) within))
+
+    about : (k : ℕ) → k < length given → AsksAbout c.now k → AreAlike (value_set steps (slice_index values k)) (node_set given k)
+    about k below asks = subst (AreAlike (value_set steps (slice_index values k))) (more.sets k below) (held k asks).set
+
+-- ---- the plan
+module _ (given nodes : List Node) (commands : List Command) (drafts : List Draft) (steps : List Step) (values : List ℕ) where
+  pub planned : All (IsWithin (length given)) commands → HasMore given nodes → AreDrafts nodes drafts → asked drafts ≡ filter is_question commands → AreTimely given commands drafts → AreNeeded drafts
+      → length nodes ≤ length values → tasks_in steps ≡ tasks_over values 0 drafts → AreEnds steps → IsPlanOf given commands steps
+  planned within more are asks timely needed table tasks ends = record {
+    right = record {
+      tasks = λ i s at. let o = each i s at in subst IsTask (sym (task-here nodes drafts steps are i s o)) (task-is nodes o.follows.values o.d (right-here nodes drafts steps are i s o));
+      made_before = λ i s at k looks.
+          let (n, h) = looked-at nodes drafts steps are i s (each i s at) k looks in
+          (h.made.0, h.below, h.made.1, h.made.2);
+    };
+    ends = ends;
+    answered = record {
+      asked = asked-follows nodes drafts steps are drafts steps 0 follows ∙ asks;
+      right = λ i s at. let o = each i s at in subst (IsAnswered given steps) (sym (task-here nodes drafts steps are i s o))
+          (answered given nodes steps o.follows.values i drafts o.d o.follows.df o.dr more (right-here nodes drafts steps are i s o) (looks-held nodes drafts steps are i s o) (subst (λ z. All (IsWithin (length given)) (asked z)) o.follows.drafts_are asked-within));
+    };
+    all = nodes;
+    named = name_in drafts;
+    more = more;
+    within = λ k s at makes.
+        let o = each k s at in
+        let (n, is) = made-by k s o makes in
+        subst (λ z. z < length nodes) (sym (name-here nodes drafts steps are k s o n is)) (makes-within nodes o.d n (right-here nodes drafts steps are k s o) is);
+    sets = λ k s at makes.
+        let o = each k s at in
+        let (n, is) = made-by k s o makes in
+        subst (λ z. AreAlike (value_set steps k) (node_set nodes z)) (sym (name-here nodes drafts steps are k s o n is)) (set-here nodes drafts steps are k s o n is);
+    timely = λ k s at makes.
+        let o = each k s at in
+        let (n, is) = made-by k s o makes in
+        subst (IsTimely given commands steps k s.task) (sym (name-here nodes drafts steps are k s o n is)) (⊎_elim
+        (λ due. inl (subst (λ z. IsDue commands (length z) n) (asked-here nodes drafts steps are k s o) due))
+        (λ of. let (v, looks, name) = looks-here nodes drafts steps are k s o of.1.0 of.1.1 in inr (of.0, (v, looks)))
+        (timely.each o.follows.df o.dr o.d o.follows.drafts_are n is));
+    needed = needed-names nodes drafts steps are drafts steps 0 follows needed;
+  }
+    where
+      follows : Follows nodes drafts steps 0 drafts steps
+      follows = follows-none nodes drafts steps are values table tasks
+
+      each : (i : ℕ) (s : Step) → slice_get steps i ≡ Some s → FollowsAt nodes drafts steps i s
+      each i s at = follows-each nodes drafts steps are values table tasks i s at
+
+      made-by : (k : ℕ) (s : Step) (o : FollowsAt nodes drafts steps k s) → MakesValue s.task → (n : ℕ) × Makes o.d n
+      made-by k s o makes = value-makes o.follows.values o.d (subst MakesValue (task-here nodes drafts steps are k s o) makes)
+
+      asked-within : All (IsWithin (length given)) (asked drafts)
+      asked-within = subst (All (IsWithin (length given))) (sym asks) (All-filter is_question (IsWithin (length given)) commands within)

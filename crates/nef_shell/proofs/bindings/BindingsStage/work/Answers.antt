@@ -1,4 +1,0 @@
-use Rattle.nef_shell.proofs.bindings.BindingsStage.work.Goals as goal
-
-pub returns : goal.returns
-returns g c = (c.requires.workable.1 c.args.n c.args.alone c.args.done c.requires.number c.requires.there).1 c.work.result c.work.ensures
