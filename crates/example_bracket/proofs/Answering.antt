@@ -1,11 +1,5 @@
 -- What the answers to questions say of a set.
-use Rattle.std.proofs.Common.{◌≡◌, ◌↔◌, Bool, Result, Ok, Err, IfOk, refl, subst}
-use Rattle.nef_space.specs.Place.{Place, InFrame}
-use Rattle.nef_space.specs.Sets.{Set, Holds}
-use Rattle.nef_space.specs.Vectors.{Vector}
-use Rattle.nef_space.specs.Local.{HasLabel}
-use Rattle.nef_space.specs.declared.label.Label.{Label}
-use Rattle.nef_space.specs.declared.label.Label.TheVariants.{Out, Not, In}
+use Rattle.example_bracket.proofs.Prelude.{◌≡◌, ◌↔◌, Bool, Result, Ok, Err, IfOk, refl, subst, Place, InFrame, Set, Holds, Vector, HasLabel, Label, Out, Not, In}
 use Rattle.nef_ray.specs.Ends.{IsRayEnd}
 use Rattle.nef_ray.proofs.OneEnd.{one-end}
 use Rattle.example_bracket.specs.Answers.{IsClear}

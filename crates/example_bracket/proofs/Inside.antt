@@ -1,10 +1,6 @@
 -- The bracket holds at the points that are in one of its legs by their numbers.
-use Rattle.std.proofs.Common.{◌↔◌, pos, arith, inl, inr}
-use Rattle.std.proofs.lemmas.Int.{ints}
-use Rattle.nef_space.specs.Place.{Place}
+use Rattle.example_bracket.proofs.Prelude.{◌↔◌, pos, arith, inl, inr, ints, Place, turned_set, hole, leg, bracket, IsInHole, IsInLeg, IsInBracket}
 use Rattle.nef_space.specs.Sets.{Holds}
-use Rattle.law_turns.specs.Turned.{turned_set}
-use Rattle.example_bracket.specs.Bracket.{hole, leg, bracket, IsInHole, IsInLeg, IsInBracket}
 
 module _ (p : Place) where
   hole-numbers : Holds hole p → IsInHole p.x p.y (pos p.w)

@@ -1,18 +1,9 @@
 -- Rows of numbers within their limits, with 1 or -1 among the first three, are planes in lowest terms.
-use Rattle.std.proofs.Common.{◌≡◌, ℕ, zero, suc, ◌+◌, ◌<◌, ◌≤◌, ℤ, nat_abs, Bool, true, ◌||◌, leb, List, [], ◌∷◌, ◌++◌, length, take, get_or, arith, refl, subst, ◌∙◌, inl, inr, ◌⊎◌, ap}
-use Rattle.std.specs.Int.{◌∣◌}
+use Rattle.example_bracket.proofs.Prelude.{◌≡◌, ℕ, zero, suc, ◌+◌, ◌<◌, ◌≤◌, ℤ, nat_abs, Bool, true, ◌||◌, leb, List, [], ◌∷◌, ◌++◌, length, take, get_or, arith, refl, subst, ◌∙◌, inl, inr, ◌⊎◌, ap, ◌∣◌, take_all, IsLowest, form, form_numbers, Set, vector, IsDirection, IsInRange, same-form, word, Row, row_form, is_unit, has_unit, is_small, is_row, are_rows, cut_set, common_set}
 use Rattle.std.proofs.Math.Nat.{eq-one_of_dvd-one}
-use Rattle.std.proofs.lemmas.List.{take_more, take_all}
+use Rattle.std.proofs.lemmas.List.{take_more}
 use Rattle.std.proofs.lemmas.Bool.{eqb-true, leb-true, and_parts, or_cases}
-use Rattle.nef_space.specs.Numbers.{IsLowest}
-use Rattle.nef_space.specs.Place.{form, form_numbers}
-use Rattle.nef_space.specs.Sets.{Set}
-use Rattle.nef_space.specs.Vectors.{vector, IsDirection}
-use Rattle.nef_geo.specs.Reading.{IsInRange}
 use Rattle.nef_geo.proofs.Products.{kept}
-use Rattle.law_turns.proofs.Carriers.{same-form}
-use Rattle.nef_expr.proofs.Halves.{word}
-use Rattle.example_bracket.specs.Bracket.{Row, row_form, is_unit, has_unit, is_small, is_row, are_rows, cut_set, common_set}
 
 unit-one : (a : ℤ) → is_unit a ≡ true → nat_abs a ≡ 1
 unit-one a h = eqb-true (nat_abs a) 1 h

@@ -1,12 +1,6 @@
--- What is told of a set.
+-- Answers about a set, and about the parts of a complex.
 use Rattle.std.specs.Prelude.{◌≡◌, ℕ, Bool, true, false, length, nat_lt}
-use Rattle.nef_space.specs.Lists.{IsAt}
-use Rattle.nef_space.specs.Place.{Place}
-use Rattle.nef_space.specs.Sets.{Set}
-use Rattle.nef_space.specs.Vectors.{Vector}
-use Rattle.nef_space.specs.declared.label.Label.{Label}
-use Rattle.nef_space.specs.declared.label.Label.TheVariants.{Out, Not, In}
-use Rattle.nef_geo.specs.declared.point.Point.{Point}
+use Rattle.nef_complex.specs.Prelude.{IsAt, Place, Set, Vector, Label, Out, Not, In, Point}
 use Rattle.nef_complex.specs.declared.complex.Complex.{Complex}
 use Rattle.nef_complex.specs.declared.complex.Edge.{Edge}
 use Rattle.nef_complex.specs.declared.complex.Vertex.{Vertex}
@@ -15,26 +9,26 @@ use Rattle.nef_conn.specs.Components.{HasComponents}
 use Rattle.nef_ray.specs.Ends.{IsRayEnd}
 use Rattle.example_bracket.specs.declared.read.Counts.{Counts}
 
--- the label along the ray changes first where the ray leaves the frame
+-- the label along the ray from p along d first changes where the ray leaves the frame
 abbrev pub IsClear : Set → Place → Vector → Type 0
 IsClear s p d = (q : Place) × (after : Bool) × IsRayEnd s p d q after Out
 
--- so many connected components have the points with no, one, two and three flat directions
+-- the numbers of connected components of the points with no, one, two and three flat directions
 pub record HasCounts (s : Set) (n : Counts) : Type 0 where
   pub vertices : HasComponents s 0 n.vertices
   pub edges : HasComponents s 1 n.edges
   pub facets : HasComponents s 2 n.facets
   pub volumes : HasComponents s 3 n.volumes
 
--- the vertex with this number lies at p
+-- the vertex with the number k lies at p
 abbrev pub IsPointOf : Complex → ℕ → Point → Type 0
 IsPointOf c k p = (v : Vertex) × IsAt c.vertices k v × (v.point ≡ p)
 
--- the lower end of the edge with this number lies at p, the higher one at q
+-- the lower end of the edge with the number n lies at p, the higher end at q
 abbrev pub AreEnds : Complex → ℕ → Point → Point → Type 0
 AreEnds c n p q = (e : Edge) × IsAt c.edges n e × IsPointOf c e.low p × IsPointOf c e.high q
 
--- the facet is bounded by two cycles at least
+-- at least two cycles bound the facet
 abbrev pub has_hole : Facet → Bool
 has_hole f = nat_lt 1 (length f.cycles)
 

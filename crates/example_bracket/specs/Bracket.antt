@@ -1,22 +1,21 @@
--- The bracket as a set of half-spaces, and by the numbers of its points.
-use Rattle.std.specs.Prelude.{ℤ, pos, negsuc, ◌*ℤ◌, ◌≤ℤ◌, ◌<ℤ◌, nat_abs, List, [], ◌∷◌, Bool, true, false, ◌&&◌, ◌||◌, eqb, leb, ◌⊎◌}
-use Rattle.nef_space.specs.Place.{Place, Form, form}
-use Rattle.nef_space.specs.Sets.{Set}
+-- The bracket as a set of half-spaces, and by the coordinates of its points.
+use Rattle.std.specs.Prelude.{◌*ℤ◌, ◌≤ℤ◌, ◌<ℤ◌, ◌∷◌, ◌&&◌, ◌||◌, ◌⊎◌, ℤ, pos, negsuc, nat_abs, List, [], Bool, true, false, eqb, leb}
+use Rattle.nef_space.specs.Prelude.{Place, Form, form, Set}
 use Rattle.law_turns.specs.Turned.{turned_set}
 
 -- ---- sets by rows of numbers
--- the numbers a, b, c and d of a form a x + b y + c z + d
+-- the numbers a, b, c and d of the form a x + b y + c z + d
 abbrev pub Row : Type 0
 Row = ℤ × ℤ × ℤ × ℤ
 
 abbrev pub row_form : Row → Form
 row_form r = form r.0 r.1 r.2 r.3
 
--- what the set has in common with the half-space of the row
+-- the set's intersection with the half-space of the row
 abbrev pub cut_set : Set → Bool → Row → Set
 cut_set s closed r = Set.both s (Set.half (row_form r) closed)
 
--- what it has in common with those of all rows
+-- the set's intersection with the half-spaces of all rows
 abbrev pub common_set : Set → Bool → List Row → Set
 common_set s closed [] = s
 common_set s closed (r ∷ rs) = common_set (cut_set s closed r) closed rs
@@ -31,7 +30,7 @@ has_unit r = is_unit r.0 || (is_unit r.1 || is_unit r.2)
 abbrev pub is_small : Row → Bool
 is_small r = leb (nat_abs r.0) 2048 && (leb (nat_abs r.1) 2048 && (leb (nat_abs r.2) 2048 && leb (nat_abs r.3) 2048))
 
--- numbers up to 2048 in size, with 1 or -1 among the first three
+-- the numbers of the row are 2048 at most in size, and 1 or -1 is among the first three
 abbrev pub is_row : Row → Bool
 is_row r = has_unit r && is_small r
 
@@ -40,7 +39,7 @@ are_rows [] = true
 are_rows (r ∷ rs) = is_row r && are_rows rs
 
 -- ---- the bracket
--- 0 <= x <= 8, 0 <= y <= 4, 0 <= z <= 1
+-- the points with 0 <= x <= 8, 0 <= y <= 4, 0 <= z <= 1
 abbrev pub plate : Set
 plate = common_set Set.full true (
     (negsuc 0, pos 0, pos 0, pos 0)
@@ -51,7 +50,7 @@ plate = common_set Set.full true (
     ∷ (pos 0, pos 0, pos 1, negsuc 0)
     ∷ [])
 
--- 4 < x < 6, 1 < y < 3
+-- the points with 4 < x < 6, 1 < y < 3
 abbrev pub hole : Set
 hole = common_set Set.full false (
     (negsuc 0, pos 0, pos 0, pos 4)
@@ -63,19 +62,19 @@ hole = common_set Set.full false (
 abbrev pub leg : Set
 leg = Set.less plate hole
 
--- the leg, and the leg with x and z exchanged
+-- the leg that lies, and the leg with x and z exchanged, which stands
 abbrev pub bracket : Set
 bracket = Set.either leg (turned_set 40 leg)
 
--- ---- its points, by their numbers
--- 4 < x/w < 6, 1 < y/w < 3
+-- ---- the points of the bracket, by their numbers
+-- the coordinates x/w and y/w are those of a point in the hole: 4 < x/w < 6, 1 < y/w < 3
 pub record IsInHole (x y w : ℤ) : Type 0 where
   pub left : (pos 4 *ℤ w) <ℤ x
   pub right : x <ℤ (pos 6 *ℤ w)
   pub front : w <ℤ y
   pub back : y <ℤ (pos 3 *ℤ w)
 
--- 0 <= x/w <= 8, 0 <= y/w <= 4, 0 <= z/w <= 1, and not in the hole
+-- the point is in the leg that lies: 0 <= x/w <= 8, 0 <= y/w <= 4, 0 <= z/w <= 1, and not in the hole
 pub record IsInLeg (x y z w : ℤ) : Type 0 where
   pub left : pos 0 ≤ℤ x
   pub right : x ≤ℤ (pos 8 *ℤ w)
@@ -85,6 +84,6 @@ pub record IsInLeg (x y z w : ℤ) : Type 0 where
   pub over : z ≤ℤ w
   pub beside : IsInHole x y w → ⊥
 
--- the point is in the leg that lies, or in the one that stands
+-- the point is in the leg that lies or in the leg that stands
 abbrev pub IsInBracket : Place → Type 0
 IsInBracket p = IsInLeg p.x p.y p.z (pos p.w) ⊎ IsInLeg p.z p.y p.x (pos p.w)

@@ -1,4 +1,4 @@
-//! Questions about a set, put to a complex that shows it.
+//! Questions about a set, asked of a complex that shows the set.
 
 ghost use Rattle.std.specs.Prelude.{◌↔◌};
 ghost use Rattle.nef_complex.specs.Prelude.{IfOk, InFrame, IsAtMost, IsPlaceAtMost, IsTrue, Joined, SameSet, Set, ShowsSet, place_of, ray_direction_limit, ray_point_limit, ray_weight_limit, vector_of};
@@ -18,7 +18,7 @@ use std::alloc::Global;
 use std::sync::Wait;
 use std::thread::Threads;
 
-/// Whether the set holds at the point, one of the frame.
+/// Whether the set holds at the point, which lies in the frame.
 pub fn is_inside(c: &Complex, p: &Point) -> bool
     requires shows { (s : Set) × ShowsSet s c.now }
     requires framed { InFrame (place_of p.now) }
@@ -40,7 +40,7 @@ pub fn is_in_bracket<R: Threads + Wait + Sync>(
     Ok(is_inside(&bracket, p))
 }
 
-/// Whether nothing begins or ends along the ray from the point, one of the frame, before it leaves the frame.
+/// Whether the label along the ray from the point, which lies in the frame, doesn't change within the frame.
 pub fn is_clear(alloc: Global, c: &Complex, p: &Point, d: &Dir) -> Result<bool, OutOfMemory>
     requires shows { (s : Set) × ShowsSet s c.now }
     requires framed { InFrame (place_of p.now) }
@@ -52,7 +52,7 @@ pub fn is_clear(alloc: Global, c: &Complex, p: &Point, d: &Dir) -> Result<bool, 
     Ok(end.label == Label::Out)
 }
 
-/// Whether the set is the closure of its interior: it has neither walls and wires without thickness nor open borders.
+/// Whether the set is the closure of its interior, without walls and wires of no thickness and without open borders.
 pub fn is_solid<R: Threads + Wait + Sync>(
     maker: &Maker<'_, R>,
     c: &Complex,
@@ -65,7 +65,7 @@ pub fn is_solid<R: Threads + Wait + Sync>(
     Ok(same(c, &regular))
 }
 
-/// Whether both points, which are of the frame, lie in one vertex, edge, facet or volume.
+/// Whether both points, which lie in the frame, lie in one vertex, edge, facet or volume.
 pub fn are_joined(alloc: Global, c: &Complex, p: &Point, q: &Point) -> Result<bool, OutOfMemory>
     requires shows { (s : Set) × ShowsSet s c.now }
     requires first { InFrame (place_of p.now) }

@@ -1,5 +1,5 @@
-//! The kernel as a library: a bracket with a hole in each leg is made of half-spaces, asked, and read; docs/library.md
-//! speaks of this code.
+//! The kernel as a library: a bracket with a hole in each leg is made of half-spaces, questioned, and read;
+//! docs/library.md explains this code.
 #![tactic(auto)]
 
 mod asked;

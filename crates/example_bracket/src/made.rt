@@ -16,10 +16,10 @@ use std::alloc::Global;
 use std::sync::Wait;
 use std::thread::Threads;
 
-// The numbers a, b, c and d of the half-space where a x + b y + c z + d is at most zero, or negative where it's open.
+// The numbers a, b, c and d of a half-space, where a x + b y + c z + d is at most zero, or negative in an open one.
 type Row = (i64, i64, i64, i64);
 
-// The plate is 8 long, 4 wide and 1 thick.
+// The half-spaces of the plate, which is 8 long, 4 wide and 1 thick.
 const PLATE: [Row; 6] = [
     (-1, 0, 0, 0),
     (1, 0, 0, -8),
@@ -29,13 +29,13 @@ const PLATE: [Row; 6] = [
     (0, 0, 1, -1),
 ];
 
-// The hole runs along z, and its walls don't belong to it.
+// The half-spaces of the hole, which runs along z, without its walls.
 const HOLE: [Row; 4] = [(-1, 0, 0, 4), (1, 0, 0, -6), (0, -1, 0, 1), (0, 1, 0, -3)];
 
 // The number of the turn that exchanges x and z.
 const UPRIGHT: usize = 40;
 
-// The plane of the row, with the side on which its form is negative.
+// The plane of the row, with the side where the row's form is negative.
 fn oriented(row: &Row) -> Oriented
     requires row { IsTrue (is_row row.now) }
     ensures form { given_form result ≡ row_form row.now }
@@ -44,7 +44,7 @@ fn oriented(row: &Row) -> Oriented
     Oriented::of(a, b, c, d)
 }
 
-/// What makes sets: threads, memory, and how an operation's work is shared.
+/// The means to make sets: threads, memory, and how an operation's work is shared.
 #[derive(Drop)]
 pub struct Maker<'a, R> {
     pub rt: &'a R,
@@ -72,7 +72,7 @@ impl<'a, R: Threads + Wait + Sync> Maker<'a, R> {
         self.combined(Op::And, &body, &side)
     }
 
-    // The points that the half-spaces of all rows have in common.
+    // The intersection of the half-spaces of all rows.
     fn common(&self, rows: &[Row], closed: bool) -> Result<Complex, OutOfMemory>
         requires rows { IsTrue (are_rows rows.now) }
         ensures shows { IfOk result (ShowsSet (common_set Set.full closed rows.now)) }

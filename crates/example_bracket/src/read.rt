@@ -1,4 +1,4 @@
-//! What a complex and its parts hold.
+//! Numbers and points that a complex and its parts hold.
 
 ghost use Rattle.std.specs.Prelude.{◌≡◌, ◌<◌};
 ghost use Rattle.nef_complex.specs.Prelude.{Set, ShowsSet, length};
@@ -18,7 +18,7 @@ pub struct Counts {
     pub volumes: usize,
 }
 
-/// The numbers of the vertices, edges, facets and volumes, the outside of the frame among these.
+/// The numbers of vertices, edges, facets and volumes, with the outside of the frame among the volumes.
 pub fn count_parts(c: &Complex, parts: &Parts) -> Counts
     requires counted { AreCounted c.now parts.now }
     ensures components { (s : Set) → ShowsSet s c.now → HasCounts s result }
@@ -44,7 +44,7 @@ pub fn edge_ends(c: &Complex, number: usize) -> (Point, Point)
     )
 }
 
-/// How many facets have a hole, since more than one cycle bounds them.
+/// How many facets have a hole, which is a cycle beside the first.
 pub fn facets_with_holes(parts: &Parts) -> usize
     ensures holes { result ≡ count_by has_hole parts.now.facets }
 {

@@ -1,8 +1,8 @@
-//! What is said of the bracket, beside answers that follow by hand.
+//! Answers about the bracket that follow by hand.
 //!
-//! The frame has 8 vertices, 12 edges, 6 facets and 2 volumes, its outside and its inside. The bracket without holes is a
-//! prism over an L with 6 corners, which adds 12 vertices, 18 edges, 8 facets and a volume. Each hole adds 8 vertices, 12
-//! edges and 4 walls, and a cycle to each of the two facets that it leads through.
+//! The frame has 8 vertices, 12 edges, 6 facets and 2 volumes, its outside and its inside. The bracket without holes is
+//! a prism over an L with 6 corners, which adds 12 vertices, 18 edges, 8 facets and a volume. Each hole adds 8
+//! vertices, 12 edges and 4 walls, and a cycle to each of the two facets through which the hole leads.
 
 ghost use Rattle.std.specs.Prelude.{◌≤◌};
 ghost use Rattle.nef_complex.specs.Prelude.{IfOk, IfSome, InFrame, IsAtMost, IsPlaceAtMost, IsTrue, Set, ShowsSet, nat_abs, place_of, ray_direction_limit, ray_point_limit, ray_weight_limit, vector_of};
@@ -21,12 +21,12 @@ use std::thread::Threads;
 
 // Questions with their answers. A point is four numbers x, y, z and w, and stands for (x/w, y/w, z/w).
 //
-// - `counts`: the numbers of vertices, edges, facets and volumes; `holes`: of facets with a hole; `volumes`: of volumes that
-//   belong to the bracket; `solid`: whether it's the closure of its interior.
-// - `edge NUMBER`: the points at its ends.
-// - `inside POINT`, and `has POINT` of a bracket that is made for this question: whether the point belongs to it.
-// - `clear POINT x y z`: whether nothing begins or ends along the ray from the point in this direction.
-// - `joined POINT POINT`: whether both lie in one vertex, edge, facet or volume.
+// - `counts`: the numbers of vertices, edges, facets and volumes; `holes`: of facets with a hole; `volumes`: of volumes
+// that belong to the bracket; `solid`: whether the bracket is the closure of its interior.
+// - `edge NUMBER`: the points at the ends of the edge.
+// - `inside POINT`, and `has POINT` of a bracket that is made for this question: whether the point is in the bracket.
+// - `clear POINT x y z`: whether the label doesn't change along the ray from the point within the frame.
+// - `joined POINT POINT`: whether both points lie in one vertex, edge, facet or volume.
 const ROWS: &str = "\
 counts => 36 54 22 3 # 8 + 12 + 2 * 8, 12 + 18 + 2 * 12, 6 + 8 + 2 * 4 and 2 + 1
 holes => 4 # below and above one leg, before and behind the other
@@ -82,7 +82,7 @@ fn is_small_direction(d: &Dir) -> bool
     is_small(d.x()) && is_small(d.y()) && is_small(d.z())
 }
 
-// Four of the numbers between the blanks, from this place on. Zero stands for one that isn't there.
+// Four of the numbers between the blanks, from number `first` on, with 0 for each absent number.
 fn numbers(words: &str, first: usize) -> Option<[i64; 4]> {
     let mut numbers = [0; 4];
     for (place, word) in words.split(' ').skip(first).enumerate() {
@@ -93,7 +93,7 @@ fn numbers(words: &str, first: usize) -> Option<[i64; 4]> {
     Some(numbers)
 }
 
-// The point of the four numbers from this place on, if it lies in the frame.
+// The point of the four numbers from number `first` on, if the point lies in the frame.
 fn point(words: &str, first: usize) -> Option<Point>
     ensures framed { IfSome result (λ p. InFrame (place_of p)) }
 {
@@ -105,7 +105,7 @@ fn point(words: &str, first: usize) -> Option<Point>
     if p.in_frame() { Some(p) } else { None }
 }
 
-// The direction of the three numbers from this place on.
+// The direction of the three numbers from number `first` on, if they are small.
 fn direction(words: &str, first: usize) -> Option<Dir> {
     let [x, y, z, _] = numbers(words, first)?;
     if !is_small(x) || !is_small(y) || !is_small(z) {
@@ -210,7 +210,7 @@ fn add_answer<R: Threads + Wait + Sync>(
     }
 }
 
-// Whether the question of the row has the answer that stands beside it.
+// Whether the row's question has the row's answer.
 fn is_answered<R: Threads + Wait + Sync>(
     maker: &Maker<'_, R>,
     c: &Complex,

@@ -1,4 +1,4 @@
-//! Two jobs by the plain machine, and by two passes of each board.
+//! Two jobs at the plain machine, and at each board with two passes.
 ghost use Rattle.std.specs.Prelude.{◌≡◌, ◌<◌, None};
 
 use crate::rows::check;
@@ -9,8 +9,8 @@ use nef_free::FreeBoard;
 use std::alloc::Global;
 use std::sync::Wait;
 
-// Claims by both passes, a deposit and a claim by the second one, a giving back by the first one: whether each gives what
-// it has to. Neither the board's calls nor this one are given the runtime, which alone gives leave to wait.
+// Whether each call of a board with two passes gives what is right: both passes claim, the second deposits and claims
+// again, the first gives back. Neither the board's calls nor this one get the runtime, which alone allows waiting.
 fn two_passes<B: Board<Trial>>(
     alloc: Global,
     board: B,
@@ -57,7 +57,7 @@ fn two_jobs(rt: HostRuntime) {
     check(&rt, without_turns(rt.alloc(), &job).ok(), "without turns");
 }
 
-// The same by the machine.
+// The calls of the two jobs at the machine.
 fn machine_of_two_jobs(alloc: Global) -> Result<bool, OutOfMemory> {
     let mut machine = Machine::new(alloc, 2)?;
     let first = machine.step(Event::Claim(0));

@@ -1,4 +1,4 @@
-//! A board that counts deposits, over any other.
+//! A board of any kind, with a counter of its deposits.
 ghost use Rattle.std.specs.Prelude.{◌≡◌};
 
 use nef_core::{Board, Claim, Job, OutOfMemory, Receipt};

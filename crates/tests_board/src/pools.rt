@@ -1,5 +1,5 @@
-//! What no clause says of the pool, over both boards: how many workers there are, how often a job is worked and by whom,
-//! when the gate is told, and that a worker ends where it found no memory.
+//! The pool over both boards, as far as no clause speaks of the pool: how many workers start, how often and by whom a
+//! job is worked, when the gate hears of a job, and that a worker ends where memory is wanting.
 ghost use Rattle.std.specs.Prelude.{◌<◌};
 
 use crate::counted::Counted;
@@ -16,13 +16,13 @@ use std::sync::Wait;
 use std::sync::atomic::{AtomicU64, Ordering};
 use std::thread::Threads;
 
-// How many workers, how many seats at the board, how many jobs, the bits of those that want memory in vain at first, and
-// how many have to begin before one but the first goes on; then how many jobs the gate is told of, how many calls there
-// are, how many of them for jobs that the gate wasn't told of, and how many results are deposited.
+// Rows of a pool: workers, seats at the board, jobs, the bits of the jobs that want memory in vain at first, and how
+// many jobs begin before any job but the first goes on; then the jobs that the gate hears of, the calls, the calls for
+// jobs that the gate didn't hear of, and the deposits.
 //
-// As many jobs as no 16 bits count are worked by one worker, by two, and by the most. Where jobs wait until one more began
-// than there are workers, each worker has one at the same time. Each job is told, worked and deposited once. Where jobs 2
-// and 5 want memory in vain, a worker ends at each, and the caller works what is left.
+// Jobs beyond 16 bits are worked by one worker, by two, and by the most. Where jobs wait until one more began than
+// there are workers, each worker has a job at the same time. Where jobs 2 and 5 want memory in vain, a worker ends at
+// each of the two, and the caller works the rest.
 const ROWS: &str = "1 2 70000 0 0 => 70000 70000 0 70000
 2 3 70000 0 0 => 70000 70000 0 70000
 64 65 70000 0 0 => 70000 70000 0 70000
@@ -37,7 +37,7 @@ const ROWS: &str = "1 2 70000 0 0 => 70000 70000 0 70000
 2 5 10 36 0 => 6 12 4 4
 4 5 10 36 0 => 10 12 0 8";
 
-// The results of all jobs by the board whose passes take turns.
+// The results of all jobs at the board whose passes take turns.
 fn locked<R: Threads + Wait + Sync>(
     rt: &R,
     alloc: Global,
@@ -52,7 +52,7 @@ fn locked<R: Threads + Wait + Sync>(
     finish(rt, alloc, board, pass, trial, workers, trial)
 }
 
-// The same by the board whose passes wait for nobody.
+// The results of all jobs at the board whose passes wait for nobody.
 fn unlocked<R: Threads + Sync>(
     rt: &R,
     alloc: Global,
@@ -67,7 +67,7 @@ fn unlocked<R: Threads + Sync>(
     finish(rt, alloc, board, pass, trial, workers, trial)
 }
 
-// Whether there are so many numbers, each the square of its place.
+// Whether there are `count` numbers, each the square of its index.
 fn are_squares(numbers: &[u64], count: u32) -> bool {
     for (place, number) in numbers.iter().enumerate() {
         if *number != (place as u64).wrapping_mul(place as u64) {
@@ -81,14 +81,14 @@ fn of(counter: &AtomicU64) -> u64 {
     counter.load(Ordering::SeqCst)
 }
 
-// What was counted, but for the jobs that the gate was told of by the other board.
+// The counts of the trial, with the jobs that the gate heard of from the board in use.
 fn counts(alloc: Global, trial: &Trial, free: bool) -> Result<String, OutOfMemory> {
     let told = of(if free { &trial.free } else { &trial.locked });
     let (calls, unheard) = (of(&trial.calls), of(&trial.unheard));
     format!(in alloc; "{told} {calls} {unheard} {}", of(&trial.deposits))
 }
 
-// Whether all jobs come out, this is counted, no job is told by the other board, and none was held for all the turns.
+// Whether all jobs come out, the counts are `wanted`, and no job is told by the other board or held for all turns.
 fn is_worked<R: Threads + Wait + Sync>(
     rt: &R,
     alloc: Global,
@@ -117,7 +117,7 @@ fn trial_of(numbers: &mut Split<'_, char>) -> Option<Trial> {
     Some(Trial::new(count, u64::from(refused), u64::from(crowd)))
 }
 
-// Whether the row holds for this board.
+// Whether the row holds for the board with or without a lock.
 fn holds<R: Threads + Wait + Sync>(rt: &R, alloc: Global, free: bool, row: &str) -> Option<bool> {
     let (numbers, wanted) = row.split_once(" => ")?;
     let mut numbers = numbers.split(' ');

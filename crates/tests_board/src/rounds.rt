@@ -1,9 +1,9 @@
-//! A round of the numbers 4 and 7, a stage of five numbers, and stages that tell how many are worked side by side.
+//! Rounds of the numbers 4 and 7, a stage of five numbers, and stages that tell how many are worked side by side.
 ghost use Rattle.std.specs.Prelude.{◌≡◌, ◌≤◌, ◌==◌, if◌then◌else◌, nat_lt, Some, None};
 ghost use Rattle.nef_sched.specs.Rounds.{Belongs};
 
 use crate::rows::{TURNS, check, number};
-use nef_sched::{Needs, OutOfMemory, Results, Round, RoundPass, Stage, Taken, run_ahead, run_lean};
+use nef_sched::{Needs, OutOfMemory, Results, Round, RoundPass, Stage, Taken, run_ahead};
 use std::alloc::Global;
 use std::sync::Wait;
 use std::sync::atomic::{AtomicBool, AtomicU64, Ordering};
@@ -21,7 +21,7 @@ fn takes_both<R: Wait>(rt: &R, round: &Round, pass: &mut RoundPass) -> bool
     are_both && round.take(rt, pass).is_none()
 }
 
-// Whether the last of so many passes takes both numbers, and another one, if there is one, none.
+// Whether the last of `count` passes takes both numbers, and the other pass, if there is one, takes none.
 fn last_takes_both<R: Wait>(rt: &R, alloc: Global, count: u32) -> Result<bool, OutOfMemory>
     requires { 1 ≤ count }
 {
@@ -40,7 +40,7 @@ fn numbers_are_taken(rt: HostRuntime) {
     check(&rt, last_takes_both(&rt, rt.alloc(), 2).ok(), "two passes");
 }
 
-// Whether this number was taken, and the other one is left.
+// Whether `told` names this number as taken and the other one as left.
 fn are_told(number: Option<usize>, told: &Taken) -> bool {
     match number {
         Some(4) => told.taken.as_slice() == [4].as_slice()
@@ -51,7 +51,7 @@ fn are_told(number: Option<usize>, told: &Taken) -> bool {
     }
 }
 
-// Whether the one number is told that the pass took, and the one that is left.
+// Whether a round that is closed tells which number the pass took, and which is left.
 fn closes<R: Wait>(rt: &R, alloc: Global) -> Result<bool, OutOfMemory> {
     let (round, mut passes) = Round::new(rt, alloc, &NUMBERS, 1)?;
     let number = match passes.as_mut_slice() {
@@ -70,9 +70,8 @@ fn what_is_left_is_told(rt: HostRuntime) {
 // A load that pays for any number of workers.
 const HEAVY: u64 = 1_000_000;
 
-// Five numbers: 2 needs 0 and 1, 3 needs 2, 4 needs 2 and 1. A result is one more than the sum of
-// those that it needs. Calls in which the number is alone are counted, and those for which the result
-// of 0 isn't there.
+// Five numbers: 2 needs 0 and 1, 3 needs 2, 4 needs 2 and 1. A result is one more than the sum of the needed results.
+// The stage counts calls in which a number is alone, and calls without the result of 0.
 #[derive(Drop)]
 struct Sums {
     load: u64,
@@ -161,7 +160,7 @@ impl Stage for Sums {
     }
 }
 
-// Whether the results come in order, number 4 alone is told that it is alone, and so many see no result of 0.
+// Whether the results come in order, number 4 alone is alone, and `without_first` calls see no result of 0.
 fn come_in_order<R: Threads + Wait + Sync>(
     rt: &R,
     alloc: Global,
@@ -175,16 +174,7 @@ fn come_in_order<R: Threads + Wait + Sync>(
     Ok(matches!(results.as_slice(), [1, 1, 3, 4, 5]) && (alone, seen) == (1, without_first))
 }
 
-// Whether the one result that is wanted stays, and so many see no result of 0.
-fn wanted_stays<R: Threads + Wait + Sync>(rt: &R, alloc: Global) -> Result<bool, OutOfMemory> {
-    let stage = Sums::new(HEAVY);
-    let wanted = [false, false, false, true, false];
-    let results = run_lean(rt, alloc, &stage, 2, &wanted)?;
-    let seen = stage.without_first.load(Ordering::SeqCst);
-    Ok(matches!(results.as_slice(), [None, None, None, Some(4), None]) && seen == 4)
-}
-
-// By threads, where 1 doesn't see the result of 0, and by the caller alone, where it does.
+// With threads, 1 doesn't see the result of 0; with the caller alone, 1 sees this result.
 #[test]
 fn results_come_in_order(rt: HostRuntime) {
     check(
@@ -199,18 +189,12 @@ fn results_come_in_order(rt: HostRuntime) {
     );
 }
 
-// The result of 0 is let go once 2 is worked, so it isn't there for 0, 1, 3 and 4.
-#[test]
-fn wanted_results_stay(rt: HostRuntime) {
-    check(&rt, wanted_stays(&rt, rt.alloc()).ok(), "one is wanted");
-}
-
-// So many turns are enough for one more number to begin, where one more thread takes it.
+// Turns in which a further thread begins one more number, if there is such a thread.
 const FEW_TURNS: u64 = 200;
 
-// So many numbers of this load that need nothing, of which each is worked until so many began, for so many turns at most.
-// As many of the first ones are then worked for a few turns more, until one more is. It keeps how many began, and how many
-// were being worked at one time at most.
+// Numbers without needs, each with this load. Each is worked until `crowd` numbers began, for `TURNS` turns at most;
+// the first `crowd` numbers wait a few turns more for one more number. The stage counts the numbers that began and the
+// most that were worked at one time.
 #[derive(Drop)]
 struct Waiting {
     count: usize,
@@ -302,7 +286,7 @@ impl Stage for Waiting {
     }
 }
 
-// Whether each result is its number.
+// Whether each result is the number that gave the result.
 fn are_in_order(results: &[usize]) -> bool {
     for (number, result) in results.iter().enumerate() {
         if *result != number {
@@ -312,7 +296,7 @@ fn are_in_order(results: &[usize]) -> bool {
     true
 }
 
-// Whether each number is worked once, and so many of them side by side and no more.
+// Whether each number is worked once, and exactly `crowd` numbers are worked side by side.
 fn run_side_by_side<R: Threads + Wait + Sync>(
     rt: &R,
     alloc: Global,
@@ -337,9 +321,8 @@ fn run_side_by_side<R: Threads + Wait + Sync>(
     )
 }
 
-// How many workers there are, how many numbers, the load of each, and how many are worked side by side: by as many workers
-// as were asked for, as there are numbers, or as the load pays for, one for each 500. There are more numbers than a script
-// may have names, too.
+// Workers, numbers, the load of each number, and the numbers worked side by side: as many as workers, as numbers, or as
+// the load pays for, one for each 500. Some rows have more numbers than a script may have names.
 const CROWDS: &str = "4 4 1000000 4
 3 10 1000000 3
 2 10 1000000 2
@@ -352,7 +335,7 @@ const CROWDS: &str = "4 4 1000000 4
 4 5000 0 1
 2 5000 1000 2";
 
-// Whether the row holds.
+// Whether the row of `CROWDS` holds.
 fn holds<R: Threads + Wait + Sync>(rt: &R, alloc: Global, row: &str) -> Option<bool> {
     let mut numbers = row.split(' ');
     let (workers, count) = (number(&mut numbers)?, number(&mut numbers)? as usize);

@@ -1,4 +1,4 @@
-//! Jobs whose results are known from outside, and that know what is done with them.
+//! Jobs with results that are known from outside, which count what is done with the jobs.
 ghost use Rattle.std.specs.Prelude.{◌≡◌, ◌*◌};
 
 use crate::rows::TURNS;
@@ -15,9 +15,9 @@ fn bit_of(job: u64) -> u64 {
 
 /// The squares of the numbers below `count`. The first call for a job whose bit is in `refused` wants memory in vain.
 ///
-/// As a gate it holds each job but the first until so many began, for so many turns at most. It counts the jobs that it
-/// hears of from each kind of board, and how often one was held for all the turns; the calls for jobs, and those for jobs
-/// that it hadn't heard of; and the deposits at a board that counts them.
+/// As a gate the trial holds each job but the first until `crowd` jobs began, for `TURNS` turns at most. The trial
+/// counts the jobs heard of from each kind of board, the jobs held for all turns, the calls for jobs, the calls for
+/// jobs not heard of, and the deposits at a counting board.
 #[derive(Drop)]
 pub struct Trial {
     pub count: u32,
@@ -50,7 +50,6 @@ impl Trial {
         }
     }
 
-    // How many jobs began.
     fn began(&self) -> u64 {
         let locked = self.locked.load(Ordering::SeqCst);
         locked.wrapping_add(self.free.load(Ordering::SeqCst))

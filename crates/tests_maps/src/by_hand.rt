@@ -6,8 +6,8 @@ use nef_geo::{Dir, Label, List};
 use nef_smap::{SArc, SLoop, SVertex, SphereMap, copy, side_label, sides};
 use std::alloc::{AllocError, Global};
 
-// The labels of the sides; the svertices, an arc and the sloop of a copy; and of the items the marks and the sides. The arc
-// has the number 0 and the sloop the number 1; the side round the svertex stands before theirs.
+// The labels of the sides; the svertices, the arc and the sloop of a copy; and the marks and the sides of the items.
+// The arc is item 0 and the sloop item 1; the side round the svertex comes before the sides of the items.
 const TEXT: &str = " o i n n o; \
 / s 0 0 -1 i o / s 0 1 1 i - / s 1 0 1 i - / a 1 2 1 1 -1 n i n / l 0 0 1 i n o; n 1 2 i 3 4";
 
@@ -67,7 +67,7 @@ fn of_ways(alloc: Global, above: Dir, first: Dir, second: Dir, about: Dir) -> Op
     Some(map_of(svertices, arcs, above))
 }
 
-// An svertex without arcs below, and an arc from one svertex to another above a sloop.
+// A map with a svertex without arcs below, and an arc between two svertices above a sloop.
 fn by_hand(alloc: Global) -> Option<SphereMap> {
     let (above, first) = (normal("0 0 1")?, normal("0 1 1")?);
     let (second, about) = (normal("1 0 1")?, normal("1 1 -1")?);
@@ -86,7 +86,7 @@ fn add_copy(alloc: Global, text: &mut String, map: &SphereMap) -> Result<(), All
     add_items(text, &second)
 }
 
-// Of each item its mark, and the sides to which its normal points and doesn't point.
+// Adds for each item the mark, and the sides to which the item's normal points and doesn't point.
 fn add_item_sides(text: &mut String, map: &SphereMap) -> Result<(), AllocError> {
     for number in 0..map.item_count() {
         add_label(text, map.item_at(number).mark())?;

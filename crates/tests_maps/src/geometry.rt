@@ -1,4 +1,4 @@
-//! What no clause says of planes, points and directions, and each call once.
+//! Planes, points and directions: answers that no clause gives, and each call once.
 
 ghost use Rattle.std.specs.Prelude.{◌↔◌, ◌≤◌};
 ghost use Rattle.nef_geo.specs.Prelude.{nat_abs, IsTrue};
@@ -12,8 +12,8 @@ use std::alloc::{AllocError, Global};
 use std::cmp::Ordering;
 use std::process::Abort;
 
-// Questions about planes, points and directions, and their answers. A plane that is read is told with its numbers, and
-// whether they are turned round.
+// Questions about planes, points and directions, and their answers. The answer to `read` is the plane's numbers, and
+// whether they have the opposite sign.
 const ROWS: &str = "read -2 0 0 4 => 1 0 0 -2 flipped
 read 0 0 0 4194305 => OutOfRange
 read 2049 0 0 0 => OutOfRange
@@ -82,7 +82,7 @@ pub(crate) fn point(text: &str) -> Option<Point> {
     point_of(x, y, z, w)
 }
 
-// The plane as it was given.
+// The plane of four numbers, with the side that was given.
 fn given(text: &str) -> Option<Oriented> {
     let [a, b, c, d] = numbers(text)?;
     Plane::read(a, b, c, d).ok()
@@ -104,12 +104,12 @@ fn is_point(p: &Point, wanted: &str) -> bool {
     are_numbers(&[p.x(), p.y(), p.z(), p.w()], wanted)
 }
 
-/// Whether it is the direction of these numbers.
+/// Whether the direction has these numbers.
 pub(crate) fn is_way(d: &Dir, wanted: &str) -> bool {
     are_numbers(&[d.x(), d.y(), d.z(), 0], wanted)
 }
 
-// Whether there is none, or the one that is wanted.
+// Whether there is the wanted direction, or no direction where `none` is wanted.
 fn is_maybe_way(d: Option<Dir>, wanted: &str) -> bool {
     match d {
         Some(d) => is_way(&d, wanted),
@@ -146,7 +146,7 @@ fn is_placed(text: &str, wanted: &str) -> Option<bool> {
     Some(is_point(&p, numbers) && p.in_frame() == (place == "inside"))
 }
 
-// Whether this is the answer to a question about one thing.
+// Whether `wanted` is the answer to the question about one plane, point or direction.
 fn fits_one(verb: &str, a: &str, wanted: &str) -> Option<bool> {
     match verb {
         "read" => is_read(a, wanted),
@@ -160,7 +160,7 @@ fn fits_one(verb: &str, a: &str, wanted: &str) -> Option<bool> {
     }
 }
 
-/// Whether it is the order with this name.
+/// Whether the order has this name.
 pub(crate) fn is_order(order: Ordering, wanted: &str) -> bool {
     match order {
         Ordering::Less => wanted == "Less",
@@ -181,7 +181,7 @@ fn is_crossed(a: &Dir, b: &Dir, wanted: &str) -> bool {
     is_at_most(a, 1 << 11) && is_at_most(b, 1 << 11) && is_maybe_way(cross(a, b), wanted)
 }
 
-// Whether this is the answer to a question about two directions.
+// Whether `wanted` is the answer to the question about two directions.
 fn fits_ways(verb: &str, a: &Dir, b: &Dir, wanted: &str) -> bool {
     match verb {
         "cross" => is_crossed(a, b, wanted),
@@ -191,7 +191,7 @@ fn fits_ways(verb: &str, a: &Dir, b: &Dir, wanted: &str) -> bool {
     }
 }
 
-// Whether this is the answer to a question about a plane and a point.
+// Whether `wanted` is the answer to the question about a plane and a point.
 fn fits_plane(verb: &str, given: &Oriented, p: &Point, wanted: &str) -> bool {
     match verb {
         "side" => is_sign(side(&given.plane(), p), wanted),
@@ -200,7 +200,7 @@ fn fits_plane(verb: &str, given: &Oriented, p: &Point, wanted: &str) -> bool {
     }
 }
 
-// Whether this is the answer to a question about two things.
+// Whether `wanted` is the answer to the question about two planes, points or directions.
 fn fits_two(verb: &str, a: &str, b: &str, wanted: &str) -> Option<bool> {
     match verb {
         "side" | "hit_side" | "given_side" => Some(fits_plane(
@@ -223,7 +223,7 @@ fn is_met(a: &str, b: &str, c: &str, wanted: &str) -> Option<bool> {
     }
 }
 
-// The last three must be as small as directions of svertices.
+// Whether `wanted` is the answer about four directions, the last three as small as directions of svertices.
 fn is_quad(a: &Dir, b: &Dir, c: &Dir, d: &Dir, wanted: &str) -> bool {
     let small = 1 << 23;
     let are_small = is_at_most(b, small) && is_at_most(c, small) && is_at_most(d, small);
@@ -239,7 +239,7 @@ fn is_triple(a: &str, b: &str, c: &str, wanted: &str) -> Option<bool> {
     Some(is_sign(triple(&way(a)?, &way(b)?, &way(c)?), wanted))
 }
 
-// Whether this is the answer to a question about some things.
+// Whether `wanted` is the answer to the question about planes, points or directions.
 fn fits(verb: &str, things: &str, wanted: &str) -> Option<bool> {
     let (a, rest) = parted(things, ", ");
     let (b, others) = parted(rest, ", ");

@@ -1,4 +1,4 @@
-//! What no clause says of hits on rays from points, and of hits on rays from those.
+//! Hits of rays from points, and hits of rays from such hits: answers that no clause gives.
 
 ghost use Rattle.std.specs.Prelude.{◌↔◌};
 ghost use Rattle.nef_geo.specs.Prelude.{IsTrue, IsAtMost, vector, IsPlaceAtMost, hit_place, upright_limit, upright_weight_limit};
@@ -11,7 +11,7 @@ use nef_geo::{
 };
 use std::cmp::Ordering;
 
-// Where a ray from the origin hits a plane, and whether it hits one before another, or after its start.
+// Where a ray from the origin hits a plane, and whether one hit comes before another hit, or after the ray's start.
 const RAYS: &str = "hit down, 1 0 0 1 => -67108864 -8192 -1 67108864
 hit down, 1 0 0 -1 => none
 hit down, 1 0 0 0 => none
@@ -20,7 +20,7 @@ order down, 1 0 0 1, 1 0 0 2 => Less
 order down, 1 0 0 2, 1 0 0 2 => Equal
 order_from_start down, 1 0 0 1 => Greater";
 
-// The point, the first plane, the second one, and one before it.
+// The start of a ray, the plane of the first hit, the plane of the hit from the first hit, and a plane hit before that.
 const START: &str = "105553116266496 -105553116266496 -105553116266496 51539607551";
 
 const FIRST: &str = "2048 2048 2048 -4194303";
@@ -41,7 +41,7 @@ fn is_upright(p: &Hit) -> bool
     are_at_most(p.x(), p.y(), p.z()) && p.w().unsigned_abs() <= 1 << 73
 }
 
-// The calls where their conditions hold.
+// The hit of a ray with a plane, where the numbers meet the call's conditions.
 fn ray(p: &Point, d: &Dir, h: &Plane) -> Option<Option<Hit>> {
     if is_at_most(d, 1 << 36) {
         Some(ray_hit(p, d, h))
@@ -58,12 +58,12 @@ fn far(p: &Hit, d: &Dir, h: &Plane) -> Option<FarHit> {
     }
 }
 
-// The hit, if there is one, where the ray can be asked.
+// The hit, if there is one, of a ray that may be asked.
 fn asked(start: &str, d: &str, h: &str) -> Option<Option<Hit>> {
     ray(&point(start)?, &way(d)?, &plane(h)?)
 }
 
-// The hit that must be there, from the origin.
+// The hit of a ray from the origin that hits the plane.
 fn hit(d: &str, h: &str) -> Option<Hit> {
     asked("0 0 0 1", d, h)?
 }
@@ -85,13 +85,13 @@ fn is_hit(d: &str, h: &str, wanted: &str) -> Option<bool> {
     }
 }
 
-// Whether the hits with two planes have this order.
+// Whether the hits with two planes have the wanted order.
 fn is_order_of(d: &str, planes: &str, wanted: &str) -> Option<bool> {
     let (g, h) = parted(planes, ", ");
     Some(is_order(hit_order(&hit(d, g)?, &hit(d, h)?), wanted))
 }
 
-// Whether a hit and the origin have this order.
+// Whether the hit and the origin have the wanted order.
 fn is_order_from_start(d: &str, h: &str, wanted: &str) -> Option<bool> {
     Some(is_order(hit_order(&hit(d, h)?, &hit_at(&point("0 0 0 1")?)), wanted))
 }
@@ -114,17 +114,17 @@ fn rays_cross_planes(rt: HostRuntime) {
     }
 }
 
-// The hit of the upward ray from the point with the first plane.
+// The hit of the upward ray from `START` with the plane `FIRST`.
 fn first_hit() -> Option<Hit> {
     asked(START, "up", FIRST)?
 }
 
-// The hit from there with this plane.
+// The hit with this plane of a ray from the first hit.
 fn next_hit(h: &str) -> Option<FarHit> {
     far(&first_hit()?, &way("2048 2048 2047")?, &plane(h)?)
 }
 
-// Whether the first hit is on its plane, at exactly this part of its ray.
+// Whether the first hit is on its plane, at exactly the part num/den of its ray.
 fn is_first_exact(num: i128, den: i128) -> Option<bool> {
     let q = first_hit()?;
     let is_there = q.num().checked_mul(den) == q.den().checked_mul(num);
@@ -157,13 +157,13 @@ fn are_orders_exact() -> Option<bool> {
     Some(is_equal && far_order(&third, &second) == Ordering::Less)
 }
 
-// Whether the second plane is hit in exactly one of the direction and its opposite.
+// Whether exactly one of the direction and its opposite hits the second plane.
 fn is_hit_once(d: &str) -> Option<bool> {
     let (q, d, h) = (first_hit()?, way(d)?, plane(SECOND)?);
     Some(far(&q, &d, &h).is_some() != far(&q, &d.back(), &h).is_some())
 }
 
-// The numbers give, among all signs of the largest ones, the largest form at a far hit.
+// These points and planes give the largest form at a far hit, among all signs of the largest numbers.
 #[test]
 fn far_hits_are_exact(rt: HostRuntime) {
     let is_first = is_first_exact(432345512683765761, 137455732736) == Some(true);

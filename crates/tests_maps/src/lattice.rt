@@ -1,4 +1,4 @@
-//! What maps of three planes combined say of the directions of a small lattice.
+//! The labels of three combined half-spaces in all directions of a small lattice.
 
 ghost use Rattle.std.specs.Prelude.{◌<◌};
 ghost use Rattle.nef_geo.specs.Prelude.{IfSome};
@@ -33,14 +33,14 @@ fn op_of(k: usize) -> Op {
     }
 }
 
-// The half-space below a plane, with the plane or without it.
+// The half-space below a plane, with the plane or without the plane.
 #[derive(Clone, Copy)]
 struct Half {
     normal: usize,
     closed: bool,
 }
 
-// The label of a direction in the half-space.
+// The label that the half-space gives the direction.
 fn plain(given: &Half, d: &Dir) -> Option<Label> {
     match dot(&normal(normal_of(given.normal)?)?, d) {
         Sign::Minus => Some(Label::In),
@@ -49,14 +49,14 @@ fn plain(given: &Half, d: &Dir) -> Option<Label> {
     }
 }
 
-// The label that the three half-spaces' own labels give.
+// The label that the labels of three half-spaces give the direction.
 fn plain_label(halves: &[Half; 3], ops: (Op, Op), d: &Dir) -> Option<Label> {
     let [a, b, c] = halves;
     let (a, b, c) = (plain(a, d)?, plain(b, d)?, plain(c, d)?);
     Some(ops.1.label(ops.0.label(a, b), c))
 }
 
-// Whether the map has this label in the direction.
+// Whether the map has the half-spaces' label in the direction.
 fn agrees_at(map: &SphereMap, halves: &[Half; 3], ops: (Op, Op), d: &str) -> Option<bool>
     requires map { IsLeastMap map.now }
 {
@@ -64,7 +64,7 @@ fn agrees_at(map: &SphereMap, halves: &[Half; 3], ops: (Op, Op), d: &str) -> Opt
     Some(label_at(map, &d) == plain_label(halves, ops, &d)?)
 }
 
-// Whether it has it in each direction of the lattice.
+// Whether the map has the half-spaces' label in each direction of the lattice.
 fn agrees(map: &SphereMap, halves: &[Half; 3], ops: (Op, Op)) -> bool
     requires map { IsLeastMap map.now }
 {
@@ -116,7 +116,7 @@ fn three_halves(k: usize) -> [Half; 3]
     ]
 }
 
-// Whether the map of this number agrees with the labels of its half-spaces.
+// Whether the map with number k agrees with the labels of its half-spaces.
 fn holds(alloc: Global, k: usize) -> bool
     requires small { k < 100 }
 {

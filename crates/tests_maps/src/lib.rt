@@ -1,6 +1,5 @@
-//! Tests of exact geometry, tables, arcs, stars, sphere maps, their overlays and combinations, and what becomes of them.
-//!
-//! Most are rows of a table: a question in words, and the answer, which stands there from hand.
+//! Tests of exact geometry, tables, arcs, stars, sphere maps, overlays, combinations, and topology of maps. Most tests
+//! are rows of a table: a question in words, and the answer that follows by hand.
 #![tactic(auto)]
 
 #[cfg(test)]

@@ -11,7 +11,7 @@ use nef_star::{Op, OutOfMemory};
 use nef_stopo::{boundary, closure, combine, complement, exchanged, interior};
 use std::alloc::Global;
 
-// Whether a side has another label than the plane.
+// Whether the label on a side of the sloop differs from the sloop's mark.
 fn differs(sloop: &SLoop) -> bool
     ensures differs { IsTrue result → sloop.now.pos ≡ sloop.now.mark → sloop.now.neg ≡ sloop.now.mark → ⊥ }
 {
@@ -33,7 +33,7 @@ fn plane_of(alloc: Global, sloop: SLoop) -> Option<SphereMap>
     }
 }
 
-// The map of a plane through the point: its labels are those on it, above it and below it.
+// The map of a plane through the point, with the labels on, above and below the plane.
 fn plane(alloc: Global, text: &str, labels: &str) -> Option<SphereMap>
     ensures least { IfSome result IsLeastMap }
 {
@@ -49,14 +49,14 @@ fn plane(alloc: Global, text: &str, labels: &str) -> Option<SphereMap>
     plane_of(alloc, sloop)
 }
 
-/// The half-space below a plane, with the plane or without it.
+/// The map of the half-space below a plane, with the plane or without the plane.
 pub(crate) fn half(alloc: Global, normal: &str, closed: bool) -> Option<SphereMap>
     ensures least { IfSome result IsLeastMap }
 {
     plane(alloc, normal, if closed { "i n i" } else { "n n i" })
 }
 
-// The closed half-space below or above a plane.
+// The map of the closed half-space below or above a plane.
 fn closed_half(alloc: Global, side: &str, normal: &str) -> Option<SphereMap>
     ensures least { IfSome result IsLeastMap }
 {
@@ -67,7 +67,7 @@ fn closed_half(alloc: Global, side: &str, normal: &str) -> Option<SphereMap>
     }
 }
 
-// One label for the point, and one for all directions.
+// The map with one label for the point and one for all directions.
 fn face(alloc: Global, labels: &str) -> Option<SphereMap>
     ensures least { IfSome result IsLeastMap }
 {
@@ -86,7 +86,7 @@ fn kept(map: Result<SphereMap, OutOfMemory>) -> Option<SphereMap>
     }
 }
 
-/// The map of the operation on what two maps show.
+/// The map of the operation on the sets of two maps.
 pub(crate) fn combined(alloc: Global, a: &SphereMap, b: &SphereMap, op: Op) -> Option<SphereMap>
     requires first { IsLeastMap a.now }
     requires second { IsLeastMap b.now }
@@ -95,7 +95,7 @@ pub(crate) fn combined(alloc: Global, a: &SphereMap, b: &SphereMap, op: Op) -> O
     kept(combine(alloc, a, b, op))
 }
 
-/// The same with a map that may not have been made.
+/// The map of the operation on a map and a map that may not have been made.
 pub(crate) fn with(alloc: Global, a: &SphereMap, b: Option<SphereMap>, op: Op) -> Option<SphereMap>
     requires first { IsLeastMap a.now }
     requires second { IfSome b IsLeastMap }
@@ -105,7 +105,7 @@ pub(crate) fn with(alloc: Global, a: &SphereMap, b: Option<SphereMap>, op: Op) -
     combined(alloc, a, &b, op)
 }
 
-// A plane through the point: what is in the closed half-spaces on both sides.
+// The map of a plane alone: the intersection of the closed half-spaces on both sides.
 fn wall(alloc: Global, normal: &str) -> Option<SphereMap>
     ensures least { IfSome result IsLeastMap }
 {
@@ -113,7 +113,7 @@ fn wall(alloc: Global, normal: &str) -> Option<SphereMap>
     with(alloc, &below, closed_half(alloc, "above", normal), Op::And)
 }
 
-// A line through the point, in two planes.
+// The map of the line in which two planes meet.
 fn line(alloc: Global, normals: &str) -> Option<SphereMap>
     ensures least { IfSome result IsLeastMap }
 {
@@ -122,7 +122,7 @@ fn line(alloc: Global, normals: &str) -> Option<SphereMap>
     with(alloc, &wall_of_first, wall(alloc, second), Op::And)
 }
 
-// The part of a line that is in a closed half-space.
+// The map of the part of a line in a closed half-space.
 fn ray(alloc: Global, words: &str) -> Option<SphereMap>
     ensures least { IfSome result IsLeastMap }
 {
@@ -165,7 +165,7 @@ fn changed(alloc: Global, map: &SphereMap, word: &str) -> Option<SphereMap>
     }
 }
 
-// A named map, or the map combined with one.
+// The named map, or the named operation on the map so far and a named map.
 fn next(alloc: Global, map: &SphereMap, words: &str, rest: &str) -> Option<SphereMap>
     requires map { IsLeastMap map.now }
     ensures least { IfSome result IsLeastMap }
@@ -176,7 +176,7 @@ fn next(alloc: Global, map: &SphereMap, words: &str, rest: &str) -> Option<Spher
     }
 }
 
-// The map after a step: a named one, the map combined with that, or what becomes of it.
+// The map after a step: a named map, an operation with a named map, or a topological operation.
 fn after(alloc: Global, map: &SphereMap, step: &str) -> Option<SphereMap>
     requires map { IsLeastMap map.now }
     ensures least { IfSome result IsLeastMap }
@@ -187,7 +187,7 @@ fn after(alloc: Global, map: &SphereMap, step: &str) -> Option<SphereMap>
     }
 }
 
-// The same of a map that is let go, so that a loop over steps owns none where it returns early.
+// The map after a step from a map that is let go, so that a loop over steps owns no map where the loop returns early.
 fn stepped(alloc: Global, map: SphereMap, step: &str) -> Option<SphereMap>
     requires map { IsLeastMap map }
     ensures least { IfSome result IsLeastMap }
@@ -199,7 +199,7 @@ fn stepped(alloc: Global, map: SphereMap, step: &str) -> Option<SphereMap>
     }
 }
 
-/// The map that the steps make.
+/// The map that the steps make in order.
 pub(crate) fn made(alloc: Global, steps: &str) -> Option<SphereMap>
     ensures least { IfSome result IsLeastMap }
 {

@@ -1,5 +1,5 @@
-//! Maps made from planes by overlaying and combining, by interior, closure, boundary and complement; and where directions
-//! lie on them.
+//! Maps that are made from planes by overlaying and combining, and by interior, closure, boundary and complement; and
+//! where directions lie on these maps.
 
 ghost use Rattle.nef_geo.specs.Prelude.{normal_limit, IsAtMost, vector_of};
 ghost use Rattle.nef_smap.specs.Maps.{IsLeastMap};
@@ -14,12 +14,11 @@ use nef_star::Op;
 use std::alloc::{AllocError, Global};
 use std::process::Abort;
 
-// Steps that make a map, and questions about it; or two maps with `||` between them, and questions about the raw stars
-// and the map of an operation on them. A step is a plane with its labels, which are those on it, above it and below it;
-// the closed half-space below or above a plane; a wall, which is a plane alone; a line in two planes; a ray, which is the
-// part of a line in a closed half-space; a face with the label of the point and its own; such a one combined with the map
-// made so far; or what becomes of that. A map is told as the label of the point, svertices `s`, arcs `a`, a sloop `l`,
-// a ground `g`, and the kind of the point.
+// Steps that make a map, and questions about the map; or two maps with `||` between, and questions about the raw stars
+// and the map of an operation on both. A step is a plane with the labels on, above and below; the closed half-space
+// below or above a plane; a wall, which is a plane alone; a line in two planes; a ray, a line's part in a closed
+// half-space; a face with the labels of the point and of all directions; an operation with such a map; or a topological
+// operation. A map is told as the point's label, svertices `s`, arcs `a`, a sloop `l`, a ground `g` and a kind.
 const COMBINED: &str = "line: 1 0 0, 0 1 0 => map = i / s 0 0 -1 i n / s 0 0 1 i n / edge 0 0 1
 below: 0 0 1 || line: 1 0 0, 0 1 0 => map or = i / s 0 0 1 i n / l 0 0 1 i n i / vertex ; \
 faces or = 0 0 1 ; map and = i / s 0 0 -1 i n / vertex
@@ -31,9 +30,8 @@ line: 0 1 0, 0 0 1 / or line: 1 0 0, 0 0 1 => \
 map = i / s -1 0 0 i n / s 0 -1 0 i n / s 0 1 0 i n / s 1 0 0 i n / vertex
 line: 1 0 0, 0 1 0 / and wall: 0 0 1 => map = i / g n / vertex";
 
-// z <= 0 without the half of the x axis where x >= 0, which leaves a whole circle from one svertex to itself; the corner
-// of a closed cube, seen from the corner with the greatest coordinates; x <= 0 with the closed octant where no coordinate
-// is negative, which has an arc of three quarters.
+// z <= 0 without the half x >= 0 of the x axis, which leaves a whole circle from a svertex to itself; the corner of a
+// closed cube with the greatest coordinates; x <= 0 with the closed octant of x, y, z >= 0, which has an arc of 270°.
 const ARCS: &str = "below: 0 0 1 / diff ray: 0 0 1, 0 1 0; above 1 0 0 => \
 map = n / s 1 0 0 n - / a 0 0 0 0 1 i n i / vertex
 below: 1 0 0 / and below: 0 1 0 / and below: 0 0 1 => \
@@ -43,9 +41,9 @@ below: 1 0 0 || above: 1 0 0 / and above: 0 1 0 / and above: 0 0 1 => \
 map or = i / s 0 0 1 i - / s 0 1 0 i - / s 1 0 0 i - / \
 a 2 1 0 0 1 i i n / a 0 2 0 1 0 i i n / a 0 1 1 0 0 i n i / vertex";
 
-// Raw stars, and what is built of them, which leaves some out: z <= 0 with the x axis and the z axis, whose stars are
-// straight along x, plain below, and neither above; z <= 0 without the half of the y axis where y >= 0, with the x axis
-// and the half of the z axis where z <= 0, whose star that is neither straight nor plain stands on the circle; a point, a
+// Raw stars, and the map made of them, which lacks some: z <= 0 with the x axis and the z axis, where the stars are
+// straight along x, plain below, and neither above; z <= 0 without the half y >= 0 of the y axis, with the x axis and
+// the half z <= 0 of the z axis, where the one star that is neither straight nor plain stands on the circle; a point, a
 // line, a plane and a volume; one label everywhere.
 const BUILT: &str = "below: 0 0 1 || line: 0 1 0, 0 0 1 / or line: 1 0 0, 0 1 0 => \
 raw or = i / t -1 0 0 / t 0 0 -1 / t 0 0 1 / t 1 0 0 ; map or = i / s 0 0 1 i n / l 0 0 1 i n i / vertex
@@ -59,15 +57,15 @@ wall: 0 0 1 => map = i / l 0 0 1 i n n / facet 0 0 1
 face: i i => map = i / g i / volume
 face: i i || face: i i => raw and = i / g i ; map and = i / g i / volume";
 
-// Two planes overlaid, where the first star begins on the side where x is negative: x <= 0 and y <= 0 hold in the last
-// quarter alone; and one plane with itself.
+// Two planes overlaid, where the first star begins on the side of negative x, and x <= 0 and y <= 0 hold in the last
+// quarter alone; and a plane overlaid with itself.
 const OVERLAID: &str = "below: 1 0 0 || below: 0 1 0 => \
 raw and = i / t 0 0 -1 / t 0 0 1 ; first and = i 4 rays n n n i
 below: 0 0 1 || below: 0 0 1 => raw xor = n / l 0 0 1 n n n";
 
-// A closed half-space; labels exchanged in place, of a plane with `Out` below it, which stays, of a line, and of x <= 0
-// and y <= 0; what touches the frame, which keeps its inside and its `Out`; x <= 0 and y <= 0, whose interior has the
-// same items with no mark in it; a part of the plane x = 0 that ends at y = 0, without its end.
+// A closed half-space; exchanged labels of a plane with `Out` below, which stays, of a line, and of x <= 0 and y <= 0;
+// a set that touches the frame and keeps its inside and its `Out`; x <= 0 and y <= 0, whose interior has the same items
+// without a mark In; a part of the plane x = 0 that ends at y = 0, without this end.
 const TOPOLOGY: &str = "below: 1 0 0 / interior => map = n / l 1 0 0 n n i / facet 1 0 0
 below: 1 0 0 / interior / closure => map = i / l 1 0 0 i n i / facet 1 0 0
 below: 1 0 0 / boundary => map = i / l 1 0 0 i n n / facet 1 0 0
@@ -86,7 +84,7 @@ plane: 1 0 0; i n n / and plane: 0 1 0; n n i / closure => \
 map = i / s 0 0 -1 i - / s 0 0 1 i - / a 1 0 1 0 0 i n n / edge 0 0 1
 plane: 1 0 0; i n n / and plane: 0 1 0; n n i / closure / interior => map = n / g n / volume";
 
-// Where directions lie on the map of a slanted plane, which is in on the plane and out above it, and on one face.
+// Where directions lie on a map of one face, and on the map of a slanted plane with In on, and Out above, the plane.
 const PLACES: &str = "plane: 1 1 -1; i o n => at 0 0 1 = face 1 n ; at 0 0 -1 = face 0 o ; \
 at 1 0 1 = loop i ; at 0 1 1 = loop i ; at 1 -1 0 = loop i ; at 1 1 1 = face 0 o ; \
 at -1 -1 -1 = face 1 n ; at -1 1 1 = face 1 n ; star 1 -1 0 = i 2 rays o n ; faces = 0 1 ; \
@@ -97,7 +95,7 @@ fn add_first_star(text: &mut String, raw: &RawStars) -> Option<()> {
     add_star(text, raw.stars.as_slice().first()?).ok()
 }
 
-// The answer about the stars of two maps overlaid.
+// Adds the answer about the raw stars of two maps overlaid.
 fn add_overlaid(
     alloc: Global,
     text: &mut String,
@@ -153,7 +151,7 @@ fn add_star_at(alloc: Global, text: &mut String, map: &SphereMap, d: &Dir) -> Re
     add_star(text, &star)
 }
 
-// The answer to a question about a map.
+// Adds the answer to a question about a map.
 fn add_of_one(
     alloc: Global,
     text: &mut String,
@@ -174,7 +172,7 @@ fn add_of_one(
     }
 }
 
-// The answer about two maps combined.
+// Adds the answer about two maps combined.
 fn add_combined(
     alloc: Global,
     text: &mut String,
@@ -190,7 +188,7 @@ fn add_combined(
     add_of_one(alloc, text, &map, verb, "")
 }
 
-// The answer to a question about an operation on two maps, or about the first one.
+// Adds the answer to a question about an operation on two maps, or about the first map.
 fn add_answer(
     alloc: Global,
     text: &mut String,
@@ -211,7 +209,7 @@ fn add_answer(
     }
 }
 
-// Whether a question has the answer that stands behind it.
+// Whether the part's question has the part's answer.
 fn fits(alloc: Global, a: &SphereMap, b: &SphereMap, part: &str) -> Option<bool>
     requires first { IsLeastMap a.now }
     requires second { IsLeastMap b.now }
@@ -243,7 +241,7 @@ fn all_fit_with(alloc: Global, a: &SphereMap, steps: &str, answers: &str) -> boo
     }
 }
 
-// About the maps of two lists of steps. With one list both are its map.
+// Whether the row's answers are right for the maps of two lists of steps, or of one list for both maps.
 fn holds(alloc: Global, row: &str) -> bool {
     let (steps, answers) = parted(row, " => ");
     let (first, second) = steps.split_once(" || ").unwrap_or((steps, steps));

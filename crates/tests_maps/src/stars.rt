@@ -1,4 +1,4 @@
-//! Stars of planes through one axis, what combining them gives, and what is needless in them.
+//! Stars of planes through one axis: their combinations, and stars with needless rays left out.
 
 ghost use Rattle.std.specs.Prelude.{◌≡◌};
 ghost use Rattle.nef_geo.specs.Prelude.{pos, IfOk, IfSome, normal_limit, IsAtMost, IsNormal, dot, vector_of};
@@ -10,8 +10,8 @@ use nef_geo::{Dir, Label};
 use nef_star::{OutOfMemory, Ray, Star, is_plain, is_straight, merge, simplify};
 use std::alloc::Global;
 
-// Planes through the axis (0, 0, 1) by their normals, with labels on them and on the two sides; how two are combined,
-// or the first alone; and whether that is simplified. The first ray of the quarters goes to the right, and the next one
+// Planes through the axis (0, 0, 1) by their normals, with labels on the plane and on both sides; the operation on both
+// stars, or the first star alone; and whether the result is simplified. The quarters' first ray goes right, the next
 // up.
 const ROWS: &str = "1 0 0, n i n / 0 1 0, n i n / and => sectors = i n n n
 1 0 0, n i n / 0 1 0, n i n / and / simplified => sectors = i n
@@ -21,7 +21,7 @@ const ROWS: &str = "1 0 0, n i n / 0 1 0, n i n / and => sectors = i n n n
 1 0 0, i i n / 1 0 0, i i n / xor / simplified => plain = true ; straight = false
 1 0 0, i n n / 1 0 0, i n n / alone / simplified => rays = 2 ; plain = false";
 
-// The star of a plane through the axis, with labels on it and on the two sides.
+// The star of a plane through the axis, with labels on the plane, above and below.
 fn plane_star(
     alloc: Global,
     axis: Dir,
@@ -62,7 +62,7 @@ fn labelled_star(alloc: Global, axis: Dir, normal: Dir, labels: &str) -> Option<
     }
 }
 
-// The star with this axis of the plane that the words give.
+// The star about the axis of the plane and the labels in the words.
 fn star_of(alloc: Global, axis: Dir, plane: &str) -> Option<Star>
     requires axis_small { IsAtMost normal_limit (vector_of axis) }
     ensures star { IfSome result (λ t. IsStar t) }
@@ -72,7 +72,7 @@ fn star_of(alloc: Global, axis: Dir, plane: &str) -> Option<Star>
     labelled_star(alloc, axis, normal(words)?, labels)
 }
 
-// The star combined with that of a plane.
+// The operation on the star and the star of a plane.
 fn merged(alloc: Global, axis: Dir, star: Star, plane: &str, how: &str) -> Option<Star>
     requires axis_small { IsAtMost normal_limit (vector_of axis) }
     requires star { IsStar star }
@@ -84,7 +84,7 @@ fn merged(alloc: Global, axis: Dir, star: Star, plane: &str, how: &str) -> Optio
     merge(star, &second, op).ok()
 }
 
-// The two stars combined, or the first alone.
+// The operation on both stars, or the first star alone.
 fn combined(alloc: Global, first: &str, second: &str, how: &str) -> Option<Star>
     ensures star { IfSome result (λ t. IsStar t) }
 {
@@ -114,7 +114,7 @@ fn add_first_ray(text: &mut String, star: &Star) -> Option<()> {
     add_label(text, star.rays.as_slice().first()?.mark).ok()
 }
 
-// The answer to a question about the star.
+// Adds the answer to a question about the star.
 fn add_answer(text: &mut String, star: &Star, question: &str) -> Option<()>
     requires star { IsStar star.now }
 {
@@ -128,7 +128,7 @@ fn add_answer(text: &mut String, star: &Star, question: &str) -> Option<()>
     }
 }
 
-// Whether a question has the answer that stands behind it.
+// Whether the part's question has the part's answer.
 fn fits(alloc: Global, star: &Star, part: &str) -> Option<bool>
     requires star { IsStar star.now }
 {

@@ -1,4 +1,4 @@
-//! The rule's own examples.
+//! Tables of signs, labels and turns by examples: whether a direction is on an arc, what operations do, what turns do.
 
 ghost use Rattle.nef_geo.specs.Prelude.{IfSome};
 ghost use Rattle.std.specs.Prelude.{All, ◌<◌};
@@ -11,8 +11,7 @@ use nef_case::{
 };
 use std::process::Abort;
 
-// On the circle about (0, 0, 1): from (1, 0, 0) three quarters round to (0, -1, 0), half round to (-1, 0, 0), and the
-// whole way round to (1, 0, 0).
+// On the circle about (0, 0, 1), arcs from (1, 0, 0): three quarters to (0, -1, 0), a half to (-1, 0, 0), and a whole.
 const PASSES: &str = "(0, 1, 0) on three quarters: between -1 0 1 0 1 => 1
 (-1, 0, 0) on three quarters: between -1 0 0 -1 1 => 1
 (1, -1, 0) on three quarters: between -1 0 -1 1 -1 => 0
@@ -23,7 +22,7 @@ the source on three quarters: between -1 0 0 1 -1 => 0
 the source on a whole turn: between 0 1 0 1 0 => 0
 no direction has the signs 0 and 0: between 0 0 1 0 1 => 0";
 
-// The labels of two sets, and of the three parts of an arc.
+// Operations on the labels of two sets, and on an arc's label with the labels of both sides.
 const LABELS: &str = "in both: and 1 1 => 1
 at the frame: and 0 -1 => -1
 in one of them: or 0 1 => 1
@@ -35,9 +34,8 @@ an arc with a side that is not in: interior 1 1 0 => 0
 an arc beside the set: closure 0 0 1 => 1
 an arc at the frame: closure -1 1 1 => -1";
 
-// The number 25 is 8 * 3 + 1: y, z and x become the new x, y and z, and then the new x is negated. The turn 24 makes
-// (y, z, x) of (x, y, z), and 32 makes (z, x, y) of it; 16 exchanges x and y, and 8 exchanges y and z; 2 negates y, and
-// 7 negates all three.
+// The turn 25 = 8 * 3 + 1 makes the new x, y, z of y, z, x, and then negates the new x. The turn 24 makes (y, z, x) of
+// (x, y, z), and 32 makes (z, x, y); 16 exchanges x and y, 8 exchanges y and z, 2 negates y, and 7 negates x, y and z.
 const TURNS: &str = "nothing moved: row 0 => 1 2 3
 y, z and x, and -x: row 25 => -2 3 1
 z, y and x, and all negated: row 47 => -3 -2 -1
@@ -92,7 +90,7 @@ fn of_two(verb: &str, key: &[i8; 2]) -> Option<i8>
     }
 }
 
-// The answer to a question about signs.
+// The answer to a question about signs or labels.
 fn of_signs(verb: &str, words: &str) -> Option<i8> {
     let (a, rest) = parted(words, " ");
     let (b, c) = parted(rest, " ");
@@ -121,13 +119,13 @@ fn of_turns(verb: &str, words: &str) -> Option<usize> {
     }
 }
 
-// Whether the turn has this row.
+// Whether the turn makes these coordinates of x, y and z, which stand as 1, 2 and 3.
 fn has_row(word: &str, wanted: &str) -> Option<bool> {
     let [x, y, z] = turn_row(turn(word)?);
     Some(numbers(wanted)? == [i64::from(x), i64::from(y), i64::from(z), 0])
 }
 
-// Whether a question has the answer that stands behind it.
+// Whether `wanted` is the answer to the question.
 fn has_answer(question: &str, wanted: &str) -> Option<bool> {
     let (verb, words) = parted(question, " ");
     match verb {
@@ -139,7 +137,7 @@ fn has_answer(question: &str, wanted: &str) -> Option<bool> {
     }
 }
 
-// Whether the row, behind its name, holds.
+// Whether the row holds; a name stands before the question.
 fn holds(row: &str) -> Option<bool> {
     let (_, rest) = parted(row, ": ");
     let (question, wanted) = parted(rest, " => ");

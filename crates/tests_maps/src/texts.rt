@@ -1,4 +1,4 @@
-//! Sphere maps and raw stars as texts. Each function adds to one text: a text of its own for each thing would cost more to
+//! Sphere maps and raw stars as texts. Each function adds to one text, since a text for each part would cost more to
 //! prove.
 
 ghost use Rattle.nef_smap.specs.Maps.{IsLeastMap};
@@ -14,13 +14,12 @@ fn add_way(text: &mut String, d: &Dir) -> Result<(), AllocError> {
     write!(text, " {} {} {}", d.x(), d.y(), d.z())
 }
 
-/// Adds the letter of the label after a blank.
+/// Adds a blank and the label's letter.
 pub(crate) fn add_label(text: &mut String, label: Label) -> Result<(), AllocError> {
     text.push_str(" ")?;
     text.push_str(letter(label))
 }
 
-/// Adds the letters of the labels, each after a blank.
 pub(crate) fn add_labels(text: &mut String, labels: &[Label]) -> Result<(), AllocError> {
     for label in labels {
         add_label(text, *label)?;
@@ -28,7 +27,7 @@ pub(crate) fn add_labels(text: &mut String, labels: &[Label]) -> Result<(), Allo
     Ok(())
 }
 
-// The letter, or a dash.
+// Adds a blank and the label's letter, or a dash where the label is absent.
 fn add_maybe_label(text: &mut String, label: Option<Label>) -> Result<(), AllocError> {
     match label {
         Some(label) => add_label(text, label),
@@ -101,14 +100,14 @@ fn add_arcs(text: &mut String, arcs: &[SArc]) -> Result<(), AllocError> {
     Ok(())
 }
 
-/// Adds svertices, arcs and the sloop.
+/// Adds the svertices, the arcs and the sloop.
 pub(crate) fn add_items(text: &mut String, map: &SphereMap) -> Result<(), AllocError> {
     add_svertices(text, map.svertices.as_slice())?;
     add_arcs(text, map.arcs.as_slice())?;
     add_maybe_loop(text, &map.sloop)
 }
 
-/// Adds what stands in a map, and what the point is there.
+/// Adds all parts of a map, and the kind of the map's point.
 pub(crate) fn add_map(text: &mut String, map: &SphereMap) -> Result<(), AllocError>
     requires map { IsLeastMap map.now }
 {
@@ -118,7 +117,6 @@ pub(crate) fn add_map(text: &mut String, map: &SphereMap) -> Result<(), AllocErr
     add_kind(text, &kind(map))
 }
 
-/// Adds the numbers, each after a blank.
 pub(crate) fn add_numbers(text: &mut String, numbers: &[usize]) -> Result<(), AllocError> {
     for number in numbers {
         write!(text, " {number}")?;
@@ -126,7 +124,6 @@ pub(crate) fn add_numbers(text: &mut String, numbers: &[usize]) -> Result<(), Al
     Ok(())
 }
 
-/// Adds the mark of a star, the number of its rays, and its sectors.
 pub(crate) fn add_star(text: &mut String, star: &Star) -> Result<(), AllocError> {
     write!(text, "{} {} rays", letter(star.mark), star.rays.len())?;
     add_labels(text, star.sectors.as_slice())
@@ -140,7 +137,7 @@ fn add_axes(text: &mut String, stars: &[Star]) -> Result<(), AllocError> {
     Ok(())
 }
 
-/// Adds what stands among raw stars, of each star its axis alone.
+/// Adds the parts of raw stars, with the axis alone of each star.
 pub(crate) fn add_raw(text: &mut String, raw: &RawStars) -> Result<(), AllocError> {
     text.push_str(letter(raw.mark))?;
     add_axes(text, raw.stars.as_slice())?;

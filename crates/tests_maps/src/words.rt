@@ -1,7 +1,4 @@
-//! Numbers, directions, labels and operations by their words, and rows that must hold.
-//!
-//! What a row asks is told by `Option` alone: none stands for a row that can't be read, or has no answer. A text made for each
-//! answer, or a failure, would make the tests dear to prove.
+//! `None` stands for a row that can't be read or has no answer: texts of failures would make the tests dear to prove.
 
 ghost use Rattle.std.specs.Prelude.{◌↔◌};
 ghost use Rattle.nef_geo.specs.Prelude.{IsTrue, IfSome, direction_limit, normal_limit, IsAtMost, vector, vector_of};
@@ -10,17 +7,17 @@ use nef_geo::{Dir, Label, up};
 use nef_star::Op;
 use std::process::Abort;
 
-/// Stops the test where this doesn't hold.
+/// Stops the test where `holds` is false.
 pub(crate) fn check(rt: &impl Abort, holds: bool, what: &str) {
     assert!(rt; holds, "{what}");
 }
 
-/// The text before the separator, and the text behind it. Where it isn't there, nothing is behind.
+/// The text before the separator, and the text behind, which is empty where the separator is absent.
 pub(crate) fn parted<'a>(text: &'a str, separator: &str) -> (&'a str, &'a str) {
     text.split_once(separator).unwrap_or((text, ""))
 }
 
-/// The first four numbers between the blanks. Zero stands for one that isn't there.
+/// The first four numbers between the blanks, with 0 for each absent number.
 pub(crate) fn numbers(text: &str) -> Option<[i64; 4]> {
     let mut numbers = [0; 4];
     for (place, word) in text.split(' ').enumerate() {
@@ -47,7 +44,7 @@ fn direction_of(text: &str) -> Option<Dir> {
     }
 }
 
-/// The direction of three numbers, or the upward or the downward one.
+/// The direction of three numbers, or the upward or the downward direction.
 pub(crate) fn way(text: &str) -> Option<Dir> {
     match text {
         "up" => Some(up()),
@@ -56,14 +53,14 @@ pub(crate) fn way(text: &str) -> Option<Dir> {
     }
 }
 
-/// Whether no number is larger than the limit.
+/// Whether no number of the direction is larger than the limit.
 pub(crate) fn is_at_most(d: &Dir, limit: u64) -> bool
     ensures small { IsTrue result ↔ IsAtMost limit (vector_of d.now) }
 {
     d.x().unsigned_abs() <= limit && d.y().unsigned_abs() <= limit && d.z().unsigned_abs() <= limit
 }
 
-/// A direction with numbers as small as those of normals.
+/// The direction of three numbers, if these are as small as those of normals.
 pub(crate) fn normal(text: &str) -> Option<Dir>
     ensures small { IfSome result (λ d. IsAtMost normal_limit (vector_of d)) }
 {
@@ -75,7 +72,6 @@ pub(crate) fn normal(text: &str) -> Option<Dir>
     }
 }
 
-/// The label with this letter.
 pub(crate) fn label(letter: &str) -> Option<Label> {
     match letter {
         "o" => Some(Label::Out),
@@ -85,7 +81,6 @@ pub(crate) fn label(letter: &str) -> Option<Label> {
     }
 }
 
-/// The letter of the label.
 pub(crate) fn letter(label: Label) -> &'static str {
     match label {
         Label::Out => "o",
@@ -94,7 +89,6 @@ pub(crate) fn letter(label: Label) -> &'static str {
     }
 }
 
-/// The operation with this name, if there is one.
 pub(crate) fn op(word: &str) -> Option<Op> {
     match word {
         "and" => Some(Op::And),

@@ -1,22 +1,8 @@
 -- Directions of svertices, and where a ray may begin.
-use Rattle.std.proofs.Common.{◌≡◌, ℕ, ◌<◌, ◌+◌, length, arith, sym, subst, ⊎_elim}
-use Rattle.std.proofs.Math.Nat.{eq-or-lt_of_le}
-use Rattle.nef_space.specs.Place.{Place, SamePlace}
-use Rattle.nef_space.specs.Vectors.{SameDirection}
-use Rattle.nef_geo.specs.Shapes.{place_of, vector_of}
-use Rattle.nef_geo.specs.declared.dir.Dir.{Dir}
-use Rattle.nef_geo.proofs.Unique.{same_directions_equal}
-use Rattle.law_sphere.specs.Maps.{At, MapVertex}
-use Rattle.nef_smap.specs.Maps.{svertex_of}
-use Rattle.nef_smap.proofs.Lists.{at-map, at-within}
+use Rattle.tests_places.proofs.Prelude.{◌≡◌, ◌+◌, length, arith, sym, subst, ⊎_elim, eq-or-lt_of_le, Place, SamePlace, SameDirection, place_of, vector_of, Dir, same_directions_equal, At, MapVertex, svertex_of, at-map, at-within, IsEdgePoint, Vertex, Complex, complex_of, vertex_of, edge_of, HasNoSvertex, FromVertex, IsClearVertex}
+use Rattle.std.proofs.Common.{ℕ, ◌<◌}
 use Rattle.law_complex.specs.Complexes.{Vertex as PlainVertex}
-use Rattle.law_complex.specs.Skeleton.{IsEdgePoint}
-use Rattle.nef_complex.specs.declared.complex.Vertex.{Vertex}
-use Rattle.nef_complex.specs.declared.complex.Complex.{Complex}
-use Rattle.nef_complex.specs.Complexes.{complex_of, vertex_of, edge_of}
-use Rattle.nef_plane.specs.Meets.{HasNoSvertex, FromVertex}
 use Rattle.nef_plane.proofs.Found.{both-same, from-vertex}
-use Rattle.tests_places.specs.Clear.{IsClearVertex}
 
 -- with none of the first k numbers, and not the next, none of the first k + 1
 pub none-next : (P : ℕ → Type 0) (i : ℕ) → ((k : ℕ) → k < i → P k → ⊥) → (P i → ⊥) → (k : ℕ) → k < i + 1 → P k → ⊥

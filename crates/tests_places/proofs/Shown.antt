@@ -1,9 +1,6 @@
 -- What shows a set, where an error is left out.
-use Rattle.std.proofs.Common.{◌≡◌, Option, Result, Ok, Err, IfOk, IfSome, sym, subst}
+use Rattle.tests_places.proofs.Prelude.{◌≡◌, Option, Result, Ok, Err, IfOk, IfSome, sym, subst, Set, Complex, ShowsSet}
 use Rattle.std.specs.Result.{result_ok}
-use Rattle.nef_space.specs.Sets.{Set}
-use Rattle.nef_complex.specs.declared.complex.Complex.{Complex}
-use Rattle.nef_complex.specs.Complexes.{ShowsSet}
 
 abbrev pub ShowsSome : Complex → Type 0
 ShowsSome c = (s : Set) × ShowsSet s c

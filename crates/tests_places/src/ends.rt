@@ -1,5 +1,5 @@
-//! Where rays end: `end POINT DIRECTION`. The answer is whether the label changes at the point or just after it, the point,
-//! and the label there or just after it; or `frame`, where the ray begins on the border of the frame.
+//! Where rays end: `end POINT DIRECTION`. The answer is `at` or `after`, as the label changes at a point or just after
+//! the point; this point; and the label from there on. It is `frame` where the ray begins on the border of the frame.
 
 ghost use Rattle.std.specs.Prelude.{◌≤◌};
 ghost use Rattle.nef_complex.specs.Prelude.{IsTrue, IfSome, ray_direction_limit, ray_point_limit, ray_weight_limit, Set, IsAtMost, IsPlaceAtMost, vector_of, place_of, ShowsSet};
@@ -11,7 +11,7 @@ use nef_geo::{Dir, Point};
 use nef_ray::{RayEnd, ray_end};
 use std::alloc::Global;
 
-// The greatest size of a number of a ray's start, the greatest weight, and the greatest size of a number of its direction.
+// The greatest size of a number of a ray's start, the greatest weight, the greatest size of a direction's number.
 const GREATEST_NUMBER: u64 = 1 << 21;
 
 const GREATEST_WEIGHT: u64 = 1 << 10;
@@ -35,7 +35,7 @@ fn is_way(d: &Dir) -> bool
         && is_within(d.z(), GREATEST_WAY)
 }
 
-// The direction, if its numbers are small enough.
+// The direction of three numbers, if they are small enough.
 fn way(x: i64, y: i64, z: i64) -> Option<Dir>
     ensures small { IfSome result (λ d. IsAtMost ray_direction_limit (vector_of d)) }
 {
@@ -46,7 +46,7 @@ fn way(x: i64, y: i64, z: i64) -> Option<Dir>
     if is_way(&d) { Some(d) } else { None }
 }
 
-// Where the ray ends.
+// Adds where a ray ends.
 fn add_ray_end(text: &mut String, end: &RayEnd) -> Result<(), OutOfMemory> {
     let p = &end.point;
     text.push_str(if end.after { "after" } else { "at" })?;
@@ -61,7 +61,7 @@ fn add_ray_end(text: &mut String, end: &RayEnd) -> Result<(), OutOfMemory> {
     )
 }
 
-// Where the ray from the point along the direction ends, if it begins within the frame.
+// Adds where the ray from the point along the direction ends, if the point lies within the frame.
 fn add_end_from(alloc: Global, text: &mut String, c: &Complex, p: &Point, d: &Dir) -> Option<()>
     requires shows { (s : Set) × ShowsSet s c.now }
     requires small { IsAtMost ray_direction_limit (vector_of d.now) }
@@ -75,7 +75,7 @@ fn add_end_from(alloc: Global, text: &mut String, c: &Complex, p: &Point, d: &Di
     add_ray_end(text, &ray_end(alloc, c, p, d).ok()?).ok()
 }
 
-/// Adds where the ray from the point along the direction ends.
+/// Adds the answer to `end` of a point and a direction.
 pub(crate) fn add_end(alloc: Global, text: &mut String, c: &Complex, words: &str) -> Option<()>
     requires shows { (s : Set) × ShowsSet s c.now }
 {
@@ -84,13 +84,13 @@ pub(crate) fn add_end(alloc: Global, text: &mut String, c: &Complex, words: &str
     add_end_from(alloc, text, c, &p, &way(x, y, z)?)
 }
 
-// The half x <= 0: the plane still belongs to it, so the label changes just after it.
+// The half x <= 0 with its plane, so the label changes just after the plane.
 const CLOSED_HALF: &str = "\
 1 0 0 0
 end -1 0 0 1 1 0 0 => after 0 0 0 1 not # through the plane
 end 1 0 0 2 1 0 0 => at 2048 0 0 1 out # to the border of the frame";
 
-// What x >= 0 lacks is x < 0: the plane doesn't belong to it, so the label changes there.
+// The half x < 0, which is the frame without x >= 0: the plane doesn't belong to the half, so the label changes there.
 const OPEN_HALF: &str = "\
 full; diff -1 0 0 0
 end -1 0 0 1 1 0 0 => at 0 0 0 1 not # to the plane";

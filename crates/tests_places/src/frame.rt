@@ -1,7 +1,7 @@
-//! The empty set, which has the vertices and edges of the frame alone, and the whole frame.
+//! The empty set, whose vertices and edges are those of the frame, and the whole frame.
 //!
-//! The corners of the frame are 0 (-, -, -), 1 (-, -, +), 2 (-, +, -), 3 (-, +, +), 4 (+, -, -), 5 (+, -, +), 6 (+, +, -) and
-//! 7 (+, +, +), where + stands for 2048 and - for -2048.
+//! The frame's corners are 0 (-, -, -), 1 (-, -, +), 2 (-, +, -), 3 (-, +, +), 4 (+, -, -), 5 (+, -, +), 6 (+, +, -)
+//! and 7 (+, +, +), where + stands for 2048 and - for -2048.
 
 use crate::tables::check_table;
 
@@ -42,7 +42,7 @@ items 1 0 0 -2048 => edges 8 9 10 11 vertices 4 5 6 7 # the side x = 2048
 items 1 0 0 2048 => edges 0 1 3 5 vertices 0 1 2 3 # the side x = -2048
 items 1 0 0 0 => none # no side lies in x = 0";
 
-// A way inward across a facet goes toward greater x, and much more toward lesser y.
+// The facets and volumes of the frame. The way inward across a facet is toward greater x, and more toward lesser y.
 const PARTS: &str = "\
 frame not
 volumes => on # the outside of the frame, and its inside

@@ -1,10 +1,10 @@
-//! Edges of combinations of the grid, most of which are edges of what is combined.
+//! Edges of combinations of the grid with another set, most of which are edges of an operand.
 //!
-//! The vertices of the grid have the numbers from 4 to 67: sixteen at each of x = 0, 10, 20 and 30, and four at each y of these.
+//! The grid's vertices are 4 to 67: sixteen at each of x = 0, 10, 20 and 30, and of these four at each y.
 
 use crate::regions::check_after;
 
-// The steps after the grid, and questions about the set that is made.
+// The steps after those of the grid, and questions about the resulting set.
 const TABLES: &str = "\
 diff open 1 0 0 -6, -1 0 0 4, 0 1 0 -5, 0 -1 0 -5, 0 0 1 -5, 0 0 -1 -5
 counts => 80 120 # an edge of a cube is cut by a notch, which has eight vertices and eleven edges

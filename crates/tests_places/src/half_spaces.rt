@@ -1,7 +1,7 @@
-//! Places of half-spaces whose planes pass through edges or corners of the frame, or only touch them.
+//! Places in half-spaces whose planes pass through edges or corners of the frame, or only touch the frame.
 //!
-//! Their vertices are the corners of the frame: 0 is (-, -, -), 1 (-, -, +), 2 (-, +, -), 3 (-, +, +), 4 (+, -, -),
-//! 5 (+, -, +), 6 (+, +, -) and 7 (+, +, +), where + stands for 2048 and - for -2048.
+//! The vertices are the frame's corners: 0 is (-, -, -), 1 (-, -, +), 2 (-, +, -), 3 (-, +, +), 4 (+, -, -), 5 (+, -,
+//! +), 6 (+, +, -) and 7 (+, +, +), where + stands for 2048 and - for -2048.
 
 use crate::tables::check_table;
 
@@ -64,7 +64,7 @@ ray 1 1 1 -2048 1024 512 512 1 => edge 3 6 # along (0, 1, -1)
 back 1 1 1 -2048 1024 512 512 1 => edge 3 5 # along (0, -1, 1)
 back 0 1 -1 0 -2048 0 0 1 => vertex 3 # along (0, 1, 1), exactly";
 
-// The plane x + y = 4096 touches an edge of the frame, and x + y + z = 6144 a corner. All of the frame is below both.
+// The planes x + y = 4096 and x + y + z = 6144 touch an edge and a corner of the frame, which lies below both planes.
 const TOUCHING: &str = "\
 1 1 0 -4096, 1 1 1 -6144
 counts => 8 12 # the frame's alone

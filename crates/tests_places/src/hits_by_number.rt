@@ -1,15 +1,15 @@
-//! Hits among the vertices of a plane, and rays within a plane from its vertices: vertices and edges that the numbers of
-//! vertices tell apart.
+//! Hits among the vertices of a plane, and rays within a plane from its vertices, where the numbers of vertices tell
+//! vertices and edges apart.
 //!
 //! Vertices are numbered in the order of their x, then y, then z. Below + stands for 2048 and - for -2048.
 
 use crate::tables::check_table;
 
-// Two squares in the plane x = 0: y is -5 to -1 in the one and 1/2 to 5/2 in the other, and z is -2 to 2 in both.
+// Two squares in the plane x = 0: y is -5 to -1 in one and 1/2 to 5/2 in the other, and z is -2 to 2 in both.
 //
-// The vertices 0 to 3 are corners with x = -2048; 4 is (0, -5, -2), 5 (0, -5, 2), 6 (0, -1, -2), 7 (0, -1, 2),
-// 8 (0, 1/2, -2), 9 (0, 1/2, 2), 10 (0, 5/2, -2), 11 (0, 5/2, 2); 12 is (+, -, -), 13 (+, -, +), 14 (+, +, -), 15
-// (+, +, +). What rises past the squares comes to x = 2048, where along z the edge from 13 to 15 is met.
+// The vertices 0 to 3 are corners with x = -2048; 4 is (0, -5, -2), 5 (0, -5, 2), 6 (0, -1, -2), 7 (0, -1, 2), 8 (0,
+// 1/2, -2), 9 (0, 1/2, 2), 10 (0, 5/2, -2), 11 (0, 5/2, 2); 12 is (+, -, -), 13 (+, -, +), 14 (+, +, -), 15 (+, +, +).
+// A ray that rises past the squares comes to x = 2048, where it meets the edge from 13 to 15.
 const SQUARES: &str = "\
 1 0 0 0, -1 0 0 0, 0 1 0 1, 0 -1 0 -5, 0 0 1 -2, 0 0 -1 -2; or 1 0 0 0, -1 0 0 0, 0 -2 0 1, 0 2 0 -5, 0 0 1 -2, 0 0 -1 -2
 counts => 16 20 # the frame's and those of two squares
@@ -75,11 +75,11 @@ along 1 0 -1 0 6 => none # it leads out of the triangle
 against 1 0 -1 0 6 => none # just before x = 4 it leads out of the triangle
 against 1 0 -1 0 4 => none # just before x = 0 it leads out of the triangle";
 
-// In the plane z = 0 two squares, where x is 0 to 4, and y 0 to 4 or 6 to 10; and a strip, where x is -8 to 12 and y 20 to
-// 22. The plane's second direction is (-1, 2^24, 0).
+// In the plane z = 0 two squares, where x is 0 to 4, and y 0 to 4 or 6 to 10; and a strip, where x is -8 to 12 and y 20
+// to 22. The plane's second direction is (-1, 2^24, 0).
 //
-// The vertices 0 to 3 are corners with x = -2048; 4 is (-8, 20, 0), 5 (-8, 22, 0); 6 to 9 are (0, 0, 0), (0, 4, 0),
-// (0, 6, 0), (0, 10, 0); 10 to 13 are (4, 0, 0), (4, 4, 0), (4, 6, 0), (4, 10, 0); 14 is (12, 20, 0), 15 (12, 22, 0).
+// The vertices 0 to 3 are corners with x = -2048; 4 is (-8, 20, 0), 5 (-8, 22, 0); 6 to 9 are (0, 0, 0), (0, 4, 0), (0,
+// 6, 0), (0, 10, 0); 10 to 13 are (4, 0, 0), (4, 4, 0), (4, 6, 0), (4, 10, 0); 14 is (12, 20, 0), 15 (12, 22, 0).
 const STRIP: &str = "\
 0 0 1 0, 0 0 -1 0, -1 0 0 0, 1 0 0 -4, 0 -1 0 0, 0 1 0 -4; or 0 0 1 0, 0 0 -1 0, -1 0 0 0, 1 0 0 -4, 0 -1 0 6, 0 1 0 -10; \
     or 0 0 1 0, 0 0 -1 0, -1 0 0 -8, 1 0 0 -12, 0 -1 0 20, 0 1 0 -22

@@ -1,16 +1,16 @@
-//! Questions about what stands in a complex.
+//! Questions about vertices, edges and items of a complex.
 //!
 //! - `counts`: the numbers of vertices and edges.
-//! - `corner NUMBER`: the vertex with this number: its point and its mark, each svertex with its direction and its mark,
-//!   and each arc with its source, its target, its normal, and its mark and the labels beside it.
-//! - `edges`: of each edge the lower vertex and its svertex, the higher vertex and its svertex, and the mark.
+//! - `corner NUMBER`: the vertex with this number: its point and its mark, each svertex with its direction and its
+//! mark, and each arc with its source, its target, its normal, its mark and the labels on both sides.
+//! - `edges`: for each edge the lower vertex and its svertex, the higher vertex and its svertex, and the mark.
 //! - `planes`: the planes in which vertices have items.
-//! - `items PLANE`: the edges in the plane and the vertices on it, where the index has the plane.
+//! - `items PLANE`: the edges in the plane and the vertices on the plane, if the index has the plane.
 //! - `candidates`: how many points are candidates of the set and itself.
 //! - `cut PLANE`: how many points are candidates of the set and a half with this border.
 //!
-//! In the answers to `corner`, `edges` and `planes` a label is one letter, and a number of a point, a direction or a plane
-//! is one letter: `0`, `1`, `-` for -1 and -2048, and `+` for 2048.
+//! In the answers to `corner`, `edges` and `planes` a label is one letter, and a number of a point, a direction or a
+//! plane is one letter: `0`, `1`, `-` for -1 and -2048, and `+` for 2048.
 
 ghost use Rattle.nef_complex.specs.Prelude.{Set, ShowsSet};
 
@@ -21,7 +21,6 @@ use nef_geo::{Dir, Label, Plane, Point};
 use nef_smap::{SArc, SVertex};
 use std::alloc::Global;
 
-/// The first letter of the label's name.
 pub(crate) fn letter(label: Label) -> &'static str {
     match label {
         Label::Out => "o",
@@ -50,7 +49,7 @@ fn add_point(text: &mut String, p: &Point) -> Result<(), OutOfMemory> {
     write!(text, "{x}{y}{z}{}", digit(p.w()))
 }
 
-// An svertex that ends no arc has a label around it.
+// Adds a svertex, with the label round the svertex if no arc ends there.
 fn add_svertex(text: &mut String, v: &SVertex) -> Result<(), OutOfMemory> {
     text.push_str(" ")?;
     add_digits(text, &v.dir)?;
@@ -85,7 +84,6 @@ fn add_corner(text: &mut String, v: &Vertex) -> Result<(), OutOfMemory> {
     add_arcs(text, v.map.arcs.as_slice())
 }
 
-/// Adds the vertex with this number.
 pub(crate) fn add_corner_at(text: &mut String, c: &Complex, number: &str) -> Option<()> {
     let number: usize = number.parse().ok()?;
     add_corner(text, c.vertices.as_slice().get(number)?).ok()
@@ -114,7 +112,6 @@ fn add_plane(text: &mut String, h: &Plane) -> Result<(), OutOfMemory> {
     write!(text, " {a}{b}{c}{}", digit(h.d()))
 }
 
-/// Adds the planes, each after a blank.
 pub(crate) fn add_planes(text: &mut String, planes: &[Plane]) -> Result<(), OutOfMemory> {
     for h in planes {
         add_plane(text, h)?;
@@ -122,7 +119,7 @@ pub(crate) fn add_planes(text: &mut String, planes: &[Plane]) -> Result<(), OutO
     Ok(())
 }
 
-// Adds the planes in which some vertex has an item, each after a blank.
+// Adds the planes in which some vertex has an item.
 fn add_item_planes(text: &mut String, c: &Complex) -> Result<(), OutOfMemory>
     requires shows { (s : Set) × ShowsSet s c.now }
 {
@@ -134,7 +131,7 @@ fn add_item_planes(text: &mut String, c: &Complex) -> Result<(), OutOfMemory>
     Ok(())
 }
 
-/// Adds the edges in the plane and the vertices on it, as the index has them.
+/// Adds the edges in the plane and the vertices on the plane, as the index of the complex lists them.
 pub(crate) fn add_items(text: &mut String, c: &Complex, h: &Plane) -> Result<(), OutOfMemory>
     requires shows { (s : Set) × ShowsSet s c.now }
 {
@@ -167,7 +164,7 @@ pub(crate) fn add_cut(
     write!(text, "{}", points.len())
 }
 
-/// Adds the answer to a question about all of a complex. To others there is none.
+/// Adds the answer to a question about a whole complex, and nothing for other questions.
 pub(crate) fn add_all(
     alloc: Global,
     text: &mut String,

@@ -2,7 +2,7 @@
 
 use crate::tables::check_table;
 
-// The octant of the points whose coordinates aren't negative.
+// The octant of points with no negative coordinate.
 const OCTANT: &str = "\
 -1 0 0 0, 0 -1 0 0, 0 0 -1 0
 joined 0 0 0 1 0 0 0 7 => joined # one vertex, written in two ways
@@ -17,7 +17,7 @@ joined 1 1 1 1 5 9 7 2 => joined # inside
 joined -1 -1 -1 1 5 5 -1 1 => joined # round the octant
 joined 1 1 1 1 -1 -1 -1 1 => apart # inside and outside";
 
-// The wall x = 0, which parts the frame.
+// The wall x = 0, which divides the frame.
 const WALL: &str = "\
 1 0 0 0, -1 0 0 0
 joined -1 5 0 1 1 5 0 1 => apart # both sides have one label, but the wall lies between
@@ -32,7 +32,7 @@ joined -1 0 0 1 1 0 0 1 => apart # only a point is missing in the wall, and it i
 joined 0 5 0 1 0 -5 0 1 => joined # round the missing point
 joined 0 0 0 1 0 5 0 1 => apart # the vertex, and the wall";
 
-// The wall without what lies within 1 of the x-axis along y and z.
+// The wall without the points within 1 of the x axis along y and z.
 const HOLED: &str = "\
 1 0 0 0, -1 0 0 0; diff 0 1 0 -1, 0 -1 0 -1, 0 0 1 -1, 0 0 -1 -1
 joined -1 5 0 1 1 5 0 1 => joined # through the hole

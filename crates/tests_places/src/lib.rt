@@ -1,5 +1,5 @@
-//! Tests of complexes: where points lie in sets whose places follow by hand, what rays meet, candidates, ties, facets and
-//! volumes of the frame, classes, comparisons, turns, and what becomes of maps.
+//! Tests of complexes: places of points in sets that follow by hand, what rays meet, candidates, ties, facets and
+//! volumes of the frame, classes, comparisons, turns, and topology of maps.
 #![tactic(auto)]
 
 #[cfg(test)]

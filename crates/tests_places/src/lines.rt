@@ -1,11 +1,11 @@
-//! Places of a point, an axis, two axes that cross, a half-space that lacks a half of an axis, and edges on lines that are
-//! hard to tell apart.
+//! Places in sets of a point, an axis, two axes that cross, a half-space without a half of an axis, and edges on lines
+//! that are hard to tell apart.
 //!
 //! Vertices are numbered in the order of their x, then y, then z. Below + stands for 2048 and - for -2048.
 
 use crate::tables::check_table;
 
-// The vertices 0 to 3 are corners with x = -2048; 4 is the origin; 5 is (+, -, -), 6 (+, -, +), 7 (+, +, -), 8 (+, +, +).
+// Vertices 0 to 3 are corners with x = -2048, 4 is the origin, 5 is (+, -, -), 6 (+, -, +), 7 (+, +, -), 8 (+, +, +).
 const POINT: &str = "\
 -1 0 0 0, 1 0 0 0, 0 -1 0 0, 0 1 0 0, 0 0 -1 0, 0 0 1 0
 counts => 9 12 # the frame's and the point
@@ -42,13 +42,13 @@ ray 1 0 0 0 0 0 -5 1 => vertex 4 # along z, exactly
 ray 1 1 1 0 0 -5 5 1 => vertex 4 # along (0, 1, -1), exactly
 ray 1 0 0 -2048 2048 0 0 1 => edge 6 8 # along z on the border";
 
-// The frame without the origin, and its vertices the same.
+// The frame without the origin has the vertices of `POINT`.
 const LACKING: &str = "\
 full; diff -1 0 0 0, 1 0 0 0, 0 -1 0 0, 0 1 0 0, 0 0 -1 0, 0 0 1 0
 place 0 0 0 1 => vertex 4 not # the point that is missing
 place 5 5 5 1 => volume in # all around it";
 
-// The vertices 0 to 3 are corners with x = -2048, 3 is (-, +, +); 4 is (0, 0, -), 5 (0, 0, +); 6 is (+, -, -), 7 (+, -, +),
+// Vertices 0 to 3 are corners with x = -2048, 3 is (-, +, +); 4 is (0, 0, -), 5 (0, 0, +); 6 is (+, -, -), 7 (+, -, +),
 // 8 (+, +, -), 9 (+, +, +).
 const Z_AXIS: &str = "\
 1 0 0 0, -1 0 0 0, 0 1 0 0, 0 -1 0 0
@@ -82,7 +82,7 @@ items 0 0 1 -2048 => edges 3 4 7 11 vertices 1 3 5 7 9 # a side, on which the ax
 
 // The x axis and the y axis.
 //
-// The vertices: 0 is (-, -, -), 1 (-, -, +), 2 (-, 0, 0), 3 (-, +, -), 4 (-, +, +), 5 (0, -, 0), 6 the origin, 7 (0, +, 0),
+// Vertices: 0 is (-, -, -), 1 (-, -, +), 2 (-, 0, 0), 3 (-, +, -), 4 (-, +, +), 5 (0, -, 0), 6 the origin, 7 (0, +, 0),
 // 8 (+, -, -), 9 (+, -, +), 10 (+, 0, 0), 11 (+, +, -), 12 (+, +, +).
 const CROSSING: &str = "\
 0 1 0 0, 0 -1 0 0, 0 0 1 0, 0 0 -1 0; or 1 0 0 0, -1 0 0 0, 0 0 1 0, 0 0 -1 0
@@ -120,9 +120,9 @@ ray 1 0 0 0 0 5 7 1 => none # along z, the y axis lies behind
 ray 0 1 0 0 5 0 7 1 => edge 6 10 # along -z
 back 0 1 0 0 5 0 7 1 => none # along z, the x axis lies behind";
 
-// The half z <= 0 without the half of the x axis from the origin on.
+// The half z <= 0 without the half x >= 0 of the x axis.
 //
-// The vertices: 0 is (-, -, -), 1 (-, -, 0), 2 (-, -, +), 3 (-, +, -), 4 (-, +, 0), 5 (-, +, +), 6 the origin, 7 (+, -, -),
+// Vertices: 0 is (-, -, -), 1 (-, -, 0), 2 (-, -, +), 3 (-, +, -), 4 (-, +, 0), 5 (-, +, +), 6 the origin, 7 (+, -, -),
 // 8 (+, -, 0), 9 (+, -, +), 10 (+, 0, 0), 11 (+, +, -), 12 (+, +, 0), 13 (+, +, +).
 const SLIT: &str = "\
 0 0 1 0; diff 0 0 1 0, 0 0 -1 0, 0 1 0 0, 0 -1 0 0, -1 0 0 0
@@ -163,7 +163,7 @@ back 0 0 1 0 5 7 0 1 => edge 6 10 # along -y
 ray 0 0 1 0 0 -7 0 1 => vertex 6 # along y, exactly
 ray 0 0 1 0 -5 -7 0 1 => edge 4 12 # along y, past the slit";
 
-// Two slanted prisms, one above the other. Their edges run along (1, 1, 2) on four lines, each line through both prisms.
+// Two slanted prisms, one above the other: their edges run along (1, 1, 2) on four lines, each through both prisms.
 //
 // -1 <= x - y <= 0 and -1/2 <= x + y - z <= 0, where z is 0 to 1, and where z is 2 to 3.
 //

@@ -1,4 +1,4 @@
-//! The numbers of vertices and edges of small sets, made by one worker over the board with a lock or by two over the free one.
+//! Numbers of vertices and edges of small sets, made by one worker over the locked board or by two over the free board.
 
 use crate::tables::check_tables;
 

@@ -1,9 +1,9 @@
 //! Questions about two sets, whose steps stand with ` | ` between them and before the question.
 //!
-//! - `kind POINT`: whether the point is a near candidate of them, a cut that is none, or nothing of that.
-//! - `counts`: how many near candidates and how many candidates they have.
-//! - `row POINT`: the numbers of the carriers of their union that hold its vertex at the point, where the rows that are taken
-//!   over from those of the two sets are those that are asked for.
+//! - `kind POINT`: whether the point is a near candidate of both sets, a candidate that isn't near, or no candidate.
+//! - `counts`: the numbers of near candidates and of candidates.
+//! - `row POINT`: the carriers that hold the union's vertex at the point, if the rows that are taken over from both
+//! sets are equal to the rows that are found anew.
 
 ghost use Rattle.nef_complex.specs.Prelude.{Set, ShowsSet};
 
@@ -22,8 +22,8 @@ use std::process::Abort;
 use std::sync::Wait;
 use std::thread::Threads;
 
-// Kinds of points, and the numbers of two cubes far from each other: the corners of the frame and of both, and the cuts, of
-// which each side's plane makes four on the frame's edges.
+// Kinds of points, and the numbers of two cubes far from each other: the corners of the frame and of both cubes, and
+// the cuts, of which each side's plane makes four on the frame's edges.
 const NEAR: &str = "\
 -1 0 0 0, 1 0 0 -4, 0 1 0 0, 0 -1 0 0, 0 0 1 0, 0 0 -1 0 | 1 0 0 -2, -1 0 0 2, 0 -1 0 -1, 0 1 0 -1, 0 0 1 0, 0 0 -1 0 \
 | kind 2 0 0 1 => near # two edges without facets cross
@@ -48,8 +48,8 @@ or 1 0 0 -2, -1 0 0 2, 0 -1 0 3, 0 1 0 -5, 0 0 -1 -1, 0 0 1 -1 | kind 2 0 0 1 =>
 -1 0 0 0, 1 0 0 -1, 0 -1 0 0, 0 1 0 -1, 0 0 -1 0, 0 0 1 -1 | -1 0 0 4, 1 0 0 -5, 0 -1 0 4, 0 1 0 -5, 0 0 -1 4, 0 0 1 -5 \
 | counts => 24 72 # no edge meets the other cube";
 
-// Carriers stand in the order of their normals, and with one normal from the greatest to the least: of a cube from 0 to 2 in
-// the frame those with the normal along z are 0 to 3, those along y 4 to 7 and those along x 8 to 11.
+// Carriers stand in the order of their normals, and with one normal from the greatest to the least coordinate: for a
+// cube from 0 to 2 in the frame, 0 to 3 have the normal along z, 4 to 7 along y and 8 to 11 along x.
 const TAKEN: &str = "\
 1 0 0 -2, -1 0 0 0, 0 1 0 -2, 0 -1 0 0, 0 0 1 -2, 0 0 -1 0 | 1 0 0 -2, -1 0 0 0, 0 1 0 -2, 0 -1 0 0, 0 0 1 -2, 0 0 -1 0 | \
 row 2 2 0 1 => 2 5 9 # a corner of one set that is both
@@ -118,7 +118,7 @@ fn add_counts(alloc: Global, text: &mut String, a: &Complex, b: &Complex) -> Res
     write!(text, "{near} {all}")
 }
 
-// The row of the vertex at the point, where all rows that are taken over are those that are asked for.
+// Adds the row of the vertex at the point, if each row that is taken over is the row that is found anew.
 fn add_alike_row(
     text: &mut String,
     vertices: &[Vertex],
@@ -146,7 +146,7 @@ fn carriers_of(alloc: Global, c: &Complex) -> Result<SortedCarriers, OutOfMemory
     SortedCarriers::of(alloc, copy_carriers(alloc, c)?)
 }
 
-// The row of the vertex of the union at the point.
+// Adds the row of the union's vertex at the point.
 fn add_row_of(
     alloc: Global,
     text: &mut String,
@@ -199,7 +199,7 @@ fn add_answer<R: Threads + Wait + Sync>(
     }
 }
 
-// The answer about the first set and the second one, which is made here.
+// Adds the answer about the first set and the second set, which this function makes.
 fn add_with_second<R: Threads + Wait + Sync>(
     maker: &Maker<R>,
     text: &mut String,

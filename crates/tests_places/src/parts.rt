@@ -1,13 +1,13 @@
-//! Questions about the parts of a complex, and which points are joined.
+//! Questions about the parts of a complex, and about joined points.
 //!
 //! - `volumes`: the labels of the volumes.
-//! - `beside`: of each facet the volumes to which its normal points and doesn't point.
+//! - `beside`: for each facet the volumes to which its normal points and doesn't point.
 //! - `facets`: the planes of the facets; `marks`: their marks.
-//! - `cycles`: the cycles of the facets; a corner is a vertex and an item of it.
-//! - `joined POINT POINT`: whether the points are joined.
-//! - `ties_along`, `ties_across`: how many ties there are of edges, or of facets.
-//! - `tie_along CORNER CORNER`, `tie_across CORNER CORNER`: whether one leads from the first corner, by its vertex and its
-//!   item, to the second.
+//! - `cycles`: the cycles of the facets; a corner is a vertex and an item of this vertex.
+//! - `joined POINT POINT`: whether both points are joined.
+//! - `ties_along`, `ties_across`: the number of ties along edges, or across facets.
+//! - `tie_along CORNER CORNER`, `tie_across CORNER CORNER`: whether a tie leads from the first corner, by its vertex
+//! and its item, to the second corner.
 
 ghost use Rattle.nef_complex.specs.Prelude.{InFrame, Set, place_of, ShowsSet};
 
@@ -64,7 +64,7 @@ fn add_of_facets(text: &mut String, found: &FacetParts, verb: &str) -> Result<()
     }
 }
 
-// About facets and their cycles.
+// Adds the answer about facets or about the cycles of facets.
 fn add_facets(alloc: Global, text: &mut String, c: &Complex, verb: &str) -> Result<(), OutOfMemory>
     requires shows { (s : Set) × ShowsSet s c.now }
 {
@@ -79,7 +79,7 @@ fn add_of_parts(text: &mut String, all: &Parts, verb: &str) -> Result<(), OutOfM
     }
 }
 
-// About volumes and what lies beside facets.
+// Adds the labels of volumes, or the volumes beside facets.
 fn add_volumes(alloc: Global, text: &mut String, c: &Complex, verb: &str) -> Result<(), OutOfMemory>
     requires shows { (s : Set) × ShowsSet s c.now }
 {
@@ -104,7 +104,7 @@ fn add_count(alloc: Global, text: &mut String, c: &Complex, along: bool) -> Resu
     write!(text, "{}", ties.len())
 }
 
-/// Adds the answer to a question about all parts of a complex. To others there is none.
+/// Adds the answer to a question about all parts of a complex, and nothing for other questions.
 pub(crate) fn add_parts(
     alloc: Global,
     text: &mut String,
@@ -129,7 +129,7 @@ fn cell(row: i64, column: i64) -> Option<Cell> {
     })
 }
 
-/// Adds whether a tie leads from the first corner to the second.
+/// Adds whether a tie leads from the first corner to the second corner.
 pub(crate) fn add_tie(
     alloc: Global,
     text: &mut String,
@@ -154,7 +154,7 @@ fn are_joined(alloc: Global, c: &Complex, p: &Point, q: &Point) -> Result<bool, 
     Ok(joined(c, &all, p, q))
 }
 
-/// Adds whether the two points are joined, in one word.
+/// Adds `joined` or `apart`, as both points are joined or not.
 pub(crate) fn add_joined(alloc: Global, text: &mut String, c: &Complex, words: &str) -> Option<()>
     requires shows { (s : Set) × ShowsSet s c.now }
 {

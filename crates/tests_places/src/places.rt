@@ -1,11 +1,12 @@
 //! Questions about the place of a point, by the numbers x, y, z and w of (x/w, y/w, z/w).
 //!
 //! - `vertex POINT`: the number of the vertex at the point.
-//! - `place POINT`: the vertex, the edge with the vertices at its ends, the facet with its normal and the vertex of its corner,
-//!   or the volume, and the label there.
-//! - `kind POINT`: what the least map at the point is, with the greater direction of an edge and the normal of a facet.
+//! - `place POINT`: the vertex, the edge with the vertices at its ends, the facet with its normal and the vertex of its
+//! corner, or the volume, and the label of the point.
+//! - `kind POINT`: the kind of the least map at the point, with the greater direction of an edge and the normal of a
+//! facet.
 //! - `up POINT`, `down POINT`: the place that the ray from the point meets first.
-//! - `rising POINT`, `falling POINT`: the same of a ray that comes to the point exactly.
+//! - `rising POINT`, `falling POINT`: the place that a ray meets first which comes to the point exactly.
 
 ghost use Rattle.std.specs.Prelude.{◌≡◌, ◌⊎◌};
 ghost use Rattle.nef_complex.specs.Prelude.{IfSome, InClosedFrame, Set, opposite, up, vector_of, place_of, complex_of, ShowsSet};
@@ -18,15 +19,15 @@ use nef_locate::{Place, first_hit, local_map, locate, place_label};
 use nef_spair::{Kind, kind};
 use std::alloc::Global;
 
-// A rising ray begins u/PART below a point and a falling one u/PART above it, where u is the upward direction.
+// A rising ray to a point begins u/PART below the point, and a falling ray u/PART above, for the upward direction u.
 const PART: i64 = 1 << 26;
 
-// x/w + number/PART, as a number over PART.
+// The coordinate x/w + number/PART, as a number over PART.
 fn moved(x: i64, w: i64, number: i64) -> Option<i64> {
     x.checked_mul(PART.checked_div(w)?)?.checked_add(number)
 }
 
-// The point less d/PART, from which the ray along d comes to it exactly. Its weight divides PART.
+// The point p - d/PART, from which the ray along d comes to p exactly, if the weight of p divides PART.
 fn start(d: &Dir, p: &Point) -> Option<Point>
     ensures framed { IfSome result (λ q. InClosedFrame (place_of q)) }
 {
@@ -39,13 +40,12 @@ fn start(d: &Dir, p: &Point) -> Option<Point>
     framed_point(x, y, moved(p.z(), w, back.z())?, PART)
 }
 
-/// Adds the vertices at the ends of the edge.
+/// Adds the edge by the vertices at its ends.
 pub(crate) fn add_edge(text: &mut String, c: &Complex, number: usize) -> Option<()> {
     let edge = c.edges.as_slice().get(number)?;
     write!(text, "edge {} {}", edge.low, edge.high).ok()
 }
 
-// The normal of the corner's item.
 fn normal(c: &Complex, corner: &Corner) -> Option<Dir> {
     let vertex = c.vertices.as_slice().get(corner.vertex)?;
     match vertex.map.arcs.as_slice().get(corner.item) {
@@ -54,7 +54,7 @@ fn normal(c: &Complex, corner: &Corner) -> Option<Dir> {
     }
 }
 
-/// Adds the normal of the facet, and the corner's vertex.
+/// Adds the facet by its normal and the vertex of its corner.
 pub(crate) fn add_facet(text: &mut String, c: &Complex, corner: &Corner) -> Option<()> {
     let (normal, vertex) = (normal(c, corner)?, corner.vertex);
     write!(
@@ -76,7 +76,7 @@ fn add_place(text: &mut String, c: &Complex, at: &Place) -> Option<()> {
     }
 }
 
-// The place, and its label.
+// Adds the place and its label.
 fn add_labelled(text: &mut String, c: &Complex, at: &Place) -> Option<()>
     requires place { IsPlaceIn (complex_of c.now) at.now }
 {
@@ -93,7 +93,7 @@ fn add_vertex(text: &mut String, c: &Complex, p: &Point) -> Result<(), OutOfMemo
     }
 }
 
-// What the ray up or down meets first.
+// Adds the place that the ray up or down from the point meets first.
 fn add_hit(text: &mut String, c: &Complex, p: &Point, d: &Dir) -> Option<()>
     requires shows { (s : Set) × ShowsSet s c.now }
     requires framed { InClosedFrame (place_of p.now) }
@@ -105,7 +105,7 @@ fn add_hit(text: &mut String, c: &Complex, p: &Point, d: &Dir) -> Option<()>
     }
 }
 
-// What the ray that comes to the point exactly meets first.
+// Adds the place that the ray to the point along d meets first, where the ray comes to the point exactly.
 fn add_exact(text: &mut String, c: &Complex, p: &Point, d: &Dir) -> Option<()>
     requires shows { (s : Set) × ShowsSet s c.now }
     requires upright { (vector_of d.now ≡ up) ⊎ (vector_of d.now ≡ opposite up) }
@@ -114,7 +114,7 @@ fn add_exact(text: &mut String, c: &Complex, p: &Point, d: &Dir) -> Option<()>
     add_hit(text, c, &q, d)
 }
 
-// What the least map at the point is.
+// The kind of the least map at the point.
 fn kind_at(alloc: Global, c: &Complex, p: &Point) -> Result<Kind, OutOfMemory>
     requires shows { (s : Set) × ShowsSet s c.now }
     requires framed { InClosedFrame (place_of p.now) }
@@ -138,7 +138,6 @@ fn add_kind(text: &mut String, found: &Kind) -> Result<(), OutOfMemory> {
     }
 }
 
-/// Adds the answer to a question about a point.
 pub(crate) fn add_at(
     alloc: Global,
     text: &mut String,

@@ -1,12 +1,12 @@
 //! Questions about a plane, by its four numbers, and a point or a vertex.
 //!
 //! - `facet PLANE POINT`: the facet of the plane in which the point lies.
-//! - `ray PLANE POINT`, `back PLANE POINT`: what the ray from the point along the plane's axis, or back along it, meets first
-//!   in the plane.
-//! - `along PLANE NUMBER`: what the ray from the vertex along the plane's second direction meets first in it, by the call
-//!   that is given a point and looks the vertex up.
-//! - `from PLANE NUMBER`: the same by the call that is given the vertex, which need not lie on the plane.
-//! - `against PLANE NUMBER`: the same, against the plane's second direction.
+//! - `ray PLANE POINT`, `back PLANE POINT`: the vertex or edge that the ray from the point along the plane's axis, or
+//! back along the axis, meets first in the plane.
+//! - `along PLANE NUMBER`: what the ray from the vertex along the plane's second direction meets first in the plane, by
+//! the call that looks up the vertex at a point.
+//! - `from PLANE NUMBER`: what this ray meets by the call that gets the vertex, which need not lie on the plane.
+//! - `against PLANE NUMBER`: what the ray against the plane's second direction meets, by the call that gets the vertex.
 
 ghost use Rattle.std.specs.Prelude.{◌≡◌, ◌<◌};
 ghost use Rattle.nef_complex.specs.Prelude.{ℕ, pos, length, false, IsTrue, IfSome, normal_limit, InClosedFrame, form_at, Set, IsAtMost, IsPlaceAtMost, form_of, vector_of, place_of, hit_place, upright_limit, upright_weight_limit, At, IsOnEdges, IsEdgePoint, complex_of, ShowsSet};
@@ -22,7 +22,7 @@ use nef_locate::{Place, in_facet, locate};
 use nef_plane::{first_along_dir, first_in_plane, is_at_vertex, is_on_edge};
 use nef_smap::SphereMap;
 
-// Whether the point lies strictly inside no edge.
+// Whether the point lies strictly on no edge.
 fn is_off_edges(c: &Complex, p: &Hit) -> bool
     requires shows { (s : Set) × ShowsSet s c.now }
     ensures off { IsTrue result → (k : ℕ) → IsEdgePoint (complex_of c.now) k (hit_place p.now) → ⊥ }
@@ -72,7 +72,7 @@ fn has_no_svertex(c: &Complex, p: &Hit, d: &Dir) -> bool
     true
 }
 
-// The direction of the plane's axis, or the opposite one.
+// The direction of the plane's axis, or of the way back along the axis.
 fn axis(h: &Plane, back: bool) -> Dir
     ensures axis { IsAlongAxis (form_of h.now) (vector_of result) }
     ensures small { IsAtMost normal_limit (vector_of result) }
@@ -84,7 +84,7 @@ fn axis(h: &Plane, back: bool) -> Dir
     }
 }
 
-// What the ray along the plane's axis, or back along it, meets first, if it may be asked.
+// What the ray along the plane's axis, or back along the axis, meets first, if the ray may be asked.
 fn met_along_axis(c: &Complex, h: &Plane, p: &Hit, back: bool) -> Option<Option<PlaneMeet>>
     requires shows { (s : Set) × ShowsSet s c.now }
     requires numbers { IsPlaceAtMost upright_limit upright_weight_limit (hit_place p.now) }
@@ -97,8 +97,8 @@ fn met_along_axis(c: &Complex, h: &Plane, p: &Hit, back: bool) -> Option<Option<
     }
 }
 
-// What the ray from a vertex along the plane's second direction meets first, if it may be asked. Where the vertex is looked
-// up, it lies on the plane.
+// What the ray from a vertex along the plane's second direction meets first, if the ray may be asked. A vertex that is
+// looked up has to lie on the plane.
 fn met_from_vertex(
     c: &Complex,
     h: &Plane,
@@ -123,7 +123,7 @@ fn met_from_vertex(
     }
 }
 
-// What the ray from a vertex against the plane's second direction meets first, if it may be asked.
+// What the ray from a vertex against the plane's second direction meets first, if the ray may be asked.
 fn met_against(c: &Complex, h: &Plane, vertex: usize) -> Option<Option<PlaneMeet>>
     requires shows { (s : Set) × ShowsSet s c.now }
     requires within { vertex < length c.now.vertices }
@@ -152,7 +152,7 @@ fn is_off_skeleton(c: &Complex, p: &Point) -> bool
     }
 }
 
-// The point, if it may lie in a facet of the plane: it lies on the plane, is no vertex and lies on no edge.
+// The point, if it lies on the plane, but on no vertex and on no edge, so that a facet of the plane may hold the point.
 fn inside(c: &Complex, h: &Plane, p: &Point) -> Option<Hit>
     requires shows { (s : Set) × ShowsSet s c.now }
     requires framed { InClosedFrame (place_of p.now) }
@@ -169,7 +169,7 @@ fn inside(c: &Complex, h: &Plane, p: &Point) -> Option<Hit>
     }
 }
 
-// The facet of the plane in which the point lies.
+// Adds the facet of the plane in which the point lies.
 fn add_corner(text: &mut String, c: &Complex, h: &Plane, p: &Point) -> Option<()>
     requires shows { (s : Set) × ShowsSet s c.now }
     requires framed { InClosedFrame (place_of p.now) }
@@ -183,7 +183,7 @@ fn add_corner(text: &mut String, c: &Complex, h: &Plane, p: &Point) -> Option<()
     }
 }
 
-// What is met first, where a ray may begin.
+// Adds the vertex or edge that a ray meets first, where the ray may be asked.
 fn add_meet(text: &mut String, c: &Complex, met: Option<Option<PlaneMeet>>) -> Option<()> {
     match met? {
         Some(PlaneMeet::AtVertex(number)) => write!(text, "vertex {number}").ok(),
@@ -192,7 +192,6 @@ fn add_meet(text: &mut String, c: &Complex, met: Option<Option<PlaneMeet>>) -> O
     }
 }
 
-/// Adds the answer to a question about a plane and a point.
 pub(crate) fn add_in_plane(text: &mut String, c: &Complex, verb: &str, words: &str) -> Option<()>
     requires shows { (s : Set) × ShowsSet s c.now }
 {
@@ -205,7 +204,6 @@ pub(crate) fn add_in_plane(text: &mut String, c: &Complex, verb: &str, words: &s
     }
 }
 
-/// Adds the answer to a question about a plane and a vertex.
 pub(crate) fn add_from_vertex(text: &mut String, c: &Complex, verb: &str, words: &str) -> Option<()>
     requires shows { (s : Set) × ShowsSet s c.now }
 {

@@ -1,8 +1,8 @@
-//! Combinations with what lies far from a set's skeleton, or just within its reach.
+//! Combinations of a grid of cubes with sets that lie far from the grid's skeleton, or just within its reach.
 //!
-//! The grid has eight closed cubes, of the points each of whose coordinates is 0 to 10 or 20 to 30. Its 64 vertices, with the
-//! frame's eight corners, are candidates of each combination. Its skeleton within the open frame reaches from 0 to 30 in each
-//! coordinate. A box that comes to it has eight vertices and twelve edges, and so has the frame; the grid has 96 edges.
+//! The grid has eight closed cubes of points whose coordinates are each 0 to 10 or 20 to 30. Its 64 vertices and the
+//! frame's eight corners are candidates of each combination, and its skeleton in the open frame reaches from 0 to 30 in
+//! each coordinate. An added box has eight vertices and twelve edges, and so has the frame; the grid has 96 edges.
 
 use crate::tables::check_table;
 use crate::words::check;
@@ -15,7 +15,7 @@ const GRID: &str = "\
 1 0 0 -30, -1 0 0 0, 0 1 0 -30, 0 -1 0 0, 0 0 1 -30, 0 0 -1 0; diff open 1 0 0 -20, -1 0 0 10; \
     diff open 0 1 0 -20, 0 -1 0 10; diff open 0 0 1 -20, 0 0 -1 10";
 
-// The steps after the grid, and questions about the set that is made.
+// The steps after those of the grid, and questions about the resulting set.
 const TABLES: &str = "\
 or 1 0 0 -40, -1 0 0 30, 0 1 0 -28, 0 -1 0 22, 0 0 1 -28, 0 0 -1 22
 counts => 80 120 # the box begins where the grid ends
@@ -73,7 +73,7 @@ diff full
 counts => 8 12 # nothing is left of the grid
 place 25 25 25 1 => volume not # in a cube of the grid";
 
-/// Checks a table about the grid: its first line has the steps after those that make the grid.
+/// Checks a table about the grid, whose first line has the steps after those of the grid.
 pub(crate) fn check_after<R: Threads + Wait + Sync + Abort>(rt: &R, alloc: Global, table: &str) {
     match format!(in alloc; "{GRID}; {table}") {
         Ok(table) => check_table(rt, alloc, table.as_str()),

@@ -1,4 +1,4 @@
-//! The maps of halves at the origin, carriers put together, and classes that links join.
+//! Maps of halves at the origin, merged carriers, and classes that links join.
 
 ghost use Rattle.std.specs.Prelude.{◌<◌};
 ghost use Rattle.nef_complex.specs.Prelude.{IfSome, Set, place_of, Cone};
@@ -13,8 +13,8 @@ use nef_result::{add_carrier, copy_carriers, half_map, merge_carriers};
 use nef_smap::{SphereMap, face_map};
 use std::alloc::Global;
 
-// The half where the form with these four numbers is negative, and which is closed or not; and its map at the origin: the
-// mark and the one label, or the mark and the three labels of the sloop.
+// A half, closed or open, where the form of four numbers is negative; and the half's map at the origin: the mark and
+// the ground, or the mark and the three labels of the sloop.
 const HALVES: &str = "\
 closed 1 0 0 0 => iini # the border belongs to it, and holds below
 open 1 0 0 0 => nnni # the border doesn't
@@ -22,7 +22,7 @@ open -1 0 0 0 => nnin # and holds above
 open 1 0 0 -5 => ii # the origin lies inside
 closed 1 0 0 5 => nn # the origin lies outside";
 
-// The whole frame's map at a point of the frame.
+// The whole frame's map at a point inside the frame.
 fn whole_map(alloc: Global, p: &Point) -> Option<SphereMap>
     ensures least { IfSome result (λ m. IsLeastMap m) }
     ensures cone { IfSome result (λ m. Cone (map_of m) Set.full (place_of p.now)) }
@@ -47,7 +47,6 @@ fn add_map(text: &mut String, map: &SphereMap) -> Result<(), OutOfMemory> {
     }
 }
 
-// The map of the half at the origin.
 fn half_at_origin(alloc: Global, half: &str) -> Option<SphereMap> {
     let (border, words) = parted(half, " ");
     let oriented = oriented(words)?;
@@ -71,7 +70,7 @@ fn halves_at_the_origin(rt: HostRuntime) {
     }
 }
 
-// A complex that has carriers alone, two sides of the frame.
+// A complex that has two sides of the frame as carriers, and nothing else.
 fn of_carriers(alloc: Global, first: usize, second: usize) -> Result<Complex, OutOfMemory>
     requires first { first < 6 }
     requires second { second < 6 }
@@ -98,7 +97,7 @@ fn of_carriers(alloc: Global, first: usize, second: usize) -> Result<Complex, Ou
     })
 }
 
-// The carriers of both, those of the first with the side x = -2048, and a copy of those of the second.
+// The merged carriers of both, the carriers of `a` with the side x = -2048, and a copy of the carriers of `b`.
 fn carriers_text(alloc: Global, a: &Complex, b: &Complex) -> Result<String, OutOfMemory> {
     let mut text = String::new(alloc);
     add_planes(&mut text, merge_carriers(alloc, b, a)?.as_slice())?;
@@ -129,7 +128,7 @@ fn is_text(text: Result<String, OutOfMemory>, wanted: &str) -> bool {
     }
 }
 
-// The sides z = 2048 and z = -2048, and z = -2048 and x = -2048.
+// The first complex has the sides z = 2048 and z = -2048, the second z = -2048 and x = -2048.
 #[test]
 fn carriers(rt: HostRuntime) {
     let wanted = " 001- 001+ 100+, 001- 001+ 100+, 001+ 100+";
@@ -141,7 +140,7 @@ fn carriers(rt: HostRuntime) {
     );
 }
 
-// Of six items, with links from 5 to 3, from 4 to 1 and from 0 to 3.
+// The class numbers of six items, with links from 5 to 3, from 4 to 1 and from 0 to 3.
 fn numbers_of_classes(alloc: Global) -> Result<String, OutOfMemory> {
     let links = [
         Link {

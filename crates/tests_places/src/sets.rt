@@ -1,10 +1,9 @@
-//! The complexes of sets that are made by steps in words.
+//! Sets that are made by steps in words, as complexes.
 //!
 //! Between two steps stands `; `. A step is a part, which begins the set; an operation and a part, as `diff 1 0 0 0`,
-//! with which the set is combined; or what is made of the set: `not`, `int`, `cl`, `bd` or `reg`. A part is one of
-//! `empty` and `full`, made as a constant; `frame not` and `frame in`, the same made as a frame; or the intersection of
-//! halves, with `, ` between them: where the form with these four numbers is at most zero, or negative where `open` stands
-//! before the first.
+//! which combines the set with the part; or an operation on the set: `not`, `int`, `cl`, `bd` or `reg`. A part is
+//! `empty` or `full`, made as a constant; `frame not` or `frame in`, made as a frame; or the intersection of halves,
+//! with `, ` between: where the form of four numbers is at most zero, or negative with `open` before the first half.
 
 ghost use Rattle.nef_complex.specs.Prelude.{IfSome, Set, ShowsSet};
 
@@ -58,7 +57,7 @@ fn unary_op(word: &str) -> Option<UnaryOp> {
     }
 }
 
-/// What makes sets: threads, memory, the number of workers, and the board that hands out the jobs.
+/// The means to make sets: threads, memory, the number of workers, and the board that hands out the jobs.
 #[derive(Drop)]
 pub(crate) struct Maker<'a, R> {
     pub(crate) rt: &'a R,
@@ -67,7 +66,7 @@ pub(crate) struct Maker<'a, R> {
 }
 
 impl<'a, R: Threads + Wait + Sync> Maker<'a, R> {
-    /// A maker that works by one worker over the board with a lock, or by two over the free one.
+    /// A maker with one worker over the board with a lock, or with two workers over the free board.
     pub(crate) fn new(rt: &'a R, alloc: Global, board: BoardKind) -> Maker<'a, R> {
         let workers = if board == BoardKind::Lock { 1 } else { 2 };
         let how = How { workers, board };
@@ -81,7 +80,6 @@ impl<'a, R: Threads + Wait + Sync> Maker<'a, R> {
         half(self.rt, self.alloc, &oriented, closed, &self.how, &OpenGate).ok()
     }
 
-    /// The two sets combined.
     pub(crate) fn combined(&self, op: Op, a: &Complex, b: &Complex) -> Option<Complex>
         requires first { (s : Set) × ShowsSet s a.now }
         requires second { (s : Set) × ShowsSet s b.now }
@@ -90,7 +88,7 @@ impl<'a, R: Threads + Wait + Sync> Maker<'a, R> {
         binary(self.rt, self.alloc, op, a, b, &self.how, &OpenGate).ok()
     }
 
-    // The set combined with another, if that could be made.
+    // The operation on the set and another set, if this could be made.
     fn with(&self, op: Op, c: &Complex, made: Option<Complex>) -> Option<Complex>
         requires shows { (s : Set) × ShowsSet s c.now }
         requires made { IfSome made (λ d. (s : Set) × ShowsSet s d) }
@@ -107,7 +105,7 @@ impl<'a, R: Threads + Wait + Sync> Maker<'a, R> {
         unary(self.rt, self.alloc, op, a, &self.how, &OpenGate).ok()
     }
 
-    // What the set has in common with the half. The set is let go here, so that a loop over halves owns none where it
+    // The set's intersection with the half. The set is let go here, so that a loop over halves owns no set where it
     // returns early.
     fn cut(&self, c: Complex, half: &str, closed: bool) -> Option<Complex>
         requires shows { (s : Set) × ShowsSet s c }
@@ -147,7 +145,6 @@ impl<'a, R: Threads + Wait + Sync> Maker<'a, R> {
         }
     }
 
-    // The set after a step.
     fn after(&self, c: &Complex, step: &str) -> Option<Complex>
         requires shows { (s : Set) × ShowsSet s c.now }
         ensures shows { IfSome result (λ d. (s : Set) × ShowsSet s d) }
@@ -162,7 +159,7 @@ impl<'a, R: Threads + Wait + Sync> Maker<'a, R> {
         }
     }
 
-    // The same of a set that is let go, so that a loop over steps owns none where it returns early.
+    // The set after a step from a set that is let go, so that a loop over steps owns no set where it returns early.
     fn stepped(&self, c: Complex, step: &str) -> Option<Complex>
         requires shows { (s : Set) × ShowsSet s c }
         ensures shows { IfSome result (λ d. (s : Set) × ShowsSet s d) }
@@ -170,7 +167,7 @@ impl<'a, R: Threads + Wait + Sync> Maker<'a, R> {
         self.after(&c, step)
     }
 
-    /// The set that the steps make.
+    /// The set that the steps make in order.
     pub(crate) fn made(&self, steps: &str) -> Option<Complex>
         ensures shows { IfSome result (λ c. (s : Set) × ShowsSet s c) }
     {

@@ -1,6 +1,5 @@
-//! Tables of questions about a set. The first line of a table makes the set; each other line is a question, its answer and a
-//! reason for it. Where `free ` stands before the steps of the set, they are worked by two workers over the free board, and
-//! else by one over the board with a lock.
+//! Tables of questions about a set. A table's first line makes the set; each other line is a question, its answer and a
+//! reason. After `free ` two workers over the free board work the steps, else one worker over the board with a lock.
 
 ghost use Rattle.nef_complex.specs.Prelude.{IfSome, Set, ShowsSet};
 
@@ -19,7 +18,7 @@ use std::process::Abort;
 use std::sync::Wait;
 use std::thread::Threads;
 
-// The answer to a question without numbers: each of the three answers its own.
+// Adds the answer to a question without numbers: exactly one of three calls adds something.
 fn add_of_none(alloc: Global, text: &mut String, c: &Complex, verb: &str) -> Result<(), OutOfMemory>
     requires shows { (s : Set) × ShowsSet s c.now }
 {
@@ -28,7 +27,7 @@ fn add_of_none(alloc: Global, text: &mut String, c: &Complex, verb: &str) -> Res
     add_compared(alloc, text, c, verb)
 }
 
-// The answer to a question about a plane, a point or two corners.
+// Adds the answer to a question about a plane, a point or two corners.
 fn add_of_four(alloc: Global, text: &mut String, c: &Complex, verb: &str, words: &str) -> Option<()>
     requires shows { (s : Set) × ShowsSet s c.now }
 {
@@ -41,7 +40,7 @@ fn add_of_four(alloc: Global, text: &mut String, c: &Complex, verb: &str, words:
     }
 }
 
-// The answer to a question, by how many numbers it has.
+// Adds the answer to a question, by how many numbers the question has.
 fn add_answer(alloc: Global, text: &mut String, c: &Complex, verb: &str, words: &str) -> Option<()>
     requires shows { (s : Set) × ShowsSet s c.now }
 {
@@ -58,7 +57,7 @@ fn add_answer(alloc: Global, text: &mut String, c: &Complex, verb: &str, words: 
     }
 }
 
-// Whether the question of the row has the answer that stands beside it.
+// Whether the row's question has the row's answer.
 fn is_answered(alloc: Global, c: &Complex, row: &str) -> Option<bool>
     requires shows { (s : Set) × ShowsSet s c.now }
 {
@@ -93,7 +92,7 @@ fn board_of(set: &str) -> (BoardKind, &str) {
     }
 }
 
-/// Stops the test where a question of the table has another answer than stands beside it.
+/// Stops the test where a question of the table has another answer than its row tells.
 pub(crate) fn check_table<R: Threads + Wait + Sync + Abort>(rt: &R, alloc: Global, table: &str) {
     let (set, rows) = parted(table, "\n");
     let (board, steps) = board_of(set);
@@ -101,7 +100,7 @@ pub(crate) fn check_table<R: Threads + Wait + Sync + Abort>(rt: &R, alloc: Globa
     check_rows(rt, alloc, &made, set, rows);
 }
 
-/// The same of several tables, with an empty line between them.
+/// Checks several tables, with an empty line between two tables.
 pub(crate) fn check_tables<R: Threads + Wait + Sync + Abort>(rt: &R, alloc: Global, tables: &str) {
     for table in tables.split("\n\n") {
         check_table(rt, alloc, table);

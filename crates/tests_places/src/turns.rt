@@ -1,8 +1,8 @@
 //! Turned complexes, and complexes compared with the frame's.
 //!
-//! - `turned POINT NUMBER`: whether the complex has a vertex at the point after the turn with this number.
-//! - `changed`: the numbers of the turns that don't keep the carriers, vertices and edges, if there are any.
-//! - `same_as_empty`, `same_as_full`: whether it shows the empty set, or the whole frame.
+//! - `turned POINT NUMBER`: whether the complex after the turn with this number has a vertex at the point.
+//! - `changed`: the numbers of the turns that don't keep the carriers, vertices and edges, or `none`.
+//! - `same_as_empty`, `same_as_full`: whether the complex shows the empty set, or the whole frame.
 
 ghost use Rattle.std.specs.Prelude.{◌<◌};
 ghost use Rattle.nef_complex.specs.Prelude.{Set, ShowsSet};
@@ -26,7 +26,7 @@ fn has_vertex_at(c: &Complex, p: &Point) -> bool {
     false
 }
 
-// Whether the turned complex has a vertex at the point.
+// Whether the complex after the turn has a vertex at the point.
 fn turns_to(alloc: Global, c: &Complex, k: usize, p: &Point) -> Result<bool, OutOfMemory>
     requires turn { k < 48 }
     requires shows { (s : Set) × ShowsSet s c.now }
@@ -35,7 +35,6 @@ fn turns_to(alloc: Global, c: &Complex, k: usize, p: &Point) -> Result<bool, Out
     Ok(has_vertex_at(&turned, p))
 }
 
-/// Adds the answer about a turn and a point.
 pub(crate) fn add_turned(alloc: Global, text: &mut String, c: &Complex, words: &str) -> Option<()>
     requires shows { (s : Set) × ShowsSet s c.now }
 {
@@ -47,7 +46,7 @@ pub(crate) fn add_turned(alloc: Global, text: &mut String, c: &Complex, words: &
     add_truth(text, turns_to(alloc, c, number, &p).ok()?).ok()
 }
 
-// Whether the complexes have the same carriers, vertices and edges.
+// Whether both complexes have the same carriers, vertices and edges.
 fn are_alike(c: &Complex, d: &Complex) -> bool {
     same_vertices(c, d)
         && d.carriers.as_slice() == c.carriers.as_slice()
@@ -63,7 +62,7 @@ fn is_kept(alloc: Global, c: &Complex, k: usize) -> Result<bool, OutOfMemory>
     Ok(are_alike(c, &turned))
 }
 
-// The numbers of the turns that change the complex, each after a blank, or that there are none.
+// Adds the numbers of the turns that change the complex, or that no turn does.
 fn add_changed(alloc: Global, text: &mut String, c: &Complex) -> Result<(), OutOfMemory>
     requires shows { (s : Set) × ShowsSet s c.now }
 {
@@ -75,13 +74,13 @@ fn add_changed(alloc: Global, text: &mut String, c: &Complex) -> Result<(), OutO
     text.push_str(if text.is_empty() { "none" } else { "" })
 }
 
-// Whether it is the same set as the whole frame, or as the empty set.
+// Whether the complex shows the whole frame, or the empty set.
 fn is_same(alloc: Global, c: &Complex, full: bool) -> Result<bool, OutOfMemory> {
     let other = constant(alloc, full)?;
     Ok(compare(c, &other))
 }
 
-/// Adds the answer to a question about turned complexes, or those of the frame. To others there is none.
+/// Adds the answer to a question about turns or about the frame's sets, and nothing for other questions.
 pub(crate) fn add_compared(
     alloc: Global,
     text: &mut String,

@@ -1,10 +1,10 @@
-//! Places of the plane x = 0 as a set, of a square in it, and of a half-space that lacks a point of it.
+//! Places in the plane x = 0 as a set, in a square of this plane, and in a half-space without a point of its plane.
 //!
 //! Vertices are numbered in the order of their x, then y, then z. Below + stands for 2048 and - for -2048.
 
 use crate::tables::check_table;
 
-// The vertices 0 to 3 are corners with x = -2048; 4 is (0, -, -), 5 (0, -, +), 6 (0, +, -), 7 (0, +, +); 8 to 11 are the
+// Vertices 0 to 3 are corners with x = -2048; 4 is (0, -, -), 5 (0, -, +), 6 (0, +, -), 7 (0, +, +); 8 to 11 are the
 // other corners, in the same order.
 const WALL: &str = "\
 1 0 0 0, -1 0 0 0
@@ -40,7 +40,7 @@ ray 0 1 0 0 5 0 0 1 => none # no edge lies in y = 0
 items 1 0 0 0 => edges 8 9 11 13 vertices 4 5 6 7 # the wall
 items 0 1 0 0 => none # it has no facet in y = 0";
 
-// The vertices 0 to 3 are corners with x = -2048; 4 is (0, -5, -5), 5 (0, -5, 5), 6 (0, 5, -5), 7 (0, 5, 5); 8 to 11 are
+// Vertices 0 to 3 are corners with x = -2048; 4 is (0, -5, -5), 5 (0, -5, 5), 6 (0, 5, -5), 7 (0, 5, 5); 8 to 11 are
 // the other corners, 8 (+, -, -), 9 (+, -, +), 10 (+, +, -) and 11 (+, +, +).
 const SQUARE: &str = "\
 1 0 0 0, -1 0 0 0, 0 1 0 -5, 0 -1 0 -5, 0 0 1 -5, 0 0 -1 -5
@@ -79,8 +79,8 @@ ray 1 0 0 0 0 5 -7 1 => vertex 6 # along z, exactly
 back 1 0 0 0 0 -5 7 1 => vertex 5 # along -z, exactly
 ray 1 0 0 0 0 7 0 1 => none # along z, past the square";
 
-// The vertices 0 to 3 are corners with x = -2048; 4 is (0, -, -), 5 (0, -, +), 6 the origin, 7 (0, +, -), 8 (0, +, +); 9
-// to 12 are the other corners, 9 (+, -, -), 10 (+, -, +), 11 (+, +, -) and 12 (+, +, +).
+// Vertices 0 to 3 are corners with x = -2048; 4 is (0, -, -), 5 (0, -, +), 6 the origin, 7 (0, +, -), 8 (0, +, +); 9 to
+// 12 are the other corners, 9 (+, -, -), 10 (+, -, +), 11 (+, +, -) and 12 (+, +, +).
 const PIERCED: &str = "\
 1 0 0 0; diff -1 0 0 0, 1 0 0 0, 0 -1 0 0, 0 1 0 0, 0 0 -1 0, 0 0 1 0
 counts => 13 20 # those of the half-space, and the origin

@@ -1,7 +1,7 @@
-//! Numbers, points and planes by their words, words for what is given, and rows that must hold.
+//! Numbers, points, planes and sets by their words, and rows that must hold.
 //!
-//! That a question can't be read, that nothing answers it, or that memory is wanting is told by `Option` or by the error of
-//! memory alone, and an answer is added to one text. Failures with texts of their own would make the tests dear to prove.
+//! `None` or the error of memory alone tells that a question can't be read, has no answer, or wants memory in vain, and
+//! each answer is added to one text: failures with texts of their own would make the tests dear to prove.
 
 ghost use Rattle.std.specs.Prelude.{◌≤◌};
 ghost use Rattle.nef_complex.specs.Prelude.{nat_abs, IsTrue, IfSome, InClosedFrame, InFrame, place_of};
@@ -10,27 +10,27 @@ use nef_geo::{Dir, HALF_SIDE, Label, Oriented, Plane, Point};
 use std::alloc::AllocError;
 use std::process::Abort;
 
-// The greatest weight of a point, and the greatest of its other numbers.
+// The greatest weight of a point, and the greatest size of the point's other numbers.
 const GREATEST_WEIGHT: i64 = 1 << 32;
 
 const GREATEST_NUMBER: u64 = 1 << 43;
 
-/// Stops the test where the row doesn't hold, in the table with this name.
+/// Stops the test where `holds` is false for the row in the table with this name.
 pub(crate) fn check(rt: &impl Abort, holds: bool, name: &str, row: &str) {
     assert!(rt; holds, "{name}: {row}");
 }
 
-/// The text before the separator, and the text behind it. Where it isn't there, nothing is behind.
+/// The text before the separator, and the text behind, which is empty where the separator is absent.
 pub(crate) fn parted<'a>(text: &'a str, separator: &str) -> (&'a str, &'a str) {
     text.split_once(separator).unwrap_or((text, ""))
 }
 
-/// The question and the answer of a row, which has a reason behind them.
+/// The question and the answer of a row, behind which a reason stands.
 pub(crate) fn case_of(row: &str) -> Option<(&str, &str)> {
     row.split_once(" # ")?.0.split_once(" => ")
 }
 
-/// Four of the numbers between the blanks, from this place on. Zero stands for one that isn't there.
+/// Four of the numbers between the blanks, from number `first` on, with 0 for each absent number.
 pub(crate) fn numbers(words: &str, first: usize) -> Option<[i64; 4]> {
     let mut numbers = [0; 4];
     for (place, word) in words.split(' ').skip(first).enumerate() {
@@ -41,7 +41,6 @@ pub(crate) fn numbers(words: &str, first: usize) -> Option<[i64; 4]> {
     Some(numbers)
 }
 
-/// Whether the number is no larger than the limit.
 pub(crate) fn is_within(number: i64, limit: u64) -> bool
     ensures within { IsTrue result → nat_abs number ≤ limit }
 {
@@ -67,7 +66,7 @@ pub(crate) fn framed_point(x: i64, y: i64, z: i64, w: i64) -> Option<Point>
     if is_framed(&p) { Some(p) } else { None }
 }
 
-/// The point of the four numbers from this place on, if it lies in the closed frame.
+/// The point of the four numbers from number `first` on, if the point lies in the closed frame.
 pub(crate) fn point(words: &str, first: usize) -> Option<Point>
     ensures framed { IfSome result (λ p. InClosedFrame (place_of p)) }
 {
@@ -75,7 +74,7 @@ pub(crate) fn point(words: &str, first: usize) -> Option<Point>
     framed_point(x, y, z, w)
 }
 
-/// The same, if it doesn't lie on the border of the frame.
+/// The point of the four numbers from number `first` on, if the point lies inside the frame.
 pub(crate) fn inner_point(words: &str, first: usize) -> Option<Point>
     ensures framed { IfSome result (λ p. InFrame (place_of p)) }
 {
@@ -83,7 +82,7 @@ pub(crate) fn inner_point(words: &str, first: usize) -> Option<Point>
     if p.in_frame() { Some(p) } else { None }
 }
 
-/// The plane of the first four numbers, as it is given.
+/// The plane of the first four numbers, with the side that was given.
 pub(crate) fn oriented(words: &str) -> Option<Oriented> {
     let [a, b, c, d] = numbers(words, 0)?;
     Plane::read(a, b, c, d).ok()
@@ -102,12 +101,10 @@ pub(crate) fn label_word(label: Label) -> &'static str {
     }
 }
 
-/// Adds the numbers of the direction, each after a blank.
 pub(crate) fn add_dir(text: &mut String, d: &Dir) -> Result<(), AllocError> {
     write!(text, " {} {} {}", d.x(), d.y(), d.z())
 }
 
-/// Adds the numbers, each after a blank.
 pub(crate) fn add_numbers(text: &mut String, numbers: &[usize]) -> Result<(), AllocError> {
     for number in numbers {
         write!(text, " {number}")?;
@@ -115,7 +112,6 @@ pub(crate) fn add_numbers(text: &mut String, numbers: &[usize]) -> Result<(), Al
     Ok(())
 }
 
-/// Adds the word.
 pub(crate) fn add_truth(text: &mut String, holds: bool) -> Result<(), AllocError> {
     text.push_str(if holds { "true" } else { "false" })
 }

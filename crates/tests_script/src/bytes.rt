@@ -12,10 +12,10 @@ use std::alloc::Global;
 use std::process::Abort;
 use std::test::Fail;
 
-// Two half-spaces and a question to each.
+// A script of 70 bytes: two half-spaces, and a question about each.
 const SCRIPT: &str = "half A 1 0 0 0 closed\nhas A 0 0 0 1\nhalf B 1 0 0 0 open\nhas B 0 0 0 1\n";
 
-// Stops the test where the source does not give the script.
+// Stops the test where the source doesn't give the script.
 fn check_script<S: Source>(rt: &impl Abort, alloc: Global, source: &mut S) {
     let bytes = read_all(alloc, source).expect(rt, "no read fails");
     check_bytes(rt, bytes.as_slice(), SCRIPT.as_bytes(), "the script");
@@ -28,17 +28,17 @@ fn sure_source(rt: HostRuntime) -> Result<(), Fail> {
     Ok(())
 }
 
-// Stops the test where the sink does not take the piece.
+// Stops the test where the sink doesn't accept the piece.
 fn check_put<K: Sink>(rt: &impl Abort, sink: &mut K, piece: &str) {
     check(rt, &put_all(sink, piece.as_bytes()), &Ok(()), piece);
 }
 
-// Stops the test where the sink takes the whole piece.
+// Stops the test where the sink accepts the piece.
 fn check_refused<K: Sink>(rt: &impl Abort, sink: &mut K, piece: &str) {
     check(rt, &put_all(sink, piece.as_bytes()), &Err(Failed), piece);
 }
 
-// The second of the three pieces does not fit.
+// The second of three pieces doesn't fit, and is left out.
 #[test]
 fn sure_sink(rt: HostRuntime) {
     let mut room = [0u8; 8];
@@ -56,7 +56,7 @@ fn length_read<S: Source>(alloc: Global, source: &mut S) -> Result<usize, ReadAl
     Ok(bytes.len())
 }
 
-// How many line feeds are read where there are so many.
+// How many of `count` line feeds are read.
 fn feeds_read(alloc: Global, count: usize) -> Result<Result<usize, ReadAll>, OutOfMemory> {
     let feeds = vec![in alloc; b'\n'; count]?;
     let mut source = SureSource::new(alloc, &feeds)?;
@@ -78,7 +78,7 @@ fn from_reader(rt: HostRuntime) {
     check_script(&rt, rt.alloc(), &mut source);
 }
 
-// What a list of bytes holds that two pieces were put into. It always tells that, so the clause can state it.
+// The bytes of a sink that took two pieces. The result is always the bytes, so that the clause can state them.
 fn held(alloc: Global, first: &[u8], second: &[u8]) -> Result<Vec<u8>, Failed>
     ensures { IfOk result (λ v. v.items ≡ first.now ++ second.now) }
 {
@@ -102,7 +102,7 @@ fn into_full_writer(rt: HostRuntime) {
     check_refused(&rt, &mut sink, "in\n");
 }
 
-// The script read ten bytes at a time, where the read of this number fails.
+// The script as a source of ten bytes a read, where the read with this number fails.
 fn failing_at(alloc: Global, number: u64) -> Result<MemSource, OutOfMemory> {
     MemSource::new(alloc, SCRIPT.as_bytes(), 10, &[number])
 }
@@ -114,7 +114,7 @@ fn check_failing(rt: &impl Abort, alloc: Global, number: u64) -> Result<(), OutO
     Ok(())
 }
 
-// The script has 70 bytes, so that seven reads of ten give it, and the eighth finds the end.
+// The script of 70 bytes takes seven reads of ten bytes, and the eighth read finds the end.
 #[test]
 fn failing_reads(rt: HostRuntime) -> Result<(), Fail> {
     for number in 1..=8u64 {

@@ -1,4 +1,4 @@
-//! A set expression, and its labels.
+//! A set expression, and its labels at points.
 
 ghost use Rattle.std.specs.Prelude.{◌≡◌, ◌<◌};
 ghost use Rattle.nef_geo.specs.Prelude.{length, IfOk};
@@ -12,7 +12,7 @@ use std::alloc::Global;
 use std::process::Abort;
 use std::test::Fail;
 
-// x <= 0 and y <= 0, the closure of the first, which nothing stands on, and the symmetric difference.
+// x <= 0 and y <= 0, the closure of the first, which no other node uses, and the symmetric difference of both.
 fn quarters(alloc: Global, left: Oriented, lower: Oriented) -> Result<Nodes, OutOfMemory>
     ensures four { IfOk result (λ nodes. length nodes ≡ 4) }
     ensures plain { IfOk result (λ nodes. IsPlain (node_set nodes 3)) }

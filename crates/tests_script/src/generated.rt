@@ -7,7 +7,7 @@ use std::alloc::Global;
 use std::process::Abort;
 use std::test::Fail;
 
-// The lines of the first box of a script of stairs, and of the second.
+// The lines of the first box, and of the second box, of a script of stairs.
 const FIRST_BOX: &[u8] =
     b"half b0a -1 0 0 0 closed\nhalf b0b 1 0 0 -12 closed\nhalf b0c 0 -1 0 0 closed\nhalf b0d 0 1 0 -12 closed\nhalf b0e 0 0 -1 0 closed\nhalf b0f 0 0 1 -12 closed\nand b0g b0a b0b\nand b0h b0g b0c\nand b0i b0h b0d\nand b0j b0i b0e\nand b0 b0j b0f\n";
 
@@ -18,7 +18,7 @@ const SECOND_BOX: &[u8] =
 const THIRD_END: &[u8] =
     b"\nhalf b2f 0 0 1 -28 closed\nand b2g b2a b2b\nand b2h b2g b2c\nand b2i b2h b2d\nand b2j b2i b2e\nand b2 b2j b2f\nor u2 u1 b2\ncount u2\n";
 
-// Whether the script is made of these pieces.
+// Whether the script is the pieces one after the other.
 fn is_made_of(script: &[u8], pieces: &[&[u8]]) -> bool {
     let mut rest = script;
     for piece in pieces {
@@ -66,7 +66,7 @@ fn last_count(script: &Script) -> Option<(u64, usize)> {
     }
 }
 
-// Eleven names for each of the 32 boxes, 31 more for what joins them, and one question.
+// The longest script has eleven names for each of 32 boxes, 31 names for unions, and one question.
 fn check_longest(rt: &impl Abort, script: &Script) {
     check(rt, &script.nodes.len(), &383, "nodes");
     check(rt, &script.commands().len(), &384, "commands");

@@ -6,7 +6,7 @@ use std::alloc::{AllocError, Global};
 use std::process::Abort;
 use std::test::Fail;
 
-// Scripts, and the lines of each: their texts, with a bar after each.
+// Scripts, and the lines of each script, with a bar after each line.
 const LINES: &str = " => ;\
 \n => |;\
 a => a|;\
@@ -17,7 +17,7 @@ a\r\r\n => a\r|;\
 a\rb\n\r => a\rb||;\
 \n\n => ||";
 
-// Lines, and the words of each, with a bar after each.
+// Lines, and the words of each line, with a bar after each word.
 const WORDS: &str = " => ;\
 \x20\t  => ;\
 # and a b => ;\
@@ -80,7 +80,6 @@ fn lines_of_scripts(rt: HostRuntime) -> Result<(), Fail> {
     Ok(())
 }
 
-// The words, with a bar after each.
 fn joined_words(alloc: Global, line: &str) -> Result<Vec<u8>, AllocError> {
     let mut joined = Vec::new(alloc);
     for word in words(alloc, line.as_bytes())? {

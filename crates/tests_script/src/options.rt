@@ -1,4 +1,4 @@
-//! Words of the command line that are accepted or refused.
+//! Command lines whose words are accepted or refused.
 
 use crate::same::{check, check_text};
 use nef_words::{Options, WordsFault, line_words, read_words};
@@ -7,7 +7,7 @@ use std::io::{Error, ErrorKind};
 use std::process::Abort;
 use std::test::Fail;
 
-// Words, with a bar after each, and what they choose: how many workers over which board, how many boxes of the generated
+// Words with a bar after each, and the options that they choose: the workers, the board, the boxes of a generated
 // script, the version of the texts, and whether statements may run ahead.
 const ACCEPTED: &str = " => 1 Lock None One false
 --workers|2| => 2 Lock None One false
@@ -94,7 +94,7 @@ fn options_text(alloc: Global, options: &Options) -> Result<String, AllocError> 
     format!(in alloc; "{workers} {board:?} {stairs:?} {text:?} {ahead}")
 }
 
-// The options, or the fault.
+// The options, or the fault, as a text.
 fn answer(alloc: Global, read: &Result<Options, WordsFault>) -> Result<String, AllocError> {
     match read {
         Ok(options) => options_text(alloc, options),
@@ -125,7 +125,7 @@ fn refused_words(rt: HostRuntime) -> Result<(), Fail> {
     check_refused(&rt, rt.alloc(), REFUSED_WORDS)
 }
 
-// The word so many times, with a bar after each.
+// The word `count` times, with a bar after each.
 fn repeated(alloc: Global, word: &str, count: u32) -> Result<String, AllocError> {
     let mut words = String::new(alloc);
     for _ in 0..count {
@@ -135,7 +135,7 @@ fn repeated(alloc: Global, word: &str, count: u32) -> Result<String, AllocError>
     Ok(words)
 }
 
-// Words beyond sixteen, and beyond what two bytes count, are refused and are no want of memory.
+// More words than sixteen, or than 16 bits count, are refused, and aren't told as want of memory.
 #[test]
 fn many_words(rt: HostRuntime) -> Result<(), Fail> {
     for count in [16, 17, 33, 257, 65_537] {
@@ -150,7 +150,7 @@ fn many_words(rt: HostRuntime) -> Result<(), Fail> {
     Ok(())
 }
 
-// What the words of a line say, with a bar after each.
+// The options, or the fault, of a line of words with a bar after each.
 fn read_line(alloc: Global, words: &str) -> Result<String, AllocError> {
     let line = Ok(owned_words(alloc, words)?);
     match line_words(&line) {
@@ -159,7 +159,7 @@ fn read_line(alloc: Global, words: &str) -> Result<String, AllocError> {
     }
 }
 
-// The fault of a line that could not be read.
+// The fault of a line that can't be read for a reason of this kind.
 fn line_fault(kind: ErrorKind) -> Option<WordsFault> {
     let line = Err(Error::from(kind));
     line_words(&line).err()

@@ -1,16 +1,16 @@
-//! The steps of scripts.
+//! The steps in which scripts are worked.
 
 use crate::same::{check, check_text};
 use crate::scripts::unfolded;
 use nef_expr::Node;
-use nef_plan::{Plan, Step, plan};
+use nef_plan::{Plan, Step, Task, plan};
 use nef_script::{Command, OutOfMemory, parse, stairs};
 use std::alloc::Global;
 use std::process::Abort;
 use std::test::Fail;
 
-// Slabs across x, each the intersection of two half-spaces: a to e are apart from each other, and of nodes 2, 5, 8, 11 and
-// 14; g and h, of nodes 17 and 20, meet all those and each other.
+// Slabs across x, each the intersection of two half-spaces. The slabs a to e, of the nodes 2, 5, 8, 11 and 14, lie
+// apart from each other; g and h, of the nodes 17 and 20, meet all other slabs and each other.
 const SLABS: &str = "half a1 -1 0 0 0 closed / half a2 1 0 0 -2 closed / and a a1 a2 / \
 half b1 -1 0 0 10 closed / half b2 1 0 0 -12 closed / and b b1 b2 / \
 half c1 -1 0 0 20 closed / half c2 1 0 0 -22 closed / and c c1 c2 / \
@@ -19,21 +19,22 @@ half e1 -1 0 0 40 closed / half e2 1 0 0 -42 closed / and e e1 e2 / \
 half g1 -1 0 0 -9 closed / half g2 1 0 0 -50 closed / and g g1 g2 / \
 half h1 -1 0 0 -9 closed / half h2 1 0 0 -50 closed / and h h1 h2";
 
-// Each row is a script behind those lines, with its own between the `/`, and its steps: the node that is made, with those of
-// which it is made where it is one of a row, or with the node and the turn where it is turned, and the line of each question.
-// A slab's letter stands for the three steps that make it.
+// Each row is a script behind the lines of the slabs, with `/` between its own lines, and its steps: a name for the value
+// that is made, with both operands where it belongs to a row of one operation, or with its source and its turn where it is
+// turned; and the line of each question. A slab's letter stands for the three steps that make the slab.
 //
-// The first row of unions is a tree. In the second a set of the row is asked about, so that two rows follow each other; in
-// the next ones a set is used twice in one statement, once more later, as a second operand, by another operation, and by a turn.
-// Then two sets meet a third, but not each other; three meet each other; no question needs the last set; and no question is
-// asked. A row of symmetric differences is a tree whatever meets. Of a row of differences neighbours that are apart are
-// joined, if they are used for nothing else. The last rows ask about each set before the next line, about another set while a
-// row goes on, about sets in another order than their lines, and twice about one. What no question needs comes last.
+// The first row of unions becomes a tree. In the second row a question is asked about a set within the row, which makes
+// two rows; in the next ones a set is used twice in one statement, later, as a second operand, by another operation, or
+// by a turn. Then two sets meet a third, but not each other; three sets meet each other; no question needs the last
+// set; and no question is asked. A row of symmetric differences becomes a tree whatever sets meet; of a row of
+// differences, neighbours that lie apart are joined if nothing else uses them. The last rows ask about each set before
+// the next line, about another set within a row, about sets in another order than their lines, and twice about one set.
+// Sets that no question needs come last.
 const PLANNED: &str =
     "or p a b / or q p c / or r q d / or s r e / count s => a b c d e 25=2|5 26=8|11 27=25|26 24=27|14 ?26 g h
 or p a b / or q p c / count q / or r q d / count r => a b c 24=2|5 22=24|8 ?24 d 23=22|11 ?26 e g h
 or p a b / or q p p / count q => a b 21=2|5 22=21|21 ?24 c d e g h
-or p a b / or q p a / and r q p / count r => a b 21=2|5 22=21|2 23 ?25 c d e g h
+or p a b / or q p a / and r q p / count r => a b 21=2|5 22=21|2 23=22&21 ?25 c d e g h
 or p a b / or q p a / count q => a b 21=2|5 22=21|2 ?24 c d e g h
 or p a b / or q c p / count q => a b c 21=2|5 22=8|21 ?24 d e g h
 or p a b / xor q p c / diff r q d / count r => a b c d 21=2|5 22=21^8 23=22-11 ?25 e g h
@@ -51,12 +52,13 @@ diff p g a / diff q p b / count h / diff r q c / count r => h ?24 a b c g 24=2|5
 or p a b / xor q c d / count q / count b / count p => c d 22=8^11 ?24 b ?25 a 21=2|5 ?26 e g h
 xor p a b / count p / count p / count a => a b 21=2^5 ?23 ?24 ?25 c d e g h";
 
-// The generated script of 32 boxes: the first 16 are joined with one another, then the others, and then both.
-const STAIRS_END: &str = " 409=369|381 410=408|409 411=407|410 412=404|411 382=397|412 ?384";
+// The generated script of 32 boxes: the first 16 boxes are joined, then the other 16, and then both unions.
+const STAIRS_END: &str = " 378=366|377 379=355|378 380=332|379 381=285|380 382=190|381 ?384";
 
-// The sign of an operation whose rows are joined.
+// The operands and the sign of an operation whose rows become trees.
 fn sign(made: &Node) -> Option<(usize, char, usize)> {
     match *made {
+        Node::And(i, j) => Some((i, '&', j)),
         Node::Or(i, j) => Some((i, '|', j)),
         Node::Xor(i, j) => Some((i, '^', j)),
         Node::Diff(i, j) => Some((i, '-', j)),
@@ -64,14 +66,44 @@ fn sign(made: &Node) -> Option<(usize, char, usize)> {
     }
 }
 
-fn made_text(alloc: Global, node: usize, made: &Node) -> Result<String, OutOfMemory> {
-    match sign(made) {
-        Some((i, sign, j)) => format!(in alloc; "{node}={i}{sign}{j}"),
-        None => format!(in alloc; "{node}"),
+// The name that a word gives the value of its step, and otherwise the step's number.
+fn name_in(alloc: Global, word: &str, number: usize) -> Result<String, OutOfMemory> {
+    for sign in ['=', '@', ':'] {
+        if let Some((name, _)) = word.split_once(sign) {
+            return String::from_str(alloc, name);
+        }
+    }
+    format!(in alloc; "{number}")
+}
+
+fn name_of(names: &[String], value: usize) -> &str {
+    match names.get(value) {
+        Some(name) => name.as_str(),
+        None => "",
     }
 }
 
-// The line of a question.
+// What makes the value of this name: two others, or the half-space with its offset.
+fn made_text(
+    alloc: Global,
+    names: &[String],
+    name: &str,
+    made: &Node,
+) -> Result<String, OutOfMemory> {
+    if let Node::Half { oriented, .. } = made {
+        let offset = oriented.plane().d().unsigned_abs();
+        return format!(in alloc; "{name}:{offset}");
+    }
+    match sign(made) {
+        Some((i, sign, j)) => {
+            let (first, second) = (name_of(names, i), name_of(names, j));
+            format!(in alloc; "{name}={first}{sign}{second}")
+        }
+        None => format!(in alloc; "{name}"),
+    }
+}
+
+// The line of a question, which is a count.
 fn line_of(command: &Command) -> u64 {
     match command {
         Command::Count { line, .. } => *line,
@@ -79,48 +111,68 @@ fn line_of(command: &Command) -> u64 {
     }
 }
 
-fn step_text(alloc: Global, step: &Step) -> Result<String, OutOfMemory> {
-    match step {
-        Step::Make { node, made } => made_text(alloc, *node, made),
-        Step::Turn { node, from, turn } => format!(in alloc; "{node}@{from}*{turn}"),
-        Step::Ask(command) => format!(in alloc; "?{}", line_of(command)),
+fn step_text(
+    alloc: Global,
+    names: &[String],
+    name: &str,
+    step: &Step,
+) -> Result<String, OutOfMemory> {
+    match &step.task {
+        Task::Make(made) => made_text(alloc, names, name, made),
+        Task::Turn { from, turn } => {
+            let from = name_of(names, *from);
+            format!(in alloc; "{name}@{from}*{turn}")
+        }
+        Task::Ask { command, .. } => format!(in alloc; "?{}", line_of(command)),
     }
 }
 
-fn plan_text(alloc: Global, plan: &Plan) -> Result<String, OutOfMemory> {
+// The names that the words give the values of the steps, in order.
+fn names_in(alloc: Global, words: &str, count: usize) -> Result<Vec<String>, OutOfMemory> {
+    let mut names = Vec::new(alloc);
+    let mut words = words.split(' ');
+    for number in 0..count {
+        let word = words.next().unwrap_or("");
+        names.push(name_in(alloc, word, number)?)?;
+    }
+    Ok(names)
+}
+
+fn plan_text(alloc: Global, plan: &Plan, words: &str) -> Result<String, OutOfMemory> {
+    let names = names_in(alloc, words, plan.steps.len())?;
     let mut text = String::new(alloc);
-    for step in &plan.steps {
+    for (step, name) in plan.steps.iter().zip(&names) {
         if !text.is_empty() {
             text.push(' ')?;
         }
-        text.push_str(step_text(alloc, step)?.as_str())?;
+        text.push_str(step_text(alloc, &names, name.as_str(), step)?.as_str())?;
     }
     Ok(text)
 }
 
-// The steps of the script.
-fn planned(alloc: Global, lines: &[u8]) -> Result<String, Fail> {
+// The steps of the script as a text, with the names that the words give their values.
+fn planned(alloc: Global, lines: &[u8], words: &str) -> Result<String, Fail> {
     let script = parse(alloc, lines)?;
     let plan = plan(alloc, &script)?;
-    let text = plan_text(alloc, &plan)?;
+    let text = plan_text(alloc, &plan, words)?;
     Ok(text)
 }
 
-// The steps that a word of a row stands for.
+// The steps that a word of a row of `PLANNED` stands for.
 fn steps_of(word: &str) -> &str {
     match word {
-        "a" => "0 1 2",
-        "b" => "3 4 5",
-        "c" => "6 7 8",
-        "d" => "9 10 11",
-        "e" => "12 13 14",
-        "g" => "15 16 17",
-        "h" => "18 19 20",
+        "a" => "0:0 1:2 2=0&1",
+        "b" => "3:10 4:12 5=3&4",
+        "c" => "6:20 7:22 8=6&7",
+        "d" => "9:30 10:32 11=9&10",
+        "e" => "12:40 13:42 14=12&13",
+        "g" => "15:9 16:50 17=15&16",
+        "h" => "18:9 19:50 20=18&19",
         _ => word,
     }
 }
 
-// The steps that the words of a row stand for.
+// The steps that the words of a row stand for, with blanks between.
 fn steps_text(alloc: Global, words: &str) -> Result<String, OutOfMemory> {
     let mut text = String::new(alloc);
     for word in words.split(' ') {
@@ -132,19 +184,19 @@ fn steps_text(alloc: Global, words: &str) -> Result<String, OutOfMemory> {
     Ok(text)
 }
 
-// The steps of the lines of the slabs and of those between the `/`.
-fn planned_of_slabs(alloc: Global, lines: &str) -> Result<String, Fail> {
+// The steps of the slabs' lines and of the row's lines.
+fn planned_of_slabs(alloc: Global, lines: &str, words: &str) -> Result<String, Fail> {
     let mut all = unfolded(alloc, SLABS)?;
     all.push_str(unfolded(alloc, lines)?.as_str())?;
-    planned(alloc, all.as_bytes())
+    planned(alloc, all.as_bytes(), words)
 }
 
 #[test]
 fn steps_of_scripts(rt: HostRuntime) -> Result<(), Fail> {
     for row in PLANNED.split('\n') {
         let (script, wanted) = row.split_once(" => ").ok_or("a row")?;
-        let found = planned_of_slabs(rt.alloc(), script)?;
         let wanted = steps_text(rt.alloc(), wanted)?;
+        let found = planned_of_slabs(rt.alloc(), script, wanted.as_str())?;
         check_text(&rt, found.as_str(), wanted.as_str(), script);
     }
     Ok(())
@@ -153,13 +205,12 @@ fn steps_of_scripts(rt: HostRuntime) -> Result<(), Fail> {
 #[test]
 fn steps_of_stairs(rt: HostRuntime) -> Result<(), Fail> {
     let script = stairs(rt.alloc(), 32)?;
-    let found = planned(rt.alloc(), script.as_slice())?;
+    let found = planned(rt.alloc(), script.as_slice(), "")?;
     check(&rt, &found.ends_with(STAIRS_END), &true, found.as_str());
     Ok(())
 }
 
-// A row of an operation with so many sets behind the first, each of which is made of three half-spaces, and a question
-// about it.
+// A row of an operation with `count` sets behind the first, each of three half-spaces, and a question about the row.
 fn long_row(alloc: Global, word: &str, count: u32) -> Result<String, OutOfMemory> {
     let mut script = String::from_str(alloc, "half r0 1 0 0 0 closed\nand w r0 r0\n")?;
     for number in 1..=count {
@@ -174,16 +225,14 @@ fn long_row(alloc: Global, word: &str, count: u32) -> Result<String, OutOfMemory
     Ok(script)
 }
 
-// How many steps there are.
 fn step_count(alloc: Global, lines: &str) -> Result<usize, Fail> {
     let script = parse(alloc, lines.as_bytes())?;
     let plan = plan(alloc, &script)?;
     Ok(plan.steps.len())
 }
 
-// Whatever tree joins sets, it has one operation fewer, and where they are taken from another there is one for that. So
-// there are as many steps as names, of which there are nearly as many as a script may bind, for a row of more than 4,000
-// half-spaces, and one for the question.
+// A tree of joined sets has one operation fewer than sets, and one more where sets are subtracted from a set. So a row
+// of over 4,000 half-spaces has as many steps as names, nearly as many as a script may bind, and one question.
 fn check_row(rt: &impl Abort, alloc: Global, word: &str) -> Result<(), Fail> {
     let script = long_row(alloc, word, 1364)?;
     let steps = step_count(alloc, script.as_str())?;
@@ -199,7 +248,7 @@ fn rows_of_most_names(rt: HostRuntime) -> Result<(), Fail> {
     Ok(())
 }
 
-// So many questions about one set, which is made by one step.
+// A script of `count` questions about one set, which one step makes.
 fn questions(alloc: Global, count: u32) -> Result<String, OutOfMemory> {
     let mut script = String::from_str(alloc, "full a\n")?;
     for _ in 0..count {
@@ -208,7 +257,7 @@ fn questions(alloc: Global, count: u32) -> Result<String, OutOfMemory> {
     Ok(script)
 }
 
-// As many as the bytes of the longest script allow.
+// As many questions as the bytes of the longest script allow.
 #[test]
 fn most_questions(rt: HostRuntime) -> Result<(), Fail> {
     let script = questions(rt.alloc(), 131_071)?;

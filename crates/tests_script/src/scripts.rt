@@ -1,4 +1,4 @@
-//! Scripts that are refused, what commands become, and the limits of a script.
+//! Scripts that are refused, commands of scripts, and the limits of a script.
 
 use crate::same::{check, check_text};
 use nef_expr::Node;
@@ -8,8 +8,8 @@ use std::alloc::Global;
 use std::process::Abort;
 use std::test::Fail;
 
-// Each row is a script, with its lines between the `/`, and its first refusal. The rows from the bad
-// byte on hold two faults on one line, or a fault on an earlier line.
+// Each row is a script, with `/` between its lines, and the first refusal. From the row of the bad byte on, each script
+// has two faults on one line, or a further fault on an earlier line.
 const REFUSALS: &str = "ball A => line 1: unknown command
 turning B A 1 => line 1: unknown command
 half A 1 0 0 closed => line 1: wrong number of words
@@ -90,7 +90,7 @@ line 11 ray 0 from 262144 0 1 128 toward -2 0 1
 line 12 turns 2 from 2 by 0
 ";
 
-// The turn 16 exchanges x and y, 1 negates x, and 2 negates y: first 16 and then 1 is 17, and first 1 and then 16 is 18.
+// The turn 16 exchanges x and y, 1 negates x, 2 negates y: first 16 and then 1 is 17, and first 1 and then 16 is 18.
 const COPIES: &str = "half a 1 2 3 4 open
 half b 0 1 0 0 closed
 and A a b
@@ -120,7 +120,7 @@ line 11 turns 2 from 5 by 16
 line 12 has 2 at 0 0 0 1
 ";
 
-/// The lines between the `/`.
+/// The script with line ends for `/`, and a line end behind its last line.
 pub(crate) fn unfolded(alloc: Global, script: &str) -> Result<String, OutOfMemory> {
     let mut lines = String::new(alloc);
     for line in script.split(" / ") {
@@ -134,13 +134,13 @@ fn fault(alloc: Global, script: &[u8]) -> Option<ScriptFault> {
     parse(alloc, script).err()
 }
 
-// The first refusal of the lines between the `/`.
+// The first refusal of a script with `/` between its lines.
 fn fault_of_lines(alloc: Global, script: &str) -> Result<Option<ScriptFault>, OutOfMemory> {
     let lines = unfolded(alloc, script)?;
     Ok(fault(alloc, lines.as_bytes()))
 }
 
-// The first refusal, as it is printed.
+// The first refusal as the program prints it, or `none`.
 fn refusal(alloc: Global, script: &str) -> Result<String, OutOfMemory> {
     match fault_of_lines(alloc, script)? {
         Some(ScriptFault::Refused { line, kind }) => format!(in alloc; "line {line}: {kind}"),
@@ -188,7 +188,7 @@ fn name_text(alloc: Global, name: &Name) -> Result<String, OutOfMemory> {
     format!(in alloc; " as {}", str::from_utf8(name.as_bytes()).unwrap_or("?"))
 }
 
-// The line of a command, what it does, and with which node.
+// A command's line, its effect, and the node that it is about.
 fn head(command: &Command) -> (u64, &'static str, usize) {
     match command {
         Command::Bind { line, node } => (*line, "binds", *node),
@@ -202,7 +202,7 @@ fn head(command: &Command) -> (u64, &'static str, usize) {
     }
 }
 
-// What else the command has.
+// The other numbers and words of the command.
 fn rest(alloc: Global, command: &Command) -> Result<String, OutOfMemory> {
     match command {
         Command::Turn { from, turn, .. } => format!(in alloc; " from {from} by {turn}"),
@@ -221,7 +221,7 @@ fn command_text(alloc: Global, command: &Command) -> Result<String, OutOfMemory>
     format!(in alloc; "line {line} {does} {node}{rest}\n")
 }
 
-// How many nodes the script makes, and its commands.
+// The number of nodes of the script, and all commands.
 fn script_text(alloc: Global, script: &Script) -> Result<String, OutOfMemory> {
     let mut text = format!(in alloc; "{} nodes\n", script.nodes.len())?;
     for command in script.commands() {
@@ -284,7 +284,7 @@ fn copies_are_kept_once(rt: HostRuntime) -> Result<(), Fail> {
     check_copy(&rt, rt.alloc(), 6, first)
 }
 
-// All turns of a half-space but the first.
+// Adds the turns of the half-space A0 by all turns but 0.
 fn push_turns(text: &mut String) -> Result<(), OutOfMemory> {
     for turn in 1..48 {
         write!(text, "turn A{turn} A0 {turn}\n")?;
@@ -292,7 +292,7 @@ fn push_turns(text: &mut String) -> Result<(), OutOfMemory> {
     Ok(())
 }
 
-// A turn of each of those.
+// Adds a turn by 25 of each of the 48 half-spaces.
 fn push_turns_of_turns(text: &mut String) -> Result<(), OutOfMemory> {
     for turn in 0..48 {
         write!(text, "turn B{turn} A{turn} 25\n")?;
@@ -312,7 +312,7 @@ fn node_count(alloc: Global, text: &str) -> Result<usize, ScriptFault> {
     Ok(script.nodes.len())
 }
 
-// Each of the 48 turns adds one node, and no turn of those adds another.
+// Each of the 48 turns of a half-space adds one node, and turns of turned half-spaces add none.
 #[test]
 fn copies_are_at_most_48(rt: HostRuntime) -> Result<(), Fail> {
     let text = all_turns(rt.alloc())?;
@@ -320,7 +320,7 @@ fn copies_are_at_most_48(rt: HostRuntime) -> Result<(), Fail> {
     Ok(())
 }
 
-// A comment of 256 bytes, and then so many carriage returns.
+// A comment of 256 bytes, and then `returns` carriage returns.
 fn long_line(alloc: Global, returns: usize) -> Result<Vec<u8>, OutOfMemory> {
     let mut line = Vec::new(alloc);
     line.push(b'#')?;
@@ -341,7 +341,7 @@ fn fault_of_line_feeds(alloc: Global, count: usize) -> Result<Option<ScriptFault
     Ok(fault(alloc, &script))
 }
 
-// Lines that bind 4,096 names, and then another line.
+// Lines that bind 4,096 names, and behind these lines the last line.
 fn many_names(alloc: Global, last: &[u8]) -> Result<Vec<u8>, OutOfMemory> {
     let mut script = Vec::new(alloc);
     for i in 1..4097u32 {

@@ -1,4 +1,4 @@
-//! How many workers start, where the gate holds no job for the sake of others.
+//! How many workers start under a gate for which the program starts no more workers than the jobs pay for.
 
 use crate::gates::{Crowd, TURNS};
 use crate::grids::grid;
@@ -8,14 +8,14 @@ use std::alloc::{AllocError, Global};
 use std::sync::Wait;
 use std::thread::Threads;
 
-// So many turns are enough for a worker that started to be seen.
+// Turns in which a worker that started is seen.
 const FEW_TURNS: u64 = 200;
 
-// After each statement, by its number, whether so many workers have a job of it at once.
+// After a statement, by its number, whether so many workers have a job of the statement at once.
 //
-// The first one is a half-space with 12 candidates. Statement 47 makes 64 boxes, from 512 candidates at least, most of
-// them far from one of the sets; 48 is their complement, with 520 candidates; and 49 puts both together, with as many at
-// least, most of them close to both sets.
+// Statement 1 is a half-space with 12 candidates. Statement 47 makes 64 boxes, from 512 candidates at least, most of
+// them far from one operand; 48 is the complement of the boxes, with 520 candidates; 49 puts boxes and complement
+// together, with as many candidates at least, most of them close to both operands.
 const CROWDS: &str = "\
 --workers 2; 1 2 => false
 --workers 2 --board free; 1 2 => false
@@ -32,13 +32,13 @@ const CROWDS: &str = "\
 --ahead --workers 64; 48 4 => true
 --ahead --workers 64; 48 5 => false";
 
-// The script of the boxes, their complement, and both together.
+// The script of the boxes, of their complement, and of the union of both.
 fn script_of_boxes(alloc: Global) -> Result<String, AllocError> {
     let boxes = grid(alloc, 8)?;
     format!(in alloc; "{boxes}not N G\nor W G N\nhas W 0 0 0 1\n")
 }
 
-// Whether the run ends well, and the workers were there at once or not, as it is wanted.
+// Whether the run ends well, and so many workers were or weren't there at once, as `wanted` says.
 fn is_crowded<R: Threads + Wait + Sync>(
     rt: &R,
     alloc: Global,
@@ -51,13 +51,13 @@ fn is_crowded<R: Threads + Wait + Sync>(
     Ok(code(&status) == 0 && gate.gathered() == wanted)
 }
 
-// The gate of a statement and a number of workers.
+// The gate of a statement and a number of workers, by the two numbers.
 fn gate_of(numbers: &str, turns: u64) -> Option<Crowd> {
     let (statement, workers) = numbers.split_once(' ')?;
     Some(Crowd::new(statement.parse().ok()?, workers.parse().ok()?, turns))
 }
 
-// Whether the row holds.
+// Whether the row of `CROWDS` holds.
 fn holds<R: Threads + Wait + Sync>(rt: &R, alloc: Global, row: &str) -> Option<bool> {
     let (words, rest) = row.split_once("; ")?;
     let (numbers, wanted) = rest.split_once(" => ")?;

@@ -1,4 +1,4 @@
-//! Sets that are cut and put together again, and operations of a set with itself.
+//! Sets that are cut and put together again, and operations on a set and itself.
 
 use crate::grids::comb;
 use crate::runs::{check, check_rows, gives};
@@ -12,12 +12,12 @@ const WORDS: &str = "--workers 1
 --workers 4 --board free
 --ahead --workers 4";
 
-// Scripts with `/` between their lines, and what each writes. A box with itself, in each way, and asked about afterwards; and
-// with its complement. A long box without the slab from x = 1 to 2, which is two boxes; with what the slab has of the box
-// put back, and with the lower half of that, a prism over a polygon of eight corners. A box within another, whose carriers
-// hold nothing where both are joined; the greater without the smaller, which has a cavity; and both joined again. Half-spaces
-// that may be worked side by side: the complement of one, which is worked alone, the intersection of it with another, and one at
-// which nothing looks.
+// Scripts with `/` between their lines, and what each writes. A box and itself under each operation, with questions to
+// the box afterwards, and a box and its complement. A long box without the slab from x = 1 to 2, which leaves two
+// boxes; these with the slab's part of the box put back, and with the lower half of that part, a prism over a polygon
+// of eight corners. A box within another, whose carriers hold nothing in the union; the greater box without the
+// smaller, which has a cavity; and both joined again. Half-spaces that may be worked side by side: the complement of
+// one, which is worked alone, the intersection of the complement with another, and a half-space that no question needs.
 const ROWS: &str = "half Aa -1 0 0 0 closed / half Ab 1 0 0 -1 closed / half Ac 0 -1 0 0 closed / \
     half Ad 0 1 0 -1 closed / half Ae 0 0 -1 0 closed / half Af 0 0 1 -1 closed / and Ag Aa Ab / \
     and Ah Ag Ac / and Ai Ah Ad / and Aj Ai Ae / and A Aj Af / and B A A / or C A A / diff D A A / \
@@ -44,14 +44,14 @@ half Aa -1 0 0 0 closed / half Ab 1 0 0 -1 closed / half Ac 0 -1 0 0 closed / \
 half A 1 0 0 0 closed / not N A / has N 1 0 0 1 / half B 0 1 0 0 closed / half D 0 0 1 0 closed / \
     and C A D / has C -1 5 -1 1 / has C -1 5 1 1 => in / in / not";
 
-// What is asked of twelve boxes in a row: without a slab that cuts through all, and put together again.
+// Questions about twelve boxes in a row: without a slab that cuts all boxes, and put together again.
 const QUESTIONS: &str =
     "half a 0 -4 0 5 open\nhalf b 0 2 0 -3 open\nand W a b\ndiff D G W\nand M G W\n\
     or R D M\ncount D\ncount R\nsame R G\nxor X R G\nempty E\nsame X E\ncount M\ncount G\n";
 
 const ANSWERS: &str = "200 300 150 26\n104 156 78 14\nsame\nsame\n104 156 78 14\n104 156 78 14\n";
 
-// Whether the questions about the boxes are answered so with these words.
+// Whether a run with these words answers the questions about the boxes.
 fn is_answered<R: Threads + Wait + Sync>(
     rt: &R,
     alloc: Global,

@@ -1,12 +1,12 @@
-//! Sets whose planes touch the frame, come close to each other, or all pass through one point; and long chains.
+//! Sets whose planes touch the frame, come close to each other, or all pass through one point; long operation chains.
 
 use crate::runs::{check, check_rows, gives};
 use std::alloc::{AllocError, Global};
 use std::sync::Wait;
 use std::thread::Threads;
 
-// Planes that meet the frame in a corner alone, pass through its corners and edges, or have the greatest numbers; a thin
-// wedge; a solid without a point.
+// Planes that meet the frame in a corner alone, that pass through its corners and edges, or that have the greatest
+// numbers; a thin wedge; a solid without one point.
 const PLANES: &str = "half A 1 1 1 -6144 open / full U / same A U => same
 half B 1 1 1 6144 closed / empty E / same B E => same
 half D 1 1 0 0 closed / count D => 8 14 9 3
@@ -20,7 +20,7 @@ half Pa -1 0 0 0 closed / half Pb 1 0 0 0 closed / half Pc 0 -1 0 0 closed / \
     and Ph Pg Pc / and Pi Ph Pd / and Pj Pi Pe / and P Pj Pf / full U / diff K U P / count K / \
     cl C K / same C U => 9 12 6 2 / same";
 
-// The points that lie on or above all of 49 planes through one point, which the four steepest ones bound.
+// A script of the points on or above all of 49 planes through one point, where the four steepest planes bound the set.
 fn planes_through_a_point(alloc: Global) -> Result<String, AllocError> {
     let mut script = String::from_str(alloc, "full a0\n")?;
     for plane in 0..49i32 {
@@ -32,7 +32,7 @@ fn planes_through_a_point(alloc: Global) -> Result<String, AllocError> {
     Ok(script)
 }
 
-// The complement and the closure in turn, fifty times: a closed half-space comes back after every fourth step.
+// A script of complements and closures in turn, fifty of each: after every fourth step a closed half-space comes back.
 fn closures_of_complements(alloc: Global) -> Result<String, AllocError> {
     let mut script = String::from_str(alloc, "half A 1 0 0 0 closed\nnot n1 A\n")?;
     for step in 2..=100u32 {

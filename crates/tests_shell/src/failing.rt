@@ -1,4 +1,4 @@
-//! One call of the source or of the sink that fails.
+//! Runs in which one call of the source or of the sink fails.
 
 use crate::runs::{check, ended, folded, unfolded};
 use nef_io::{MemSink, MemSource, OpenGate};
@@ -7,12 +7,12 @@ use std::alloc::{AllocError, Global};
 use std::sync::Wait;
 use std::thread::Threads;
 
-// A script of 70 bytes, which writes 7.
+// A script of 70 bytes that writes 7 bytes.
 const SCRIPT: &str = "half A 1 0 0 0 closed / has A 0 0 0 1 / half B 1 0 0 0 open / has B 0 0 0 1";
 
-// Which read fails of those of ten bytes each, the room of a sink, how many bytes it takes at most in one write, and which
-// write fails; the exit status of this script, and what the sink took, with `/` for line ends. One of the eight reads
-// fails, or none; of the seven writes, one for each byte, one fails, or none; and a sink without room.
+// Which read of ten bytes fails, the sink's room, the most bytes that the sink takes in one write, and which write
+// fails; the exit status of the script, and what the sink took, with `/` for line ends. One of the eight reads fails,
+// or none; one of seven writes of one byte fails, or none; and a sink has no room.
 const FAULTS: &str = "1 64 64 0 => 3:
 2 64 64 0 => 3:
 3 64 64 0 => 3:
@@ -32,8 +32,8 @@ const FAULTS: &str = "1 64 64 0 => 3:
 0 64 1 8 => 0:in/not/
 0 3 64 0 => 4:in/";
 
-// The same with words and a script: an answer in four writes; a refusal, and refused words; and a text of writes of at
-// most 16 bytes.
+// Rows like those of `FAULTS`, with words and a script: an answer in four writes; a refusal, and refused words; and a
+// text in writes of at most 16 bytes.
 const LINES: &str = "0 64 2 4;; full U / has U 0 0 0 1 / not N U / has N 0 0 0 1 => 4:in/no
 0 64 5 2;; ball A => 4:line 
 0 64 5 1;--workers 0; full U => 4:
@@ -55,13 +55,13 @@ fn taken<R: Threads + Wait + Sync>(
     format!(in alloc; "{}:{text}", code(&status))
 }
 
-// The source of the script of which this read fails.
+// A source of the script, where the read with this number fails.
 fn source_of(alloc: Global, script: &str, fails: u64) -> Result<MemSource, AllocError> {
     let script = unfolded(alloc, script)?;
     MemSource::new(alloc, script.as_bytes(), 10, &[fails])
 }
 
-// The sink of three numbers.
+// The sink of three numbers: its room, its most bytes in one write, and the write that fails.
 fn sink_of(alloc: Global, numbers: &str) -> Option<MemSink> {
     let (room, rest) = numbers.split_once(' ')?;
     let (most, fails) = rest.split_once(' ')?;
@@ -72,7 +72,7 @@ fn sink_of(alloc: Global, numbers: &str) -> Option<MemSink> {
     MemSink::new(alloc, room, most, &[fails.parse().ok()?]).ok()
 }
 
-// Whether the run with a source and a sink of these numbers gives what is wanted.
+// Whether a run with a source and a sink of these numbers gives what is wanted.
 fn fails<R: Threads + Wait + Sync>(
     rt: &R,
     alloc: Global,

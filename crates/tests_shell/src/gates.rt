@@ -1,16 +1,14 @@
-//! A gate that counts its calls, one that holds jobs back, and one for which no worker starts that the jobs don't pay
-//! for.
+//! Gates: one counts its calls, one holds jobs back, and one asks for no workers beyond those that the jobs pay for.
 
 use nef_io::Gate;
 use std::alloc::{AllocError, Global};
 use std::sync::atomic::{AtomicBool, AtomicU64, Ordering};
 use std::thread;
 
-/// More turns than any other thread needs to begin a job.
+/// More turns than another thread needs to begin a job.
 pub const TURNS: u64 = 20_000_000;
 
-/// Counts the calls for each job up to some number, those for later jobs, and those from the board
-/// without a lock.
+/// A gate that counts the calls for each of the first jobs, for all later jobs, and from the board without a lock.
 #[derive(Drop)]
 pub struct Counting {
     jobs: Vec<AtomicU64>,
@@ -31,7 +29,7 @@ impl Counting {
         })
     }
 
-    /// Adds the calls for each job, for all later ones, and from the board without a lock.
+    /// Adds the calls for each of the first jobs, for all later jobs, and from the board without a lock.
     pub fn push_calls(&self, text: &mut String) -> Result<(), AllocError> {
         for job in &self.jobs {
             write!(text, " {}", job.load(Ordering::SeqCst))?;
@@ -53,7 +51,7 @@ impl Gate for Counting {
     }
 }
 
-/// Holds each job of one number until so many of another number began, for so many turns at most.
+/// A gate that holds each job `held` until `wanted` jobs `awaited` began, for `TURNS` turns at most.
 #[derive(Drop)]
 pub struct Holding {
     held: u64,
@@ -74,7 +72,7 @@ impl Holding {
         }
     }
 
-    /// Whether some job was held for all the turns.
+    /// Whether some job was held for all turns.
     pub fn limit_reached(&self) -> bool {
         self.limit_reached.load(Ordering::SeqCst)
     }
@@ -98,8 +96,8 @@ impl Gate for Holding {
     }
 }
 
-/// Keeps each job of one statement, the first of which is number 1, until so many workers have one at once, for so many
-/// turns at most. No worker starts for its sake.
+/// A gate that keeps each job of one statement, counted from 1, until `wanted` workers have such a job at once, for
+/// `turns` turns at most. No worker starts for this gate's sake.
 #[derive(Drop)]
 pub struct Crowd {
     statement: u64,
@@ -122,12 +120,12 @@ impl Crowd {
         }
     }
 
-    /// Whether so many workers had a job at once.
+    /// Whether `wanted` workers had a job of the statement at once.
     pub fn gathered(&self) -> bool {
         self.gathered.load(Ordering::SeqCst)
     }
 
-    // Whether there are so many by now.
+    // Whether `wanted` workers have a job by now, or had one before.
     fn is_here(&self) -> bool {
         if self.inside.load(Ordering::SeqCst) >= self.wanted {
             self.gathered.store(true, Ordering::SeqCst);

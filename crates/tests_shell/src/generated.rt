@@ -1,4 +1,4 @@
-//! Runs of the generated script, and of others that leave the source as it was.
+//! Runs of the generated script, and runs that leave the source unread.
 
 use crate::runs::{check, ended, folded, gives, text_of, worked};
 use crate::texts::has_part;
@@ -8,12 +8,12 @@ use std::alloc::{AllocError, Global};
 use std::sync::Wait;
 use std::thread::Threads;
 
-// A vertex with an arc of three quarters of a circle, behind its number among the vertices.
+// A vertex with an arc of three quarters of a circle, behind the vertex's number.
 const VERTEX: &str = "16 v 12 8 8 1 i - / s 0 0 1 i - / s 0 1 0 i - / s 1 0 0 i - / \
     a 2 1 0 0 1 i i n / a 0 2 0 1 0 i i n / a 0 1 1 0 0 i n i";
 
-// Which read of the source fails, if one does, and words; and how two runs of one source end and what they write, with `/`
-// for line ends: one with these words, and one with none, which finds the refused script still there, or the read fail.
+// Which read of the source fails, if one does, and words; and how two runs on one source end and what they write, with
+// `/` for line ends: one with the words, and one without words, which finds the refused script or the failing read.
 const UNREAD: &str =
     "0; x => Words: words refused/ => Refused { line: 1, kind: UnknownCommand }: line 1: unknown command/
 0; --stairs 1 => Done: 16 24 12 3/ => Refused { line: 1, kind: UnknownCommand }: line 1: unknown command/
@@ -23,7 +23,7 @@ const UNREAD: &str =
 const MOST_BOXES: &str = "0; --stairs 32 => Done: 388 582 198 3/ => \
     Refused { line: 1, kind: UnknownCommand }: line 1: unknown command/";
 
-// How the run ends, and what it writes.
+// How the run ends, and what the run writes.
 fn told<R: Threads + Wait + Sync>(
     rt: &R,
     alloc: Global,
@@ -36,7 +36,7 @@ fn told<R: Threads + Wait + Sync>(
     format!(in alloc; "{status:?}: {taken}")
 }
 
-// Whether the run with these words, and then one with none, end and write so.
+// Whether a run with these words, and then a run without words, end and write as wanted.
 fn are_told<R: Threads + Wait + Sync>(
     rt: &R,
     alloc: Global,
@@ -57,7 +57,7 @@ fn holds<R: Threads + Wait + Sync>(rt: &R, alloc: Global, row: &str) -> Option<b
     are_told(rt, alloc, words, fails.parse().ok()?, wanted).ok()
 }
 
-// A half by the name `{name}122`, as what 123 halves with this normal have in common, of which it is the least.
+// A script of the half `{name}122`: the intersection of 123 halves with this normal, of which it is the least.
 fn nested(alloc: Global, name: &str, normal: &str) -> Result<String, AllocError> {
     let mut script = format!(in alloc; "half {name}0 {normal} 0 closed\n")?;
     for number in 1..=122u32 {
@@ -82,7 +82,7 @@ fn most_boxes(rt: HostRuntime) {
     check(&rt, holds(&rt, rt.alloc(), MOST_BOXES), "", MOST_BOXES);
 }
 
-// Whether the generated script, read from the source with one line more, prints the vertex.
+// Whether the generated script, read from the source with a line more, prints `VERTEX`.
 fn has_arc<R: Threads + Wait + Sync>(rt: &R, alloc: Global) -> Result<bool, AllocError> {
     let boxes = stairs(alloc, 2)?;
     let script = format!(in alloc; "{}print u1\n", text_of(boxes.as_slice()))?;
@@ -97,8 +97,7 @@ fn arc_of_three_quarters(rt: HostRuntime) {
     check(&rt, has_arc(&rt, rt.alloc()).ok(), "", VERTEX);
 }
 
-// Whether sets with many carriers are the same as with few. Each of two sets has the 6 carriers of the frame and 123 of its
-// own.
+// Whether a set of many carriers is the same as one of few: each operand has the frame's 6 carriers and 123 of its own.
 fn are_same<R: Threads + Wait + Sync>(rt: &R, alloc: Global) -> Result<bool, AllocError> {
     let (first, second) = (nested(alloc, "p", "1 0 0")?, nested(alloc, "q", "0 1 0")?);
     let script = format!(in alloc;

@@ -1,9 +1,9 @@
-//! Scripts of sets of many boxes.
+//! Scripts of sets of many boxes or slabs.
 
 use std::alloc::{AllocError, Global};
 
-// The slabs between each odd number and the next, up to this even one, along this normal: where an odd number of
-// half-spaces hold. There is one statement for the first half-space, and two for each further one.
+// The slabs along this normal from each odd number to the next number, up to the even number `last`: where an odd
+// number of half-spaces hold. The first half-space takes one statement, and each other one two.
 fn slabs(alloc: Global, name: &str, normal: &str, last: u32) -> Result<String, AllocError> {
     let mut script = format!(in alloc; "half {name}1 {normal} -1 closed\n")?;
     for number in 2..=last {
@@ -16,8 +16,7 @@ fn slabs(alloc: Global, name: &str, normal: &str, last: u32) -> Result<String, A
     Ok(script)
 }
 
-/// Boxes by the name `G`, where the slabs along x, y and z meet. Of the statements, six for each number up to the last and
-/// one less, the last one makes them.
+/// Boxes with the name `G`, where the slabs along x, y and z meet. The last of 6 `last` - 1 statements makes the boxes.
 pub(crate) fn grid(alloc: Global, last: u32) -> Result<String, AllocError> {
     let (xs, ys) = (
         slabs(alloc, "x", "1 0 0", last)?,
@@ -27,7 +26,7 @@ pub(crate) fn grid(alloc: Global, last: u32) -> Result<String, AllocError> {
     format!(in alloc; "{xs}{ys}{zs}and xy x{last} y{last}\nand G xy z{last}\n")
 }
 
-/// Boxes by the name `G`, where the slabs along x meet the first one along y and along z.
+/// Boxes with the name `G`, where the slabs along x meet the first slab along y and the first along z.
 pub(crate) fn comb(alloc: Global, last: u32) -> Result<String, AllocError> {
     let (xs, ys) = (
         slabs(alloc, "x", "1 0 0", last)?,

@@ -1,4 +1,4 @@
-//! Sets that are asked more than once: what was worked of a set is kept while the set is, and tells of no other.
+//! Sets that get several questions: what was worked of a set is kept with the set, and answers for no other set.
 
 use crate::empty_text::EMPTY_TEXT;
 use crate::runs::{check, check_rows, gives, worked};
@@ -7,7 +7,7 @@ use std::process::Abort;
 use std::sync::Wait;
 use std::thread::Threads;
 
-// Words of the command line.
+// Words of the command line, one line for each run.
 const WORDS: &str = "--workers 1
 --workers 4 --board free
 --ahead --workers 4
@@ -17,9 +17,9 @@ const WORDS: &str = "--workers 1
 const TWO_NAMES_WORDS: &str = "--text 2
 --text 2 --ahead --workers 4 --board free";
 
-// Scripts with `/` between their lines, and what each writes: a set that is asked, bound over by a turn and asked again;
-// one that a turn gives back when it was let go; two sets in turns; a set that is used later, and asked again; and points
-// outside the frame first, which want no parts.
+// Scripts with `/` between their lines, and what each writes: questions to a set that a turn binds again; a set that a
+// turn gives back after it was let go; questions to two sets in turns; a set that is used later and asked again; and
+// points outside the frame first, for which no parts are worked.
 const ROWS: &str = "half A 1 0 0 0 closed / turn B A 1 / count B / joined B 1 0 0 1 2 0 0 1 / \
     joined B -1 0 0 1 1 0 0 1 / turn C A 1 / count C / joined C 1 0 0 1 2 0 0 1 / \
     joined C -1 0 0 1 1 0 0 1 / count B / has C 1 0 0 1 / has B -1 0 0 1 => \
@@ -54,10 +54,10 @@ fn asked_again(rt: HostRuntime) {
     }
 }
 
-// The empty set, counted and printed in turns.
+// The empty set, printed and counted in turns.
 const PRINTED: &str = "empty E\nprint E\ncount E\nfull U\ncount U\nprint E\nand F U E\nprint E\n";
 
-// Whether it is printed each time.
+// Whether each print of `PRINTED` writes the text of the empty set.
 fn is_printed<R: Threads + Wait + Sync>(
     rt: &R,
     alloc: Global,
@@ -68,11 +68,11 @@ fn is_printed<R: Threads + Wait + Sync>(
     gives(rt, alloc, words, PRINTED, 0, output.as_str())
 }
 
-// A turned set with two names, printed by both and once more: the texts between are equal, and of the second version.
+// A turned set with two names, printed by the first, the second and the first name, in the second version of the text.
 const TWO_NAMES: &str = "half A 1 0 0 0 open\nturn B A 1\nprint B\nturn C A 1\ncount C\nprint C\n\
     half D 0 0 1 0 open\njoined B -1 0 0 1 1 0 0 1\nprint B\n";
 
-// Whether what the script of two names writes is so.
+// Whether the three texts that the script of two names writes are equal, and of the second version.
 fn is_alike(written: &str) -> Option<bool> {
     let texts = written.strip_prefix("polyhedron B\n")?;
     let (first, rest) = texts.split_once("12 20 11 3\npolyhedron C\n")?;
@@ -80,13 +80,13 @@ fn is_alike(written: &str) -> Option<bool> {
     Some(first.starts_with("nef3 2 12 20 11 3\n") && first == second && second == third)
 }
 
-// Whether it is printed alike.
+// Whether a run with these words writes three equal texts.
 fn prints_alike<R: Threads + Wait + Sync>(rt: &R, alloc: Global, words: &str) -> Option<bool> {
     let (status, text) = worked(rt, alloc, words, TWO_NAMES).ok()?;
     Some(status == 0 && is_alike(text.as_str()) == Some(true))
 }
 
-// Two thousand questions about one set, and their answers.
+// Whether two thousand questions about one set are answered.
 fn is_answered<R: Threads + Wait + Sync>(
     rt: &R,
     alloc: Global,

@@ -1,5 +1,4 @@
-//! A large set: with more candidates, vertices and text than any number in the program from which on it works in another
-//! way.
+//! A large set, beyond each number of candidates, vertices and bytes from which on the program works in another way.
 
 use crate::grids::grid;
 use crate::runs::{check, ended, text_of};
@@ -10,11 +9,11 @@ use std::process::Abort;
 use std::sync::Wait;
 use std::thread::Threads;
 
-// More bytes than the large set's text.
+// More bytes than the text of the large set has.
 const ROOM: usize = 4_194_304;
 
-// What is asked of 512 boxes, and the answers: of the complement, which has the same parts; of both together, which are the
-// frame; and of the boxes with y and z exchanged, which are the same.
+// Questions about 512 boxes, and the answers: about the complement, which has the same parts; about the union of both,
+// which is the frame; and about the boxes with y and z exchanged, which are the same set.
 const QUESTIONS: &str =
     "count G\nnot N G\ncount N\nor U G N\nfull F\nsame U F\nturn T G 8\nsame T G\n\
     joined G 3 3 3 2 7 3 3 2\njoined G 0 0 0 1 0 0 1 2\nray G 3 3 3 2 1 0 0\nprint G\n";
@@ -22,13 +21,12 @@ const QUESTIONS: &str =
 const ANSWERS: &str = "4104 6156 3078 514\n4104 6156 3078 514\nsame\nsame\napart\njoined\n\
     after 4 3 3 2 not\npolyhedron G\n";
 
-// How many lines of the text begin so.
+// How many lines of the text begin with `start`.
 fn lines_with(text: &str, start: &str) -> usize {
     text.lines().filter(|line| line.starts_with(start)).count()
 }
 
-// Whether it is the text of 512 boxes: each has 8 vertices, 12 edges, 6 facets and the volume within, beside those of the
-// frame, its border and what is around the boxes.
+// Whether the text is that of 512 boxes: each adds 8 vertices, 12 edges, 6 facets, a volume to the frame's 8, 12, 6, 2.
 fn is_of_boxes(text: &str) -> bool {
     text.ends_with("end\n")
         && lines_with(text, "v ") == 8 + 8 * 512
@@ -37,7 +35,7 @@ fn is_of_boxes(text: &str) -> bool {
         && lines_with(text, "w ") == 2 + 512
 }
 
-// Whether the answers and the text of the boxes are written.
+// Whether the answers and the text of the boxes are what was written.
 fn is_answered(written: &str) -> bool {
     match written.strip_prefix(ANSWERS) {
         Some(text) => is_of_boxes(text),
@@ -45,7 +43,7 @@ fn is_answered(written: &str) -> bool {
     }
 }
 
-// Whether a run with these words gives the answers and prints the boxes.
+// Whether a run with these words gives the answers and the text of the boxes.
 fn is_worked<R: Threads + Wait + Sync>(
     rt: &R,
     alloc: Global,

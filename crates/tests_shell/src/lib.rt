@@ -1,5 +1,5 @@
-//! Tests of the program: scripts with what they write, by both boards and any number of workers; printed texts; turned
-//! sets; faults of the source and of the sink; what the gate is told; and the limits of scripts.
+//! Tests of the program: scripts and what they write, by both boards and any number of workers; printed texts; turned
+//! sets; faults of source and sink; jobs that the gate hears of; and the limits of scripts.
 #![tactic(auto)]
 
 #[cfg(test)]

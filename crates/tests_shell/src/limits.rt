@@ -1,4 +1,4 @@
-//! The shortest and the longest scripts, lines and lists of names, and the words of the command line.
+//! The shortest and the longest scripts, lines and lists of names, and words of the command line.
 
 use crate::empty_text::EMPTY_TEXT;
 use crate::runs::{check, check_rows, gives};
@@ -7,7 +7,7 @@ use std::process::Abort;
 use std::sync::Wait;
 use std::thread::Threads;
 
-// Words that are accepted: two, or one.
+// Words that the command line accepts: an option of two words, or of one.
 const ACCEPTED: &str = "--workers 2\n--workers=2\n--board free";
 
 const REFUSED: &str = "--workers 0
@@ -28,7 +28,7 @@ fn repeated(alloc: Global, letter: char, count: u32) -> Result<String, AllocErro
     Ok(text)
 }
 
-// Bindings of as many names as a script may have.
+// Lines that bind as many names as a script may have.
 fn most_names(alloc: Global) -> Result<String, AllocError> {
     let mut names = String::new(alloc);
     for number in 1..=4096u32 {
@@ -37,7 +37,7 @@ fn most_names(alloc: Global) -> Result<String, AllocError> {
     Ok(names)
 }
 
-// Whether the text, and the text with one letter more, end and write so.
+// Whether a run of the text writes nothing, and a run of the text with one letter more is refused so.
 fn is_longest<R: Threads + Wait + Sync>(
     rt: &R,
     alloc: Global,
@@ -50,7 +50,7 @@ fn is_longest<R: Threads + Wait + Sync>(
     Ok(gives(rt, alloc, "", text, 0, "")? && gives(rt, alloc, "", longer.as_str(), 1, refusal)?)
 }
 
-// Whether the most names with this line behind them end and write so.
+// Whether a script of the most names and this line ends with the status and writes the output.
 fn names_give<R: Threads + Wait + Sync>(
     rt: &R,
     alloc: Global,
@@ -63,7 +63,7 @@ fn names_give<R: Threads + Wait + Sync>(
     gives(rt, alloc, "", script.as_str(), status, output)
 }
 
-// Whether the constant set with this name, which the line binds, has this text.
+// Whether the line binds a constant set by this name that has this text.
 fn constant_gives<R: Threads + Wait + Sync>(
     rt: &R,
     alloc: Global,
@@ -76,7 +76,7 @@ fn constant_gives<R: Threads + Wait + Sync>(
     gives(rt, alloc, "", script.as_str(), 0, output.as_str())
 }
 
-// Stops the test where a run with each of these words doesn't end with this status, or doesn't write this.
+// Stops the test where a run with some of these words doesn't end with the status, or doesn't write what the row tells.
 fn check_words<R: Threads + Wait + Abort + Sync>(
     rt: &R,
     alloc: Global,
@@ -97,7 +97,7 @@ fn words(rt: HostRuntime) {
     check_words(&rt, rt.alloc(), REFUSED, script, 2);
 }
 
-// Whether an empty script, and one without a last line end, are worked, and the longest line and script are.
+// Whether the empty script, a script without a last line end, the longest line and the longest script are worked.
 fn are_within<R: Threads + Wait + Sync>(rt: &R, alloc: Global) -> Result<bool, AllocError> {
     let line = repeated(alloc, '#', 256)?;
     let script = repeated(alloc, '\n', 1_048_576)?;
@@ -120,7 +120,7 @@ fn longest(rt: HostRuntime) {
     check(&rt, are_within(&rt, rt.alloc()).ok(), "", "lengths");
 }
 
-// Scripts of the most names are worked or refused, as the line behind them is.
+// Whether scripts of the most names are worked or refused as their last lines are.
 fn are_most<R: Threads + Wait + Sync>(rt: &R, alloc: Global) -> Result<bool, AllocError> {
     Ok(
         names_give(rt, alloc, "has n4096 0 0 0 1", 0, "in\n")?
@@ -134,8 +134,7 @@ fn names(rt: HostRuntime) {
     check(&rt, are_most(&rt, rt.alloc()).ok(), "", "names");
 }
 
-// Whether both constant sets are printed. The text of the whole frame is the same as that of the empty set, with the other
-// label inside.
+// Whether both constant sets are printed: the whole frame's text is the empty set's text with the other label inside.
 fn are_printed<R: Threads + Wait + Sync>(rt: &R, alloc: Global) -> Result<bool, AllocError> {
     let text = EMPTY_TEXT.replace(alloc, " n", " i")?;
     Ok(

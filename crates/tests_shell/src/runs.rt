@@ -1,4 +1,4 @@
-//! Runs of the program. Nothing is ensured of them, so the tests carry no more than they compare.
+//! Runs of the program. No contract speaks of their results, so that the tests carry no more than they compare.
 
 use nef_io::{Gate, MemSink, OpenGate, Sink, Source, SureSource};
 use nef_shell::{Status, code, run};
@@ -8,7 +8,7 @@ use std::str;
 use std::sync::Wait;
 use std::thread::Threads;
 
-/// The texts between the `/`, each with its line end.
+/// The texts between the `/`, each with a line end.
 pub(crate) fn unfolded(alloc: Global, text: &str) -> Result<String, AllocError> {
     let mut lines = String::new(alloc);
     for line in text.split(" / ") {
@@ -18,7 +18,7 @@ pub(crate) fn unfolded(alloc: Global, text: &str) -> Result<String, AllocError> 
     Ok(lines)
 }
 
-/// The words between the blanks, of which there may be none.
+/// The words between the blanks, if there are any.
 pub(crate) fn owned(alloc: Global, words: &str) -> Result<Vec<String>, AllocError> {
     let mut owned = Vec::new(alloc);
     if words.is_empty() {
@@ -43,7 +43,7 @@ pub(crate) fn ended<R: Threads + Wait + Sync, S: Source, K: Sink, G: Gate + Sync
     Ok(run(rt, alloc, &words, source, sink, gate))
 }
 
-/// How a run of the script ends that tells the gate of its jobs.
+/// How a run of the script ends under this gate.
 pub(crate) fn told<R: Threads + Wait + Sync, G: Gate + Sync>(
     rt: &R,
     alloc: Global,
@@ -56,7 +56,7 @@ pub(crate) fn told<R: Threads + Wait + Sync, G: Gate + Sync>(
     ended(rt, alloc, words, &mut source, &mut sink, gate)
 }
 
-/// The exit status, and what was written.
+/// The exit status of a run of the script, and what was written.
 pub(crate) fn worked<R: Threads + Wait + Sync>(
     rt: &R,
     alloc: Global,
@@ -70,7 +70,6 @@ pub(crate) fn worked<R: Threads + Wait + Sync>(
     Ok((code(&status), written))
 }
 
-/// The bytes as a text.
 pub(crate) fn text_of(bytes: &[u8]) -> &str {
     str::from_utf8(bytes).unwrap_or("no text")
 }
@@ -80,7 +79,7 @@ pub(crate) fn folded(alloc: Global, bytes: &[u8]) -> Result<String, AllocError> 
     text_of(bytes).replace(alloc, "\n", "/")
 }
 
-/// Whether a run with these words ends with this status and writes this.
+/// Whether a run of the script with these words ends with the status and writes the output.
 pub(crate) fn gives<R: Threads + Wait + Sync>(
     rt: &R,
     alloc: Global,
@@ -93,7 +92,7 @@ pub(crate) fn gives<R: Threads + Wait + Sync>(
     Ok(ended == status && written.as_str() == output)
 }
 
-// The same of lines with `/` between them.
+// Whether a run of the script with these words ends and writes so, with `/` between the lines of both.
 fn lines_give<R: Threads + Wait + Sync>(
     rt: &R,
     alloc: Global,
@@ -122,7 +121,7 @@ pub(crate) fn check(rt: &impl Abort, holds: Option<bool>, words: &str, row: &str
     assert!(rt; matches!(holds, Some(true)), "{words}: {row}");
 }
 
-/// Stops the test where a row of the table doesn't end with this status, or doesn't come out, with these words.
+/// Stops the test where a run of a row of the table with these words doesn't end with the status or write the answer.
 pub(crate) fn check_rows<R: Threads + Wait + Abort + Sync>(
     rt: &R,
     alloc: Global,

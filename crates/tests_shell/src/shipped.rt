@@ -1,4 +1,4 @@
-//! The program as it is shipped, over a reader and a writer of std of which some call fails.
+//! The program as it is shipped, over a reader and a writer of std where some call fails.
 
 ghost use Rattle.nef_complex.specs.Prelude.{Some};
 
@@ -12,12 +12,12 @@ use std::process::{Abort, ExitCode};
 use std::sync::Wait;
 use std::thread::Threads;
 
-// A script of 70 bytes, which writes 7 in two pieces.
+// A script of 70 bytes that writes 7 bytes in two pieces.
 const SCRIPT: &str = "half A 1 0 0 0 closed / has A 0 0 0 1 / half B 1 0 0 0 open / has B 0 0 0 1";
 
-// Which read fails of those of ten bytes each; how many bytes the writer takes at most in one write, which write fails,
-// and which takes nothing; the exit status of this script, and what the writer took, with `/` for line ends. One of the
-// eight reads fails, or none does; then one of the writes, the last one too.
+// Which read of ten bytes fails, the most bytes that the writer takes in one write, which write fails, and which write
+// takes nothing; the exit status of the script, and what the writer took, with `/` for line ends. One of the eight
+// reads fails, or none; then one of the writes, also the last, fails.
 const FAULTS: &str = "1 9 0 0 => 3:
 2 9 0 0 => 3:
 3 9 0 0 => 3:
@@ -42,8 +42,8 @@ const FAULTS: &str = "1 9 0 0 => 3:
 0 1 0 7 => 4:in/not
 0 1 8 0 => 0:in/not/";
 
-// The same with a command line and a script: one that is refused, refused words, of which there are more than sixteen
-// twice; a script that isn't read; and a text of writes of at most 16 bytes.
+// Rows like those of `FAULTS`, with a command line and a script: a refused script; refused words, more than sixteen in
+// two rows; a script that stays unread; and a text in writes of at most 16 bytes.
 const LINES: &str =
     "0 99 0 0;nef; half A 2048 0 0 0 closed / has A 0 0 0 1 / half B 2049 0 0 0 closed => \
 1:line 3: coefficient out of range/
@@ -61,7 +61,7 @@ const LINES: &str =
     and Ah Ag Ac / and Ai Ah Ad / and Aj Ai Ae / and A Aj Af / print A => \
     4:polyhedron A/nef3 1 16 24 12 3/v";
 
-// Gives at most ten bytes a read, and the read of one number fails.
+// A reader that gives at most ten bytes a read, where the read with the number `fails` fails.
 #[derive(Drop)]
 struct Giving<'a> {
     rest: &'a [u8],
@@ -80,7 +80,7 @@ impl Read for Giving<'_> {
     }
 }
 
-// Takes at most so many bytes a write. The write of one number fails, and that of another takes nothing.
+// A writer that takes at most `most` bytes a write, where the write `fails` fails and the write `idles` takes nothing.
 #[derive(Drop)]
 struct Taking {
     bytes: Vec<u8>,
@@ -110,7 +110,7 @@ impl Write for Taking {
     }
 }
 
-// The writer of three numbers.
+// The writer of three numbers: its most bytes in one write, the write that fails, and the write that takes nothing.
 fn writer_of(alloc: Global, numbers: &str) -> Option<Taking> {
     let (most, rest) = numbers.split_once(' ')?;
     let (fails, idles) = rest.split_once(' ')?;
@@ -123,7 +123,6 @@ fn writer_of(alloc: Global, numbers: &str) -> Option<Taking> {
     })
 }
 
-// The words of a command line.
 fn line_of(alloc: Global, words: &str) -> Result<Args, AllocError> {
     let words = owned(alloc, words)?;
     Ok(words.into_iter())
@@ -151,7 +150,7 @@ fn is_wanted(alloc: Global, given: &(ExitCode, Vec<u8>), wanted: &str) -> Option
     Some(given.0 == ExitCode::from(status) && taken.as_str() == text)
 }
 
-// Whether a run with a reader and a writer of these numbers ends and writes so.
+// Whether a run with a reader and a writer of these numbers ends and writes as wanted.
 fn ends<R: Threads + Wait + Sync>(
     rt: &R,
     alloc: Global,
@@ -199,7 +198,7 @@ fn command_lines(rt: HostRuntime) {
     }
 }
 
-// The same where the line has no words for a fault of this kind.
+// Stops the test where a run whose line can't be read, for a fault of this kind, ends or writes otherwise than wanted.
 fn check_no_words<R: Threads + Wait + Abort + Sync>(
     rt: &R,
     alloc: Global,
@@ -216,7 +215,7 @@ fn check_no_words<R: Threads + Wait + Abort + Sync>(
     );
 }
 
-// A word that isn't text is a refused word, and not want of memory.
+// A word that isn't text is told as refused words, and not as want of memory.
 #[test]
 fn lines_without_words(rt: HostRuntime) {
     let alloc = rt.alloc();

@@ -13,7 +13,7 @@ use std::process::Abort;
 use std::sync::Wait;
 use std::thread::Threads;
 
-// A script with `/` between its lines, and what it writes, in the same form.
+// Scripts with `/` between their lines, and what they write, with `/` between its lines: questions about half-spaces.
 const ANSWERS: &str = "half A 1 0 0 0 closed / has A 0 0 0 1 => in
 half A 1 0 0 0 open / has A 0 0 0 1 => not
 half A 1 0 0 0 closed / has A 2048 0 0 1 => frame
@@ -26,8 +26,7 @@ half A 1 0 0 0 closed / half B 0 1 0 0 closed / xor C A B / has C -1 1 0 1 / has
 empty E / cl C E / has C 0 0 0 1 => not
 full U / int V U / has V 1023 0 0 1 => in";
 
-// The same of solids: the boundary of a box; two open boxes with a common wall; a half-space
-// without a ray.
+// Scripts and answers about solids: a box's boundary; two open boxes with a common wall; a half-space without a ray.
 const SOLIDS: &str =
     "half Aa -1 0 0 0 closed / half Ab 1 0 0 -1 closed / half Ac 0 -1 0 0 closed / \
     half Ad 0 1 0 -1 closed / half Ae 0 0 -1 0 closed / half Af 0 0 1 -1 closed / \
@@ -44,8 +43,8 @@ half A 0 0 1 0 closed / half B 0 0 -1 0 closed / half C 0 1 0 0 closed / \
     half D 0 -1 0 0 closed / half E -1 0 0 0 closed / and F A B / and G F C / and H G D / \
     and R H E / diff K A R / count K / has K 0 0 0 1 / has K -1 0 0 1 => 14 22 11 3 / not / in";
 
-// Rows of unions, of symmetric differences and of differences, which are worked as trees, beside the same rows worked one
-// by one, since each set of theirs is asked about. In the third what one set changes another one changes back.
+// Rows of unions, of symmetric differences and of differences, worked as trees, beside the same rows worked one
+// operation after the other, since each of their sets is asked about. In the third row the set B comes twice.
 const ROWS: &str =
     "half A 1 0 0 0 closed / half B 0 1 0 0 open / half C 0 0 1 0 closed / half D 1 1 1 2 open / \
     or U A B / or V U C / or W V D / or P A B / has P 0 0 0 1 / or Q P C / has Q 0 0 0 1 / \
@@ -61,7 +60,7 @@ half a 1 0 0 0 closed / half b -1 0 0 0 closed / half c 0 1 0 0 closed / half d 
     has Q 1 -1 -1 1 / diff R Q k / has R -1 1 -1 1 / same N R / has N 1 1 -1 1 => \
     not / not / not / same / in";
 
-// The numbers of a half-space, boxes, a point, an axis, two axes that cross, and a box with corners at halves.
+// The numbers of parts of a half-space, boxes, a point, an axis, two axes that cross, and a box with corners at halves.
 const COUNTS: &str = "half A 1 0 0 0 closed / count A => 12 20 11 3
 half Aa -1 0 0 0 closed / half Ab 1 0 0 -1 closed / half Ac 0 -1 0 0 closed / \
     half Ad 0 1 0 -1 closed / half Ae 0 0 -1 0 closed / half Af 0 0 1 -1 closed / and Ag Aa Ab / \
@@ -79,7 +78,7 @@ half Aa -1 0 0 0 closed / half Ab 2 0 0 -1 closed / half Ac 0 -1 0 0 closed / \
     half Ad 0 2 0 -1 closed / half Ae 0 0 -1 0 closed / half Af 0 0 2 -1 closed / and Ag Aa Ab / \
     and Ah Ag Ac / and Ai Ah Ad / and Aj Ai Ae / and A Aj Af / count A => 16 24 12 3";
 
-// Sets that are the same, and others.
+// Sets that are the same, and sets that differ.
 const COMPARISONS: &str =
     "half Aa -1 0 0 0 closed / half Ab 1 0 0 -1 closed / half Ac 0 -1 0 0 closed / \
     half Ad 0 1 0 -1 closed / half Ae 0 0 -1 0 closed / half Af 0 0 1 -1 closed / and Ag Aa Ab / \
@@ -108,7 +107,7 @@ half A 1 0 0 4194304 closed / empty E / same A E / half F 0 0 1 -2048 open / ful
     same F U => same / same
 full U / not N U / empty E / same N E => same";
 
-// Where rays end in a half-space with its boundary, in one without, and in a box.
+// Where rays end in a half-space with its boundary, in a half-space without its boundary, and in a box.
 const RAYS: &str =
     "half A 1 0 0 0 closed / ray A -1 0 0 1 1 0 0 / ray A 1 0 0 2 1 0 0 => after 0 0 0 1 not \
     / at 2048 0 0 1 frame
@@ -120,8 +119,8 @@ half Ca -1 0 0 0 closed / half Cb 1 0 0 -1 closed / half Cc 0 -1 0 0 closed / ha
     1 1 0 0 => at 0 1 1 2 in / after 2 1 1 2 not / at 0 0 0 1 in / at -2048 0 0 1 frame \
     / frame";
 
-// Points that may be joined: in two boxes; in a plate with a hole; in a box that a wall parts, and in one
-// whose wall has a hole; in two boxes with a common edge, and round them.
+// Points that may be joined: in two boxes; in a plate with a hole; in a box with a wall, and with a wall that has a
+// hole; in two boxes with a common edge, and round these boxes.
 const JOINS: &str =
     "half Aa -1 0 0 0 closed / half Ab 1 0 0 -1 closed / half Ac 0 -1 0 0 closed / half Ad 0 \
     1 0 -1 closed / half Ae 0 0 -1 0 closed / half Af 0 0 1 -1 closed / and Ag Aa Ab / \
@@ -160,7 +159,7 @@ half Aa -1 0 0 0 closed / half Ab 1 0 0 -1 closed / half Ac 0 -1 0 0 closed / ha
     Bh Bd / and Bj Bi Be / and B Bj Bf / or E A B / joined E 1 1 1 2 3 3 1 2 / joined E \
     -1 3 1 2 3 -1 1 2 => apart / joined";
 
-// A refused script, and the line that it gives.
+// Refused scripts, and the line that each writes.
 const REFUSALS: &str = "ball A => line 1: unknown command
 half A 1 0 0 closed => line 1: wrong number of words
 empty 1A => line 1: bad name
@@ -183,17 +182,17 @@ pub(crate) const UNIT_BOX: &str =
     half Ad 0 1 0 -1 closed / half Ae 0 0 -1 0 closed / half Af 0 0 1 -1 closed / \
     and Ag Aa Ab / and Ah Ag Ac / and Ai Ah Ad / and Aj Ai Ae / and A Aj Af";
 
-/// One worker, a few, and the most, by the board whose passes take turns.
+/// Words for one worker, two, and the most, by the board whose passes take turns.
 pub(crate) const BY_TURNS: &str = "--workers 1 --board lock
 --workers 2 --board lock
 --workers 64 --board lock";
 
-/// The same by the board whose passes wait for nobody.
+/// Words for one worker, two, and the most, by the board whose passes wait for nobody.
 pub(crate) const WITHOUT_TURNS: &str = "--workers 1 --board free
 --workers 2 --board free
 --workers 64 --board free";
 
-// The same by both boards, with statements that run ahead.
+// Words for runs by both boards in which statements run ahead.
 const AHEAD: &str = "--ahead --workers 1 --board lock
 --ahead --workers 2 --board lock
 --ahead --workers 8 --board lock
@@ -203,14 +202,14 @@ const AHEAD: &str = "--ahead --workers 1 --board lock
 --ahead --workers 8 --board free
 --ahead --workers 64 --board free";
 
-// Stops the test where a row of those tables doesn't come out with these words that are worked ahead too.
+// Stops the test where a row of the tables that are run ahead too doesn't come out with these words.
 fn check_some<R: Threads + Wait + Abort + Sync>(rt: &R, alloc: Global, words: &str) {
     check_rows(rt, alloc, words, ANSWERS, 0);
     check_rows(rt, alloc, words, ROWS, 0);
     check_rows(rt, alloc, words, COUNTS, 0);
 }
 
-// The same of all tables, whatever the words of the list.
+// Stops the test where a row of some table doesn't come out with some words of the list.
 fn check_all<R: Threads + Wait + Abort + Sync>(rt: &R, alloc: Global, list: &str) {
     for words in list.split('\n') {
         check_some(rt, alloc, words);
@@ -239,7 +238,7 @@ fn rows_ahead(rt: HostRuntime) {
     }
 }
 
-// Whether the texts of two complexes are equal, of which the first has these parts.
+// Whether the texts of two complexes are equal, for the first complex and its parts.
 fn is_text_of(
     alloc: Global,
     first: &Complex,
@@ -262,7 +261,7 @@ fn is_text_of(
     }
 }
 
-// Whether the texts of two complexes are equal.
+// Whether the texts of two complexes are equal, in the second version.
 fn have_one_text(alloc: Global, first: &Complex, second: &Complex) -> Result<bool, AllocError>
     requires first { (s : Set) × ShowsSet s first.now }
     requires second { (s : Set) × ShowsSet s second.now }
@@ -273,7 +272,7 @@ fn have_one_text(alloc: Global, first: &Complex, second: &Complex) -> Result<boo
     }
 }
 
-// Whether the complex has the text of the whole frame, where that could be made.
+// Whether the complex has the text of the whole frame, where this could be made.
 fn has_text_of(
     alloc: Global,
     first: &Complex,
@@ -295,7 +294,7 @@ fn has_full_text(alloc: Global, first: &Complex) -> Result<bool, AllocError>
     has_text_of(alloc, first, &full)
 }
 
-// Whether the text is its own, and not that of the whole frame.
+// Whether the complex has its own text, and not the text of the whole frame.
 fn is_not_full(alloc: Global, empty: &Result<Complex, AllocError>) -> Result<bool, AllocError>
     requires empty { IfOk empty.now (ShowsSet Set.empty) }
 {
@@ -305,8 +304,8 @@ fn is_not_full(alloc: Global, empty: &Result<Complex, AllocError>) -> Result<boo
     }
 }
 
-// The empty set against itself and the whole frame. Nothing branches while a function holds a complex: what it lets go
-// would cost minutes of proving.
+// The empty set against itself and the whole frame. No function branches while it holds a complex: letting go of the
+// complex on each branch would cost minutes of proving.
 #[test]
 fn texts_compared(rt: HostRuntime) {
     let empty = constant(rt.alloc(), false);

@@ -1,4 +1,4 @@
-//! What is printed of worked sets.
+//! Printed texts of sets.
 
 use crate::runs::{check, gives, unfolded, worked};
 use crate::tables::{BY_TURNS, WITHOUT_TURNS};
@@ -7,9 +7,9 @@ use std::process::Abort;
 use std::sync::Wait;
 use std::thread::Threads;
 
-// Scripts with `/` between their lines, the first lines that each writes, and parts of the text
-// that it prints. A part is the lines from one that begins with a word, as `v` for a vertex, up to
-// the next one that does; before it stands its number among those.
+// Scripts with `/` between their lines, the first lines that each writes, and parts of the text that the script prints.
+// A part is a number and the lines from a line with a first word, as `v` for a vertex, up to the next line with that
+// word; the number counts the parts with this word from 0.
 
 // A half-space, a cube, a cube with corners at halves, and a point.
 const SOLIDS: &str = "half A 1 0 0 0 closed / count A / print A => \
@@ -84,8 +84,8 @@ half a 1 0 0 0 closed / half b -1 0 0 0 closed / half c 0 1 0 0 closed / half d 
     2 8 4 9 0 9 2 9 4 => 1 w n / h 0 0 0 2 0 4 1 1 1 2 1 4 2 0 2 3 2 4 3 1 3 3 3 4 4 0 4 1 5 0 \
     5 2 6 0 6 2 6 5 7 1 7 2 7 5 8 0 8 3 8 5 9 1 9 3 9 5 / end";
 
-// The same of a wall across the frame, of a box with a hollow inside, and of two boxes with a common edge, round
-// which the outside is one face.
+// Faces and shells: of a wall across the frame, of a box with a hollow inside, and of two boxes with a common edge,
+// round which the outside is one face.
 const WALL_HOLLOW_EDGE: &str = "\
     half A 1 0 0 0 closed / half B -1 0 0 0 closed / and W A B / print W => polyhedron W / nef3 2 \
     12 20 11 3 => 4 v 0 -2048 -2048 1 o - / s -1 0 0 o - / s 0 0 1 o - / s 0 1 0 o - / s 1 0 0 \
@@ -133,7 +133,7 @@ half Aa -1 0 0 0 closed / half Ab 1 0 0 -1 closed / half Ac 0 -1 0 0 closed / ha
     11 10 12 0 12 3 12 4 13 1 13 3 13 4 14 0 14 2 14 5 15 1 15 2 15 5 16 0 16 3 16 5 17 1 17 3 \
     17 5 / end";
 
-// A plate with a hexagonal hole, and the first lines of what its script writes.
+// The script of a plate with a hexagonal hole, and the first lines that this script writes.
 const PLATE: &str = "half Pa -1 0 0 -10 closed / half Pb 1 0 0 -10 closed / \
     half Pc 0 -1 0 -10 closed / half Pd 0 1 0 -10 closed / half Pe 0 0 -1 0 closed / \
     half Pf 0 0 1 -2 closed / and Pg Pa Pb / and Ph Pg Pc / and Pi Ph Pd / and Pj Pi Pe / \
@@ -144,7 +144,7 @@ const PLATE: &str = "half Pa -1 0 0 -10 closed / half Pb 1 0 0 -10 closed / \
 
 const PLATE_OPENING: &str = "28 42 18 3 / not / in / in / polyhedron K / nef3 1 28 42 18 3";
 
-// A box, and two boxes with a common wall that make it up.
+// A box, and two boxes with a common wall that make up the box.
 const BOXES: &str = "half La -1 0 0 0 closed / half Lb 1 0 0 -2 closed / half Lc 0 -1 0 0 closed / \
     half Ld 0 1 0 -1 closed / half Le 0 0 -1 0 closed / half Lf 0 0 1 -1 closed / and Lg La Lb / \
     and Lh Lg Lc / and Li Lh Ld / and Lj Li Le / half Aa -1 0 0 0 closed / \
@@ -160,12 +160,12 @@ const BOUNDARY: &str = "half Aa -1 0 0 0 closed / half Ab 1 0 0 -1 closed / \
     half Af 0 0 1 -1 closed / and Ag Aa Ab / and Ah Ag Ac / and Ai Ah Ad / and Aj Ai Ae / \
     and A Aj Af / bd D A / print D / print A";
 
-// The lines of the text from the one of this number, of those that begin with this word, up to the next one that does.
+// The part with this number, of the parts of the text that begin with this word.
 fn part_of<'a>(text: &'a str, begin: &str, number: usize) -> Option<&'a str> {
     text.trim_end().split(begin).nth(number)
 }
 
-// Whether the part of this number, of those that begin with the first word of the lines, is these lines.
+// Whether the part with this number, of those that begin with the first word of `lines`, is these lines.
 fn is_part(alloc: Global, text: &str, number: u8, lines: &str) -> Result<bool, AllocError> {
     let (word, rest) = lines.split_once(' ').unwrap_or((lines, ""));
     let begin = format!(in alloc; "\n{word} ")?;
@@ -174,7 +174,7 @@ fn is_part(alloc: Global, text: &str, number: u8, lines: &str) -> Result<bool, A
     Ok(part == wanted.strip_suffix('\n'))
 }
 
-// Whether the part with the number that stands before it is this one.
+// Whether the text has the part where the number before the part says.
 pub(crate) fn has_part(alloc: Global, text: &str, part: &str) -> Option<bool> {
     let (number, lines) = part.split_once(' ')?;
     is_part(alloc, text, number.parse().ok()?, lines).ok()
@@ -233,7 +233,7 @@ fn parts_of_texts(rt: HostRuntime) {
     check_texts(&rt, alloc, "--workers 2 --board free", LINES);
 }
 
-// Whether the plate's script writes these first lines, and the same by these other words.
+// Whether the plate's script writes its first lines, and the same text with other words of the command line.
 fn writes_alike<R: Threads + Wait + Sync>(
     rt: &R,
     alloc: Global,
@@ -260,7 +260,7 @@ fn plate_by_any_board(rt: HostRuntime) {
     check_plate(&rt, alloc, "--ahead --workers 8 --board free");
 }
 
-// Whether what is printed of two sets, behind their names, is equal.
+// Whether the printed texts of two sets are equal behind their names.
 fn is_alike(written: &str) -> Option<bool> {
     let (_, text) = written.split_once("polyhedron ")?;
     let (left, right) = text.split_once("polyhedron ")?;
@@ -269,7 +269,7 @@ fn is_alike(written: &str) -> Option<bool> {
     Some(left == right)
 }
 
-// Whether the texts of two sets, which the script binds and prints, are equal.
+// Whether the texts of two sets, which the script makes and prints, are equal.
 fn are_alike<R: Threads + Wait + Sync>(rt: &R, alloc: Global, script: &str) -> Option<bool> {
     let script = unfolded(alloc, script).ok()?;
     let words = "--text 1 --workers 2 --board lock";
@@ -281,7 +281,7 @@ fn are_alike<R: Threads + Wait + Sync>(rt: &R, alloc: Global, script: &str) -> O
     }
 }
 
-// A box and two boxes with a common wall that make it up; a cube and its boundary.
+// Equal texts: a box, and two boxes with a common wall that make up the box. Unequal texts: a cube and its boundary.
 #[test]
 fn alike(rt: HostRuntime) {
     check(&rt, are_alike(&rt, rt.alloc(), BOXES), "", BOXES);

@@ -1,4 +1,4 @@
-//! What the gate is told, of each job that a worker begins.
+//! The jobs that the gate hears of, each when a worker begins the job.
 
 use crate::gates::{Counting, Holding};
 use crate::runs::{check, told, unfolded};
@@ -9,10 +9,10 @@ use std::process::Abort;
 use std::sync::Wait;
 use std::thread::Threads;
 
-// Words, a script, how it ends, and the calls for each of the jobs 0 to 17, for later ones, and from the board without a
-// lock: two half-spaces, with twelve candidates each, and their intersection, with eighteen; statements of each kind, of
-// which seven have the twelve candidates of a half-space and three have eighteen; sets of which one alone is asked about; and
-// a script that is refused for a line behind others that are not, of which nothing is worked.
+// Words, a script, how the run ends, and the calls for each of the jobs 0 to 17, for later jobs, and from the board
+// without a lock: two half-spaces, with twelve candidates each, and their intersection, with eighteen; statements of
+// each kind, of which seven have twelve candidates and three eighteen; sets of which only one is asked about; and a
+// script that is refused for its last line, so that nothing is worked.
 const COUNTED: &str = "--workers 3; half A 1 0 0 0 closed / half B 0 1 0 0 closed / and C A B => \
 Done: 3 3 3 3 3 3 3 3 3 3 3 3 1 1 1 1 1 1 0 0
 --workers 3 --board free; half A 1 0 0 0 closed / half B 0 1 0 0 closed / and C A B => \
@@ -32,7 +32,7 @@ Done: 10 10 10 10 10 10 10 10 10 10 10 10 3 3 3 3 3 3 0 138
 ; half A 1 0 0 0 closed / has A 0 0 0 1 / ball B => \
 Refused { line: 3, kind: UnknownCommand }: 0 0 0 0 0 0 0 0 0 0 0 0 0 0 0 0 0 0 0 0";
 
-// How the run ends, and the calls.
+// How the run ends, and the calls, as a text.
 fn counted<R: Threads + Wait + Sync>(
     rt: &R,
     alloc: Global,
@@ -47,7 +47,7 @@ fn counted<R: Threads + Wait + Sync>(
     Ok(text)
 }
 
-// Whether the row holds.
+// Whether the row of `COUNTED` holds.
 fn holds<R: Threads + Wait + Sync>(rt: &R, alloc: Global, row: &str) -> Option<bool> {
     let (words, rest) = row.split_once("; ")?;
     let (script, wanted) = rest.split_once(" => ")?;
@@ -55,7 +55,7 @@ fn holds<R: Threads + Wait + Sync>(rt: &R, alloc: Global, row: &str) -> Option<b
     Some(given.as_str() == wanted)
 }
 
-// The gate hears of each job, with `--ahead` as without it.
+// The gate hears of each job, with `--ahead` as without `--ahead`.
 #[test]
 fn jobs_counted(rt: HostRuntime) {
     for row in COUNTED.split('\n') {
@@ -63,7 +63,7 @@ fn jobs_counted(rt: HostRuntime) {
     }
 }
 
-// Whether the run works the whole script, and each job that the gate holds was held for no longer than it has to.
+// Whether the run works the whole script, and no job was held for all turns.
 fn runs_beside<R: Threads + Wait + Sync>(
     rt: &R,
     alloc: Global,
@@ -76,7 +76,7 @@ fn runs_beside<R: Threads + Wait + Sync>(
     Ok(code(&status) == 0 && !gate.limit_reached())
 }
 
-// The same where each job 1 is held until a job 2 began.
+// Stops the test where the run doesn't come out while each job 1 is held until a job 2 began.
 fn check_jobs<R: Threads + Wait + Abort + Sync>(rt: &R, alloc: Global, words: &str, script: &str) {
     let gate = Holding::new(1, 2, 1);
     check(
@@ -87,7 +87,7 @@ fn check_jobs<R: Threads + Wait + Abort + Sync>(rt: &R, alloc: Global, words: &s
     );
 }
 
-// The same where the first job 0 is held until another one began.
+// Stops the test where the run doesn't come out while the first job 0 is held until another job 0 began.
 fn check_statements<R: Threads + Wait + Abort + Sync>(
     rt: &R,
     alloc: Global,
@@ -103,8 +103,8 @@ fn check_statements<R: Threads + Wait + Abort + Sync>(
     );
 }
 
-// Two jobs of one statement run beside each other; with `--ahead`, two jobs of a statement that runs beside no other, and
-// two statements of which neither needs the other.
+// Two jobs of one statement run beside each other; with `--ahead`, so do two jobs of a statement that runs beside no
+// other, and two statements of which neither needs the other.
 #[test]
 fn two_beside_each_other(rt: HostRuntime) {
     let alloc = rt.alloc();

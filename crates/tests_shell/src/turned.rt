@@ -1,12 +1,12 @@
-//! Turned sets.
+//! Turned sets against sets that are made of turned half-spaces, and sets that are turned back.
 
 use crate::runs::{check, check_rows, unfolded, worked};
 use std::alloc::{AllocError, Global};
 use std::sync::Wait;
 use std::thread::Threads;
 
-// The part of space with x and z at least 0 and y above 0, without a piece of a slanted plane, and with the point
-// (-3, -5, -7). Only the turn that moves nothing leaves the point where it is.
+// The points with x >= 0, y > 0, z >= 0 off a piece of a slanted plane, and the point (-3, -5, -7), which no turn but
+// the one that moves nothing leaves in its place.
 const CORNER: &str = "half a -1 0 0 0 closed / half b 0 -1 0 0 open / half c 0 0 -1 0 closed / \
     and d a b / and e d c / half f 1 2 3 -9 closed / half g -1 -2 -3 9 closed / \
     half h 1 0 0 -1 closed / and i f g / and j i h / diff k e j / half l 1 0 0 3 closed / \
@@ -14,17 +14,16 @@ const CORNER: &str = "half a -1 0 0 0 closed / half b 0 -1 0 0 open / half c 0 0
     half p 0 0 1 7 closed / half q 0 0 -1 -7 closed / and r l m / and s r n / and t s o / \
     and u t p / and v u q / or A k v";
 
-// The orders of the axes that turns put in place of x, y and z, each before the places of the two words behind a normal.
-// Each is that of eight turns in a row.
+// For eight turns each, which of the words x, y and z become the new x, y and z; the words 3 and 4 stay where they are.
 const ORDERS: &str = "0 1 2 3 4 / 0 2 1 3 4 / 1 0 2 3 4 / 1 2 0 3 4 / 2 0 1 3 4 / 2 1 0 3 4";
 
-// For each turn the one that undoes it. A turn negates the new x, y and z where its number has the bits 1, 2 and 4.
+// For each turn the turn that undoes it. A turn negates the new x, y and z where its number has the bits 1, 2 and 4.
 const BACKS: &str = "0 1 2 3 4 5 6 7 8 9 12 13 10 11 14 15 16 18 17 19 20 22 21 23 \
     32 34 36 38 33 35 37 39 24 28 25 29 26 30 27 31 40 44 42 46 41 45 43 47";
 
-// Scripts with `/` between their lines, and what each writes: a box turned to its mirror image and back, a box that a
-// turn leaves as it is, one whose sides are 1, 2 and 3; one turned set with two names; and a set that a turn gives back
-// when nothing looks at it any more.
+// Scripts with `/` between their lines, and what each writes: a box turned to its mirror image and back; a box that a
+// turn leaves as it is, and a box with the sides 1, 2, 3; a turned set with two names; and a set that a turn gives
+// back.
 const ROWS: &str = "half Aa -1 0 0 0 closed / half Ab 1 0 0 -1 closed / half Ac 0 -1 0 0 closed / \
     half Ad 0 1 0 -1 closed / half Ae 0 0 -1 0 closed / half Af 0 0 1 -1 closed / and Ag Aa Ab / \
     and Ah Ag Ac / and Ai Ah Ad / and Aj Ai Ae / and A Aj Af / half Ca -1 0 0 -1 closed / \
@@ -47,7 +46,7 @@ half A 1 0 0 0 closed / turn B A 1 / turn C B 1 / has B 1 0 0 1 => in
 half A 1 0 0 0 closed / turn B A 1 / has B 1 0 0 1 / turn C B 1 / has C 1 0 0 1 / \
     has C -1 0 0 1 => in / not / in";
 
-// Adds the word, or the opposite number.
+// Adds the word, or the word of the opposite number.
 fn push_signed(script: &mut String, word: &str, negated: bool) -> Result<(), AllocError> {
     match word.strip_prefix('-') {
         Some(digits) if negated => write!(script, " {digits}"),
@@ -56,7 +55,7 @@ fn push_signed(script: &mut String, word: &str, negated: bool) -> Result<(), All
     }
 }
 
-// Adds the words of a half-space behind its name, with the normal turned.
+// Adds the words of a half-space behind its name, with the half-space's normal turned.
 fn push_words(script: &mut String, order: &str, negated: usize, words: &str) -> Option<()> {
     let mut bits = negated;
     for place in order.split(' ') {
@@ -67,7 +66,7 @@ fn push_words(script: &mut String, order: &str, negated: usize, words: &str) -> 
     script.push('\n').ok()
 }
 
-// Adds the line for the turned set, whose names begin with another letter.
+// Adds the line for the turned set, with `t` before each name.
 fn push_line(
     alloc: Global,
     script: &mut String,
@@ -86,7 +85,7 @@ fn push_line(
     }
 }
 
-// Adds the set, built from turned half-spaces.
+// Adds the lines of the set `CORNER`, made of turned half-spaces.
 fn push_turned(alloc: Global, script: &mut String, order: &str, negated: usize) -> Option<()> {
     for line in CORNER.split(" / ") {
         push_line(alloc, script, order, negated, line)?;
@@ -94,14 +93,14 @@ fn push_turned(alloc: Global, script: &mut String, order: &str, negated: usize) 
     Some(())
 }
 
-// Whether both sets have the other's text, behind their answers.
+// Whether the answers are `same`, and both printed texts are equal.
 fn is_alike(written: &str) -> Option<bool> {
     let texts = written.strip_prefix("same\nsame\npolyhedron A\n")?;
     let (first, second) = texts.split_once("polyhedron C\n")?;
     Some(first == second)
 }
 
-// Whether the set turned is the one that is built anew, and that one turned back has the text of the first.
+// Whether the turned set is the set of turned half-spaces, and this set, turned back, has the text of the first set.
 fn turns<R: Threads + Wait + Sync>(rt: &R, alloc: Global, turn: usize, back: &str) -> Option<bool> {
     let order = ORDERS.split(" / ").nth(turn / 8)?;
     let mut script = unfolded(alloc, CORNER).ok()?;

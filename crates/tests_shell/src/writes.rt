@@ -8,7 +8,7 @@ use std::sync::Wait;
 use std::sync::atomic::{AtomicU64, Ordering};
 use std::thread::Threads;
 
-// Takes each piece whole, and counts them.
+// A sink that takes each piece whole, and counts the pieces.
 #[derive(Drop)]
 struct Counted<'a> {
     pieces: &'a AtomicU64,
@@ -27,7 +27,7 @@ impl Sink for Counted<'_> {
     }
 }
 
-// Counts the jobs that it hears of before the first piece was written, and those after it.
+// A gate that counts the jobs it hears of before the first piece was written, and those after.
 #[derive(Drop)]
 struct Hearing<'a> {
     pieces: &'a AtomicU64,
@@ -66,7 +66,7 @@ fn heard<R: Threads + Wait + Sync>(
     format!(in alloc; "{} {count} {before} {after}.", code(&status))
 }
 
-// Whether what is heard begins so.
+// Whether the text of `heard` begins with `wanted`.
 fn begins<R: Threads + Wait + Sync>(
     rt: &R,
     alloc: Global,
@@ -77,7 +77,7 @@ fn begins<R: Threads + Wait + Sync>(
     Ok(heard.starts_with(wanted))
 }
 
-// As many questions as a script may have.
+// Questions beyond the number of names that a script may have.
 fn many_questions(alloc: Global) -> Result<String, AllocError> {
     let mut script = String::from_str(alloc, "full U\n")?;
     for _ in 0..70_000 {
@@ -91,8 +91,8 @@ fn are_whole<R: Threads + Wait + Sync>(rt: &R, alloc: Global) -> Result<bool, Al
     begins(rt, alloc, script.as_str(), "0 70000 ")
 }
 
-// Scripts, and what is heard: two half-spaces of twelve jobs each, with a question between them, with both questions behind
-// them, and with one question, behind which the set comes that it doesn't need; answers of several lines; a refusal.
+// Scripts, and the beginning of what is heard: two half-spaces of twelve jobs each, with a question between them, with
+// both questions behind, and with one question, which needs the first set alone; answers of several lines; a refusal.
 const HEARD: &str =
     "half A 1 0 0 0 closed / has A 0 0 0 1 / half B 1 0 0 0 open / has B 0 0 0 1 => 0 2 12 12.
 half A 1 0 0 0 closed / half B 1 0 0 0 open / has B 0 0 0 1 / has A 0 0 0 1 => 0 2 12 12.

@@ -1,7 +1,4 @@
-use Rattle.std.proofs.lemmas.Bool.Decides.{Decides-at}
-use Rattle.nef_space.specs.declared.label.Label.TheVariants.{Out}
-use Rattle.nef_geo.specs.Shapes.{place_of, vector_of}
-use Rattle.nef_unique.proofs.Decides.{label-decides}
+use Rattle.example_bracket.proofs.Prelude.{Decides-at, Out, place_of, vector_of, label-decides}
 use Rattle.example_bracket.proofs.Answering.{end-clear}
 use Rattle.example_bracket.proofs.asked.is_clear.Goals as goal
 

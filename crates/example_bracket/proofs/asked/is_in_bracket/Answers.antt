@@ -1,5 +1,4 @@
-use Rattle.nef_geo.specs.Shapes.{place_of}
-use Rattle.example_bracket.specs.Bracket.{bracket}
+use Rattle.example_bracket.proofs.Prelude.{place_of, bracket}
 use Rattle.example_bracket.proofs.Inside.{bracket-inside}
 use Rattle.example_bracket.proofs.asked.is_in_bracket.Goals as goal
 

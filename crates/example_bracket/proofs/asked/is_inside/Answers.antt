@@ -1,8 +1,5 @@
-use Rattle.std.proofs.lemmas.Bool.Decides.{Decides-at}
-use Rattle.nef_space.specs.declared.label.Label.TheVariants.{In}
-use Rattle.nef_geo.specs.Shapes.{place_of}
+use Rattle.example_bracket.proofs.Prelude.{Decides-at, In, place_of, label-decides}
 use Rattle.nef_ray.proofs.Along.{frame-closed}
-use Rattle.nef_unique.proofs.Decides.{label-decides}
 use Rattle.example_bracket.proofs.Answering.{label-inside}
 use Rattle.example_bracket.proofs.asked.is_inside.Goals as goal
 

@@ -1,4 +1,4 @@
-use Rattle.nef_space.specs.Sets.{Set}
+use Rattle.example_bracket.proofs.Prelude.{Set}
 use Rattle.example_bracket.proofs.asked.is_solid.Goals as goal
 
 pub returns : goal.returns

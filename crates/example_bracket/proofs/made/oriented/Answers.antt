@@ -1,10 +1,4 @@
-use Rattle.std.proofs.Common.{sym, subst}
-use Rattle.nef_space.specs.Place.{Form, normal_of}
-use Rattle.nef_space.specs.Vectors.{IsDirection}
-use Rattle.nef_geo.specs.Reading.{IsInRange, IsPositiveMultiple}
-use Rattle.nef_geo.specs.Shapes.{given_form}
-use Rattle.nef_expr.proofs.Halves.{lowest-read}
-use Rattle.example_bracket.specs.Bracket.{row_form}
+use Rattle.example_bracket.proofs.Prelude.{sym, subst, Form, normal_of, IsDirection, IsInRange, IsPositiveMultiple, given_form, lowest-read, row_form}
 use Rattle.example_bracket.proofs.Rows.{row-range, row-words, row-direction, row-lowest}
 use Rattle.example_bracket.proofs.made.oriented.Goals as goal
 

@@ -1,5 +1,4 @@
-use Rattle.std.proofs.Common.{sym, subst}
-use Rattle.nef_conn.specs.Components.{HasComponents}
+use Rattle.example_bracket.proofs.Prelude.{sym, subst, HasComponents}
 use Rattle.example_bracket.proofs.read.count_parts.Goals as goal
 
 pub returns : goal.returns

@@ -1,5 +1,4 @@
-use Rattle.std.proofs.Common.{refl}
-use Rattle.nef_complex.proofs.Ends.{low-within, high-within}
+use Rattle.example_bracket.proofs.Prelude.{refl, low-within, high-within}
 use Rattle.nef_complex.proofs.Reading.{got-at}
 use Rattle.example_bracket.proofs.read.edge_ends.Goals as goal
 

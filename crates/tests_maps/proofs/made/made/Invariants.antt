@@ -1,4 +1,4 @@
-use Rattle.nef_smap.specs.Maps.{IsLeastMap}
+use Rattle.tests_maps.proofs.Prelude.{IsLeastMap}
 use Rattle.tests_maps.proofs.made.made.Given as goal
 
 abbrev pub invariant-loop-step : goal.invariant-loop-step

@@ -1,6 +1,4 @@
-use Rattle.std.proofs.Common.{◌≡◌, List, [], ◌∷◌, ◌++◌, length, ap, ◌∙◌}
-use Rattle.nef_space.specs.declared.label.Label.{Label}
-use Rattle.nef_star.specs.declared.star.Ray.{Ray}
+use Rattle.tests_maps.proofs.Prelude.{◌≡◌, List, [], ◌∷◌, ◌++◌, length, ap, ◌∙◌, Label, Ray}
 use Rattle.nef_star.proofs.Straight.{plane-star-of}
 use Rattle.tests_maps.proofs.stars.plane_star.Goals as goal
 

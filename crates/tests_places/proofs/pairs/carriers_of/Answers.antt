@@ -1,6 +1,4 @@
-use Rattle.std.proofs.Common.{List, sym, subst}
-use Rattle.nef_geo.specs.declared.plane.Plane.{Plane}
-use Rattle.nef_complex.specs.Index.{AreInOrder}
+use Rattle.tests_places.proofs.Prelude.{List, sym, subst, Plane, AreInOrder}
 use Rattle.nef_cand.proofs.Held.{carriers-ordered}
 use Rattle.tests_places.proofs.pairs.carriers_of.Goals as goal
 

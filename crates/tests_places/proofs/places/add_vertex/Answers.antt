@@ -1,4 +1,4 @@
-use Rattle.nef_locate.proofs.Located.{vertices-sorted}
+use Rattle.tests_places.proofs.Prelude.{vertices-sorted}
 use Rattle.tests_places.proofs.places.add_vertex.Goals as goal
 
 pub vertex_at-requires : goal.vertex_at-requires

@@ -1,6 +1,4 @@
-use Rattle.nef_geo.specs.Shapes.{form_of, hit_place}
-use Rattle.nef_complex.specs.Complexes.{complex_of}
-use Rattle.law_complex.proofs.FacetWays.{meets-on}
+use Rattle.tests_places.proofs.Prelude.{form_of, hit_place, complex_of, meets-on}
 use Rattle.tests_places.proofs.rays.add_corner.Goals as goal
 
 pub in_facet-requires-clause-off : goal.in_facet-requires-clause-off

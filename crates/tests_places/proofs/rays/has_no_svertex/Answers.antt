@@ -1,6 +1,4 @@
-use Rattle.std.proofs.Common.{arith, rules}
-use Rattle.nef_geo.specs.Shapes.{hit_place}
-use Rattle.nef_arc.proofs.SignNumbers.{not_true}
+use Rattle.tests_places.proofs.Prelude.{arith, rules, hit_place, not_true}
 use Rattle.tests_places.proofs.Directions.{clear-next, all-clear}
 use Rattle.tests_places.proofs.rays.has_no_svertex.Goals as goal
 

@@ -1,6 +1,4 @@
-use Rattle.std.specs.Prelude.{ℕ, ◌<◌}
-use Rattle.nef_geo.specs.Shapes.{hit_place}
-use Rattle.tests_places.specs.Clear.{IsClearVertex}
+use Rattle.tests_places.proofs.Prelude.{ℕ, ◌<◌, hit_place, IsClearVertex}
 use Rattle.tests_places.proofs.rays.has_no_svertex.Given as goal
 
 abbrev pub invariant-loop-number : goal.invariant-loop-number

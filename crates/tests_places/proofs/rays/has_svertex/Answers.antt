@@ -1,8 +1,4 @@
-use Rattle.std.proofs.Common.{◌≡◌, List, arith, rules, sym, subst}
-use Rattle.nef_smap.specs.declared.map.SVertex.{SVertex}
-use Rattle.nef_smap.proofs.Lists.{at-within}
-use Rattle.law_sphere.specs.Maps.{At}
-use Rattle.nef_complex.proofs.Reading.{none-more}
+use Rattle.tests_places.proofs.Prelude.{◌≡◌, List, arith, rules, sym, subst, SVertex, at-within, At, none-more}
 use Rattle.tests_places.proofs.rays.has_svertex.Goals as goal
 
 pub loop-svertex-preserved : goal.loop-svertex-preserved

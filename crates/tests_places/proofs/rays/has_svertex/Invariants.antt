@@ -1,6 +1,5 @@
-use Rattle.std.specs.Prelude.{◌≡◌, ℕ, ◌<◌}
-use Rattle.nef_smap.specs.declared.map.SVertex.{SVertex}
-use Rattle.law_sphere.specs.Maps.{At}
+use Rattle.tests_places.proofs.Prelude.{ℕ, ◌<◌, SVertex, At}
+use Rattle.std.specs.Prelude.{◌≡◌}
 use Rattle.tests_places.proofs.rays.has_svertex.Given as goal
 
 abbrev pub invariant-loop-svertex : goal.invariant-loop-svertex

@@ -1,11 +1,5 @@
-use Rattle.std.proofs.Common.{◌≡◌, rules, sym, ◌∙◌}
-use Rattle.nef_space.specs.Place.{form_at}
-use Rattle.nef_geo.specs.Shapes.{form_of, place_of, hit_place}
-use Rattle.nef_geo.specs.declared.sign.Sign.TheVariants.{Zero}
-use Rattle.law_near.proofs.Rays.{same-place_sym}
-use Rattle.nef_geo.proofs.Signs.{zero_sign}
-use Rattle.nef_complex.specs.Complexes.{complex_of}
-use Rattle.law_complex.proofs.EqualPoints.{edges-same, closed-same}
+use Rattle.tests_places.proofs.Prelude.{◌≡◌, rules, sym, ◌∙◌, form_at, form_of, place_of, hit_place, Zero, same-place_sym, zero_sign, complex_of, closed-same}
+use Rattle.law_complex.proofs.EqualPoints.{edges-same}
 use Rattle.tests_places.proofs.rays.inside.Goals as goal
 
 pub returns-then-is_off_skeleton-clause-on : goal.returns-then-is_off_skeleton-clause-on

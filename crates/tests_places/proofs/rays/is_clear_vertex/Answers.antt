@@ -1,8 +1,4 @@
-use Rattle.std.proofs.Common.{rules, subst}
-use Rattle.law_sphere.specs.Maps.{At}
-use Rattle.law_sphere.proofs.Lists.{at-one}
-use Rattle.nef_complex.specs.declared.complex.Vertex.{Vertex}
-use Rattle.nef_complex.proofs.Reading.{got-at}
+use Rattle.tests_places.proofs.Prelude.{rules, subst, At, at-one, Vertex, got-at}
 use Rattle.tests_places.proofs.rays.is_clear_vertex.Goals as goal
 
 pub returns-else-not-is_at_vertex : goal.returns-else-not-is_at_vertex

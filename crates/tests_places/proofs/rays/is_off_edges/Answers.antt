@@ -1,8 +1,4 @@
-use Rattle.std.proofs.Common.{arith, rules}
-use Rattle.nef_geo.specs.Shapes.{hit_place}
-use Rattle.law_complex.specs.Skeleton.{IsEdgePoint}
-use Rattle.nef_arc.proofs.SignNumbers.{not_true}
-use Rattle.nef_complex.specs.Complexes.{complex_of}
+use Rattle.tests_places.proofs.Prelude.{arith, rules, hit_place, IsEdgePoint, not_true, complex_of}
 use Rattle.tests_places.proofs.Directions.{none-next, edge-listed}
 use Rattle.tests_places.proofs.rays.is_off_edges.Goals as goal
 

@@ -1,9 +1,5 @@
-use Rattle.std.proofs.Common.{⊎_elim}
-use Rattle.nef_geo.specs.Shapes.{place_of}
+use Rattle.tests_places.proofs.Prelude.{⊎_elim, place_of, IsOnEdges, IsSkeletonPoint, at_vertex, on_edge, Place, complex_of}
 use Rattle.law_complex.specs.Complexes.{Complex}
-use Rattle.law_complex.specs.Skeleton.{IsOnEdges, IsSkeletonPoint, at_vertex, on_edge}
-use Rattle.nef_space.specs.Place.{Place}
-use Rattle.nef_complex.specs.Complexes.{complex_of}
 use Rattle.tests_places.proofs.rays.is_off_skeleton.Goals as goal
 
 of-skeleton : (C : Complex) (y : Place) → IsOnEdges C y → IsSkeletonPoint C y

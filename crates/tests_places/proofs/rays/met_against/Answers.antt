@@ -1,6 +1,4 @@
-use Rattle.nef_geo.specs.Shapes.{form_of, vector_of, hit_place}
-use Rattle.nef_complex.proofs.Reading.{got-at}
-use Rattle.nef_plane.proofs.Listed.{are-items}
+use Rattle.tests_places.proofs.Prelude.{form_of, vector_of, hit_place, got-at, are-items}
 use Rattle.nef_facets.proofs.WayInward.{small-back}
 use Rattle.tests_places.proofs.Directions.{no-svertex_at}
 use Rattle.tests_places.proofs.rays.met_against.Goals as goal

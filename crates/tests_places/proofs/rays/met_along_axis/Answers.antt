@@ -1,8 +1,4 @@
-use Rattle.std.proofs.Common.{◌≡◌, rules, sym, ◌∙◌, inl, inr}
-use Rattle.nef_space.specs.Place.{form_at}
-use Rattle.nef_geo.specs.Shapes.{form_of, hit_place}
-use Rattle.nef_geo.specs.declared.sign.Sign.TheVariants.{Zero}
-use Rattle.nef_geo.proofs.Signs.{zero_sign}
+use Rattle.tests_places.proofs.Prelude.{◌≡◌, rules, sym, ◌∙◌, inl, inr, form_at, form_of, hit_place, Zero, zero_sign}
 use Rattle.tests_places.proofs.rays.met_along_axis.Goals as goal
 
 pub first_in_plane-requires-clause-on : goal.first_in_plane-requires-clause-on

@@ -1,12 +1,4 @@
-use Rattle.std.proofs.Common.{◌≡◌, rules, sym, ◌∙◌, inl, inr}
-use Rattle.nef_space.specs.Place.{form_at, normal_of}
-use Rattle.nef_space.specs.Vectors.{plane_dir}
-use Rattle.nef_geo.specs.Shapes.{form_of, hit_place, vector_of}
-use Rattle.nef_geo.specs.declared.sign.Sign.TheVariants.{Zero}
-use Rattle.nef_geo.proofs.Signs.{zero_sign}
-use Rattle.nef_complex.proofs.Reading.{got-at}
-use Rattle.law_sphere.proofs.Compare.{SameDirection-turned}
-use Rattle.nef_plane.proofs.Listed.{are-items}
+use Rattle.tests_places.proofs.Prelude.{◌≡◌, rules, sym, ◌∙◌, inl, inr, form_at, normal_of, plane_dir, form_of, hit_place, vector_of, Zero, zero_sign, got-at, are-items, SameDirection-turned}
 use Rattle.tests_places.proofs.Directions.{no-svertex_at}
 use Rattle.tests_places.proofs.rays.met_from_vertex.Goals as goal
 

@@ -1,5 +1,4 @@
-use Rattle.std.proofs.Common.{sym, subst}
-use Rattle.nef_classes.specs.Forest.{AreRoots}
+use Rattle.tests_places.proofs.Prelude.{sym, subst, AreRoots}
 use Rattle.tests_places.proofs.results.numbers_of_classes.Goals as goal
 
 pub class_numbers-requires : goal.class_numbers-requires

@@ -1,13 +1,5 @@
-use Rattle.std.proofs.Common.{◌+◌, pos, arith, sym, subst}
-use Rattle.std.proofs.lemmas.Int.{ints}
-use Rattle.nef_space.specs.Local.{HasLabel, Germ}
-use Rattle.nef_space.specs.Place.{Place, Ratio, InFrame}
-use Rattle.nef_space.specs.Sets.{Set, Holds}
-use Rattle.nef_space.specs.Vectors.{Vector}
-use Rattle.nef_space.specs.declared.label.Label.{Label}
-use Rattle.nef_space.specs.declared.label.Label.TheVariants.{Out, Not, In}
-use Rattle.nef_geo.specs.Shapes.{place_of}
-use Rattle.law_near.proofs.Decided.{germ_of}
+use Rattle.tests_places.proofs.Prelude.{◌+◌, pos, arith, sym, subst, ints, HasLabel, Germ, Place, Ratio, InFrame, Set, Vector, Label, Out, Not, In, place_of, germ_of}
+use Rattle.nef_space.specs.Sets.{Holds}
 use Rattle.law_near.proofs.Frames.{no-germ_out}
 use Rattle.tests_places.proofs.results.whole_map.Goals as goal
 

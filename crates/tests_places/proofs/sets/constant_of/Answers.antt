@@ -1,4 +1,4 @@
-use Rattle.nef_ops.specs.Nodes.{constant_set}
+use Rattle.tests_places.proofs.Prelude.{constant_set}
 use Rattle.tests_places.proofs.Shown.{shown}
 use Rattle.tests_places.proofs.sets.constant_of.Goals as goal
 

@@ -1,5 +1,4 @@
-use Rattle.std.proofs.Common.{refl}
-use Rattle.nef_space.specs.Sets.{Set}
+use Rattle.tests_places.proofs.Prelude.{refl, Set}
 use Rattle.tests_places.proofs.Shown.{shown}
 use Rattle.tests_places.proofs.sets.empty_frame.Goals as goal
 

@@ -1,6 +1,4 @@
-use Rattle.std.proofs.Common.{arith}
-use Rattle.law_turns.specs.Turned.{turned_set}
-use Rattle.example_bracket.specs.Bracket.{leg}
+use Rattle.example_bracket.proofs.Prelude.{arith, turned_set, leg}
 use Rattle.example_bracket.proofs.Answering.{if-ok}
 use Rattle.example_bracket.proofs.made.Maker.bracket.Goals as goal
 

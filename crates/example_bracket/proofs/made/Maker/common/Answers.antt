@@ -1,7 +1,4 @@
-use Rattle.std.proofs.Common.{sym, subst, take}
-use Rattle.nef_space.specs.Sets.{Set}
-use Rattle.nef_complex.specs.Complexes.{ShowsSet}
-use Rattle.example_bracket.specs.Bracket.{common_set}
+use Rattle.example_bracket.proofs.Prelude.{sym, subst, take, Set, ShowsSet, common_set}
 use Rattle.example_bracket.proofs.Rows.{rows-at, common-more, common-all}
 use Rattle.example_bracket.proofs.made.Maker.common.Goals as goal
 

@@ -1,7 +1,4 @@
-use Rattle.std.proofs.Common.{take}
-use Rattle.nef_space.specs.Sets.{Set}
-use Rattle.nef_complex.specs.Complexes.{ShowsSet}
-use Rattle.example_bracket.specs.Bracket.{common_set}
+use Rattle.example_bracket.proofs.Prelude.{take, Set, ShowsSet, common_set}
 use Rattle.example_bracket.proofs.made.Maker.common.Given as goal
 
 -- the body is what the half-spaces of the rows so far have in common

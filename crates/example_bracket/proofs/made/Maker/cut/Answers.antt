@@ -1,8 +1,4 @@
-use Rattle.std.proofs.Common.{subst}
-use Rattle.nef_space.specs.Place.{Form}
-use Rattle.nef_space.specs.Sets.{Set}
-use Rattle.nef_geo.specs.Shapes.{given_form}
-use Rattle.nef_complex.specs.Complexes.{ShowsSet}
+use Rattle.example_bracket.proofs.Prelude.{subst, Form, Set, given_form, ShowsSet}
 use Rattle.example_bracket.proofs.Answering.{if-ok}
 use Rattle.example_bracket.proofs.made.Maker.cut.Goals as goal
 

@@ -1,4 +1,4 @@
-use Rattle.example_bracket.specs.Bracket.{plate, hole}
+use Rattle.example_bracket.proofs.Prelude.{plate, hole}
 use Rattle.example_bracket.proofs.Answering.{if-ok}
 use Rattle.example_bracket.proofs.made.Maker.leg.Goals as goal
 

@@ -1,4 +1,4 @@
-use Rattle.nef_ops.specs.Nodes.{unary_set}
+use Rattle.tests_places.proofs.Prelude.{unary_set}
 use Rattle.tests_places.proofs.Shown.{shown}
 use Rattle.tests_places.proofs.sets.Maker.changed.Goals as goal
 

@@ -1,5 +1,4 @@
-use Rattle.nef_space.specs.Sets.{Set}
-use Rattle.nef_geo.specs.Shapes.{given_form}
+use Rattle.tests_places.proofs.Prelude.{Set, given_form}
 use Rattle.tests_places.proofs.Shown.{shown}
 use Rattle.tests_places.proofs.sets.Maker.half_of.Goals as goal
 

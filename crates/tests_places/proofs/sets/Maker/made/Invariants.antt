@@ -1,5 +1,4 @@
-use Rattle.nef_space.specs.Sets.{Set}
-use Rattle.nef_complex.specs.Complexes.{ShowsSet}
+use Rattle.tests_places.proofs.Prelude.{Set, ShowsSet}
 use Rattle.tests_places.proofs.sets.Maker.made.Given as goal
 
 abbrev pub invariant-loop-step : goal.invariant-loop-step
