@@ -1,5 +1,5 @@
 -- The steps of a plan are those of its drafts.
-use Rattle.nef_plan.proofs.Prelude.{◌≡◌, ◌∙◌, ℕ, ◌<◌, ◌≤◌, refl, sym, subst, List, ◌∷◌, ◌++◌, length, inl, inr, ⊎_elim, Option, None, Some, filter, All, IfSome, unwrap_or, All-filter, Node, node_set, Command, IsWithin, Draft, Step, AreAlike, AreDrafts, AreNeeded, AreTimely, HasMore, IsRight, LooksAt, Makes, asked, task_over, tasks_in, tasks_over, value_of, AsksAbout, IsDue, first_asked, is_question, second_asked, AreEnds, IsAnswered, IsPlanOf, IsTask, IsTimely, IsValueOf, MakesValue, value_set}
+use Rattle.nef_plan.proofs.Prelude.{◌≡◌, ◌∙◌, ℕ, ◌<◌, ◌≤◌, refl, ap, sym, subst, List, ◌∷◌, ◌++◌, length, inl, inr, ⊎_elim, Option, None, Some, filter, All, IfSome, unwrap_or, All-filter, Node, node_set, Command, IsWithin, Draft, Step, AreAlike, AreDrafts, AreNeeded, AreTimely, HasMore, IsRight, LooksAt, Makes, asked, task_over, tasks_in, tasks_over, value_of, AsksAbout, IsDue, first_asked, is_question, second_asked, AreEnds, AsksNamed, IsAnswered, IsPlanOf, IsTask, IsTimely, IsValueOf, MakesValue, name_of, value_set}
 use Rattle.std.proofs.Common.{slice_get, slice_index}
 use Rattle.nef_script.specs.declared.script.Command.TheVariants as command
 use Rattle.nef_plan.specs.declared.planner.Draft.TheVariants as draft
@@ -46,6 +46,23 @@ answered given nodes steps values n drafts (draft.Ask c) df dr more right held w
     about : (k : ℕ) → k < length given → AsksAbout c.now k → AreAlike (value_set steps (slice_index values k)) (node_set given k)
     about k below asks = subst (AreAlike (value_set steps (slice_index values k))) (more.sets k below) (held k asks).set
 
+-- ---- the names of what is asked about
+name-first : (named : ℕ → ℕ) (values : List ℕ) (o : Option ℕ) → ((k : ℕ) → o ≡ Some k → named (slice_index values k) ≡ k) → (k : ℕ) × (o ≡ Some k) → o ≡ Some (named (unwrap_or (value_of values o) 0))
+name-first named values None h some = absurd (let e : None ≡ Some some.0 = some.1 in cc)
+name-first named values (Some k) h some = ap Some (sym (h k refl))
+
+name-second : (named : ℕ → ℕ) (values : List ℕ) (o : Option ℕ) → ((k : ℕ) → o ≡ Some k → named (slice_index values k) ≡ k) → o ≡ name_of named (value_of values o)
+name-second named values None h = refl
+name-second named values (Some k) h = ap Some (sym (h k refl))
+
+asks-named : (nodes : List Node) (named : ℕ → ℕ) (values : List ℕ) (d : Draft) → IsRight nodes d → ((k : ℕ) → LooksAt d k → named (slice_index values k) ≡ k) → AsksNamed named (task_over values d)
+asks-named nodes named values (draft.Make i m) right h = tt
+asks-named nodes named values (draft.Turn i j t) right h = tt
+asks-named nodes named values (draft.Ask c) right h = (
+  name-first named values (first_asked c.now) (λ k e. h k (inl e)) (asks-some c.now right.0),
+  name-second named values (second_asked c.now) (λ k e. h k (inr e)),
+)
+
 -- ---- the plan
 module _ (given nodes : List Node) (commands : List Command) (drafts : List Draft) (steps : List Step) (values : List ℕ) where
   pub planned : All (IsWithin (length given)) commands → HasMore given nodes → AreDrafts nodes drafts → asked drafts ≡ filter is_question commands → AreTimely given commands drafts → AreNeeded drafts
@@ -74,6 +91,8 @@ module _ (given nodes : List Node) (commands : List Command) (drafts : List Draf
         let o = each k s at in
         let (n, is) = made-by k s o makes in
         subst (λ z. AreAlike (value_set steps k) (node_set nodes z)) (sym (name-here nodes drafts steps are k s o n is)) (set-here nodes drafts steps are k s o n is);
+    asks = λ i s at. let o = each i s at in subst (AsksNamed (name_in drafts)) (sym (task-here nodes drafts steps are i s o))
+        (asks-named nodes (name_in drafts) o.follows.values o.d (right-here nodes drafts steps are i s o) (λ k looks. (looks-held nodes drafts steps are i s o k looks).name));
     timely = λ k s at makes.
         let o = each k s at in
         let (n, is) = made-by k s o makes in

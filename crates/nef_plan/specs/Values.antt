@@ -143,7 +143,18 @@ abbrev pub AreNamesNeeded : (ℕ → ℕ) → ℕ → List Step → Type 0
 AreNamesNeeded named n [] = Unit {0}
 AreNamesNeeded named n (s ∷ rest) = (MakesValue s.task → IsNameNeeded named (n + 1) rest (named n)) × AreNamesNeeded named (n + 1) rest
 
--- the steps ask the script's questions, each about the values of its nodes; and each value that they make is the set of the node that is its name, one of the script's or of more behind them, and is made neither before its line's turn nor before it's needed
+-- the name of the value, if there is one
+abbrev pub name_of : (ℕ → ℕ) → Option ℕ → Option ℕ
+name_of named None = None
+name_of named (Some k) = Some (named k)
+
+-- a question is about the values whose names are the nodes that its command asks about
+abbrev pub AsksNamed : (ℕ → ℕ) → Task → Type 0
+AsksNamed named (Make m) = Unit {0}
+AsksNamed named (Turn j t) = Unit {0}
+AsksNamed named (Ask c i second) = (first_asked c.now ≡ Some (named i)) × (second_asked c.now ≡ name_of named second)
+
+-- the steps ask the script's questions, each about the values that its nodes name; and each value that they make is the set of the node that is its name, one of the script's or of more behind them, and is made neither before its line's turn nor before it's needed
 pub record IsPlanOf (nodes : List Node) (commands : List Command) (steps : List Step) : Type 0 where
   pub right : AreSteps steps
   pub ends : AreEnds steps
@@ -153,5 +164,6 @@ pub record IsPlanOf (nodes : List Node) (commands : List Command) (steps : List 
   pub more : HasMore nodes all
   pub within : (k : ℕ) (s : Step) → slice_get steps k ≡ Some s → MakesValue s.task → named k < length all
   pub sets : (k : ℕ) (s : Step) → slice_get steps k ≡ Some s → MakesValue s.task → AreAlike (value_set steps k) (node_set all (named k))
+  pub asks : (k : ℕ) (s : Step) → slice_get steps k ≡ Some s → AsksNamed named s.task
   pub timely : (k : ℕ) (s : Step) → slice_get steps k ≡ Some s → MakesValue s.task → IsTimely nodes commands steps k s.task (named k)
   pub needed : AreNamesNeeded named 0 steps
