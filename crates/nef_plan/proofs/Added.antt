@@ -1,19 +1,19 @@
 -- Which sets the steps make that are added to a plan, and that none of these is made too early.
-use Rattle.nef_plan.proofs.Prelude.{◌≡◌, ◌∙◌, ℕ, ◌<◌, ◌≤◌, ◌+◌, refl, ap, sym, subst, arith, List, [], ◌∷◌, ◌++◌, length, inl, inr, ◌⊎◌, ⊎_elim, length-append, append-nil, append_assoc, filter, take, drop, Some, All, slice_get, All-append, All-cons, All-head, All-nil, All-tail, All-weaker, filter-append, take-append-drop, take-take, Node, Command, Binds, Draft, Drafts, HasAdded, MakesOnly, AreTimely, HasMore, asked, IsDue, is_question}
-use Rattle.nef_plan.proofs.Growth.{asked-append}
+use Rattle.nef_plan.proofs.Prelude.{◌≡◌, ◌∙◌, ℕ, None, ◌<◌, ◌≤◌, ◌+◌, ap, sym, subst, arith, List, [], ◌∷◌, ◌++◌, length, inl, inr, ◌⊎◌, ⊎_elim, length-append, append-nil, append_assoc, filter, take, drop, Some, All, slice_get, All-append, All-cons, All-head, All-nil, All-tail, All-weaker, filter-append, take-append-drop, take-take, Node, Command, Binds, Draft, Drafts, AddsOnly, HasGrown, IsMade, IsFree, MakesOnly, AreTimely, HasMore, asked, IsDue, is_question}
+use Rattle.nef_plan.proofs.Growth.{asked-append, made-either, made-parts, parted}
 
 -- ---- what is made
 -- more nodes may be named, and fewer be counted
 wider : (m n : ℕ) (P Q : ℕ → Type 0) → m ≤ n → ((k : ℕ) → P k → Q k) → (s : Draft) → MakesOnly n P s → MakesOnly m Q s
 wider m n P Q few f s only k makes = ⊎_elim (λ p. inl (f k p)) (λ o. inr (let past = o.0 in omega arith, o.1)) (only k makes)
 
-pub added-none : (plan : Drafts) (P : ℕ → Type 0) → HasAdded plan plan P
+pub added-none : (plan : Drafts) (P : ℕ → Type 0) → AddsOnly plan plan P
 added-none plan P = record { added = []; steps = sym (append-nil plan.steps.items); each = All-nil (MakesOnly (length plan.nodes) P) }
 
-pub added-one : (old new : Drafts) (P : ℕ → Type 0) (s : Draft) → new.steps.items ≡ old.steps.items ++ s ∷ [] → MakesOnly (length old.nodes) P s → HasAdded old new P
+pub added-one : (old new : Drafts) (P : ℕ → Type 0) (s : Draft) → new.steps.items ≡ old.steps.items ++ s ∷ [] → MakesOnly (length old.nodes) P s → AddsOnly old new P
 added-one old new P s is only = record { added = s ∷ []; steps = is; each = All-cons (MakesOnly (length old.nodes) P) s [] only (All-nil (MakesOnly (length old.nodes) P)) }
 
-pub added-trans : (a b c : Drafts) (P Q : ℕ → Type 0) → HasMore a.nodes b.nodes → ((k : ℕ) → P k → Q k) → HasAdded a b P → HasAdded b c Q → HasAdded a c Q
+pub added-trans : (a b c : Drafts) (P Q : ℕ → Type 0) → HasMore a.nodes b.nodes → ((k : ℕ) → P k → Q k) → AddsOnly a b P → AddsOnly b c Q → AddsOnly a c Q
 added-trans a b c P Q more f g h = record {
   added = g.added ++ h.added;
   steps = h.steps ∙ ap (λ z. z ++ h.added) g.steps ∙ append_assoc a.steps.items g.added h.added;
@@ -22,23 +22,27 @@ added-trans a b c P Q more f g h = record {
       (All-weaker (MakesOnly (length b.nodes) Q) (MakesOnly (length a.nodes) Q) (wider (length a.nodes) (length b.nodes) Q Q more.as_many (λ k q. q)) h.added h.each);
 }
 
-pub added-wider : (a b : Drafts) (P Q : ℕ → Type 0) → ((k : ℕ) → P k → Q k) → HasAdded a b P → HasAdded a b Q
+pub added-wider : (a b : Drafts) (P Q : ℕ → Type 0) → ((k : ℕ) → P k → Q k) → AddsOnly a b P → AddsOnly a b Q
 added-wider a b P Q f g = record { added = g.added; steps = g.steps; each = All-weaker (MakesOnly (length a.nodes) P) (MakesOnly (length a.nodes) Q) (wider (length a.nodes) (length a.nodes) P Q (omega arith) f) g.added g.each }
 
--- ---- when it is made
--- an element of two lists, one behind the other, is one of either
-pub parted : {X : Type 0} (xs ys front rest : List X) (x : X) → xs ++ ys ≡ front ++ x ∷ rest
-    → ((last : List X) × (xs ≡ front ++ x ∷ last)) ⊎ ((first : List X) × (front ≡ xs ++ first) × (ys ≡ first ++ x ∷ rest))
-parted [] ys front rest x e = inr (front, refl, e)
-parted (a ∷ xs) ys [] rest x e = inl (xs, let head : a ∷ (xs ++ ys) ≡ x ∷ rest = e in cc)
-parted (a ∷ xs) ys (b ∷ front) rest x e =
-    let both : a ∷ (xs ++ ys) ≡ b ∷ (front ++ x ∷ rest) = e in
-    let same : a ≡ b = cc in
-    ⊎_elim
-    (λ l. inl (l.0, subst (λ z. z ∷ xs ≡ b ∷ (front ++ x ∷ l.0)) (sym same) (ap (λ z. b ∷ z) l.1)))
-    (λ r. inr (r.0, subst (λ z. b ∷ front ≡ z ∷ (xs ++ r.0)) (sym same) (ap (λ z. b ∷ z) r.1), r.2))
-    (parted xs ys front rest x (cc))
+-- what is made of them is named, or isn't one of the first n
+made-only : (n : ℕ) (P : ℕ → Type 0) (added : List Draft) (k : ℕ) → All (MakesOnly n P) added → IsMade added k → P k ⊎ (n ≤ k)
+made-only n P [] k all (j, d, at, makes) = absurd (let e : None ≡ Some d = at in cc)
+made-only n P (s ∷ added) k all made = ⊎_elim
+    (λ now. ⊎_elim (λ p. inl p) (λ o. inr o.0) (All-head (MakesOnly n P) s added all k now))
+    (λ later. made-only n P added k (All-tail (MakesOnly n P) s added all) later)
+    (made-either s added k made)
 
+-- a node whose set no step makes stays so, if it isn't named
+pub free-grown : (old new : Drafts) (l : List Command) (P : ℕ → Type 0) (k : ℕ) → HasGrown old new l → AddsOnly old new P → (P k → ⊥) → IsFree old k → IsFree new k
+free-grown old new l P k h adds not free = record {
+  within = let m = h.nodes.as_many in let w = free.within in omega (arith, m, w);
+  unmade = λ made. ⊎_elim free.unmade
+      (λ now. ⊎_elim not (λ past. let w = free.within in omega (arith, past, w)) (made-only (length old.nodes) P adds.added k adds.each now))
+      (made-parts old.steps.items adds.added k (subst (λ (z : List Draft). IsMade z k) adds.steps made));
+}
+
+-- ---- when it is made
 pub all-at : {X : Type 0} (P : X → Type 0) (front rest : List X) (x : X) → All P (front ++ x ∷ rest) → P x
 all-at P [] rest x all = All-head P x rest all
 all-at P (a ∷ front) rest x all = all-at P front rest x (All-tail P a (front ++ x ∷ rest) all)
@@ -72,7 +76,7 @@ pub timely-none : (nodes : List Node) (commands : List Command) (steps : List Dr
 timely-none nodes commands steps none = record { each = λ front rest s is. absurd (let n = ap length (sym none ∙ is) in let m = length-append front (s ∷ rest) in omega (arith, n, m)) }
 
 pub timely-added : (nodes : List Node) (commands : List Command) (old new : Drafts) (P : ℕ → Type 0) → HasMore nodes old.nodes → ((k : ℕ) → P k → IsDue commands (length (asked old.steps.items)) k)
-    → AreTimely nodes commands old.steps.items → HasAdded old new P → AreTimely nodes commands new.steps.items
+    → AreTimely nodes commands old.steps.items → AddsOnly old new P → AreTimely nodes commands new.steps.items
 timely-added nodes commands old new P more due are h = record {
   each = λ front rest s is k makes. ⊎_elim
       (λ l. are.each front l.0 s l.1 k makes)

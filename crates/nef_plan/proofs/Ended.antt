@@ -1,5 +1,5 @@
 -- Which steps end values, by the last uses of these.
-use Rattle.nef_plan.proofs.Prelude.{◌≡◌, ◌∙◌, ℕ, zero, suc, ◌+◌, ◌<◌, refl, ap, sym, subst, arith, List, [], ◌∷◌, ◌++◌, length, inl, inr, Option, None, Some, true, ◌↔◌, cases_lt, NamesBelow, IsWithin, Node, Draft, Step, Task, IsRight, AreLastUses, AreUses, IsAmong, IsLastAt, IsUsedBy, put, put_all, task_over, tasks_in, tasks_over, AreEnds, Ends, LooksAtValue, first_value, second_value}
+use Rattle.nef_plan.proofs.Prelude.{◌≡◌, ◌∙◌, ℕ, zero, suc, ◌+◌, ◌<◌, refl, ap, sym, subst, arith, List, [], ◌∷◌, ◌++◌, length, inl, inr, Option, None, Some, true, ◌↔◌, cases_lt, NamesBelow, IsWithin, Node, Draft, Step, Task, IsRight, AreLastUses, AreUses, IsAmong, IsLastAt, IsUsedBy, Makes, put, put_all, task_over, tasks_in, tasks_over, AreEnds, Ends, LooksAtValue, first_value, second_value}
 use Rattle.std.proofs.Common.{IfSome, slice_get, slice_index}
 use Rattle.nef_plan.specs.declared.planner.Draft.TheVariants as draft
 
@@ -20,6 +20,11 @@ pub among-right : (nodes : List Node) (n : ℕ) (d : Draft) → length nodes ≡
 among-right nodes n (draft.Make k m) e right = (let w = right.within in omega (arith, w, e), subst (λ z. NamesBelow z m) e right.operands)
 among-right nodes n (draft.Turn k j t) e right = (let w = right.within in omega (arith, w, e), let w = right.operand in omega (arith, w, e))
 among-right nodes n (draft.Ask c) e right = subst (λ z. IsWithin z c.now) e right.1
+
+pub makes-among : (n : ℕ) (d : Draft) (k : ℕ) → IsAmong n d → Makes d k → k < n
+makes-among n (draft.Make i m) k among is = subst (λ z. z < n) (sym is) among.0
+makes-among n (draft.Turn i j t) k among is = subst (λ z. z < n) (sym is) among.0
+makes-among n (draft.Ask c) k among is = absurd is
 
 pub if-some : (o : Option ℕ) (m n : ℕ) → m ≡ n → ((k : ℕ) → o ≡ Some k → k < n) → IfSome o (λ k. k < m)
 if-some None m n e h = tt

@@ -1,11 +1,10 @@
 -- Steps that follow drafts, one by one.
-use Rattle.nef_plan.proofs.Prelude.{◌≡◌, ◌∙◌, ℕ, zero, suc, ◌+◌, ◌<◌, ◌≤◌, refl, ap, sym, subst, arith, List, [], ◌∷◌, ◌++◌, length, inl, inr, ⊎_elim, Option, None, Some, false, take, append_assoc, append-nil, length-append, take-append_seam, slice_get_within, turned_set, Set, Node, node_set, operand, set_of, sets_after, slice_get-seam, Draft, Step, Task, AreAlike, AreDrafts, AreNeeded, IsMade, IsNeeded, IsRight, LooksAt, Makes, asked, LookBelow, over, put, task_over, tasks_in, tasks_over, AreNamesNeeded, IsNameNeeded, IsNeededBy, LooksAtNamed, LooksAtValue, MakesValue, asked_values, made_of, questions_of, value_set, values_after}
+use Rattle.nef_plan.proofs.Prelude.{◌≡◌, ◌∙◌, ℕ, zero, suc, ◌+◌, ◌<◌, ◌≤◌, refl, ap, sym, subst, arith, List, [], ◌∷◌, ◌++◌, length, inl, inr, ⊎_elim, Option, None, Some, false, take, append_assoc, append-nil, length-append, take-append_seam, slice_get_within, turned_set, Set, Node, node_set, operand, set_of, sets_after, slice_get-below, slice_get-seam, Draft, Step, Task, AreAlike, AreDrafts, AreNeeded, IsMade, IsNeeded, IsRight, DraftLooksAt, Makes, asked, LookBelow, over, put, task_over, tasks_in, tasks_over, AreNamesNeeded, IsNameNeeded, IsNeededBy, LooksAtNamed, LooksAtValue, MakesValue, asked_values, made_of, questions_of, value_set, values_after}
 use Rattle.std.proofs.Common.{slice_get, slice_index}
 use Rattle.nef_plan.specs.declared.planner.Draft.TheVariants as draft
 use Rattle.nef_plan.proofs.Alike.{alike-trans, turned-alike}
 use Rattle.nef_plan.proofs.Ended.{step-there}
-use Rattle.nef_plan.proofs.Growth.{asked-append, makes-within}
-use Rattle.nef_plan.proofs.Grouping.{made-front, made-seam}
+use Rattle.nef_plan.proofs.Growth.{asked-append, made-seam, makes-within}
 use Rattle.nef_plan.proofs.Valued.{asked-over, asked_values-append, look-over, looked-over, makes-or-not, makes-value, over-alike, put-here, put-length, put-other, value-before, value-here, value-makes}
 
 -- the node whose set the draft makes, and 0 where it makes none
@@ -62,7 +61,7 @@ module _ (nodes : List Node) (drafts : List Draft) (steps : List Step) (are : Ar
     there : slice_get steps n ≡ Some s
     there = subst (λ z. slice_get z n ≡ Some s) (sym o.follows.steps_are) (subst (λ z. slice_get (o.follows.sf ++ s ∷ o.sr) z ≡ Some s) (sym o.follows.number) (slice_get-seam o.follows.sf s o.sr))
 
-    draft-there : slice_get drafts n ≡ Some o.d
+    pub draft-there : slice_get drafts n ≡ Some o.d
     draft-there = subst (λ z. slice_get z n ≡ Some o.d) (sym o.follows.drafts_are) (subst (λ z. slice_get (o.follows.df ++ o.d ∷ o.dr) z ≡ Some o.d) (sym o.follows.drafts_number) (slice_get-seam o.follows.df o.d o.dr))
 
     pub right-here : IsRight nodes o.d
@@ -71,15 +70,22 @@ module _ (nodes : List Node) (drafts : List Draft) (steps : List Step) (are : Ar
     pub name-here : (k : ℕ) → Makes o.d k → name_in drafts n ≡ k
     name-here k makes = ap node_of draft-there ∙ node-made o.d k makes
 
-    pub looks-held : (k : ℕ) → LooksAt o.d k → IsHeld nodes drafts steps n (slice_index o.follows.values k) k
-    looks-held k looks = o.follows.held k (made-front nodes o.follows.df o.dr o.d (subst (AreDrafts nodes) o.follows.drafts_are are) k looks)
+    pub looks-held : (k : ℕ) → DraftLooksAt o.d k → IsHeld nodes drafts steps n (slice_index o.follows.values k) k
+    looks-held k looks = o.follows.held k ((are.follow o.follows.df o.dr o.d o.follows.drafts_are).looks k looks)
+
+    -- no step before it makes the same set
+    pub new-here : (k : ℕ) → Makes o.d k → (j : ℕ) (d : Draft) → j < n → slice_get drafts j ≡ Some d → Makes d k → ⊥
+    new-here k makes j d low at also =
+        let number = o.follows.drafts_number in
+        let before : slice_get o.follows.df j ≡ Some d = sym (slice_get-below o.follows.df (o.d ∷ o.dr) j (omega (arith, low, number))) ∙ ap (λ z. slice_get z j) (sym o.follows.drafts_are) ∙ at in
+        (are.follow o.follows.df o.dr o.d o.follows.drafts_are).new k makes (j, d, before, also)
 
     pub looked-at : (v : ℕ) → LooksAtValue s.task v → (k : ℕ) × IsHeld nodes drafts steps n v k
     looked-at v looks =
         let (k, l, is) = looked-over nodes o.follows.values o.d v right-here (subst (λ z. LooksAtValue z v) task-here looks) in
         (k, subst (λ z. IsHeld nodes drafts steps n z k) (sym is) (looks-held k l))
 
-    pub looks-here : (k : ℕ) → LooksAt o.d k → LooksAtNamed (name_in drafts) s.task k
+    pub looks-here : (k : ℕ) → DraftLooksAt o.d k → LooksAtNamed (name_in drafts) s.task k
     looks-here k looks = (
       slice_index o.follows.values k,
       subst (λ z. LooksAtValue z (slice_index o.follows.values k)) (sym task-here) (look-over o.follows.values o.d k looks),
@@ -92,7 +98,7 @@ module _ (nodes : List Node) (drafts : List Draft) (steps : List Step) (are : Ar
         sym o.follows.asked_so ∙ ap asked_values (sym (ap (λ z. take n z) e ∙ ap (λ z. take z (o.follows.sf ++ s ∷ o.sr)) o.follows.number ∙ take-append_seam o.follows.sf (s ∷ o.sr)))
 
     -- the value of a node that the draft looks at, among those before
-    earlier : (k : ℕ) → LooksAt o.d k → AreAlike (operand (values_after [] o.follows.sf) (slice_index o.follows.values k)) (node_set nodes k)
+    earlier : (k : ℕ) → DraftLooksAt o.d k → AreAlike (operand (values_after [] o.follows.sf) (slice_index o.follows.values k)) (node_set nodes k)
     earlier k looks =
         let h = looks-held k looks in
         let below = h.below in
@@ -103,7 +109,7 @@ module _ (nodes : List Node) (drafts : List Draft) (steps : List Step) (are : Ar
     made-here : value_set steps n ≡ made_of (values_after [] o.follows.sf) (task_over o.follows.values o.d)
     made-here = ap (λ z. value_set z n) o.follows.steps_are ∙ ap (value_set (o.follows.sf ++ s ∷ o.sr)) o.follows.number ∙ value-here o.follows.sf o.sr s ∙ ap (made_of (values_after [] o.follows.sf)) task-here
 
-    set-made : (e : Draft) (k : ℕ) → IsRight nodes e → Makes e k → ((j : ℕ) → LooksAt e j → AreAlike (operand (values_after [] o.follows.sf) (slice_index o.follows.values j)) (node_set nodes j))
+    set-made : (e : Draft) (k : ℕ) → IsRight nodes e → Makes e k → ((j : ℕ) → DraftLooksAt e j → AreAlike (operand (values_after [] o.follows.sf) (slice_index o.follows.values j)) (node_set nodes j))
         → AreAlike (made_of (values_after [] o.follows.sf) (task_over o.follows.values e)) (node_set nodes k)
     set-made (draft.Make i m) k right makes alike = subst (λ (z : ℕ). AreAlike (set_of (values_after [] o.follows.sf) (over (slice_index o.follows.values) m)) (node_set nodes z)) (sym makes)
         (alike-trans _ _ _ (over-alike (slice_index o.follows.values) (sets_after [] nodes) (values_after [] o.follows.sf) m (λ j op. alike j op)) right.set)
@@ -159,7 +165,7 @@ module _ (nodes : List Node) (drafts : List Draft) (steps : List Step) (are : Ar
   next n d dr s sr f = follows-next n s (here n d dr s sr f)
 
   needed-by : (values : List ℕ) (d : Draft) (k : ℕ) (rest : List Draft) (looks later made : Type 0) → IsNeeded (d ∷ rest) k
-      → (LooksAt d k → looks) → (IsNeeded rest k → later) → ((m : ℕ) → Makes d m → IsNeeded rest m → made) → IsNeededBy (task_over values d) looks later made
+      → (DraftLooksAt d k → looks) → (IsNeeded rest k → later) → ((m : ℕ) → Makes d m → IsNeeded rest m → made) → IsNeededBy (task_over values d) looks later made
   needed-by values (draft.Make n m) k rest looks later made h f g i = ⊎_elim (λ l. inl (g l)) (λ r. inr (f r.0, i n refl r.1)) h
   needed-by values (draft.Turn n j t) k rest looks later made h f g i = ⊎_elim (λ l. inl (g l)) (λ r. inr (f r.0, i n refl r.1)) h
   needed-by values (draft.Ask c) k rest looks later made h f g i = f h

@@ -1,5 +1,5 @@
 -- What stays where nodes and steps are added.
-use Rattle.nef_plan.proofs.Prelude.{◌≡◌, ◌∙◌, ℕ, ◌<◌, ◌≤◌, refl, ap, sym, subst, arith, List, [], ◌∷◌, ◌++◌, length, inl, inr, length-append, append-nil, append_assoc, slice_get_within, Set, turned_set, Node, node_set, set_of, sets_after, NamesBelow, names-wider, slice_get-left, slice_get-seam, place-push, earlier-sets_stay, new-set, set_of-same, Command, IsWithin, Draft, Make, Turn, Ask, Drafts, AreAlike, IsReady, HasGrown, AreDrafts, HasMore, IsMade, IsMadeAs, IsRight, LooksAt, Makes, asked}
+use Rattle.nef_plan.proofs.Prelude.{◌≡◌, ◌∙◌, ◌⊎◌, ⊎_elim, ℕ, zero, suc, ◌<◌, ◌≤◌, refl, ap, sym, subst, arith, List, [], ◌∷◌, ◌++◌, length, Some, inl, inr, length-append, append-nil, append_assoc, Set, turned_set, Node, node_set, set_of, sets_after, NamesBelow, names-wider, slice_get-left, slice_get-seam, place-push, earlier-sets_stay, new-set, set_of-same, Command, IsWithin, Draft, Make, Turn, Ask, Drafts, AreAlike, IsReady, HasGrown, AreDrafts, HasMore, IsMade, IsMadeAs, IsRight, MayFollow, Makes, asked}
 use Rattle.nef_script.specs.declared.script.Command.TheVariants as command
 use Rattle.nef_plan.proofs.Alike.{alike-refl}
 
@@ -62,7 +62,7 @@ asked-none (Turn n j t) k is = refl
 asked-none (Ask c) k is = absurd is
 
 pub steps-more : (old new : List Node) (steps : List Draft) → HasMore old new → AreDrafts old steps → AreDrafts new steps
-steps-more old new steps h are = record { right = λ i s at. right-more old new s h (are.right i s at); made_before = are.made_before }
+steps-more old new steps h are = record { right = λ i s at. right-more old new s h (are.right i s at); follow = are.follow }
 
 -- a node that is added is made as it says
 pub made-new : (ns : List Node) (m : Node) → NamesBelow (length ns) m → IsMadeAs (ns ++ m ∷ []) (length ns) m
@@ -89,18 +89,60 @@ made-push steps s k (j, d, at, makes) = (j, d, slice_get-left steps (s ∷ []) j
 pub made-last : (steps : List Draft) (s : Draft) (k : ℕ) → Makes s k → IsMade (steps ++ s ∷ []) k
 made-last steps s k makes = (length steps, s, slice_get-seam steps s [], makes)
 
-pub steps-push : (nodes : List Node) (steps : List Draft) (s : Draft) → AreDrafts nodes steps → IsRight nodes s → ((k : ℕ) → LooksAt s k → IsMade steps k) → AreDrafts nodes (steps ++ s ∷ [])
-steps-push nodes steps s are is made = record {
+pub made-first : (s : Draft) (rest : List Draft) (k : ℕ) → Makes s k → IsMade (s ∷ rest) k
+made-first s rest k makes = (0, s, refl, makes)
+
+pub made-later : (s : Draft) (rest : List Draft) (k : ℕ) → IsMade rest k → IsMade (s ∷ rest) k
+made-later s rest k (j, d, at, makes) = (suc j, d, at, makes)
+
+pub made-either : (s : Draft) (rest : List Draft) (k : ℕ) → IsMade (s ∷ rest) k → Makes s k ⊎ IsMade rest k
+made-either s rest k (zero, d, at, makes) = let e : Some s ≡ Some d = at in let same : d ≡ s = cc in inl (subst (λ (z : Draft). Makes z k) same makes)
+made-either s rest k (suc j, d, at, makes) = inr (j, d, at, makes)
+
+-- what two lists of steps make, one of them makes
+pub made-parts : (front rest : List Draft) (k : ℕ) → IsMade (front ++ rest) k → IsMade front k ⊎ IsMade rest k
+made-parts [] rest k made = inr made
+made-parts (s ∷ front) rest k made = ⊎_elim
+    (λ now. inl (made-first s front k now))
+    (λ later. ⊎_elim (λ l. inl (made-later s front k l)) (λ r. inr r) (made-parts front rest k later))
+    (made-either s (front ++ rest) k made)
+
+pub made-seam : (front : List Draft) (s : Draft) (k : ℕ) → IsMade (front ++ s ∷ []) k → IsMade front k ⊎ Makes s k
+made-seam front s k (j, d, at, makes) = elim (place-push front s j d at) [
+  | inl o ↦ inl (j, d, o.1, makes)
+  | inr l ↦ inr (subst (λ (z : Draft). Makes z k) l.1 makes)
+]
+
+-- a node whose set is made is there
+pub made-within : (nodes : List Node) (steps : List Draft) (k : ℕ) → AreDrafts nodes steps → IsMade steps k → k < length nodes
+made-within nodes steps k are (j, d, at, makes) = makes-within nodes d k (are.right j d at) makes
+
+-- an element of two lists, one behind the other, is one of either
+pub parted : {X : Type 0} (xs ys front rest : List X) (x : X) → xs ++ ys ≡ front ++ x ∷ rest
+    → ((last : List X) × (xs ≡ front ++ x ∷ last)) ⊎ ((first : List X) × (front ≡ xs ++ first) × (ys ≡ first ++ x ∷ rest))
+parted [] ys front rest x e = inr (front, refl, e)
+parted (a ∷ xs) ys [] rest x e = inl (xs, let head : a ∷ (xs ++ ys) ≡ x ∷ rest = e in cc)
+parted (a ∷ xs) ys (b ∷ front) rest x e =
+    let both : a ∷ (xs ++ ys) ≡ b ∷ (front ++ x ∷ rest) = e in
+    let same : a ≡ b = cc in
+    ⊎_elim
+    (λ l. inl (l.0, subst (λ z. z ∷ xs ≡ b ∷ (front ++ x ∷ l.0)) (sym same) (ap (λ z. b ∷ z) l.1)))
+    (λ r. inr (r.0, subst (λ z. b ∷ front ≡ z ∷ (xs ++ r.0)) (sym same) (ap (λ z. b ∷ z) r.1), r.2))
+    (parted xs ys front rest x (cc))
+
+parted-last : {X : Type 0} (xs first front rest : List X) (y x : X) → front ≡ xs ++ first → y ∷ [] ≡ first ++ x ∷ rest → (front ≡ xs) × (x ≡ y)
+parted-last xs [] front rest y x e f = (e ∙ append-nil xs, let g : y ∷ [] ≡ x ∷ rest = f in cc)
+parted-last xs (z ∷ first) front rest y x e f = absurd (let n = ap length f in let m = length-append (z ∷ first) (x ∷ rest) in omega (arith, n, m))
+
+pub steps-push : (nodes : List Node) (steps : List Draft) (s : Draft) → AreDrafts nodes steps → IsRight nodes s → MayFollow steps s → AreDrafts nodes (steps ++ s ∷ [])
+steps-push nodes steps s are is may = record {
   right = λ i d at. elim (place-push steps s i d at) [
     | inl o ↦ are.right i d o.1
     | inr l ↦ subst (IsRight nodes) (sym l.1) is
   ];
-  made_before = λ i d at k looks. elim (place-push steps s i d at) [
-    | inl o ↦ (let (j, e, low, there, makes) = are.made_before i d o.1 k looks in (j, e, low, slice_get-left steps (s ∷ []) j e there, makes))
-    | inr l ↦ (
-        let (j, e, there, makes) = made k (subst (λ (z : Draft). LooksAt z k) l.1 looks) in
-        let below = slice_get_within steps j e there in
-        (j, e, omega (arith, below, l.0), slice_get-left steps (s ∷ []) j e there, makes))
+  follow = λ front rest d e. elim (parted steps (s ∷ []) front rest d e) [
+    | inl l ↦ are.follow front l.0 d l.1
+    | inr r ↦ (let last = parted-last steps r.0 front rest s d r.1 r.2 in subst (λ z. MayFollow z d) (sym last.0) (subst (MayFollow steps) (sym last.1) may))
   ];
 }
 

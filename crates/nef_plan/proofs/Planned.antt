@@ -1,12 +1,12 @@
 -- The steps of a plan are those of its drafts.
-use Rattle.nef_plan.proofs.Prelude.{◌≡◌, ◌∙◌, ℕ, ◌<◌, ◌≤◌, refl, ap, sym, subst, List, ◌∷◌, ◌++◌, length, inl, inr, ⊎_elim, Option, None, Some, filter, All, IfSome, unwrap_or, All-filter, Node, node_set, Command, IsWithin, Draft, Step, AreAlike, AreDrafts, AreNeeded, AreTimely, HasMore, IsRight, LooksAt, Makes, asked, task_over, tasks_in, tasks_over, value_of, AsksAbout, IsDue, first_asked, is_question, second_asked, AreEnds, AsksNamed, IsAnswered, IsPlanOf, IsTask, IsTimely, IsValueOf, MakesValue, name_of, value_set}
+use Rattle.nef_plan.proofs.Prelude.{◌≡◌, ◌∙◌, ℕ, ◌<◌, ◌≤◌, refl, ap, sym, subst, arith, cases_eq, cases_lt, List, ◌∷◌, ◌++◌, length, inl, inr, ⊎_elim, Option, None, Some, filter, All, IfSome, unwrap_or, All-filter, Node, node_set, Command, IsWithin, Draft, Step, AreAlike, AreDrafts, AreNeeded, AreTimely, HasMore, IsRight, DraftLooksAt, Makes, asked, task_over, tasks_in, tasks_over, value_of, AsksAbout, IsDue, first_asked, is_question, second_asked, AreEnds, AsksNamed, IsAnswered, IsPlanOf, IsTask, IsTimely, IsValue, IsValueOf, MakesValue, name_of, value_set}
 use Rattle.std.proofs.Common.{slice_get, slice_index}
 use Rattle.nef_script.specs.declared.script.Command.TheVariants as command
 use Rattle.nef_plan.specs.declared.planner.Draft.TheVariants as draft
 use Rattle.nef_plan.proofs.Added.{all-at}
 use Rattle.nef_plan.proofs.Growth.{asked-append, makes-within}
 use Rattle.nef_plan.proofs.Valued.{asks-some, task-is, value-makes}
-use Rattle.nef_plan.proofs.Followed.{Follows, FollowsAt, IsHeld, asked-follows, asked-here, follows-each, follows-none, looked-at, looks-held, looks-here, name-here, name_in, needed-names, right-here, set-here, task-here}
+use Rattle.nef_plan.proofs.Followed.{Follows, FollowsAt, IsHeld, asked-follows, asked-here, follows-each, follows-none, draft-there, looked-at, looks-held, looks-here, name-here, name_in, needed-names, new-here, right-here, set-here, task-here}
 
 -- what a command asks about are nodes of the script
 within-asked : (n : ℕ) (c : Command) → IsWithin n c → IfSome (first_asked c) (λ k. k < n) × IfSome (second_asked c) (λ k. k < n)
@@ -31,7 +31,7 @@ value-second : (given : List Node) (steps : List Step) (values : List ℕ) (o : 
 value-second given steps values None h = tt
 value-second given steps values (Some k) h = h k refl
 
-answered : (given nodes : List Node) (steps : List Step) (values : List ℕ) (n : ℕ) (drafts : List Draft) (d : Draft) (df dr : List Draft) → HasMore given nodes → IsRight nodes d → ((k : ℕ) → LooksAt d k → IsHeld nodes drafts steps n (slice_index values k) k) → All (IsWithin (length given)) (asked (df ++ d ∷ dr))
+answered : (given nodes : List Node) (steps : List Step) (values : List ℕ) (n : ℕ) (drafts : List Draft) (d : Draft) (df dr : List Draft) → HasMore given nodes → IsRight nodes d → ((k : ℕ) → DraftLooksAt d k → IsHeld nodes drafts steps n (slice_index values k) k) → All (IsWithin (length given)) (asked (df ++ d ∷ dr))
     → IsAnswered given steps (task_over values d)
 answered given nodes steps values n drafts (draft.Make i m) df dr more right held within = tt
 answered given nodes steps values n drafts (draft.Turn i j t) df dr more right held within = tt
@@ -55,7 +55,7 @@ name-second : (named : ℕ → ℕ) (values : List ℕ) (o : Option ℕ) → ((k
 name-second named values None h = refl
 name-second named values (Some k) h = ap Some (sym (h k refl))
 
-asks-named : (nodes : List Node) (named : ℕ → ℕ) (values : List ℕ) (d : Draft) → IsRight nodes d → ((k : ℕ) → LooksAt d k → named (slice_index values k) ≡ k) → AsksNamed named (task_over values d)
+asks-named : (nodes : List Node) (named : ℕ → ℕ) (values : List ℕ) (d : Draft) → IsRight nodes d → ((k : ℕ) → DraftLooksAt d k → named (slice_index values k) ≡ k) → AsksNamed named (task_over values d)
 asks-named nodes named values (draft.Make i m) right h = tt
 asks-named nodes named values (draft.Turn i j t) right h = tt
 asks-named nodes named values (draft.Ask c) right h = (
@@ -91,6 +91,13 @@ module _ (given nodes : List Node) (commands : List Command) (drafts : List Draf
         let o = each k s at in
         let (n, is) = made-by k s o makes in
         subst (λ z. AreAlike (value_set steps k) (node_set nodes z)) (sym (name-here nodes drafts steps are k s o n is)) (set-here nodes drafts steps are k s o n is);
+    once = λ j k first second same. elim (cases_eq j k) [
+      | inl e ↦ e
+      | inr other ↦ elim (cases_lt j k) [
+        | inl low ↦ absurd (twice-not j k low first second same)
+        | inr past ↦ absurd (twice-not k j (omega (arith, past, other)) second first (sym same))
+      ]
+    ];
     asks = λ i s at. let o = each i s at in subst (AsksNamed (name_in drafts)) (sym (task-here nodes drafts steps are i s o))
         (asks-named nodes (name_in drafts) o.follows.values o.d (right-here nodes drafts steps are i s o) (λ k looks. (looks-held nodes drafts steps are i s o k looks).name));
     timely = λ k s at makes.
@@ -111,6 +118,15 @@ module _ (given nodes : List Node) (commands : List Command) (drafts : List Draf
 
       made-by : (k : ℕ) (s : Step) (o : FollowsAt nodes drafts steps k s) → MakesValue s.task → (n : ℕ) × Makes o.d n
       made-by k s o makes = value-makes o.follows.values o.d (subst MakesValue (task-here nodes drafts steps are k s o) makes)
+
+      twice-not : (j k : ℕ) → j < k → IsValue steps j → IsValue steps k → name_in drafts j ≡ name_in drafts k → ⊥
+      twice-not j k low (s, at, makes) (t, there, also) same =
+          let o = each j s at in
+          let p = each k t there in
+          let (m, first) = made-by j s o makes in
+          let (n, second) = made-by k t p also in
+          let e : m ≡ n = sym (name-here nodes drafts steps are j s o m first) ∙ same ∙ name-here nodes drafts steps are k t p n second in
+          new-here nodes drafts steps are k t p n second j o.d low (draft-there nodes drafts steps are j s o) (subst (Makes o.d) e first)
 
       asked-within : All (IsWithin (length given)) (asked drafts)
       asked-within = subst (All (IsWithin (length given))) (sym asks) (All-filter is_question (IsWithin (length given)) commands within)

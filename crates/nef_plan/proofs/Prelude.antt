@@ -16,12 +16,12 @@ pub use Rattle.nef_expr.proofs.Sets.{each-set, earlier-sets_stay, new-set, set_o
 pub use Rattle.nef_script.specs.Commands.{Binds}
 pub use Rattle.nef_script.specs.declared.script.Command.{Command}
 pub use Rattle.nef_plan.specs.Alike.{AreAlike}
-pub use Rattle.nef_plan.specs.Drafts.{AreDrafts, AreNeeded, AreTimely, HasMore, IsMade, IsMadeAs, IsNeeded, IsOfOthers, IsRight, IsTurnedFrom, LooksAt, Makes, asked}
-pub use Rattle.nef_plan.specs.Groups.{AreGrouped, AreNeededFor, AreSettled, IsAtHand, IsGroup, IsNeededFor, IsNone, StandsBy, group}
+pub use Rattle.nef_plan.specs.Drafts.{AreDrafts, AreNeeded, AreTimely, HasMore, IsMade, IsMadeAs, IsNeeded, IsOfOthers, IsRight, IsTurnedFrom, DraftLooksAt, Makes, MayFollow, asked}
+pub use Rattle.nef_plan.specs.Groups.{AreApart, AreGrouped, AreNeededFor, AreOnce, AreSettled, IsAtHand, IsGroup, IsNeededFor, IsNone, StandsBy, group}
 pub use Rattle.nef_plan.specs.Numbers.{AreLastUses, AreUses, IsAmong, IsLastAt, IsUsedBy, LookBelow, over, put, put_all, task_over, tasks_in, tasks_over, value_of}
 pub use Rattle.nef_plan.specs.Questions.{AsksAbout, IsDue, first_asked, is_question, second_asked}
-pub use Rattle.nef_plan.specs.Rows.{AreOfOneKind, ArePlanned, AreReady, BeginsWith, GoesOn, HasAdded, HasGrown, IsBound, IsReady, IsRowOf, IsThere, MakesOnly, MakesSet, Tells, combined, ended, joined, joined_after, parts, spare}
-pub use Rattle.nef_plan.specs.Values.{AreEnds, AreNamesNeeded, AsksNamed, Ends, IsAnswered, IsNameNeeded, IsNeededBy, IsPlanOf, IsTask, IsTimely, IsValueOf, LooksAtNamed, LooksAtValue, MakesValue, asked_values, first_value, made_of, name_of, questions_of, second_value, value_set, values_after}
+pub use Rattle.nef_plan.specs.Rows.{AreOfOneKind, ArePlanned, AreReady, BeginsWith, GoesOn, AddsOnly, HasGrown, IsBoundIn, IsFree, IsReady, IsRowOf, IsThere, MakesOnly, MakesSet, Tells, combined, ended, joined, joined_after, parts, spare}
+pub use Rattle.nef_plan.specs.Values.{AreEnds, AreNamesNeeded, AsksNamed, Ends, IsAnswered, IsNameNeeded, IsNeededBy, IsPlanOf, IsTask, IsTimely, IsValue, IsValueOf, LooksAtNamed, LooksAtValue, MakesValue, asked_values, first_value, made_of, name_of, questions_of, second_value, value_set, values_after}
 pub use Rattle.nef_plan.specs.declared.planner.Draft.{Draft}
 pub use Rattle.nef_plan.specs.declared.planner.Draft.TheVariants.{Ask, Make, Turn}
 pub use Rattle.nef_plan.specs.declared.planner.Drafts.{Drafts}

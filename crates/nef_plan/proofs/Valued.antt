@@ -1,5 +1,5 @@
 -- The steps of drafts make the sets of their nodes, and have what is known of the drafts.
-use Rattle.nef_plan.proofs.Prelude.{◌≡◌, ◌∙◌, ℕ, zero, suc, ◌+◌, ◌<◌, refl, ap, sym, subst, arith, List, [], ◌∷◌, ◌++◌, length, inl, inr, ⊎_elim, ◌⊎◌, Option, None, Some, true, false, append_assoc, length-append, unwrap_or, get_or-append, get_or-append_seam, cases_eq, get_or-set_same, get_or-set_other, Set, Node, IsOperand, Shape, Uses, operand, set_of, shape_of, Command, Draft, Step, AreAlike, IsRight, LooksAt, Makes, asked, over, put, task_over, value_of, first_asked, is_question, second_asked, IsTask, LooksAtValue, MakesValue, asked_values, made_of, questions_of, value_set, values_after}
+use Rattle.nef_plan.proofs.Prelude.{◌≡◌, ◌∙◌, ℕ, zero, suc, ◌+◌, ◌<◌, refl, ap, sym, subst, arith, List, [], ◌∷◌, ◌++◌, length, inl, inr, ⊎_elim, ◌⊎◌, Option, None, Some, true, false, append_assoc, length-append, unwrap_or, get_or-append, get_or-append_seam, cases_eq, get_or-set_same, get_or-set_other, Set, Node, IsOperand, Shape, Uses, operand, set_of, shape_of, Command, Draft, Step, AreAlike, IsRight, DraftLooksAt, Makes, asked, over, put, task_over, value_of, first_asked, is_question, second_asked, IsTask, LooksAtValue, MakesValue, asked_values, made_of, questions_of, value_set, values_after}
 use Rattle.std.proofs.Common.{slice_set, slice_index}
 use Rattle.nef_expr.specs.declared.nodes.Node.TheVariants as node
 use Rattle.nef_script.specs.declared.script.Command.TheVariants as command
@@ -105,7 +105,7 @@ value_of-some values None v e = let f : None ≡ Some v = e in absurd (cc)
 value_of-some values (Some k) v e = let f : Some (slice_index values k) ≡ Some v = e in (k, refl, cc)
 
 -- ---- what a draft looks at has its value looked at, and nothing else
-pub look-over : (values : List ℕ) (d : Draft) (k : ℕ) → LooksAt d k → LooksAtValue (task_over values d) (slice_index values k)
+pub look-over : (values : List ℕ) (d : Draft) (k : ℕ) → DraftLooksAt d k → LooksAtValue (task_over values d) (slice_index values k)
 look-over values (draft.Make n m) k h = subst (Uses (slice_index values k)) (sym (shape-over (slice_index values) m)) (uses-with (slice_index values) (shape_of m) k h)
 look-over values (draft.Turn n j t) k h = ap (slice_index values) h
 look-over values (draft.Ask c) k h = elim h [
@@ -113,7 +113,7 @@ look-over values (draft.Ask c) k h = elim h [
   | inr e ↦ inr (ap (value_of values) e)
 ]
 
-pub looked-over : (nodes : List Node) (values : List ℕ) (d : Draft) (v : ℕ) → IsRight nodes d → LooksAtValue (task_over values d) v → (k : ℕ) × LooksAt d k × (v ≡ slice_index values k)
+pub looked-over : (nodes : List Node) (values : List ℕ) (d : Draft) (v : ℕ) → IsRight nodes d → LooksAtValue (task_over values d) v → (k : ℕ) × DraftLooksAt d k × (v ≡ slice_index values k)
 looked-over nodes values (draft.Make n m) v right h = with-uses (slice_index values) (shape_of m) v (subst (Uses v) (shape-over (slice_index values) m) h)
 looked-over nodes values (draft.Turn n j t) v right h = (j, refl, h)
 looked-over nodes values (draft.Ask c) v right (inl h) = let (k, e) = asks-some c.now right.0 in (k, inl e, h ∙ ap (λ z. unwrap_or (value_of values z) 0) e)

@@ -17,10 +17,10 @@ Makes (Turn n j t) k = k ≡ n
 Makes (Ask c) k = ⊥
 
 -- the step looks at the set of node k: it makes another of it, or asks about it
-abbrev pub LooksAt : Draft → ℕ → Type 0
-LooksAt (Make n m) k = IsOperand k m
-LooksAt (Turn n j t) k = k ≡ j
-LooksAt (Ask c) k = AsksAbout c.now k
+abbrev pub DraftLooksAt : Draft → ℕ → Type 0
+DraftLooksAt (Make n m) k = IsOperand k m
+DraftLooksAt (Turn n j t) k = k ≡ j
+DraftLooksAt (Ask c) k = AsksAbout c.now k
 
 -- m, whose operands are nodes, is an expression for the set of the node n with the same planes
 pub record IsMadeAs (nodes : List Node) (n : ℕ) (m : Node) : Type 0 where
@@ -45,10 +45,15 @@ IsRight nodes (Ask c) = (is_question c.now ≡ true) × IsWithin (length nodes) 
 abbrev pub IsMade : List Draft → ℕ → Type 0
 IsMade steps k = (j : ℕ) × (d : Draft) × (slice_get steps j ≡ Some d) × Makes d k
 
--- each step is right, and looks at nodes whose sets earlier steps make
+-- the steps make the sets that s looks at, and none of them makes the set that s makes
+pub record MayFollow (steps : List Draft) (s : Draft) : Type 0 where
+  pub looks : (k : ℕ) → DraftLooksAt s k → IsMade steps k
+  pub new : (k : ℕ) → Makes s k → IsMade steps k → ⊥
+
+-- each step is right, and may follow those before it: so no node's set is made twice
 pub record AreDrafts (nodes : List Node) (steps : List Draft) : Type 0 where
   pub right : (i : ℕ) (s : Draft) → slice_get steps i ≡ Some s → IsRight nodes s
-  pub made_before : (i : ℕ) (s : Draft) → slice_get steps i ≡ Some s → (k : ℕ) → LooksAt s k → (j : ℕ) × (d : Draft) × (j < i) × (slice_get steps j ≡ Some d) × Makes d k
+  pub follow : (front rest : List Draft) (s : Draft) → steps ≡ front ++ s ∷ rest → MayFollow front s
 
 -- the questions of the steps, in order
 abbrev pub asked : List Draft → List Command
@@ -64,7 +69,7 @@ pub record HasMore (old new : List Node) : Type 0 where
 
 -- node k isn't one of the first n, and the step makes its set of others
 abbrev pub IsOfOthers : ℕ → Draft → ℕ → Type 0
-IsOfOthers n s k = (n ≤ k) × ((m : ℕ) × LooksAt s m)
+IsOfOthers n s k = (n ≤ k) × ((m : ℕ) × DraftLooksAt s m)
 
 -- no set is made before the questions of earlier lines are asked: the step that makes it stands behind the questions of all lines before one that binds its node, or no line can bind its node, and it's made of others, of which the same holds
 pub record AreTimely (nodes : List Node) (commands : List Command) (steps : List Draft) : Type 0 where

@@ -7,11 +7,11 @@ pub use Rattle.nef_expr.specs.declared.nodes.Node.{Node}
 pub use Rattle.nef_script.specs.Commands.{Binds}
 pub use Rattle.nef_script.specs.declared.script.Command.{Command}
 pub use Rattle.nef_plan.specs.Blocks.{place_limit, term_limit}
-pub use Rattle.nef_plan.specs.Drafts.{AreDrafts, AreNeeded, AreTimely, HasMore, IsMade, IsMadeAs, IsRight, LooksAt, Makes, asked}
+pub use Rattle.nef_plan.specs.Drafts.{AreDrafts, AreNeeded, AreTimely, HasMore, IsMade, IsMadeAs, IsRight, DraftLooksAt, Makes, MayFollow, asked}
 pub use Rattle.nef_plan.specs.Groups.{AreGrouped, group}
 pub use Rattle.nef_plan.specs.Numbers.{AreLastUses, AreUses, IsAmong, IsLastAt, IsUsedBy, LookBelow, over, put, task_over, tasks_in, tasks_over, value_of}
 pub use Rattle.nef_plan.specs.Questions.{AreWorkable, AsksAbout, first_asked, is_question, second_asked}
-pub use Rattle.nef_plan.specs.Rows.{AreOfOneKind, ArePlanned, AreReady, BeginsWith, GoesOn, HasAdded, HasGrown, IsBound, IsReady, IsRowOf, combined, joined, parts, spare}
+pub use Rattle.nef_plan.specs.Rows.{AreOfOneKind, ArePlanned, AreReady, BeginsWith, GoesOn, AddsOnly, HasGrown, IsBoundIn, IsFree, IsReady, IsRowOf, combined, joined, parts, spare}
 pub use Rattle.nef_plan.specs.Values.{AreEnds, IsPlanOf, LooksAtValue, first_of, first_value, second_of, second_value}
 pub use Rattle.nef_plan.specs.declared.planner.Draft.{Draft}
 pub use Rattle.nef_plan.specs.declared.planner.Drafts.{Drafts}

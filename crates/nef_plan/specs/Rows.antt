@@ -58,6 +58,11 @@ pub record IsReady (plan : Drafts) (k : ℕ) : Type 0 where
   pub within : k < length plan.nodes
   pub made : IsMade plan.steps.items k
 
+-- the node is there, and no step makes its set
+pub record IsFree (plan : Drafts) (k : ℕ) : Type 0 where
+  pub within : k < length plan.nodes
+  pub unmade : IsMade plan.steps.items k → ⊥
+
 -- a row of the kind that begins with node k has it as the node that it's a difference from, if it's one
 abbrev pub BeginsWith : RowKind → ℕ → Type 0
 BeginsWith Union k = Unit {0}
@@ -83,9 +88,9 @@ IsRowOf plan row k = MakesSet plan row.kind (parts row) k
 
 -- what is told of node k
 abbrev pub Tells : Drafts → ℕ → Bound → Type 0
-Tells plan k No = Unit {0}
+Tells plan k No = IsFree plan k
 Tells plan k Made = IsReady plan k
-Tells plan k (Deferred row) = IsRowOf plan row k
+Tells plan k (Deferred row) = IsFree plan k × IsRowOf plan row k
 
 -- the steps are right, and so is what is told of each node
 pub record ArePlanned (plan : Drafts) (bounds : List Bound) : Type 0 where
@@ -99,8 +104,8 @@ IsThere Made = Unit {0}
 IsThere (Deferred row) = Unit {0}
 
 -- node k is bound
-abbrev pub IsBound : List Bound → ℕ → Type 0
-IsBound bounds k = (b : Bound) × (slice_get bounds k ≡ Some b) × IsThere b
+abbrev pub IsBoundIn : List Bound → ℕ → Type 0
+IsBoundIn bounds k = (b : Bound) × (slice_get bounds k ≡ Some b) × IsThere b
 
 -- the later plan has nodes and steps more, which are right, and of which these are questions
 pub record HasGrown (old new : Drafts) (questions : List Command) : Type 0 where
@@ -114,7 +119,7 @@ abbrev pub MakesOnly : ℕ → (ℕ → Type 0) → Draft → Type 0
 MakesOnly n named s = (k : ℕ) → Makes s k → named k ⊎ IsOfOthers n s k
 
 -- the later plan has steps more behind those of the earlier one, which make nodes that are named, or new nodes of others
-pub record HasAdded (old new : Drafts) (named : ℕ → Type 0) : Type 0 where
+pub record AddsOnly (old new : Drafts) (named : ℕ → Type 0) : Type 0 where
   pub added : List Draft
   pub steps : new.steps.items ≡ old.steps.items ++ added
   pub each : All (MakesOnly (length old.nodes) named) added
@@ -122,6 +127,6 @@ pub record HasAdded (old new : Drafts) (named : ℕ → Type 0) : Type 0 where
 -- and what was bound is bound, what is told of each node is right, and the nodes that were made are bound, or new
 pub record GoesOn (old : Drafts) (bounds : List Bound) (new : Drafts) (later : List Bound) (questions : List Command) : Type 0 where
   pub grown : HasGrown old new questions
-  pub still : (k : ℕ) → IsBound bounds k → IsBound later k
+  pub still : (k : ℕ) → IsBoundIn bounds k → IsBoundIn later k
   pub planned : ArePlanned new later
-  pub added : HasAdded old new (IsBound later)
+  pub added : AddsOnly old new (IsBoundIn later)

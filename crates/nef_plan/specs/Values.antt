@@ -59,6 +59,10 @@ LooksAtValue (Make m) k = IsOperand k m
 LooksAtValue (Turn j t) k = k ≡ j
 LooksAtValue (Ask c i second) k = (k ≡ i) ⊎ (second ≡ Some k)
 
+-- the step with the number k makes a value
+abbrev pub IsValue : List Step → ℕ → Type 0
+IsValue steps k = (s : Step) × (slice_get steps k ≡ Some s) × MakesValue s.task
+
 -- a step with a number of at least n looks at value k
 abbrev pub IsAwaited : List Step → ℕ → ℕ → Type 0
 IsAwaited steps n k = (j : ℕ) × (s : Step) × (n ≤ j) × (slice_get steps j ≡ Some s) × LooksAtValue s.task k
@@ -154,7 +158,7 @@ AsksNamed named (Make m) = Unit {0}
 AsksNamed named (Turn j t) = Unit {0}
 AsksNamed named (Ask c i second) = (first_asked c.now ≡ Some (named i)) × (second_asked c.now ≡ name_of named second)
 
--- the steps ask the script's questions, each about the values that its nodes name; and each value that they make is the set of the node that is its name, one of the script's or of more behind them, and is made neither before its line's turn nor before it's needed
+-- the steps ask the script's questions, each about the values that its nodes name; and each value that they make is the set of the node that is its name, one of the script's or of more behind them and no other value's, and is made neither before its line's turn nor before it's needed
 pub record IsPlanOf (nodes : List Node) (commands : List Command) (steps : List Step) : Type 0 where
   pub right : AreSteps steps
   pub ends : AreEnds steps
@@ -164,6 +168,7 @@ pub record IsPlanOf (nodes : List Node) (commands : List Command) (steps : List 
   pub more : HasMore nodes all
   pub within : (k : ℕ) (s : Step) → slice_get steps k ≡ Some s → MakesValue s.task → named k < length all
   pub sets : (k : ℕ) (s : Step) → slice_get steps k ≡ Some s → MakesValue s.task → AreAlike (value_set steps k) (node_set all (named k))
+  pub once : (j k : ℕ) → IsValue steps j → IsValue steps k → named j ≡ named k → j ≡ k
   pub asks : (k : ℕ) (s : Step) → slice_get steps k ≡ Some s → AsksNamed named s.task
   pub timely : (k : ℕ) (s : Step) → slice_get steps k ≡ Some s → MakesValue s.task → IsTimely nodes commands steps k s.task (named k)
   pub needed : AreNamesNeeded named 0 steps

@@ -1,7 +1,7 @@
 //! Drafts of steps, and those that make the sets of nodes.
 
 ghost use Rattle.std.specs.Prelude.{◌≡◌, ◌<◌, ◌≤◌, ◌∷◌, ◌++◌, ◌⊎◌};
-ghost use Rattle.nef_plan.specs.Prelude.{ℕ, IfOk, IfSome, OnOk, length, Some, true, [], node_set, set_of, sets_after, IsOperand, AreReady, ArePlanned, GoesOn, HasAdded, HasGrown, IsBound, IsReady, IsRowOf, AreOfOneKind, BeginsWith, combined, joined, parts, spare, IsWithin, AreDrafts, IsMade, IsRight, LooksAt, Makes, asked, AsksAbout, is_question, Drafts as State};
+ghost use Rattle.nef_plan.specs.Prelude.{ℕ, IfOk, IfSome, OnOk, length, Some, true, [], node_set, set_of, sets_after, IsOperand, AreReady, ArePlanned, GoesOn, AddsOnly, HasGrown, IsBoundIn, IsFree, IsReady, IsRowOf, AreOfOneKind, BeginsWith, combined, joined, parts, spare, IsWithin, AreDrafts, IsMade, IsRight, DraftLooksAt, Makes, MayFollow, asked, AsksAbout, is_question, Drafts as State};
 
 use crate::OutOfMemory;
 use crate::hints::Hint;
@@ -36,7 +36,7 @@ pub(crate) struct Drafts<'a> {
 fn add_step<'a>(plan: &mut Drafts<'a>, step: Draft<'a>) -> Result<(), OutOfMemory>
     requires steps { AreDrafts plan.old.nodes plan.old.steps.items }
     requires right { IsRight plan.old.nodes step }
-    requires made { (k : ℕ) → LooksAt step k → IsMade plan.old.steps.items k }
+    requires follows { MayFollow plan.old.steps.items step }
     ensures grown { OnOk result (HasGrown plan.old plan.new (asked (step.entry ∷ []))) }
     ensures nodes { plan.new.nodes ≡ plan.old.nodes }
     ensures steps { OnOk result (plan.new.steps.items ≡ plan.old.steps.items ++ step.entry ∷ []) }
@@ -58,7 +58,7 @@ fn joined_part(
     requires second { IsReady plan.old second }
     ensures grown { IfOk result (λ p. HasGrown plan.old plan.new []) }
     ensures ready { IfOk result (λ p. IsReady plan.new p) }
-    ensures added { IfOk result (λ p. HasAdded plan.old plan.new (λ k. ⊥)) }
+    ensures added { IfOk result (λ p. AddsOnly plan.old plan.new (λ k. ⊥)) }
     ensures set { IfOk result (λ p. node_set plan.new.nodes p ≡ joined kind (node_set plan.old.nodes first) (node_set plan.old.nodes second)) }
 {
     let made = kind.join(first, second);
@@ -73,7 +73,7 @@ fn join_last(plan: &mut Drafts, row: &mut Row) -> Result<(), OutOfMemory>
     requires ready { AreReady plan.old row.old.kind (parts row.old) }
     ensures grown { OnOk result (HasGrown plan.old plan.new []) }
     ensures ready { OnOk result (AreReady plan.new row.new.kind (parts row.new)) }
-    ensures added { OnOk result (HasAdded plan.old plan.new (λ k. ⊥)) }
+    ensures added { OnOk result (AddsOnly plan.old plan.new (λ k. ⊥)) }
     ensures kind { OnOk result (row.new.kind ≡ row.old.kind) }
     ensures row { OnOk result ((k : ℕ) → IsRowOf plan.old row.old k → IsRowOf plan.new row.new k) }
     ensures fewer { OnOk result (0 < length row.old.others.items → length row.new.others.items < length row.old.others.items) }
@@ -89,7 +89,7 @@ fn join_parts(plan: &mut Drafts, row: &mut Row, others: usize) -> Result<(), Out
     requires steps { AreDrafts plan.old.nodes plan.old.steps.items }
     requires ready { AreReady plan.old row.old.kind (parts row.old) }
     ensures grown { OnOk result (HasGrown plan.old plan.new []) }
-    ensures added { OnOk result (HasAdded plan.old plan.new (λ k. ⊥)) }
+    ensures added { OnOk result (AddsOnly plan.old plan.new (λ k. ⊥)) }
     ensures kind { OnOk result (row.new.kind ≡ row.old.kind) }
     ensures few { OnOk result (length row.new.others.items ≤ others) }
     ensures row { OnOk result ((k : ℕ) → IsRowOf plan.old row.old k → IsRowOf plan.new row.new k) }
@@ -103,9 +103,10 @@ fn join_parts(plan: &mut Drafts, row: &mut Row, others: usize) -> Result<(), Out
 // Joins the parts of the node's row, and makes its set of them.
 fn finish(plan: &mut Drafts, row: &mut Row, node: usize) -> Result<(), OutOfMemory>
     requires steps { AreDrafts plan.old.nodes plan.old.steps.items }
+    requires free { IsFree plan.old node }
     requires row { IsRowOf plan.old row.old node }
     ensures grown { OnOk result (HasGrown plan.old plan.new []) }
-    ensures added { OnOk result (HasAdded plan.old plan.new (λ k. k ≡ node)) }
+    ensures added { OnOk result (AddsOnly plan.old plan.new (λ k. k ≡ node)) }
     ensures ready { OnOk result (IsReady plan.new node) }
 {
     let spare = row.spare();
@@ -117,9 +118,9 @@ fn finish(plan: &mut Drafts, row: &mut Row, node: usize) -> Result<(), OutOfMemo
 // Makes the set of the node, if there is one, which is bound then, unless it is made.
 fn demand(plan: &mut Drafts, bounds: &mut [Bound], wanted: Option<usize>) -> Result<(), OutOfMemory>
     requires planned { ArePlanned plan.old bounds.old }
-    requires bound { IfSome wanted (IsBound bounds.old) }
+    requires bound { IfSome wanted (IsBoundIn bounds.old) }
     ensures goes_on { OnOk result (GoesOn plan.old bounds.old plan.new bounds.new []) }
-    ensures only { OnOk result ((k : ℕ) → IsBound bounds.new k → IsBound bounds.old k) }
+    ensures only { OnOk result ((k : ℕ) → IsBoundIn bounds.new k → IsBoundIn bounds.old k) }
     ensures ready { OnOk result (IfSome wanted (IsReady plan.new)) }
 {
     let Some(node) = wanted else {
@@ -134,10 +135,10 @@ fn demand(plan: &mut Drafts, bounds: &mut [Bound], wanted: Option<usize>) -> Res
 // Makes the sets that the step looks at, which are bound.
 fn demand_all(plan: &mut Drafts, bounds: &mut [Bound], step: &Draft) -> Result<(), OutOfMemory>
     requires planned { ArePlanned plan.old bounds.old }
-    requires looks { (k : ℕ) → LooksAt step.now k → IsBound bounds.old k }
+    requires looks { (k : ℕ) → DraftLooksAt step.now k → IsBoundIn bounds.old k }
     ensures goes_on { OnOk result (GoesOn plan.old bounds.old plan.new bounds.new []) }
-    ensures only { OnOk result ((k : ℕ) → IsBound bounds.new k → IsBound bounds.old k) }
-    ensures made { OnOk result ((k : ℕ) → LooksAt step.now k → IsMade plan.new.steps.items k) }
+    ensures only { OnOk result ((k : ℕ) → IsBoundIn bounds.new k → IsBoundIn bounds.old k) }
+    ensures made { OnOk result ((k : ℕ) → DraftLooksAt step.now k → IsMade plan.new.steps.items k) }
 {
     let (first, second) = looked_at(step);
     demand(plan, bounds, first)?;
@@ -152,11 +153,11 @@ pub(crate) fn add_question<'a>(
     command: &'a Command,
 ) -> Result<(), OutOfMemory>
     requires planned { ArePlanned plan.old bounds.old }
-    requires asks { (k : ℕ) → AsksAbout command.now k → IsBound bounds.old k }
+    requires asks { (k : ℕ) → AsksAbout command.now k → IsBoundIn bounds.old k }
     requires question { is_question command.now ≡ true }
     requires within { IsWithin (length plan.old.nodes) command.now }
     ensures goes_on { OnOk result (GoesOn plan.old bounds.old plan.new bounds.new (command.entry.now ∷ [])) }
-    ensures only { OnOk result ((k : ℕ) → IsBound bounds.new k → IsBound bounds.old k) }
+    ensures only { OnOk result ((k : ℕ) → IsBoundIn bounds.new k → IsBoundIn bounds.old k) }
 {
     let step = Draft::Ask(command);
     demand_all(plan, bounds, &step)?;
@@ -171,7 +172,7 @@ fn row_at(
     kind: RowKind,
     node: usize,
 ) -> Result<Option<Row>, OutOfMemory>
-    requires bound { IsBound bounds.now node }
+    requires bound { IsBoundIn bounds.now node }
     ensures row { IfOk result (λ o. (r : Row) → o ≡ Some r → AreOfOneKind r.kind kind × ((plan : State) → ArePlanned plan bounds.now → IsRowOf plan r node)) }
 {
     match &bounds[node] {
@@ -192,10 +193,10 @@ fn row_of(
 ) -> Result<Row, OutOfMemory>
     requires planned { ArePlanned plan.old bounds.old }
     requires begins { BeginsWith kind first }
-    requires first { IsBound bounds.old first }
-    requires second { IsBound bounds.old second }
+    requires first { IsBoundIn bounds.old first }
+    requires second { IsBoundIn bounds.old second }
     ensures goes_on { IfOk result (λ r. GoesOn plan.old bounds.old plan.new bounds.new []) }
-    ensures only { IfOk result (λ r. (k : ℕ) → IsBound bounds.new k → IsBound bounds.old k) }
+    ensures only { IfOk result (λ r. (k : ℕ) → IsBoundIn bounds.new k → IsBoundIn bounds.old k) }
     ensures row { IfOk result (λ r. (k : ℕ) → k < length plan.new.nodes → node_set plan.new.nodes k ≡ combined kind (node_set plan.new.nodes first) (node_set plan.new.nodes second) → IsRowOf plan.new r k) }
 {
     demand(plan, bounds, Some(second))?;
@@ -207,7 +208,7 @@ fn row_of(
     Row::begun(alloc, kind, first, second)
 }
 
-// Binds the node to the operation on both nodes, whose row is ended there unless the node's hint is that it goes on.
+// Binds the node, which isn't bound, to the operation on both nodes, whose row is ended there unless the node's hint is that it goes on.
 fn bind_row(
     alloc: Global,
     plan: &mut Drafts,
@@ -221,14 +222,15 @@ fn bind_row(
     requires planned { ArePlanned plan.old bounds.old }
     requires hints { length hints.now ≡ length bounds.old }
     requires begins { BeginsWith kind first }
-    requires first { IsBound bounds.old first }
-    requires second { IsBound bounds.old second }
+    requires first { IsBoundIn bounds.old first }
+    requires second { IsBoundIn bounds.old second }
     requires node { node < length bounds.old }
+    requires unbound { IsBoundIn bounds.old node → ⊥ }
     requires within { node < length plan.old.nodes }
     requires set { node_set plan.old.nodes node ≡ combined kind (node_set plan.old.nodes first) (node_set plan.old.nodes second) }
     ensures goes_on { OnOk result (GoesOn plan.old bounds.old plan.new bounds.new []) }
-    ensures bound { OnOk result (IsBound bounds.new node) }
-    ensures only { OnOk result ((k : ℕ) → IsBound bounds.new k → IsBound bounds.old k ⊎ (k ≡ node)) }
+    ensures bound { OnOk result (IsBoundIn bounds.new node) }
+    ensures only { OnOk result ((k : ℕ) → IsBoundIn bounds.new k → IsBoundIn bounds.old k ⊎ (k ≡ node)) }
 {
     let mut row = row_of(alloc, plan, bounds, kind, first, second)?;
     match hints[node] {
@@ -244,7 +246,7 @@ fn bind_row(
     Ok(())
 }
 
-/// Binds the node, whose set the step makes.
+/// Binds the node, which isn't bound, and whose set the step makes.
 pub(crate) fn bind_made<'a>(
     plan: &mut Drafts<'a>,
     bounds: &mut [Bound],
@@ -252,13 +254,14 @@ pub(crate) fn bind_made<'a>(
     step: Draft<'a>,
 ) -> Result<(), OutOfMemory>
     requires planned { ArePlanned plan.old bounds.old }
-    requires looks { (k : ℕ) → LooksAt step k → IsBound bounds.old k }
+    requires looks { (k : ℕ) → DraftLooksAt step k → IsBoundIn bounds.old k }
     requires right { IsRight plan.old.nodes step }
     requires makes { Makes step node }
     requires node { node < length bounds.old }
+    requires unbound { IsBoundIn bounds.old node → ⊥ }
     ensures goes_on { OnOk result (GoesOn plan.old bounds.old plan.new bounds.new []) }
-    ensures bound { OnOk result (IsBound bounds.new node) }
-    ensures only { OnOk result ((k : ℕ) → IsBound bounds.new k → IsBound bounds.old k ⊎ (k ≡ node)) }
+    ensures bound { OnOk result (IsBoundIn bounds.new node) }
+    ensures only { OnOk result ((k : ℕ) → IsBoundIn bounds.new k → IsBoundIn bounds.old k ⊎ (k ≡ node)) }
 {
     demand_all(plan, bounds, &step)?;
     add_step(plan, step)?;
@@ -266,7 +269,7 @@ pub(crate) fn bind_made<'a>(
     Ok(())
 }
 
-/// Binds the node, whose set is the one that `made` makes.
+/// Binds the node, which isn't bound, and whose set is the one that `made` makes.
 pub(crate) fn bind(
     alloc: Global,
     plan: &mut Drafts,
@@ -277,13 +280,14 @@ pub(crate) fn bind(
 ) -> Result<(), OutOfMemory>
     requires planned { ArePlanned plan.old bounds.old }
     requires hints { length hints.now ≡ length bounds.old }
-    requires operands { (k : ℕ) → IsOperand k made → IsBound bounds.old k }
+    requires operands { (k : ℕ) → IsOperand k made → IsBoundIn bounds.old k }
     requires node { node < length bounds.old }
+    requires unbound { IsBoundIn bounds.old node → ⊥ }
     requires within { node < length plan.old.nodes }
     requires set { node_set plan.old.nodes node ≡ set_of (sets_after [] plan.old.nodes) made }
     ensures goes_on { OnOk result (GoesOn plan.old bounds.old plan.new bounds.new []) }
-    ensures bound { OnOk result (IsBound bounds.new node) }
-    ensures only { OnOk result ((k : ℕ) → IsBound bounds.new k → IsBound bounds.old k ⊎ (k ≡ node)) }
+    ensures bound { OnOk result (IsBoundIn bounds.new node) }
+    ensures only { OnOk result ((k : ℕ) → IsBoundIn bounds.new k → IsBoundIn bounds.old k ⊎ (k ≡ node)) }
 {
     let (kind, first, second) = match made {
         Node::Or(i, j) => (RowKind::Union, i, j),

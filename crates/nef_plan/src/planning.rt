@@ -1,7 +1,7 @@
 //! The plan of a script.
 
 ghost use Rattle.std.specs.Prelude.{◌≡◌, ◌↔◌, ◌⊎◌, ◌<◌, ◌∷◌};
-ghost use Rattle.nef_plan.specs.Prelude.{ℕ, List, true, Some, IfOk, IfSome, OnOk, filter, length, vec_len, slice_get, [], Node, Binds, TurnsRight, IsWithin, ArePlanned, GoesOn, IsBound, AreNeeded, AreDrafts, AreTimely, HasMore, IsRight, LooksAt as DraftLooksAt, asked, AreWorkable, AsksAbout, first_asked, is_question, second_asked, IsPlanOf};
+ghost use Rattle.nef_plan.specs.Prelude.{ℕ, true, Some, IfOk, IfSome, OnOk, filter, length, vec_len, slice_get, [], Binds, TurnsRight, IsWithin, ArePlanned, GoesOn, IsBoundIn, AreNeeded, AreDrafts, AreTimely, HasMore, IsAmong, DraftLooksAt, asked, AreWorkable, AsksAbout, first_asked, is_question, second_asked, IsPlanOf};
 ghost use Rattle.nef_script.specs.Commands.{LooksAt};
 ghost use Rattle.nef_plan.specs.declared.row.Bound.TheVariants as bound;
 
@@ -42,7 +42,7 @@ fn unbound(alloc: Global, count: usize) -> Result<Vec<Bound>, OutOfMemory>
 // Whether the node is bound.
 fn is_bound(bounds: &[Bound], node: usize) -> bool
     requires within { node < length bounds.now }
-    ensures bound { result ≡ true → IsBound bounds.now node }
+    ensures bound { (result ≡ true) ↔ IsBoundIn bounds.now node }
 {
     !matches!(bounds[node], Bound::No)
 }
@@ -68,7 +68,7 @@ pub(crate) fn asked_nodes(command: &Command) -> (Option<usize>, Option<usize>)
 /// The nodes whose sets the step looks at: those of which it makes another, or those that it asks about.
 pub(crate) fn looked_at(step: &Draft) -> (Option<usize>, Option<usize>)
     ensures looked_at { (k : ℕ) → DraftLooksAt step.now k ↔ ((result.0 ≡ Some k) ⊎ (result.1 ≡ Some k)) }
-    ensures within { (nodes : List Node) → IsRight nodes step.now → IfSome result.0 (λ k. k < length nodes) × IfSome result.1 (λ k. k < length nodes) }
+    ensures within { (n : ℕ) → IsAmong n step.now → IfSome result.0 (λ k. k < n) × IfSome result.1 (λ k. k < n) }
 {
     match step {
         Draft::Make { made, .. } => made.operands(),
@@ -77,7 +77,7 @@ pub(crate) fn looked_at(step: &Draft) -> (Option<usize>, Option<usize>)
     }
 }
 
-// Adds the steps of the command. A line that binds a name to a node of its own is the first that binds the node.
+// Adds the steps of the command: none, where it binds a name to a node that is bound.
 fn add_command<'a>(
     alloc: Global,
     plan: &mut Drafts<'a>,
@@ -88,17 +88,23 @@ fn add_command<'a>(
 ) -> Result<(), OutOfMemory>
     requires within { IsWithin (length nodes.now) command.now }
     requires turned { TurnsRight nodes.now command.now }
-    requires looks { (k : ℕ) → LooksAt nodes.now command.now k → IsBound bounds.old k }
+    requires looks { (k : ℕ) → LooksAt nodes.now command.now k → IsBoundIn bounds.old k }
     requires planned { ArePlanned plan.old bounds.old }
     requires count { length bounds.old ≡ length nodes.now }
     requires hints { length hints.now ≡ length bounds.old }
     requires more { HasMore nodes.now plan.old.nodes }
     ensures goes_on { OnOk result (GoesOn plan.old bounds.old plan.new bounds.new (filter is_question (command.entry.now ∷ []))) }
-    ensures bound { OnOk result ((k : ℕ) → Binds command.entry.now k → IsBound bounds.new k) }
-    ensures only { OnOk result ((k : ℕ) → IsBound bounds.new k → IsBound bounds.old k ⊎ Binds command.entry.now k) }
+    ensures bound { OnOk result ((k : ℕ) → Binds command.entry.now k → IsBoundIn bounds.new k) }
+    ensures only { OnOk result ((k : ℕ) → IsBoundIn bounds.new k → IsBoundIn bounds.old k ⊎ Binds command.entry.now k) }
 {
     match command {
-        Command::Bind { node, .. } => bind(alloc, plan, bounds, hints, *node, *nodes.get(*node)),
+        Command::Bind { node, .. } => {
+            if is_bound(bounds, *node) {
+                Ok(())
+            } else {
+                bind(alloc, plan, bounds, hints, *node, *nodes.get(*node))
+            }
+        }
         Command::Turn {
             node,
             from,
@@ -132,7 +138,7 @@ fn add_commands<'a>(
     requires hints { length hints.now ≡ length script.now.nodes }
     requires more { HasMore script.now.nodes plan.old.nodes }
     requires none { plan.old.steps.items ≡ [] }
-    requires unbound { (k : ℕ) → IsBound bounds.old k → ⊥ }
+    requires unbound { (k : ℕ) → IsBoundIn bounds.old k → ⊥ }
     ensures steps { OnOk result (AreDrafts plan.new.nodes plan.new.steps.items) }
     ensures nodes { OnOk result (HasMore script.entry.now.nodes plan.new.nodes) }
     ensures asked { OnOk result (asked plan.new.steps.items ≡ filter is_question script.entry.now.commands) }
@@ -145,9 +151,10 @@ fn add_commands<'a>(
     Ok(())
 }
 
-/// The steps of the script, in which its questions stand in their order, each behind the steps that make the values that it
-/// asks about. A value is made before the first question that needs it and behind the one before that, and behind the last
-/// question if none needs it. `OutOfMemory` says that memory was wanted and not found.
+/// The steps of the script, in which its questions stand in their order, each behind the steps that make the values of the
+/// nodes that it asks about. The value of a node is made once at most: before the first question that needs it and behind
+/// the one before that, and behind the last question if none needs it. `OutOfMemory` says that memory was wanted and not
+/// found.
 pub fn plan<'a>(alloc: Global, script: &'a Script) -> Result<Plan<'a>, OutOfMemory>
     requires workable { AreWorkable script.now.nodes script.now.commands }
     ensures plan { IfOk result (λ p. IsPlanOf script.entry.now.nodes script.entry.now.commands p.steps.items) }

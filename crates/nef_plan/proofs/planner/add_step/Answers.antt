@@ -8,7 +8,7 @@ returns-clause-grown c =
     let items : c.push.new.self.items ≡ old ++ c.args.step ∷ [] = c.in_ok-push.ensures.items in
     record {
       nodes = more-same c.args.plan.now.nodes c.args.plan.now.nodes refl;
-      steps = subst (AreDrafts c.args.plan.now.nodes) (sym items) (steps-push c.args.plan.now.nodes old c.args.step c.requires.steps c.requires.right c.requires.made);
+      steps = subst (AreDrafts c.args.plan.now.nodes) (sym items) (steps-push c.args.plan.now.nodes old c.args.step c.requires.steps c.requires.right c.requires.follows);
       made = λ k made. subst (λ (z : List Draft). IsMade z k) (sym items) (made-push old c.args.step k made);
       asked = ap asked items ∙ asked-push old c.args.step;
     }

@@ -1,7 +1,7 @@
-use Rattle.nef_plan.proofs.Prelude.{◌≡◌, ◌<◌, [], length, arith, subst, inl, inr, Made, HasAdded, HasGrown, IsReady}
+use Rattle.nef_plan.proofs.Prelude.{◌≡◌, ◌<◌, [], length, arith, subst, inl, inr, Made, AddsOnly, HasGrown, IsMade, IsReady}
 use Rattle.nef_plan.proofs.Growth.{asked-none, makes-one, makes-within, right-more}
 use Rattle.nef_plan.proofs.Added.{added-one}
-use Rattle.nef_plan.proofs.Bounds.{on-set, on-trans, bound-before, bound-here}
+use Rattle.nef_plan.proofs.Bounds.{on-set, on-trans, bound-before, bound-here, unbound-free}
 use Rattle.nef_plan.proofs.planner.bind_made.Goals as goal
 
 pub add_step-requires-clause-steps : goal.add_step-requires-clause-steps
@@ -9,6 +9,14 @@ add_step-requires-clause-steps c = c.in_ok-demand_all.ensures.goes_on.planned.st
 
 pub add_step-requires-clause-right : goal.add_step-requires-clause-right
 add_step-requires-clause-right c = right-more c.args.plan.now.nodes c.demand_all.new.plan.nodes c.args.step c.in_ok-demand_all.ensures.goes_on.grown.nodes c.requires.right
+
+pub add_step-requires-clause-follows : goal.add_step-requires-clause-follows
+add_step-requires-clause-follows c =
+    let node = c.args.node in
+    let middle = c.demand_all.new in
+    let did = c.in_ok-demand_all.ensures in
+    let free = unbound-free middle.plan middle.bounds node did.goes_on.planned (omega (arith, c.requires.node, c.demand_all.auto.bounds)) (λ is. c.requires.unbound (did.only node is)) in
+    record { looks = did.made; new = λ k makes made. free.unmade (subst (IsMade middle.plan.steps.items) (makes-one c.args.step node k c.requires.makes makes) made) }
 
 pub returns-clause-goes_on : goal.returns-clause-goes_on
 returns-clause-goes_on c =
@@ -21,7 +29,7 @@ returns-clause-goes_on c =
     let grown : HasGrown middle.plan plan [] = subst (HasGrown middle.plan plan) (asked-none c.args.step node c.requires.makes) did.grown in
     let there = makes-within c.args.plan.now.nodes c.args.step node c.requires.right c.requires.makes in
     let ready : IsReady plan node = record { within = omega (arith, there, on.grown.nodes.as_many, grown.nodes.as_many); made = did.made node c.requires.makes } in
-    let added : HasAdded middle.plan plan (λ k. k ≡ node) = added-one middle.plan plan (λ k. k ≡ node) c.args.step did.steps (λ k makes. inl (makes-one c.args.step node k c.requires.makes makes)) in
+    let added : AddsOnly middle.plan plan (λ k. k ≡ node) = added-one middle.plan plan (λ k. k ≡ node) c.args.step did.steps (λ k makes. inl (makes-one c.args.step node k c.requires.makes makes)) in
     on-trans c.args.plan.now middle.plan plan c.args.bounds.now middle.bounds _ [] [] on
     (on-set middle.plan plan [] middle.bounds node Made on.planned grown within tt ready added)
 

@@ -1,17 +1,17 @@
-use Rattle.nef_plan.proofs.Prelude.{ℕ, Option, [], subst, inl, inr, IfSome, IsBound, IsReady}
+use Rattle.nef_plan.proofs.Prelude.{ℕ, Option, [], subst, inl, inr, IfSome, IsBoundIn, IsReady}
 use Rattle.nef_plan.proofs.Growth.{ready-grown}
 use Rattle.nef_plan.proofs.Bounds.{on-trans, some-all}
 use Rattle.nef_plan.proofs.planner.demand_all.Goals as goal
 
 pub demand-requires-clause-bound : goal.demand-requires-clause-bound
-demand-requires-clause-bound c = some-all c.looked_at-first.result.0 (IsBound c.args.bounds.now) (λ k e. c.requires.looks k ((c.looked_at-first.ensures.looked_at k).1 (inl e)))
+demand-requires-clause-bound c = some-all c.looked_at-first.result.0 (IsBoundIn c.args.bounds.now) (λ k e. c.requires.looks k ((c.looked_at-first.ensures.looked_at k).1 (inl e)))
 
 pub demand-requires-2-clause-planned : goal.demand-requires-2-clause-planned
 demand-requires-2-clause-planned c = c.in_ok-demand.ensures.goes_on.planned
 
 pub demand-requires-2-clause-bound : goal.demand-requires-2-clause-bound
 demand-requires-2-clause-bound c =
-    some-all c.looked_at-first.result.1 (IsBound c.demand.new.bounds) (λ k e. c.in_ok-demand.ensures.goes_on.still k (c.requires.looks k ((c.looked_at-first.ensures.looked_at k).1 (inr e))))
+    some-all c.looked_at-first.result.1 (IsBoundIn c.demand.new.bounds) (λ k e. c.in_ok-demand.ensures.goes_on.still k (c.requires.looks k ((c.looked_at-first.ensures.looked_at k).1 (inr e))))
 
 pub returns-clause-goes_on : goal.returns-clause-goes_on
 returns-clause-goes_on c =

@@ -1,6 +1,6 @@
-use Rattle.nef_plan.proofs.Prelude.{◌≡◌, ◌<◌, ◌≤◌, [], ap, length, refl, subst, sym, ◌∙◌, inl, on_ok_weaker, IsReady, IsRowOf, spare, Make}
+use Rattle.nef_plan.proofs.Prelude.{◌≡◌, ◌<◌, ◌≤◌, [], ap, length, refl, subst, sym, ◌∙◌, inl, on_ok_weaker, IsMade, IsReady, IsRowOf, spare, Make}
 use Rattle.nef_plan.proofs.Growth.{grown-trans}
-use Rattle.nef_plan.proofs.Added.{added-one, added-trans}
+use Rattle.nef_plan.proofs.Added.{added-one, added-trans, free-grown}
 use Rattle.nef_plan.proofs.planner.finish.Goals as goal
 use Rattle.nef_plan.proofs.planner.finish.Goals.{In_ok-join_parts}
 
@@ -17,8 +17,13 @@ ending-made-requires c =
 pub add_step-requires-clause-right : goal.add_step-requires-clause-right
 add_step-requires-clause-right c = c.ending-made.ensures.made c.join_parts.new.plan c.args.node (row-here (goal.at.add_step-requires-clause-right c).In_ok-join_parts)
 
-pub add_step-requires-clause-made : goal.add_step-requires-clause-made
-add_step-requires-clause-made c k is = c.ending-made.ensures.operands c.join_parts.new.plan k (row-here (goal.at.add_step-requires-clause-made c).In_ok-join_parts).ready is
+pub add_step-requires-clause-follows : goal.add_step-requires-clause-follows
+add_step-requires-clause-follows c =
+    let middle = c.join_parts.new.plan in
+    let joined = c.in_ok-join_parts.ensures in
+    let ready = (row-here (goal.at.add_step-requires-clause-follows c).In_ok-join_parts).ready in
+    let free = free-grown c.args.plan.now middle [] (λ k. ⊥) c.args.node joined.grown joined.added (λ none. none) c.requires.free in
+    record { looks = λ k is. c.ending-made.ensures.operands middle k ready is; new = λ k e made. free.unmade (subst (IsMade middle.steps.items) e made) }
 
 pub returns-clause-grown : goal.returns-clause-grown
 returns-clause-grown c =

@@ -1,5 +1,5 @@
 use Rattle.nef_plan.proofs.Prelude.{◌≡◌, ◌∙◌, ℕ, ap, refl, sym, subst, arith, append-nil, length-append, List, [], ◌∷◌, ◌++◌, length, inl, inr, Node, node_set, sets_after, new-set, Drafts, Make, HasGrown, HasMore, IsMade, IsMadeAs, asked}
-use Rattle.nef_plan.proofs.Growth.{more-push, steps-more, made-new, grown-trans}
+use Rattle.nef_plan.proofs.Growth.{more-push, steps-more, made-new, made-within, grown-trans}
 use Rattle.nef_plan.proofs.Added.{added-one}
 use Rattle.nef_plan.proofs.planner.joined_part.Goals as goal
 
@@ -18,11 +18,17 @@ add_step-requires-clause-right c =
     let is = made-new old made (c.join-made.ensures.within (length old) c.requires.first.within c.requires.second.within) in
     subst (λ (z : List Node). IsMadeAs z c.in_ok-node.node made) (sym added) (subst (λ (n : ℕ). IsMadeAs (old ++ made ∷ []) n made) (sym number) is)
 
-pub add_step-requires-clause-made : goal.add_step-requires-clause-made
-add_step-requires-clause-made c k is = elim (c.join-made.ensures.operands k is) [
-  | inl e ↦ subst (IsMade c.args.plan.now.steps.items) (sym e) c.requires.first.made
-  | inr e ↦ subst (IsMade c.args.plan.now.steps.items) (sym e) c.requires.second.made
-]
+pub add_step-requires-clause-follows : goal.add_step-requires-clause-follows
+add_step-requires-clause-follows c =
+    let steps = c.args.plan.now.steps.items in
+    let number : c.in_ok-node.node ≡ length c.args.plan.now.nodes = c.in_ok-node.ensures.number in
+    record {
+      looks = λ k is. elim (c.join-made.ensures.operands k is) [
+        | inl e ↦ subst (IsMade steps) (sym e) c.requires.first.made
+        | inr e ↦ subst (IsMade steps) (sym e) c.requires.second.made
+      ];
+      new = λ k is made. (let e : k ≡ c.in_ok-node.node = is in let within = made-within c.args.plan.now.nodes steps k c.requires.steps made in omega (arith, e, number, within));
+    }
 
 pub returns-clause-grown : goal.returns-clause-grown
 returns-clause-grown c =

@@ -18,6 +18,6 @@ returns-in_ok-copied-in-Deferred c = record {
             (ap (λ (z : Row). z.kind) (sym is) ∙ same.kind)
             (ap (λ (z : Row). z.others.items) (sym is) ∙ same.others)
             (ap (λ (z : Row). z.last) (sym is) ∙ same.last)
-            (are.told node (Deferred row) at),
+            (are.told node (Deferred row) at).1,
       );
 }

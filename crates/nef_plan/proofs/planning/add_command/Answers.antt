@@ -1,5 +1,5 @@
 use Rattle.std.specs.Prelude.{◌⊎◌}
-use Rattle.nef_plan.proofs.Prelude.{◌≡◌, ◌∙◌, ℕ, None, Some, inl, inr, ⊎_elim, true, false, List, [], ◌∷◌, filter, ap, refl, sym, subst, length, arith, slice_get_within, on_ok_weaker, turned_set, names-wider, each-set, Node, Command, Binds, TurnsRight, IsWithin, GoesOn, IsBound, IsTurnedFrom, AsksAbout, is_question}
+use Rattle.nef_plan.proofs.Prelude.{◌≡◌, ◌∙◌, ℕ, None, Some, inl, inr, ⊎_elim, true, false, List, [], ◌∷◌, filter, ap, refl, sym, subst, length, arith, slice_get_within, on_ok_weaker, turned_set, names-wider, each-set, Node, Command, Binds, TurnsRight, IsWithin, GoesOn, IsBoundIn, IsTurnedFrom, AsksAbout, is_question}
 use Rattle.nef_expr.proofs.Turns.{node-turned}
 use Rattle.nef_script.specs.declared.script.Command.TheVariants.{Bind, Turn, Has, Joined, Ray, Same, Count, Print}
 use Rattle.nef_script.specs.Commands.{LooksAt}
@@ -91,13 +91,13 @@ returns-in_default-clause-goes_on c =
     let alone = question-alone c.args.command.now (is-question c.args.command.now c.in_default.not-Bind c.in_default.not-Turn) in
     on_ok_weaker c.add_question.result (λ on. subst (GoesOn c.args.plan.now c.args.bounds.now c.add_question.new.plan c.add_question.new.bounds) (sym alone) on) c.add_question.ensures.goes_on
 
-pub returns-in-Bind-clause-only : goal.returns-in-Bind-clause-only
-returns-in-Bind-clause-only c =
-    on_ok_weaker c.bind.result (λ only k is. subst (λ (z : Command). IsBound c.args.bounds.now k ⊎ Binds z k) (sym c.in-Bind.is) (only k is)) c.bind.ensures.only
-
 pub returns-else-is_bound-clause-only : goal.returns-else-is_bound-clause-only
 returns-else-is_bound-clause-only c =
-    on_ok_weaker c.bind_made.result (λ only k is. subst (λ (z : Command). IsBound c.args.bounds.now k ⊎ Binds z k) (sym c.in-Turn.is) (only k is)) c.bind_made.ensures.only
+    on_ok_weaker c.bind.result (λ only k is. subst (λ (z : Command). IsBoundIn c.args.bounds.now k ⊎ Binds z k) (sym c.in-Bind.is) (only k is)) c.bind.ensures.only
 
 pub returns-in_default-clause-only : goal.returns-in_default-clause-only
 returns-in_default-clause-only c = on_ok_weaker c.add_question.result (λ only k is. inl (only k is)) c.add_question.ensures.only
+
+pub returns-else-is_bound-2-clause-only : goal.returns-else-is_bound-2-clause-only
+returns-else-is_bound-2-clause-only c =
+    on_ok_weaker c.bind_made.result (λ only k is. subst (λ (z : Command). IsBoundIn c.args.bounds.now k ⊎ Binds z k) (sym c.in-Turn.is) (only k is)) c.bind_made.ensures.only

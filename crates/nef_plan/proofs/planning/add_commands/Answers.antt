@@ -1,4 +1,4 @@
-use Rattle.nef_plan.proofs.Prelude.{◌≡◌, ◌∙◌, ◌+◌, ◌∷◌, ◌++◌, ℕ, [], ap, refl, sym, subst, take, filter, inl, inr, arith, cases_lt, take_more, filter-append, get_or_from_slice_get, slice_get_read, Command, Binds, GoesOn, IsBound, asked, is_question}
+use Rattle.nef_plan.proofs.Prelude.{◌≡◌, ◌∙◌, ◌+◌, ◌∷◌, ◌++◌, ℕ, [], ap, refl, sym, subst, take, filter, inl, inr, arith, cases_lt, take_more, filter-append, get_or_from_slice_get, slice_get_read, Command, Binds, GoesOn, IsBoundIn, asked, is_question}
 use Rattle.nef_plan.proofs.Growth.{grown-refl, more-trans}
 use Rattle.nef_plan.proofs.Added.{BindsBefore, added-none, due-now, timely-added, timely-none}
 use Rattle.nef_plan.proofs.Bounds.{on-grown, on-trans}
@@ -16,14 +16,14 @@ loop-command-preserved c =
     let questions : filter is_question (take (now + 1) items) ≡ filter is_question (take now items) ++ filter is_question (item ∷ []) = ap (filter is_question) next ∙ filter-append is_question (take now items) (item ∷ []) in
     let nodes = c.args.script.now.nodes in
     let more = more-trans nodes c.args.plan.now.nodes c.loop-command.plan.nodes c.requires.more so_far.goes_on.grown.nodes in
-    let whence : (k : ℕ) → IsBound new.bounds k → BindsBefore items (now + 1) k = λ k is. elim (added.only k is) [
+    let whence : (k : ℕ) → IsBoundIn new.bounds k → BindsBefore items (now + 1) k = λ k is. elim (added.only k is) [
       | inl before ↦ (let (p, d, below, at, binds) = so_far.whence k before in (p, d, omega (arith, below), at, binds))
       | inr binds ↦ (now, item, omega arith, slice_get_read items _ now item refl c.loop-command-test.true c.command-item.is, binds)
     ] in
     let so_asked : asked c.loop-command.plan.steps.items ≡ filter is_question (take now items) = so_far.goes_on.grown.asked ∙ ap (λ z. asked z ++ filter is_question (take now items)) c.requires.none in
     record {
       planned = added.goes_on.planned;
-      timely = timely-added nodes items c.loop-command.plan new.plan (IsBound new.bounds) more (λ k is. due-now items c.loop-command.plan.steps.items now k so_asked (whence k is)) so_far.timely added.goes_on.added;
+      timely = timely-added nodes items c.loop-command.plan new.plan (IsBoundIn new.bounds) more (λ k is. due-now items c.loop-command.plan.steps.items now k so_asked (whence k is)) so_far.timely added.goes_on.added;
       whence = whence;
       goes_on = subst (GoesOn c.args.plan.now c.args.bounds.now new.plan new.bounds) (sym questions)
           (on-trans c.args.plan.now c.loop-command.plan new.plan c.args.bounds.now c.loop-command.bounds new.bounds _ _ so_far.goes_on added.goes_on);
@@ -42,7 +42,7 @@ loop-command-init c =
     let bounds = c.args.bounds.now in
     record {
       planned = c.requires.planned;
-      goes_on = on-grown plan plan [] bounds c.requires.planned (grown-refl plan c.requires.planned.steps) (added-none plan (IsBound bounds));
+      goes_on = on-grown plan plan [] bounds c.requires.planned (grown-refl plan c.requires.planned.steps) (added-none plan (λ k. ⊥));
       timely = timely-none c.args.script.now.nodes c.commands-command-items.result.now plan.steps.items c.requires.none;
       whence = λ k is. absurd (c.requires.unbound k is);
       bound = λ i k d below at binds. absurd (omega (arith, below));

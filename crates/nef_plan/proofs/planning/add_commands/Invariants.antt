@@ -1,4 +1,4 @@
-use Rattle.nef_plan.proofs.Prelude.{◌≡◌, ℕ, ◌<◌, Some, take, filter, slice_get, Command, Binds, ArePlanned, GoesOn, IsBound, AreTimely, is_question}
+use Rattle.nef_plan.proofs.Prelude.{◌≡◌, ℕ, ◌<◌, Some, take, filter, slice_get, Command, Binds, ArePlanned, GoesOn, IsBoundIn, AreTimely, is_question}
 use Rattle.nef_plan.proofs.Added.{BindsBefore}
 use Rattle.nef_plan.proofs.planning.add_commands.Given as goal
 
@@ -7,6 +7,6 @@ invariant-loop-command l = record {
   planned : ArePlanned l.plan l.bounds;
   goes_on : GoesOn l.initial.plan l.initial.bounds l.plan l.bounds (filter is_question (take l.command-index l.command-items));
   timely : AreTimely l.script.nodes l.command-items l.plan.steps.items;
-  whence : (k : ℕ) → IsBound l.bounds k → BindsBefore l.command-items l.command-index k;
-  bound : (i k : ℕ) (c : Command) → i < l.command-index → slice_get l.command-items i ≡ Some c → Binds c k → IsBound l.bounds k;
+  whence : (k : ℕ) → IsBoundIn l.bounds k → BindsBefore l.command-items l.command-index k;
+  bound : (i k : ℕ) (c : Command) → i < l.command-index → slice_get l.command-items i ≡ Some c → Binds c k → IsBoundIn l.bounds k;
 }
