@@ -31,7 +31,7 @@ pub use Rattle.nef_shell.specs.Asked.{AreAsked, AsksOf, IsAskedOf, IsAskedOfOthe
 pub use Rattle.nef_shell.specs.Early.{AreEarly, AreLate, ArePut, Fits, IsEarly, IsEarlyAt, IsIndex, IsNeeded, first_need, needed_complex, second_need}
 pub use Rattle.nef_shell.specs.Ended.{RunEnds}
 pub use Rattle.nef_shell.specs.Held.{AreHeld, AreStill, IsHeld, IsHeldAt, IsNew, IsShownAt, IsSpent, IsThere, cleared, complex_at, complex_in, handed_complex}
-pub use Rattle.nef_shell.specs.Lean.{AreLess, AreMore, AreReady, HasDone, IsLastUse, IsLean, IsLet}
+pub use Rattle.nef_shell.specs.Lean.{AreLess, AreMore, ArePlaced, AreReady, HasDone, IsLastUse, IsLean, IsLet, StandAt}
 pub use Rattle.nef_shell.specs.Operations.{IsLent, IsShown}
 pub use Rattle.nef_shell.specs.Output.{IsOutput, IsPiece, printed}
 pub use Rattle.nef_shell.specs.Pieces.{joined_answer, piece_bytes, same_answer}

@@ -10,7 +10,7 @@ use Rattle.nef_shell.specs.declared.operation.Operation.{Operation}
 use Rattle.nef_shell.specs.declared.operation.Operation.TheVariants.{Constant, Half, Unary, Binary, Turned}
 
 -- what operations are worked with: a complex of the whole frame
-abbrev pub AreMeans : Means → Type 0
+abbrev pub AreMeans : {G : Type 0} → Means G → Type 0
 AreMeans means = ShowsSet Set.full means.whole.now
 
 -- the complex is there, and shows the set

@@ -19,7 +19,7 @@ pub use Rattle.nef_shell.specs.Asked.{AreAsked, IsAskedOf, IsAskedOfOther}
 pub use Rattle.nef_shell.specs.Early.{AreEarly, AreLate, ArePut}
 pub use Rattle.nef_shell.specs.Ended.{RunEnds}
 pub use Rattle.nef_shell.specs.Held.{AreHeld, AreStill, IsHeld, IsHeldAt, IsNew, IsShownAt, IsSpent, IsThere, cleared, complex_at, complex_in, handed_complex, without_parts}
-pub use Rattle.nef_shell.specs.Lean.{AreLess, AreMore, AreReady, HasDone, IsLastUse, IsLean, IsLet}
+pub use Rattle.nef_shell.specs.Lean.{AreLess, AreMore, ArePlaced, AreReady, HasDone, IsLastUse, IsLean, IsLet, StandAt}
 pub use Rattle.nef_shell.specs.Operations.{AreMeans, IsLent, IsShown, MakesSet}
 pub use Rattle.nef_shell.specs.Output.{IsPiece, printed}
 pub use Rattle.nef_shell.specs.Pieces.{joined_answer, piece_bytes, same_answer}

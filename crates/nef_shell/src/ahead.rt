@@ -1,7 +1,7 @@
 //! Works values of a block of steps ahead of it, side by side.
 
 ghost use Rattle.std.specs.Prelude.{◌≡◌, ◌≤◌, ◌<◌};
-ghost use Rattle.nef_shell.specs.Prelude.{ℕ, IfOk, OnOk, length, slice_get, vec_len, Some, AreEnds, AreSteps, Early, AreEarly, AreLate, ArePut, AreHeld, AreMore, AreMeans};
+ghost use Rattle.nef_shell.specs.Prelude.{ℕ, IfOk, OnOk, length, slice_get, vec_len, Some, AreEnds, AreSteps, Early, AreEarly, AreLate, ArePut, AreMore, ArePlaced, AreMeans};
 
 use crate::early::{Early, add_early, of_block, work_early};
 use crate::held::Value;
@@ -122,22 +122,18 @@ pub(crate) fn work_ahead<R: Threads + Wait + Sync, G: Gate + Sync>(
     values: &mut [Value],
     steps: &[Step],
     now: usize,
-    means: &Means,
-    gate: &G,
+    means: &Means<G>,
 ) -> Result<(), AllocError>
     requires means { AreMeans means.now }
-    requires steps { AreSteps steps.now }
-    requires ends { AreEnds steps.now }
-    requires count { length values.old ≡ length steps.now }
-    requires held { AreHeld means.now.options.text steps.now values.old }
-    ensures held { OnOk result (AreHeld means.now.options.text steps.now values.new) }
+    requires placed { ArePlaced means.now.options.text steps.now values.old }
+    ensures placed { OnOk result (ArePlaced means.now.options.text steps.now values.new) }
     ensures more { OnOk result (AreMore steps.now now values.old values.new) }
 {
     if !begins_block(&means.options, now) {
         return Ok(());
     }
     let early = early_values(alloc, values, steps, now)?;
-    let made = work_early(rt, alloc, values, steps, &early, means, gate)?;
+    let made = work_early(rt, alloc, values, steps, &early, means)?;
     put_each(values, &early, made);
     Ok(())
 }

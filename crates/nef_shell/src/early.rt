@@ -6,7 +6,8 @@ ghost use Rattle.nef_plan.specs.declared.step.Step.{Step as PlannedStep};
 ghost use Rattle.nef_plan.specs.Values.{AreEnds, AreSteps};
 ghost use Rattle.nef_sched.specs.Results.{IsReady};
 ghost use Rattle.nef_shell.specs.Early.{AreEarly, AreLate, IsIndex, first_need, second_need, needed_complex, Fits};
-ghost use Rattle.nef_shell.specs.Held.{AreHeld, IsThere};
+ghost use Rattle.nef_shell.specs.Held.{IsThere};
+ghost use Rattle.nef_shell.specs.Lean.{ArePlaced};
 ghost use Rattle.nef_shell.specs.Operations.{AreMeans};
 
 use crate::held::{Value, complex_at, complex_in};
@@ -192,12 +193,10 @@ fn work_value<R: Threads + Wait + Sync, G: Gate + Sync>(
     n: usize,
     alone: bool,
     done: &Results<Value>,
-    means: &Means,
-    gate: &G,
+    means: &Means<G>,
 ) -> Result<Value, AllocError>
     requires means { AreMeans means.now }
-    requires steps { AreSteps steps.now }
-    requires held { AreHeld means.now.options.text steps.now values.now }
+    requires placed { ArePlaced means.now.options.text steps.now values.now }
     requires early { AreEarly steps.now values.now early.now }
     requires number { n < length early.now }
     requires there { IsReady (Fits steps.now early.now) (first_need early.now n) (second_need early.now n) done.now.list.items }
@@ -215,8 +214,9 @@ fn work_value<R: Threads + Wait + Sync, G: Gate + Sync>(
     let means = Means {
         whole: means.whole,
         options,
+        gate: means.gate,
     };
-    made(rt, alloc, task, first, second, &means, gate)
+    made(rt, alloc, task, first, second, &means)
 }
 
 /// Works these values in rounds, and gives what is to be kept of them, in order. `values` has what is kept of the others.
@@ -229,25 +229,23 @@ pub(crate) fn work_early<R: Threads + Wait + Sync, G: Gate + Sync>(
     values: &[Value],
     steps: &[Step],
     early: &[Early],
-    means: &Means,
-    gate: &G,
+    means: &Means<G>,
 ) -> Result<Vec<Value>, AllocError>
     requires means { AreMeans means.now }
-    requires steps { AreSteps steps.now }
-    requires held { AreHeld means.now.options.text steps.now values.now }
+    requires placed { ArePlaced means.now.options.text steps.now values.now }
     requires early { AreEarly steps.now values.now early.now }
     ensures len { IfOk result (λ v. vec_len v ≡ length early.now) }
     ensures fits { IfOk result (λ v. (n : ℕ) (o : _) → slice_get v.items n ≡ Some o → Fits steps.now early.now n o) }
 {
     let work = |n: usize, alone: bool, done: &Results<Value>| -> Result<Value, AllocError>
-        requires { AreMeans means.now × AreSteps steps.now × AreHeld means.now.options.text steps.now values.now × AreEarly steps.now values.now early.now × (n < length early.now) × IsReady (Fits steps.now early.now) (first_need early.now n) (second_need early.now n) done.now.list.items }
+        requires { AreMeans means.now × ArePlaced means.now.options.text steps.now values.now × AreEarly steps.now values.now early.now × (n < length early.now) × IsReady (Fits steps.now early.now) (first_need early.now n) (second_need early.now n) done.now.list.items }
         ensures { IfOk result (Fits steps.entry.now early.entry.now n) }
-    { work_value(rt, alloc, values, steps, early, n, alone, done, means, gate) };
+    { work_value(rt, alloc, values, steps, early, n, alone, done, means) };
     let stage = Block {
         values,
         steps,
         list: early,
-        holds: gate.holds(),
+        holds: means.gate.holds(),
         work,
     };
     run_ahead(rt, alloc, &stage, means.options.how.workers)

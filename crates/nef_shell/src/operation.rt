@@ -17,12 +17,13 @@ use std::alloc::{AllocError, Global};
 use std::sync::Wait;
 use std::thread::Threads;
 
-/// What operations are worked with: the complex of the whole frame, of which each half is cut, and the options that the
-/// words choose, of which some say how candidates are worked.
-#[derive(Clone, Copy)]
-pub struct Means<'a> {
+/// What operations are worked with: the complex of the whole frame, of which each half is cut, the options that the words
+/// choose, of which some say how candidates are worked, and the gate that is told of each job.
+#[derive(Drop)]
+pub struct Means<'a, G> {
     pub whole: &'a Complex,
     pub options: Options,
+    pub gate: &'a G,
 }
 
 /// An operation on sets, with the complexes of its operands.
@@ -125,14 +126,13 @@ fn worked_by<R: Threads + Wait + Sync, G: Gate + Sync>(
     rt: &R,
     alloc: Global,
     operation: Operation,
-    means: &Means,
-    gate: &G,
+    means: &Means<G>,
 ) -> Result<Complex, AllocError>
     requires means { AreMeans means.now }
     requires operands { (s : Set) × MakesSet operation s }
     ensures shows { IfOk result (λ c. (s : Set) → MakesSet operation.entry s → ShowsSet s c) }
 {
-    let how = &means.options.how;
+    let (how, gate) = (&means.options.how, means.gate);
     match operation {
         Operation::Constant(full) => constant(alloc, full),
         Operation::Half { oriented, closed } => {
@@ -152,8 +152,7 @@ pub(crate) fn made<R: Threads + Wait + Sync, G: Gate + Sync>(
     task: &Task,
     first: Option<&Complex>,
     second: Option<&Complex>,
-    means: &Means,
-    gate: &G,
+    means: &Means<G>,
 ) -> Result<Value, AllocError>
     requires means { AreMeans means.now }
     requires task { IsTask task.now × MakesValue task.now }
@@ -162,7 +161,7 @@ pub(crate) fn made<R: Threads + Wait + Sync, G: Gate + Sync>(
 {
     match of_task(task, first, second) {
         Some(operation) => {
-            let complex = worked_by(rt, alloc, operation, means, gate)?;
+            let complex = worked_by(rt, alloc, operation, means)?;
             kept(alloc, complex)
         }
         None => Ok(None),

@@ -1,6 +1,6 @@
 //! The values of a script's work: the sets that its steps make, each at the place of its step.
 
-ghost use Rattle.nef_shell.specs.Prelude.{IsSomeAnd, true, ℕ, List, Some, None, IfOk, IfSome, OnOk, length, option_map, slice_get, slice_set, Set, operand, Step, AreSteps, AreEnds, IsTask, LooksAtValue, MakesValue, first_value, made_of, second_value, given_of, AreHeld, IsNew, IsShownAt, IsSpent, IsThere, cleared, handed_complex, AreLess, AreReady, HasDone, IsLastUse, IsLet, AreMeans, IsShown, op_set};
+ghost use Rattle.nef_shell.specs.Prelude.{IsSomeAnd, true, ℕ, List, Some, None, IfOk, IfSome, OnOk, length, option_map, slice_get, slice_set, Set, operand, Step, IsTask, LooksAtValue, MakesValue, first_value, made_of, second_value, given_of, AreHeld, IsNew, IsShownAt, IsSpent, IsThere, cleared, handed_complex, AreLess, HasDone, IsLastUse, IsLet, StandAt, AreMeans, IsShown, op_set};
 ghost use Rattle.std.specs.Prelude.{◌≡◌, ◌<◌};
 
 use crate::held::{Held, Value, complex_at, kept};
@@ -101,8 +101,7 @@ fn joined<R: Threads + Wait + Sync, G: Gate + Sync>(
     op: Op,
     first: Option<Given>,
     second: Option<Given>,
-    means: &Means,
-    gate: &G,
+    means: &Means<G>,
 ) -> Result<Value, AllocError>
     requires first { (s : Set) × IsShown s (option_map given_of first) }
     requires second { (t : Set) × IsShown t (option_map given_of second) }
@@ -110,7 +109,7 @@ fn joined<R: Threads + Wait + Sync, G: Gate + Sync>(
 {
     match first.zip(second) {
         Some((a, b)) => {
-            let complex = binary_given(rt, alloc, op, a, b, &means.options.how, gate)?;
+            let complex = binary_given(rt, alloc, op, a, b, &means.options.how, means.gate)?;
             kept(alloc, complex)
         }
         None => Ok(None),
@@ -127,8 +126,7 @@ fn combined<R: Threads + Wait + Sync, G: Gate + Sync>(
     op: Op,
     i: usize,
     j: usize,
-    means: &Means,
-    gate: &G,
+    means: &Means<G>,
 ) -> Result<Value, AllocError>
     requires first { (s : Set) × IsShownAt s values.old i }
     requires second { (t : Set) × IsShownAt t values.old j }
@@ -139,7 +137,7 @@ fn combined<R: Threads + Wait + Sync, G: Gate + Sync>(
     let second = spend(values, j, i, step.ends_second);
     let a = handed(values, i, first);
     let b = handed(values, j, second);
-    joined(rt, alloc, op, a, b, means, gate)
+    joined(rt, alloc, op, a, b, means)
 }
 
 // What is to be kept of the value that the step makes.
@@ -148,8 +146,7 @@ fn worked<R: Threads + Wait + Sync, G: Gate + Sync>(
     alloc: Global,
     values: &mut [Value],
     step: &Step,
-    means: &Means,
-    gate: &G,
+    means: &Means<G>,
 ) -> Result<Value, AllocError>
     requires means { AreMeans means.now }
     requires task { IsTask step.now.task × MakesValue step.now.task }
@@ -158,11 +155,11 @@ fn worked<R: Threads + Wait + Sync, G: Gate + Sync>(
     ensures less { AreLess (IsLastUse step.now (first_value step.now.task) (second_value step.now.task)) values.old values.new }
 {
     if let Some((op, i, j)) = combination(&step.task) {
-        return combined(rt, alloc, values, step, op, i, j, means, gate);
+        return combined(rt, alloc, values, step, op, i, j, means);
     }
     let (first, second) = step.task.looked_at();
     let (a, b) = (complex_at(values, first), complex_at(values, second));
-    made(rt, alloc, &step.task, a, b, means, gate)
+    made(rt, alloc, &step.task, a, b, means)
 }
 
 /// Makes the value of the step with the number `now`, unless it was made ahead of the step. The complexes of two values are
@@ -174,24 +171,19 @@ pub(crate) fn make_value<R: Threads + Wait + Sync, G: Gate + Sync>(
     values: &mut [Value],
     steps: &[Step],
     now: usize,
-    means: &Means,
-    gate: &G,
+    means: &Means<G>,
 ) -> Result<(), AllocError>
     requires means { AreMeans means.now }
-    requires steps { AreSteps steps.now }
-    requires ends { AreEnds steps.now }
+    requires stand { StandAt means.now.options.text steps.now now values.old }
     requires now { now < length steps.now }
     requires makes { (s : Step) → slice_get steps.now now ≡ Some s → MakesValue s.task }
-    requires count { length values.old ≡ length steps.now }
-    requires ready { AreReady steps.now now values.old }
-    requires held { AreHeld means.now.options.text steps.now values.old }
     ensures held { OnOk result (AreHeld means.now.options.text steps.now values.new) }
     ensures made { OnOk result (HasDone steps.now now values.old values.new) }
 {
     if is_there(values, now) {
         return Ok(());
     }
-    let made = worked(rt, alloc, values, &steps[now], means, gate)?;
+    let made = worked(rt, alloc, values, &steps[now], means)?;
     put_at(values, now, made);
     Ok(())
 }

@@ -1,7 +1,7 @@
 //! Works a script: the steps of its plan, in order.
 
 ghost use Rattle.std.specs.Prelude.{◌≡◌, ◌+◌, ◌<◌, ◌∷◌};
-ghost use Rattle.nef_shell.specs.Prelude.{ℕ, List, [], Some, IfSome, OnOk, Set, length, slice_get, Node as Expression, AreWorkable, AreEnds, AreSteps, asked_values, Step, IsWithin, AreAsked, IsAskedOf, IsAskedOfOther, AreHeld, AreStill, IsHeldAt, AreReady, HasDone, IsLean, AreMeans, WorkEnds};
+ghost use Rattle.nef_shell.specs.Prelude.{ℕ, List, [], Some, IfSome, OnOk, Set, length, slice_get, Node as Expression, AreWorkable, AreEnds, AreSteps, asked_values, Step, IsWithin, AreAsked, IsAskedOf, IsAskedOfOther, AreHeld, AreStill, IsHeldAt, ArePlaced, HasDone, IsLean, StandAt, AreMeans, WorkEnds};
 
 use crate::ahead::work_ahead;
 use crate::held::Value;
@@ -48,18 +48,13 @@ fn do_task<R: Threads + Wait + Sync, K: Sink, G: Gate + Sync>(
     values: &mut [Value],
     steps: &[Step],
     now: usize,
-    means: &Means,
+    means: &Means<G>,
     sink: &mut K,
-    gate: &G,
 ) -> Result<(), Status>
     requires means { AreMeans means.now }
-    requires steps { AreSteps steps.now }
-    requires ends { AreEnds steps.now }
+    requires stand { StandAt means.now.options.text steps.now now values.old }
     requires asked { (nodes : List Expression) × AreAsked nodes steps.now }
     requires now { now < length steps.now }
-    requires count { length values.old ≡ length steps.now }
-    requires ready { AreReady steps.now now values.old }
-    requires held { AreHeld means.now.options.text steps.now values.old }
     ensures ends { (nodes : List Expression) (step : Step) → AreAsked nodes steps.now → slice_get steps.now now ≡ Some step → WorkEnds means.now.options.text nodes (asked_values (step ∷ [])) (K.written sink.old) (K.written sink.new) (K.faults sink.old) (K.faults sink.new) result }
     ensures held { OnOk result (AreHeld means.now.options.text steps.now values.new) }
     ensures done { OnOk result (HasDone steps.now now values.old values.new) }
@@ -82,7 +77,7 @@ fn do_task<R: Threads + Wait + Sync, K: Sink, G: Gate + Sync>(
             )
         }
         _ => {
-            make_value(rt, alloc, values, steps, now, means, gate)?;
+            make_value(rt, alloc, values, steps, now, means)?;
             Ok(())
         }
     }
@@ -98,26 +93,19 @@ pub fn work_step<R: Threads + Wait + Sync, K: Sink, G: Gate + Sync>(
     values: &mut [Value],
     steps: &[Step],
     now: usize,
-    means: &Means,
+    means: &Means<G>,
     sink: &mut K,
-    gate: &G,
 ) -> Result<(), Status>
     requires means { AreMeans means.now }
-    requires steps { AreSteps steps.now }
-    requires ends { AreEnds steps.now }
+    requires stand { StandAt means.now.options.text steps.now now values.old }
     requires asked { (nodes : List Expression) × AreAsked nodes steps.now }
     requires now { now < length steps.now }
-    requires count { length values.old ≡ length steps.now }
-    requires ready { AreReady steps.now now values.old }
-    requires held { AreHeld means.now.options.text steps.now values.old }
     requires lean { IsLean steps.now now values.old }
     ensures ends { (nodes : List Expression) (step : Step) → AreAsked nodes steps.now → slice_get steps.now now ≡ Some step → WorkEnds means.now.options.text nodes (asked_values (step ∷ [])) (K.written sink.old) (K.written sink.new) (K.faults sink.old) (K.faults sink.new) result }
-    ensures count { OnOk result (length values.new ≡ length steps.now) }
-    ensures ready { OnOk result (AreReady steps.now (now + 1) values.new) }
-    ensures held { OnOk result (AreHeld means.now.options.text steps.now values.new) }
+    ensures stand { OnOk result (StandAt means.now.options.text steps.now (now + 1) values.new) }
     ensures lean { OnOk result (IsLean steps.now (now + 1) values.new) }
 {
-    do_task(rt, alloc, values, steps, now, means, sink, gate)?;
+    do_task(rt, alloc, values, steps, now, means, sink)?;
     release(values, &steps[now], now);
     Ok(())
 }
@@ -130,23 +118,19 @@ pub fn work_steps<R: Threads + Wait + Sync, K: Sink, G: Gate + Sync>(
     alloc: Global,
     values: &mut [Value],
     steps: &[Step],
-    means: &Means,
+    means: &Means<G>,
     sink: &mut K,
-    gate: &G,
 ) -> Result<(), Status>
     requires means { AreMeans means.now }
-    requires steps { AreSteps steps.now }
-    requires ends { AreEnds steps.now }
+    requires placed { ArePlaced means.now.options.text steps.now values.old }
     requires asked { (nodes : List Expression) × AreAsked nodes steps.now }
-    requires count { length values.old ≡ length steps.now }
-    requires held { AreHeld means.now.options.text steps.now values.old }
     requires lean { IsLean steps.now 0 values.old }
     ensures ends { (nodes : List Expression) → AreAsked nodes steps.now → WorkEnds means.now.options.text nodes (asked_values steps.now) (K.written sink.old) (K.written sink.new) (K.faults sink.old) (K.faults sink.new) result }
     ensures lean { OnOk result (IsLean steps.now (length steps.now) values.new) }
 {
     for now in 0..steps.len() {
-        work_ahead(rt, alloc, values, steps, now, means, gate)?;
-        work_step(rt, alloc, values, steps, now, means, sink, gate)?;
+        work_ahead(rt, alloc, values, steps, now, means)?;
+        work_step(rt, alloc, values, steps, now, means, sink)?;
     }
     Ok(())
 }
@@ -156,9 +140,8 @@ fn work_all<R: Threads + Wait + Sync, K: Sink, G: Gate + Sync>(
     rt: &R,
     alloc: Global,
     steps: &[Step],
-    means: &Means,
+    means: &Means<G>,
     sink: &mut K,
-    gate: &G,
 ) -> Result<(), Status>
     requires means { AreMeans means.now }
     requires steps { AreSteps steps.now }
@@ -167,7 +150,7 @@ fn work_all<R: Threads + Wait + Sync, K: Sink, G: Gate + Sync>(
     ensures ends { (nodes : List Expression) → AreAsked nodes steps.now → WorkEnds means.now.options.text nodes (asked_values steps.now) (K.written sink.old) (K.written sink.new) (K.faults sink.old) (K.faults sink.new) result }
 {
     let mut values = empty_places(alloc, steps.len())?;
-    work_steps(rt, alloc, values.as_mut_slice(), steps, means, sink, gate)
+    work_steps(rt, alloc, values.as_mut_slice(), steps, means, sink)
 }
 
 /// Works the script, and writes what its commands ask for, in their order. Where the options say so, sets of later steps are
@@ -188,8 +171,9 @@ pub(crate) fn work<R: Threads + Wait + Sync, K: Sink, G: Gate + Sync>(
     let means = Means {
         whole: &whole,
         options: *options,
+        gate,
     };
-    let ended = work_all(rt, alloc, &plan.steps, &means, sink, gate);
+    let ended = work_all(rt, alloc, &plan.steps, &means, sink);
     drop(whole);
     ended
 }

@@ -10,7 +10,7 @@ returns-then-is_there-clause-made g c = record { count = refl; stays = λ k awai
 pub worked-requires-clause-task : goal.worked-requires-clause-task
 worked-requires-clause-task g c κs within =
     let at = slice_get_read c.args.steps.now _ c.args.now c.index-steps-now.result refl c.requires.now c.index-steps-now.is in
-    (c.requires.steps.tasks c.args.now _ at, c.requires.makes _ at)
+    (c.requires.stand.placed.right.tasks c.args.now _ at, c.requires.makes _ at)
 
 pub worked-requires-clause-operands : goal.worked-requires-clause-operands
 worked-requires-clause-operands g c κs within =
@@ -19,13 +19,13 @@ worked-requires-clause-operands g c κs within =
     let at = slice_get_read steps _ now c.index-steps-now.result refl c.requires.now c.index-steps-now.is in (
       values_after [] steps,
       λ k looks.
-          let (d, below, seen, makes) = c.requires.steps.made_before now _ at k looks in
-          let (b, there) = c.requires.ready k below (now, c.index-steps-now.result, omega arith, at, looks) in
-          there-shown _ _ k b there (c.requires.held k b there).shows,
+          let (d, below, seen, makes) = c.requires.stand.placed.right.made_before now _ at k looks in
+          let (b, there) = c.requires.stand.ready k below (now, c.index-steps-now.result, omega arith, at, looks) in
+          there-shown _ _ k b there (c.requires.stand.placed.held k b there).shows,
     )
 
 pub put_at-requires : goal.put_at-requires
-put_at-requires g c = let less = c.in_ok-made.ensures.less in record { within = omega (arith, less.count, c.requires.count, c.requires.now) }
+put_at-requires g c = let less = c.in_ok-made.ensures.less in record { within = omega (arith, less.count, c.requires.stand.placed.count, c.requires.now) }
 
 pub returns-clause-held : goal.returns-clause-held
 returns-clause-held g c =
@@ -35,10 +35,10 @@ returns-clause-held g c =
     let at = slice_get_read steps _ now c.index-steps-now.result refl c.requires.now c.index-steps-now.is in
     let less = c.in_ok-made.ensures.less in
     let new = c.in_ok-made.ensures.new (values_after [] steps) (λ k looks.
-    let (d, below, seen, makes) = c.requires.steps.made_before now _ at k looks in
-    let (b, there) = c.requires.ready k below (now, c.index-steps-now.result, omega arith, at, looks) in
-    there-shown _ _ k b there (c.requires.held k b there).shows) in
-    rw c.put_at.ensures.put (held-put version steps c.worked.new.values now c.in_ok-made.made (omega (arith, less.count, c.requires.count, c.requires.now)) (subst (λ s. IsSomeAnd c.in_ok-made.made (λ b. IsNew s b.value)) (sym (value-at steps now _ c.requires.steps at)) new) (held-less version steps _ _ _ less c.requires.held))
+    let (d, below, seen, makes) = c.requires.stand.placed.right.made_before now _ at k looks in
+    let (b, there) = c.requires.stand.ready k below (now, c.index-steps-now.result, omega arith, at, looks) in
+    there-shown _ _ k b there (c.requires.stand.placed.held k b there).shows) in
+    rw c.put_at.ensures.put (held-put version steps c.worked.new.values now c.in_ok-made.made (omega (arith, less.count, c.requires.stand.placed.count, c.requires.now)) (subst (λ s. IsSomeAnd c.in_ok-made.made (λ b. IsNew s b.value)) (sym (value-at steps now _ c.requires.stand.placed.right at)) new) (held-less version steps _ _ _ less c.requires.stand.placed.held))
 
 pub returns-clause-made : goal.returns-clause-made
 returns-clause-made g c =
@@ -47,7 +47,7 @@ returns-clause-made g c =
     let at = slice_get_read steps _ now c.index-steps-now.result refl c.requires.now c.index-steps-now.is in
     let less = c.in_ok-made.ensures.less in
     let new = c.in_ok-made.ensures.new (values_after [] steps) (λ k looks.
-    let (d, below, seen, makes) = c.requires.steps.made_before now _ at k looks in
-    let (b, there) = c.requires.ready k below (now, c.index-steps-now.result, omega arith, at, looks) in
-    there-shown _ _ k b there (c.requires.held k b there).shows) in
-    rw c.put_at.ensures.put (done-put steps now c.index-steps-now.result c.args.values.now c.worked.new.values c.in_ok-made.made _ (c.requires.ends now _ at) (omega (arith, less.count, c.requires.count, c.requires.now)) less new)
+    let (d, below, seen, makes) = c.requires.stand.placed.right.made_before now _ at k looks in
+    let (b, there) = c.requires.stand.ready k below (now, c.index-steps-now.result, omega arith, at, looks) in
+    there-shown _ _ k b there (c.requires.stand.placed.held k b there).shows) in
+    rw c.put_at.ensures.put (done-put steps now c.index-steps-now.result c.args.values.now c.worked.new.values c.in_ok-made.made _ (c.requires.stand.placed.ends now _ at) (omega (arith, less.count, c.requires.stand.placed.count, c.requires.now)) less new)

@@ -10,7 +10,7 @@ write_answer-requires-clause-within g c κs within =
     let item = slice_index_or steps c.args.now c.index-steps-now.result in
     let at = slice_get-get_or steps c.args.now c.index-steps-now.result c.requires.now in
     let asked = c.requires.asked in
-    question-within c.args.means.now.options.text asked.0 steps c.args.values.now c.args.now item c.requires.steps at c.requires.ready c.requires.held c.in-Ask.command c.in-Ask.first c.in-Ask.second c.in-Ask.is asked.1
+    question-within c.args.means.now.options.text asked.0 steps c.args.values.now c.args.now item c.requires.stand.placed.right at c.requires.stand.ready c.requires.stand.placed.held c.in-Ask.command c.in-Ask.first c.in-Ask.second c.in-Ask.is asked.1
 
 pub write_answer-requires-clause-first : goal.write_answer-requires-clause-first
 write_answer-requires-clause-first g c κs within =
@@ -18,7 +18,7 @@ write_answer-requires-clause-first g c κs within =
     let item = slice_index_or steps c.args.now c.index-steps-now.result in
     let at = slice_get-get_or steps c.args.now c.index-steps-now.result c.requires.now in
     let asked = c.requires.asked in
-    (value_set steps c.in-Ask.first, first-held c.args.means.now.options.text asked.0 steps c.args.values.now c.args.now item c.requires.steps at c.requires.ready c.requires.held c.in-Ask.command c.in-Ask.first c.in-Ask.second c.in-Ask.is)
+    (value_set steps c.in-Ask.first, first-held c.args.means.now.options.text asked.0 steps c.args.values.now c.args.now item c.requires.stand.placed.right at c.requires.stand.ready c.requires.stand.placed.held c.in-Ask.command c.in-Ask.first c.in-Ask.second c.in-Ask.is)
 
 pub write_answer-requires-clause-second : goal.write_answer-requires-clause-second
 write_answer-requires-clause-second g c κs within =
@@ -26,7 +26,7 @@ write_answer-requires-clause-second g c κs within =
     let item = slice_index_or steps c.args.now c.index-steps-now.result in
     let at = slice_get-get_or steps c.args.now c.index-steps-now.result c.requires.now in
     let asked = c.requires.asked in
-    second-held c.args.means.now.options.text asked.0 steps c.args.values.now c.args.now item c.requires.steps at c.requires.ready c.requires.held c.in-Ask.command c.in-Ask.first c.in-Ask.second c.in-Ask.is
+    second-held c.args.means.now.options.text asked.0 steps c.args.values.now c.args.now item c.requires.stand.placed.right at c.requires.stand.ready c.requires.stand.placed.held c.in-Ask.command c.in-Ask.first c.in-Ask.second c.in-Ask.is
 
 pub returns-in-Ask-clause-ends : goal.returns-in-Ask-clause-ends
 returns-in-Ask-clause-ends g c nodes step asked found =
@@ -35,12 +35,12 @@ returns-in-Ask-clause-ends g c nodes step asked found =
     let at = slice_get-get_or steps c.args.now c.index-steps-now.result c.requires.now in
     let version = c.args.means.now.options.text in
     let values = c.args.values.now in
-    let first = question-first version nodes steps values c.args.now item c.requires.steps at c.requires.ready c.requires.held c.in-Ask.command c.in-Ask.first c.in-Ask.second c.in-Ask.is asked in
-    let second = question-second version nodes steps values c.args.now item c.requires.steps at c.requires.ready c.requires.held c.in-Ask.command c.in-Ask.first c.in-Ask.second c.in-Ask.is asked in
+    let first = question-first version nodes steps values c.args.now item c.requires.stand.placed.right at c.requires.stand.ready c.requires.stand.placed.held c.in-Ask.command c.in-Ask.first c.in-Ask.second c.in-Ask.is asked in
+    let second = question-second version nodes steps values c.args.now item c.requires.stand.placed.right at c.requires.stand.ready c.requires.stand.placed.held c.in-Ask.command c.in-Ask.first c.in-Ask.second c.in-Ask.is asked in
     rw (one-asked item step c.in-Ask.command c.in-Ask.first c.in-Ask.second (sym at ∙ found) c.in-Ask.is) (c.write_answer.ensures.ends nodes first second)
 
 pub returns-in-Ask-clause-held : goal.returns-in-Ask-clause-held
-returns-in-Ask-clause-held g c = on_ok_weaker c.write_answer.result (λ still. held-still c.args.means.now.options.text c.args.steps.now _ _ still c.requires.held) c.write_answer.ensures.still
+returns-in-Ask-clause-held g c = on_ok_weaker c.write_answer.result (λ still. held-still c.args.means.now.options.text c.args.steps.now _ _ still c.requires.stand.placed.held) c.write_answer.ensures.still
 
 pub returns-in-Ask-clause-done : goal.returns-in-Ask-clause-done
 returns-in-Ask-clause-done g c =

@@ -8,11 +8,13 @@ use Rattle.nef_shell.proofs.work.work_steps.Goals as goal
 step-at : (steps : List Step) (i : ℕ) → i < length steps → (s : Step) × (slice_get steps i ≡ Some s) × (s ≡ get_or steps i s)
 step-at steps i within = elim (slice_get_cases steps i).1 [ inl (s, below, at, is) ↦ (s, at, sym is) | inr (past, none) ↦ absurd (omega arith) ]
 
-pub work_step-requires-clause-count : goal.work_step-requires-clause-count
-work_step-requires-clause-count g c scopes within = c.in_ok-work_ahead.ensures.more.count ∙ c.loop-now.invariant.count
+pub work_ahead-requires-clause-placed : goal.work_ahead-requires-clause-placed
+work_ahead-requires-clause-placed g c scopes within = c.loop-now.invariant.stand.placed
 
-pub work_step-requires-clause-ready : goal.work_step-requires-clause-ready
-work_step-requires-clause-ready g c scopes within = ready-more c.args.steps.now c.loop-now.now _ _ c.in_ok-work_ahead.ensures.more c.loop-now.invariant.ready
+pub work_step-requires-clause-stand : goal.work_step-requires-clause-stand
+work_step-requires-clause-stand g c scopes within =
+    let ahead = c.in_ok-work_ahead.ensures in
+    record { placed = ahead.placed; ready = ready-more c.args.steps.now c.loop-now.now _ _ ahead.more c.loop-now.invariant.stand.ready }
 
 pub work_step-requires-clause-lean : goal.work_step-requires-clause-lean
 work_step-requires-clause-lean g c scopes within = lean-more c.args.steps.now c.loop-now.now _ _ c.in_ok-work_ahead.ensures.more c.loop-now.invariant.lean
@@ -75,9 +77,7 @@ loop-now-preserved g c =
             output-next version nodes steps now item before.0 done.0 (omega arith) is before.1 done.1,
             grows-more _ _ _ _ _ before.2 done.2,
           );
-      count = stepped.count;
-      ready = stepped.ready;
-      held = stepped.held;
+      stand = stepped.stand;
       lean = stepped.lean;
     }
 
@@ -85,9 +85,7 @@ pub loop-now-init : goal.loop-now-init
 loop-now-init g c = record {
   quiet = refl;
   written = λ nodes asked. ([], refl, grows-none _);
-  count = c.requires.count;
-  ready = λ k low awaited. absurd (omega (arith, low));
-  held = c.requires.held;
+  stand = record { placed = c.requires.placed; ready = λ k low awaited. absurd (omega (arith, low)) };
   lean = c.requires.lean;
 }
 
