@@ -44,7 +44,7 @@ pub struct Order<'a, J: Job> {
 }
 
 /// The answer to a claim: a job, or that every number was handed out.
-#[derive(Debug, Clone, Copy, PartialEq, Eq)]
+#[derive(Clone, Copy, PartialEq, Eq)]
 pub enum Claim {
     /// The job of this number.
     Got(u64),
@@ -53,7 +53,7 @@ pub enum Claim {
 }
 
 /// The job that was deposited.
-#[derive(Debug, Clone, Copy, PartialEq, Eq)]
+#[derive(Clone, Copy)]
 pub struct Receipt {
     pub job: u64,
 }

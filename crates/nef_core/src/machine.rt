@@ -9,7 +9,7 @@ use std::alloc::Global;
 use std::marker::Model;
 
 /// What a job is: not handed out or given back, in the hand of a pass, or done by a pass.
-#[derive(Debug, Clone, Copy, PartialEq, Eq)]
+#[derive(Clone, Copy)]
 pub enum Slot {
     /// Not handed out yet, or given back.
     Open,
@@ -20,7 +20,7 @@ pub enum Slot {
 }
 
 /// What a pass does at a board. The first number is the pass, the second the job.
-#[derive(Debug, Clone, Copy, PartialEq, Eq)]
+#[derive(Clone, Copy)]
 pub enum Event {
     /// The pass asks for the next job.
     Claim(u64),

@@ -15,7 +15,7 @@ pub enum BoardKind {
 }
 
 /// Which version of a set's canonical text is meant.
-#[derive(Debug, Clone, Copy, PartialEq, Eq)]
+#[derive(Debug, Clone, Copy)]
 pub enum TextVersion {
     /// The text of the vertices, edges, facets and volumes.
     One,
@@ -26,7 +26,7 @@ pub enum TextVersion {
 /// How an operation runs: by how many workers, over which board.
 ///
 /// There are 1 to 64 workers: who makes a value shows it, and who reads the number knows it.
-#[derive(Debug, Clone, Copy, PartialEq, Eq)]
+#[derive(Clone, Copy)]
 pub struct How {
     /// The number of workers beside the caller, 1 to 64.
     pub workers: u32,
@@ -65,7 +65,7 @@ const LISTED_CARRIERS: usize = 48;
 const PARTED_VERTICES: usize = 128;
 
 /// Work that several workers may share, with what tells how long it takes.
-#[derive(Debug, Clone, Copy, PartialEq, Eq)]
+#[derive(Clone, Copy)]
 pub enum Work {
     /// So many jobs, mostly no longer than their two turns on the lock board, over this board.
     LightJobs(BoardKind, u64),

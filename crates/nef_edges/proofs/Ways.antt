@@ -1,6 +1,7 @@
 -- The way from one point to another, times both denominators, as the machine works it; and whether it goes along a direction.
 use Rattle.nef_edges.proofs.Prelude.{◌≡◌, ℕ, ◌≤◌, ℤ, pos, ◌-ℤ◌, ◌*ℤ◌, nat_abs, List, [], ◌∷◌, w64, to_z, of_z, FitsSigned, arith, sym, ap, subst, ◌∙◌, ints, direction_limit, point_limit, weight_limit, toward, cross, IsZero, follows, given, none, Code, load, wrap, run, ◌⊟◌, ◌⊠◌, Limited, fits_of, exact_of, size_of, at, num, ◌⊖◌, ◌⊗◌, place_of, vector_of, Dir, Point, step_limit, way_limit}
-use mir.Syntax.{w128}
+use mir.Syntax.{Width, w128}
+use Rattle.nef_complex.proofs.Prelude.{to_z-of_z}
 use Rattle.nef_edges.proofs.Lines.{to-level}
 
 abbrev wide : ℕ → Code
@@ -123,3 +124,32 @@ along-stepped p q d x y z dy dz dz' dx dx' dy' same ex ey ez hx hy hz fy fz fz' 
         let v : to_z w64 (of_z w64 n) ≡ j' -ℤ j = step-kept n hn ∙ en in
         let s : (i' -ℤ i) *ℤ h ≡ (j' -ℤ j) *ℤ g = ap (λ l. l *ℤ h) (sym u) ∙ ap (λ l. to_z w64 (of_z w64 m) *ℤ l) (sym k) ∙ r ∙ ap (λ l. to_z w64 (of_z w64 n) *ℤ l) k' ∙ ap (λ l. l *ℤ g) v in
         subst (λ w. (i' *ℤ p.w -ℤ i *ℤ w) *ℤ h -ℤ (j' *ℤ p.w -ℤ j *ℤ w) *ℤ g ≡ pos 0) same (zero-step i j i' j' g h p.w s)
+
+-- ---- numbers that are handed on keep their bounds, and equal bits are equal numbers
+pub handed : (w : Width) (k : ℕ) (z : ℤ) → FitsSigned w z → nat_abs z ≤ k → nat_abs (to_z w (of_z w z)) ≤ k
+handed w k z f h = subst (λ u. nat_abs u ≤ k) (sym (to_z-of_z w z f)) h
+
+pub equal-products : (w : Width) (a b e f r s : ℤ) → FitsSigned w a → FitsSigned w b → FitsSigned w64 e → FitsSigned w64 f → FitsSigned w128 r → FitsSigned w128 s
+    → r ≡ to_z w (of_z w a) *ℤ to_z w64 (of_z w64 f) → s ≡ to_z w (of_z w b) *ℤ to_z w64 (of_z w64 e) → of_z w128 r ≡ of_z w128 s → a *ℤ f ≡ b *ℤ e
+equal-products w a b e f r s fa fb fe ff fr fs hr hs h =
+    let left = ap (λ l. l *ℤ f) (sym (to_z-of_z w a fa)) ∙ ap (λ l. to_z w (of_z w a) *ℤ l) (sym (to_z-of_z w64 f ff)) in
+    let right = ap (λ l. to_z w (of_z w b) *ℤ l) (to_z-of_z w64 e fe) ∙ ap (λ l. l *ℤ e) (to_z-of_z w b fb) in
+    left ∙ sym hr ∙ sym (to_z-of_z w128 r fr) ∙ ap (to_z w128) h ∙ to_z-of_z w128 s fs ∙ hs ∙ right
+
+-- what was read has the bound of its source
+pub read : (k : ℕ) (z v : ℤ) → FitsSigned w64 z → z ≡ v → nat_abs v ≤ k → nat_abs (to_z w64 (of_z w64 z)) ≤ k
+read k z v f e h = handed w64 k z f (subst (λ u. nat_abs u ≤ k) (sym e) h)
+
+-- the difference of two products of numbers that were read
+pub difference-read : (r a b e f a' b' e' f' : ℤ) → FitsSigned w128 r → FitsSigned w64 a → FitsSigned w64 b → FitsSigned w64 e → FitsSigned w64 f → a ≡ a' → b ≡ b' → e ≡ e' → f ≡ f'
+    → r ≡ to_z w64 (of_z w64 a) *ℤ to_z w64 (of_z w64 b) -ℤ to_z w64 (of_z w64 e) *ℤ to_z w64 (of_z w64 f) → to_z w128 (of_z w128 r) ≡ a' *ℤ b' -ℤ e' *ℤ f'
+difference-read r a b e f a' b' e' f' fr fa fb fe ff ea eb ee ef h =
+    let A = to_z-of_z w64 a fa ∙ ea in
+    let B = to_z-of_z w64 b fb ∙ eb in
+    let E = to_z-of_z w64 e fe ∙ ee in
+    let F = to_z-of_z w64 f ff ∙ ef in
+    to_z-of_z w128 r fr ∙ h
+    ∙ ap (λ l. l *ℤ to_z w64 (of_z w64 b) -ℤ to_z w64 (of_z w64 e) *ℤ to_z w64 (of_z w64 f)) A
+    ∙ ap (λ l. a' *ℤ l -ℤ to_z w64 (of_z w64 e) *ℤ to_z w64 (of_z w64 f)) B
+    ∙ ap (λ l. a' *ℤ b' -ℤ l *ℤ to_z w64 (of_z w64 f)) E
+    ∙ ap (λ l. a' *ℤ b' -ℤ e' *ℤ l) F

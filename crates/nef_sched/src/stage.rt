@@ -7,7 +7,7 @@ use crate::OutOfMemory;
 use std::alloc::Global;
 
 /// The numbers whose results a number needs, at most two.
-#[derive(Debug, Clone, Copy, PartialEq, Eq)]
+#[derive(Clone, Copy)]
 pub struct Needs {
     pub first: Option<usize>,
     pub second: Option<usize>,

@@ -105,12 +105,9 @@ impl SphereMap {
         requires within { number < length (items (map_of self.now)) }
         ensures item { At (items (map_of self.now)) number (item_of result) }
     {
-        if number < self.arcs.len() {
-            return Item::Arc(*self.arcs.at(number));
-        }
         match self.sloop {
-            Some(circle) => Item::Loop(circle),
-            None => unreachable!(),
+            Some(circle) if number == self.arcs.len() => Item::Loop(circle),
+            _ => Item::Arc(*self.arcs.at(number)),
         }
     }
 
@@ -208,11 +205,8 @@ pub fn side_label(map: &SphereMap, side: usize) -> Label
         return label;
     }
     let of_items = side - around_sides(map);
-    if of_items < 2 * map.item_count() {
-        return map.item_at(of_items / 2).label(of_items % 2 == 0);
-    }
     match map.ground {
-        Some(label) => label,
-        None => unreachable!(),
+        Some(label) if of_items == 2 * map.item_count() => label,
+        _ => map.item_at(of_items / 2).label(of_items % 2 == 0),
     }
 }

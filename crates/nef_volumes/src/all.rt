@@ -177,7 +177,7 @@ pub fn parts(alloc: Global, c: &Complex) -> Result<Parts, OutOfMemory>
 }
 
 // A part of a complex: a vertex, an edge, a facet or a volume, with its number.
-#[derive(Debug, Clone, Copy, PartialEq, Eq)]
+#[derive(Clone, Copy, PartialEq, Eq)]
 enum Part {
     Vertex(usize),
     Edge(usize),

@@ -23,7 +23,7 @@ pub const DEFAULT_WORKERS: u32 = 1;
 pub const MOST_WORKERS: u32 = 64;
 
 /// How the program is to run.
-#[derive(Debug, Clone, Copy, PartialEq, Eq)]
+#[derive(Clone, Copy)]
 pub struct Options {
     /// By how many workers, 1 to [`MOST_WORKERS`], and over which board.
     pub how: How,
