@@ -83,10 +83,8 @@ fn add_plane_cuts(
 {
     for number in 0..c.edges.len() {
         if let Some(point) = crossing(c, number, h) {
-            listed.push(Named {
-                point,
-                name: Name::Edge(operand, number),
-            })?;
+            let name = Name::Edge(operand, number);
+            listed.push(Named { point, name })?;
         }
     }
     Ok(())
@@ -127,10 +125,8 @@ fn held_cut(
 {
     let point = crossing(c, number, &carrier.plane)?;
     let place = place_on(other, carrier.number, &carrier.plane, &hit_at(&point))?;
-    Some(Named {
-        point,
-        name: Name::Cut(operand, number, place),
-    })
+    let name = Name::Cut(operand, number, place);
+    Some(Named { point, name })
 }
 
 // A span as wide as all of the spans.
@@ -216,13 +212,6 @@ fn add_edge_cuts(
     Ok(())
 }
 
-// Whether what has this span comes after the other along x.
-fn comes_after(span: &Span, other: &Span) -> bool
-    ensures after { IsTrue result ↔ (other.now.x.high <ℤ span.now.x.low) }
-{
-    other.x.high < span.x.low
-}
-
 // Whether the edge with this number lies past the span along x, and so each later one, as edges stand in order of their low
 // ends.
 fn is_past(c: &Complex, number: usize, ends: &[Span], around: &Span) -> bool
@@ -231,8 +220,7 @@ fn is_past(c: &Complex, number: usize, ends: &[Span], around: &Span) -> bool
     requires ends { AreAlone c.now.vertices ends.now }
     ensures past { IsTrue result → (k : ℕ) (e : Edge) → number ≤ k → IsAt c.now.edges k e → IsApart c.now e around.now }
 {
-    let edge = c.edges.at(number);
-    comes_after(&ends[edge.low], around)
+    around.x.high < ends[c.edges.at(number).low].x.low
 }
 
 // Adds the points strictly inside an edge of the complex that lie on one of the carriers of the other, which doesn't hold
@@ -261,34 +249,12 @@ fn add_near_cuts(
     Ok(())
 }
 
-// As `add_near_cuts`, with the spans of the complex's vertices. Carriers that are more than the vertices are first left out
-// where they lie far from all vertices; of fewer carriers the edges tell that soon.
-fn add_close_cuts(
-    listed: &mut Vec<Named>,
-    alloc: Global,
-    c: &Complex,
-    operand: Operand,
-    other: &Complex,
-    near: &[Spanned],
-) -> Result<(), OutOfMemory>
-    requires shows { (s : Set) × ShowsSet s c.now }
-    requires other { (t : Set) × ShowsSet t other.now }
-    requires near { AreSpannedIn other.now near.now }
-    ensures added { OnOk result (AddsAll (CutsBy (complex_of c.now) near.now) (CutsHeld (complex_of c.now) other.now near.now) (IsNamedBetween operand (complex_of c.now) (complex_of other.now)) listed.old.items listed.new.items) }
-{
-    let ends = point_spans(c);
-    if near.len() <= ends.len() {
-        return add_near_cuts(listed, c, operand, ends, other, near);
-    }
-    let close = carriers_near(alloc, near, &around_all(ends))?;
-    add_near_cuts(listed, c, operand, ends, other, close.as_slice())
-}
-
 // Few carriers cross more edges where they hold something, and few edges are crossed by more such carriers.
 const CUTS_OF_ONE: usize = 4;
 
 /// The points strictly inside an edge of the complex, which is that of this operand, that lie on one of the carriers of the
-/// other, which doesn't hold the edge, but for some where the other has nothing in the carrier.
+/// other, which doesn't hold the edge, but for some where the other has nothing in the carrier. Carriers that are more than
+/// the vertices are first left out where they lie far from all vertices; of fewer carriers the edges tell that soon.
 pub(crate) fn near_cuts(
     alloc: Global,
     c: &Complex,
@@ -303,7 +269,13 @@ pub(crate) fn near_cuts(
 {
     let room = near.len().min(c.edges.len()).saturating_mul(CUTS_OF_ONE);
     let mut listed = Vec::with_capacity(alloc, room)?;
-    add_close_cuts(&mut listed, alloc, c, operand, other, near)?;
+    let ends = point_spans(c);
+    if near.len() <= ends.len() {
+        add_near_cuts(&mut listed, c, operand, ends, other, near)?;
+    } else {
+        let close = carriers_near(alloc, near, &around_all(ends))?;
+        add_near_cuts(&mut listed, c, operand, ends, other, close.as_slice())?;
+    }
     // Only speed needs the order: what is sorted is merged with the other candidates, which is cheap.
     listed.sort_unstable_by(|m, n| lex_cmp(&m.point, &n.point));
     Ok(listed)

@@ -3,6 +3,7 @@ pub mod AtItems
 pub mod FirstMet
 pub mod AtSides
 pub mod Onward
+pub mod SamePlanes
 pub mod WayInward
 pub mod Named
 pub mod Faces

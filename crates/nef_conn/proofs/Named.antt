@@ -10,7 +10,8 @@ use Rattle.nef_conn.proofs.Prelude.{◌≡◌, ℕ, pos, ◌<ℤ◌, sym, ◌∙
 use Rattle.law_links.proofs.ItemLinks.{items-joined}
 use Rattle.nef_conn.proofs.Chain.{chain-here, chain-before}
 use Rattle.nef_conn.proofs.Onward.{level-kept}
-use Rattle.nef_conn.proofs.WayInward.{on-too, names-same, dir-level, dir-some, dir-same}
+use Rattle.nef_conn.proofs.SamePlanes.{on-too}
+use Rattle.nef_conn.proofs.WayInward.{names-same, dir-level, dir-some, dir-same}
 
 -- ---- planes
 own-plane : (n : Vector) (p : Place) → form_at (plane_through n p) p ≡ pos 0

@@ -1,50 +1,13 @@
--- The forms of one plane: the same ray names the same corners in each, and there is one way inward.
-use Rattle.nef_conn.proofs.Prelude.{◌≡◌, ℕ, ℤ, pos, ◌+ℤ◌, ◌*ℤ◌, neg_ℤ, Bool, true, false, cond, ◌&&◌, ◌<◌, arith, refl, ap, sym, ◌∙◌, inl, inr, ⊎_elim, ◌∷◌, subst, Decides, [], ints, sign, given, none, follows, cancel_eq, ring, at, num, neg, ◌⊕◌, ◌⊗◌, axis_factor, Place, Form, form_at, normal_of, toward, Vector, opposite, dot, cross, triple, blend, IsDirection, SameDirection, plane_dir, beside_x, beside_y, beside_z, SameUpToFactor, of_direction, same-factor, factor-same, some-pos, item_normal, Arc, dir_of, turn-last, same-plus, same-minus, Vertex, Complex, Corner, PlaneMeet, meets_vertex, meets_edge, LiesIn, Meets, IsFirstInPlane, IsArcOnSide, IsCornerAt, RayNames, plane-onward, plane-way, opposed, on_item-way, dot-comm, SameDirection-turned, SameDirection-trans, dir-signs, opposite-same, direction-left, level-blend}
-use Rattle.std.specs.Bool.{one_answer}
+-- The same ray names the same corners in each form of a plane, and there is one way inward.
+use Rattle.nef_conn.proofs.Prelude.{◌≡◌, ℕ, ℤ, pos, ◌+ℤ◌, ◌*ℤ◌, neg_ℤ, Bool, true, false, cond, ◌&&◌, arith, refl, ◌∷◌, subst, Decides, [], ints, given, none, follows, ring, at, num, neg, ◌⊕◌, ◌⊗◌, axis_factor, Place, Form, form_at, normal_of, Vector, opposite, dot, blend, IsDirection, SameDirection, plane_dir, beside_x, beside_y, beside_z, SameUpToFactor, of_direction, same-factor, factor-same, Complex, Corner, RayNames, opposed, opposite-same, direction-left, level-blend}
 use Rattle.std.specs.Ordering.{int_eq}
 use Rattle.std.proofs.lemmas.Bool.Decides.{Decides-int_eq}
-use Rattle.nef_conn.proofs.Onward.{level-kept}
-
--- ---- points of two forms of one plane
-module _ (g h : Form) (y : Place) (on_g : form_at g y ≡ pos 0) (on_h : form_at h y ≡ pos 0) (w : SameDirection (normal_of g) (normal_of h)) where
-  pub on-too : (q : Place) → form_at g q ≡ pos 0 → form_at h q ≡ pos 0
-  on-too q e = plane-onward h y q (level-kept (normal_of g) (normal_of h) (toward y q) w (plane-way g y q on_g e)) on_h
-
-  lies-too : (C : Complex) (k : ℕ) → LiesIn C g k → LiesIn C h k
-  lies-too C k (e, v, u, a, H, i, j) = (e, v, u, a, H, on-too v.point i, on-too u.point j)
-
-  meets-too : (C : Complex) (m : PlaneMeet) (q : Place) → Meets C g m q → Meets C h m q
-  meets-too C (meets_vertex k) q x = x
-  meets-too C (meets_edge k) q x = (x.0, lies-too C k x.1)
-
-pub side-turned : (v : Vertex) (s : ℕ) (n m d f : Vector) (a : Arc) → SameDirection n m → SameDirection d f → IsArcOnSide v s n d a → IsArcOnSide v s m f a
-side-turned v s n m d f a w u = ⊎_elim
-    (λ h. inl (h.0, same-plus (triple n p d) (triple m p f) same h.1))
-    (λ h. inr (h.0, same-minus (triple n p d) (triple m p f) same h.1))
-  where
-    p : Vector
-    p = dir_of v.map.svertices s
-
-    same : sign (triple m p f) ≡ sign (triple n p d)
-    same = ap sign (dot-comm m (cross p f)) ∙ dir-signs n m (cross p f) (direction-left n m w) w ∙ ap sign (dot-comm (cross p f) n) ∙ turn-last n p d f u
-
-corner-same : (C : Complex) (g h : Form) → SameDirection (normal_of g) (normal_of h) → (d f : Vector) → SameDirection d f → (m : PlaneMeet) (k : Corner) → IsCornerAt C g d m k → IsCornerAt C h f m k
-corner-same C g h w d f u (meets_vertex i) k (v, x, e, c, r, o) = (v, x, e, c, SameDirection-trans (item_normal x) (normal_of g) (normal_of h) r w, on_item-way v.map x d f u o)
-corner-same C g h w d f u (meets_edge i) k (e, v, a, l, p, b, t, r, s) =
-    (e, v, a, l, p, b, t, SameDirection-trans a.normal (normal_of g) (normal_of h) r w, side-turned v e.low_svertex (normal_of g) (normal_of h) d f a w u s)
+use Rattle.nef_conn.proofs.SamePlanes.{first-same, corner-same, level, same-test}
 
 -- the same ray names the same corners in each form of a plane
 pub names-same : (C : Complex) (g h : Form) (y : Place) → form_at g y ≡ pos 0 → form_at h y ≡ pos 0 → SameDirection (normal_of g) (normal_of h) → (d f : Vector) → SameDirection d f
     → (k : Corner) → RayNames C g y d k → RayNames C h y f k
-names-same C g h y on_g on_h w d f u k (m, I, c) = (m, first, corner-same C g h w (opposite d) (opposite f) (opposite-same d f u) m k c)
-  where
-    first : IsFirstInPlane C h y f m
-    first = record {
-      place = I.place;
-      ahead = SameDirection-trans (toward y I.place) d f I.ahead u;
-      meets = meets-too g h y on_g on_h w C m I.place I.meets;
-      first = λ q n b x. I.first q n b (meets-too h g y on_h on_g (SameDirection-turned (normal_of g) (normal_of h) w) C n q x);
-    }
+names-same C g h y on_g on_h w d f u k (m, I, c) = (m, first-same C g h y on_g on_h w d f u m I, corner-same C g h w (opposite d) (opposite f) (opposite-same d f u) m k c)
 
 -- ---- the direction of a plane
 -- it as a function of two tests: whether the last number of the normal is nought, and whether the second is
@@ -92,25 +55,13 @@ blended f k l a b c d e g = follows (pos k ∷ pos l ∷ a ∷ b ∷ c ∷ d ∷
     (given (at 6) (at 0 ⊗ at 2) (at 1 ⊗ at 4) e (given (num (pos 1)) (at 0 ⊗ at 3) (at 1 ⊗ at 5) g none)) tt
 
 module _ (n m : Vector) (F : SameUpToFactor (of_direction n) (of_direction m)) where
-  level : pos F.k *ℤ pos 0 ≡ pos F.l *ℤ pos 0
-  level = ring (pos F.k ∷ pos F.l ∷ []) (at 0 ⊗ num (pos 0)) (at 1 ⊗ num (pos 0)) tt
-
-  -- both numbers are nought or neither is
-  nought-too : (k l : ℕ) (x y : ℤ) → 0 < l → pos k *ℤ x ≡ pos l *ℤ y → x ≡ pos 0 → y ≡ pos 0
-  nought-too k l x y h e z = cancel_eq y (pos 0) (pos l) (some-pos l h) (ring (y ∷ pos l ∷ []) (at 0 ⊗ at 1) (at 1 ⊗ at 0) tt ∙ sym e ∙ ap (λ r. pos k *ℤ r) z ∙ ring (pos k ∷ pos l ∷ []) (at 0 ⊗ num (pos 0)) (num (pos 0) ⊗ at 1) tt)
-
-  same-test : (x y : ℤ) → pos F.k *ℤ x ≡ pos F.l *ℤ y → int_eq x (pos 0) ≡ int_eq y (pos 0)
-  same-test x y e =
-      let d = Decides-int_eq y (pos 0) in
-      one_answer (int_eq x (pos 0)) (int_eq y (pos 0)) (Decides-int_eq x (pos 0)) (λ t. nought-too F.l F.k y x F.some_k (sym e) (d.0 t), λ z. d.1 (nought-too F.k F.l x y F.some_l e z))
-
   first-scaled : (t : Bool) → AreScaled F.k F.l (cond t (beside_y n) (beside_x n)) (cond t (beside_y m) (beside_x m))
-  first-scaled true = (opposed F.k F.l n.z m.z F.is_z, level, F.is_x)
-  first-scaled false = (level, F.is_z, opposed F.k F.l n.y m.y F.is_y)
+  first-scaled true = (opposed F.k F.l n.z m.z F.is_z, level n m F, F.is_x)
+  first-scaled false = (level n m F, F.is_z, opposed F.k F.l n.y m.y F.is_y)
 
   second-scaled : (t : Bool) → AreScaled F.k F.l (cond t (beside_z n) (beside_y n)) (cond t (beside_z m) (beside_y m))
-  second-scaled true = (F.is_y, opposed F.k F.l n.x m.x F.is_x, level)
-  second-scaled false = (opposed F.k F.l n.z m.z F.is_z, level, F.is_x)
+  second-scaled true = (F.is_y, opposed F.k F.l n.x m.x F.is_x, level n m F)
+  second-scaled false = (opposed F.k F.l n.z m.z F.is_z, level n m F, F.is_x)
 
   dir-by : (a b : Bool) → SameUpToFactor (of_direction (dir_by a b n)) (of_direction (dir_by a b m))
   dir-by t u =
@@ -129,13 +80,13 @@ module _ (n m : Vector) (F : SameUpToFactor (of_direction n) (of_direction m)) w
         is_x = blended f F.k F.l a.x b.x c.x d.x e.0 g.0;
         is_y = blended f F.k F.l a.y b.y c.y d.y e.1 g.1;
         is_z = blended f F.k F.l a.z b.z c.z d.z e.2 g.2;
-        is_w = level;
+        is_w = level n m F;
       }
 
   dir-factor : SameUpToFactor (of_direction (plane_dir n)) (of_direction (plane_dir m))
   dir-factor =
-      subst (λ (t : Bool). SameUpToFactor (of_direction (plane_dir n)) (of_direction (dir_by t (int_eq m.y (pos 0)) m))) (same-test n.z m.z F.is_z)
-      (subst (λ (t : Bool). SameUpToFactor (of_direction (plane_dir n)) (of_direction (dir_by (int_eq n.z (pos 0)) t m))) (same-test n.y m.y F.is_y)
+      subst (λ (t : Bool). SameUpToFactor (of_direction (plane_dir n)) (of_direction (dir_by t (int_eq m.y (pos 0)) m))) (same-test n m F n.z m.z F.is_z)
+      (subst (λ (t : Bool). SameUpToFactor (of_direction (plane_dir n)) (of_direction (dir_by (int_eq n.z (pos 0)) t m))) (same-test n m F n.y m.y F.is_y)
       (dir-by (int_eq n.z (pos 0)) (int_eq n.y (pos 0))))
 
 -- planes with the same normal have the same direction

@@ -153,3 +153,7 @@ difference-read r a b e f a' b' e' f' fr fa fb fe ff ea eb ee ef h =
     ∙ ap (λ l. a' *ℤ l -ℤ to_z w64 (of_z w64 e) *ℤ to_z w64 (of_z w64 f)) B
     ∙ ap (λ l. a' *ℤ b' -ℤ l *ℤ to_z w64 (of_z w64 f)) E
     ∙ ap (λ l. a' *ℤ b' -ℤ e' *ℤ l) F
+
+pub step-read : (r a b a' b' : ℤ) → FitsSigned w64 r → FitsSigned w64 a → FitsSigned w64 b → a ≡ a' → b ≡ b' → r ≡ to_z w64 (of_z w64 a) -ℤ to_z w64 (of_z w64 b) → to_z w64 (of_z w64 r) ≡ a' -ℤ b'
+step-read r a b a' b' fr fa fb ea eb h =
+    to_z-of_z w64 r fr ∙ h ∙ ap (λ l. l -ℤ to_z w64 (of_z w64 b)) (to_z-of_z w64 a fa ∙ ea) ∙ ap (λ l. a' -ℤ l) (to_z-of_z w64 b fb ∙ eb)

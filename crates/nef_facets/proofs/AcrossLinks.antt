@@ -1,5 +1,5 @@
 -- Links across facets, by what the ray inward in a carrier names.
-use Rattle.nef_facets.proofs.Prelude.{◌≡◌, ℕ, pos, List, [], ◌∷◌, ◌++◌, refl, ap, sym, ◌∙◌, subst, Form, form_at, normal_of, toward, Set, Vector, opposite, SameDirection, plane_dir, place-toward, At, Item, items, item_normal, OnItem, on-direction, on-level, at-one, Vertex, Complex, IsCorner, Shows, item_plane, RayNames, through-at, through-level, same-itself, Corner as ProgramCorner, corner_of, Cell, Tie, LinkAcross, one-vertex, one-named, HasNoSvertex, level-back, scaled-same, on-turned, cell_of, corner_at, IsTieAcross, Adds, dot-zero, SameDirection-turned, SameDirection-trans, dir-self, opposite-same, direction-left, direction-right}
+use Rattle.nef_facets.proofs.Prelude.{◌≡◌, ℕ, pos, List, [], ◌∷◌, ◌++◌, refl, ap, sym, ◌∙◌, subst, Form, form_at, normal_of, toward, Set, Vector, opposite, SameDirection, plane_dir, place-toward, At, Item, items, item_normal, OnItem, on-direction, on-level, at-one, Vertex, Complex, IsCorner, Shows, item_plane, RayNames, through-at, through-level, same-itself, Corner as ProgramCorner, corner_of, Cell, Tie, LinkAcross, one-vertex, one-named, HasNoSvertex, level-of_opposite, through-same, on_item-way, cell_of, corner_at, IsTieAcross, Adds, dot-zero, SameDirection-turned, SameDirection-trans, dir-self, opposite-same, direction-left, direction-right}
 use Rattle.law_complex.specs.Complexes.{Corner}
 use Rattle.nef_conn.proofs.WayInward.{names-same, dir-same}
 use Rattle.nef_facets.proofs.Adding.{adds-one}
@@ -35,14 +35,14 @@ module _ (C : Complex) (j : Corner) (v : Vertex) (x : Item) (b : IsCorner C j v 
     on-plane = through-at n v.point v.point ∙ dot-zero n (toward v.point v.point) (place-toward v.point v.point (same-itself v.point))
 
     to-plane : SameDirection (normal_of h) (normal_of (item_plane v x))
-    to-plane = SameDirection-trans (normal_of h) n (normal_of (item_plane v x)) w (scaled-same n v.point (direction-right (normal_of h) n w))
+    to-plane = SameDirection-trans (normal_of h) n (normal_of (item_plane v x)) w (through-same n v.point (direction-right (normal_of h) n w))
 
     pub linked : (k : Corner) → OnItem v.map x d → RayNames C h v.point d k → LinkAcross C j k
     linked k o N = record {
       vertex = v;
       item = x;
       corner = b;
-      inward = on-turned v.map x d (inward_of x) inward-same o;
+      inward = on_item-way v.map x d (inward_of x) inward-same o;
       named = names-same C h (item_plane v x) v.point on on-plane to-plane d (inward_of x) inward-same k N;
     }
 
@@ -50,7 +50,7 @@ module _ (C : Complex) (j : Corner) (v : Vertex) (x : Item) (b : IsCorner C j v 
     unlinked k L =
         let N = link-is k L in
         let u = SameDirection-turned d (inward_of x) inward-same in (
-          on-turned v.map x (inward_of x) d u N.0,
+          on_item-way v.map x (inward_of x) d u N.0,
           names-same C (item_plane v x) h v.point on-plane on (SameDirection-turned (normal_of h) (normal_of (item_plane v x)) to-plane) (inward_of x) d u k N.1,
         )
 
@@ -63,7 +63,7 @@ module _ (s : Set) (C : Complex) (S : Shows s C) where
       let d = inward_of x in
       let N = link-is C j v x L.corner l M in
       let some = opposite-same d d (dir-self d (on-direction v.map x d L.inward)) in
-      let level = (through-level (item_normal x) (opposite d) v.point).0 (level-back (item_normal x) d (on-level v.map x d L.inward)) in
+      let level = (through-level (item_normal x) (opposite d) v.point).0 (level-of_opposite (item_normal x) d (on-level v.map x d L.inward)) in
       one-named s C S (item_plane v x) v.point d (direction-left (opposite d) (opposite d) some) level k l L.named N.1
 
   -- no svertex of a vertex points along an item
@@ -72,7 +72,7 @@ module _ (s : Set) (C : Complex) (S : Shows s C) where
       let n = one-vertex s C S k j.vertex w v a b.vertex e in
       let f = at-one C.vertices j.vertex w v (subst (λ (r : ℕ). At C.vertices r w) n a) b.vertex in
       let listed = subst (λ (r : Vertex). At r.map.svertices i u) f t in
-      (S.cones j.vertex v b.vertex).valid.shaped.no_svertex_on_item i j.item u x listed b.item (on-turned v.map x d u.dir (SameDirection-turned u.dir d q) o)
+      (S.cones j.vertex v b.vertex).valid.shaped.no_svertex_on_item i j.item u x listed b.item (on_item-way v.map x d u.dir (SameDirection-turned u.dir d q) o)
 
 -- ---- the tie of a link
 abbrev pub tie_to : ℕ → ℕ → ProgramCorner → Tie

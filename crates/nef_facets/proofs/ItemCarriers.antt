@@ -1,9 +1,10 @@
 -- Each item lies in a carrier, and the items of the program's vertices.
-use Rattle.nef_facets.proofs.Prelude.{◌≡◌, ℕ, ◌<◌, pos, List, map, length, ap, sym, ◌∙◌, subst, IsAt, Place, Form, form_at, normal_of, Set, Vector, IsNormal, SameDirection, At, Item, items, item_normal, Vertex as PlainVertex, IsCorner, is-at_one, vertex_of, complex_of, AreHolders, at-map, map-at, at-within, some-at, at-some as got-some, form_of, place_of, Plane, map_of, at-one, Shows}
+use Rattle.nef_facets.proofs.Prelude.{◌≡◌, ℕ, ◌<◌, arith, ⊎_elim, pos, List, map, length, ap, sym, ◌∙◌, subst, IsAt, Place, Form, form_at, normal_of, Set, Vector, IsNormal, SameDirection, At, Item, items, item_normal, Vertex as PlainVertex, IsCorner, is-at_one, vertex_of, complex_of, AreHolders, at-map, map-at, at-within, some-at, at-some as got-some, form_of, place_of, Plane, map_of, at-one, Shows}
 use Rattle.law_complex.specs.Complexes.{Corner as PlainCorner}
 use Rattle.nef_complex.specs.declared.complex.Vertex.{Vertex}
 use Rattle.nef_complex.specs.declared.complex.Complex.{Complex}
 use Rattle.nef_complex.proofs.Carried.{carried}
+use Rattle.nef_smap.proofs.Prelude.{cases_lt}
 use Rattle.nef_smap.proofs.SideLists.{at-some}
 use Rattle.nef_facets.specs.Carriers.{HasItem, IsPlaneAt}
 
@@ -12,7 +13,7 @@ abbrev pub HoldsWith : Form → Place → Vector → Type 0
 HoldsWith h p n = (form_at h p ≡ pos 0) × SameDirection (normal_of h) n
 
 -- the program's carriers are in normal form, so one of them is the plane of an item
-pub none-carried : (s : Set) (c : Complex) (k : PlainCorner) (u : Vertex) (x : Item) (n : Vector) → Shows s (complex_of c) → HasItem (complex_of c) k → At c.vertices k.vertex u → At (items (map_of u.map)) k.item x → item_normal x ≡ n
+none-carried : (s : Set) (c : Complex) (k : PlainCorner) (u : Vertex) (x : Item) (n : Vector) → Shows s (complex_of c) → HasItem (complex_of c) k → At c.vertices k.vertex u → At (items (map_of u.map)) k.item x → item_normal x ≡ n
     → ((i : ℕ) (f : Form) → At (map form_of c.carriers) i f → HoldsWith f (place_of u.point) n → ⊥) → ⊥
 none-carried s c k u x n S h a b e none =
     let K = carried s (complex_of c) k (vertex_of u) x S (record { vertex = at-map vertex_of c.vertices k.vertex u a; item = b }) in
@@ -25,7 +26,7 @@ abbrev pub CarriesWith : Complex → Place → Vector → ℕ → Type 0
 CarriesWith c p n k = (h : Plane) × IsAt c.carriers k h × HoldsWith (form_of h) p n
 
 -- where none of the carriers that hold the point has the normal, none of all does
-pub none-held : (c : Complex) (p : Place) (n : Vector) (ns : List ℕ) → AreHolders c.carriers p p ns → ((j k : ℕ) → At ns j k → CarriesWith c p n k → ⊥)
+none-held : (c : Complex) (p : Place) (n : Vector) (ns : List ℕ) → AreHolders c.carriers p p ns → ((j k : ℕ) → At ns j k → CarriesWith c p n k → ⊥)
     → (i : ℕ) (f : Form) → At (map form_of c.carriers) i f → HoldsWith f p n → ⊥
 none-held c p n ns H none i f a q =
     let g = map-at form_of c.carriers i f a in
@@ -33,6 +34,13 @@ none-held c p n ns H none i f a q =
     let here = got-some c.carriers i g.0 g.1 in
     let r = H.all i (g.0, here, (w.0, w.0)) in
     none r.0 i (some-at ns r.0 i r.1) (g.0, here, w)
+
+-- some listed holder of the point is not yet passed over
+pub holder-left : (s : Set) (c : Complex) (k : PlainCorner) (u : Vertex) (x : Item) (n : Vector) (ns : List ℕ) (place : ℕ) → Shows s (complex_of c) → HasItem (complex_of c) k → At c.vertices k.vertex u → At (items (map_of u.map)) k.item x → item_normal x ≡ n
+    → AreHolders c.carriers (place_of u.point) (place_of u.point) ns → ((j i : ℕ) → j < place → At ns j i → (w : Vertex) × At c.vertices k.vertex w × CarriesWith c (place_of w.point) n i → ⊥) → place < length ns
+holder-left s c k u x n ns place S h a b e H none = ⊎_elim (λ l. l)
+    (λ f. absurd (none-carried s c k u x n S h a b e (none-held c (place_of u.point) n ns H (λ j i m w. none j i (let l = at-within ns j i m in omega (arith, l, f)) m (u, a, w)))))
+    (cases_lt place (length ns))
 
 -- the carrier with the number of a plane that has an item is that plane
 pub carrier-plane : (c : Complex) (k : PlainCorner) (n : ℕ) (h : Plane) → (g : Plane) × IsAt c.carriers n g × IsPlaneAt (complex_of c) g k → IsAt c.carriers n h → IsPlaneAt (complex_of c) h k

@@ -1,5 +1,5 @@
 -- The corner that the way inward from an item names.
-use Rattle.nef_facets.proofs.Prelude.{◌≡◌, ℕ, zero, suc, ◌<◌, ◌≤◌, ◌+◌, ◌^◌, ℤ, pos, neg_ℤ, nat_abs, List, [], ◌∷◌, length, map, Option, Some, None, MatchOption, slice_get, arith, refl, sym, subst, ints, Place, Form, normal_of, slope, Set, Vector, opposite, IsAtMost, SameDirection, plane_dir, form_of, ray_limit, plane_dir_limit, Plane, At, Item, items, item_normal, OnItem, at-one, map-from_get, map_of, Vertex, Complex, IsCorner, Shows, PlaneMeet, IsFirstInPlane, IsCornerAt, Corner as ProgramCorner, complex_of, corner_of, vertex_of, ShowsSet, Cell, Tie, LinkAcross, HasNoSvertex, FromVertex, level-back, IsNamedFrom, IsLinkedFrom, corner_at, IsTieAcross, Any, one-met}
+use Rattle.nef_facets.proofs.Prelude.{◌≡◌, ℕ, zero, suc, ◌<◌, ◌≤◌, ◌+◌, ◌^◌, ℤ, pos, neg_ℤ, nat_abs, List, [], ◌∷◌, length, map, Option, Some, None, MatchOption, slice_get, arith, refl, sym, subst, ints, Place, Form, normal_of, slope, Set, Vector, opposite, IsAtMost, SameDirection, plane_dir, form_of, ray_limit, plane_dir_limit, Plane, At, Item, items, item_normal, OnItem, at-one, map-from_get, map_of, Vertex, Complex, IsCorner, Shows, PlaneMeet, IsFirstInPlane, IsCornerAt, Corner as ProgramCorner, complex_of, corner_of, vertex_of, ShowsSet, Cell, Tie, LinkAcross, HasNoSvertex, FromVertex, level-of_opposite, IsNamedFrom, IsLinkedFrom, corner_at, IsTieAcross, Any, one-met}
 use Rattle.nef_smap.proofs.Lists.{at-within}
 use Rattle.law_complex.specs.Complexes.{Corner}
 use Rattle.nef_complex.specs.declared.complex.Complex.{Complex as ProgramComplex}
@@ -29,7 +29,7 @@ module _ (s : Set) (c : ProgramComplex) (S : ShowsSet s c) (k : Corner) (v : Ver
   through = P v x corner
 
   pub level-inward : slope (form_of h) d ≡ pos 0
-  level-inward = subst (λ (m : Vector). slope (form_of h) m ≡ pos 0) (sym back) (level-back (normal_of (form_of h)) f level)
+  level-inward = subst (λ (m : Vector). slope (form_of h) m ≡ pos 0) (sym back) (level-of_opposite (normal_of (form_of h)) f level)
 
   pub not-on : (OnItem v.map x d → ⊥) → (l : Corner) → LinkAcross C k l → ⊥
   not-on g l L = g (unlinked C k v x corner (form_of h) through.0 through.1 f d dir back l L).0

@@ -22,21 +22,24 @@ fn arc_into(map: &SphereMap, svertex: usize, normal: &Dir) -> usize
     requires some { (k : ℕ) × IsArcInto (map_of map.now) svertex (vector_of normal.now) k }
     ensures arc { IsArcInto (map_of map.now) svertex (vector_of normal.now) result }
 {
-    for (number, arc) in map.arcs.as_slice().iter().enumerate() {
+    let arcs = map.arcs.as_slice();
+    let mut number = 0;
+    loop {
+        let arc = &arcs[number];
         if arc.target == svertex && normal.is_same(&arc.normal) {
             return number;
         }
+        number += 1;
     }
-    unreachable!()
 }
 
 // The number of a listed corner: the number of its vertex's first corner plus the number of its item.
-fn position(corners: &[Corner], starts: &[usize], k: &Corner) -> usize
+fn position(corners: &[Corner], starts: &[usize], vertex: usize, item: usize) -> usize
     requires starts { StandFrom corners.now starts.now }
-    requires listed { (i : ℕ) × IsAt corners.now i k.now }
-    ensures position { IsAt corners.now result k.now }
+    requires listed { (i : ℕ) × IsAt corners.now i (record { vertex = vertex; item = item }) }
+    ensures position { IsAt corners.now result (record { vertex = vertex; item = item }) }
 {
-    starts[k.vertex] + k.item
+    starts[vertex] + item
 }
 
 // Writes the next corner of each arc that begins at svertex `from`: this corner lies at `to`, the edge's other end.
@@ -61,16 +64,8 @@ fn add_next(
     for (number, arc) in here.arcs.as_slice().iter().enumerate() {
         if arc.source == from.svertex {
             let item = arc_into(&c.vertices.at(to.vertex).map, to.svertex, &arc.normal);
-            let j = Corner {
-                vertex: from.vertex,
-                item: number,
-            };
-            let k = Corner {
-                vertex: to.vertex,
-                item,
-            };
-            let following = position(corners, starts, &k);
-            let place = position(corners, starts, &j);
+            let following = position(corners, starts, to.vertex, item);
+            let place = position(corners, starts, from.vertex, number);
             next[place] = following;
         }
     }

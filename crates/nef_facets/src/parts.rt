@@ -57,15 +57,9 @@ fn add_corners(corners: &mut Vec<Corner>, vertex: usize, count: usize) -> Result
 }
 
 // The corners of all vertices, by vertices and then by items, and for each vertex the number of its first corner.
-#[derive(Drop)]
-struct CornerList {
-    all: Vec<Corner>,
-    starts: Vec<usize>,
-}
-
-fn corners(alloc: Global, c: &Complex) -> Result<CornerList, OutOfMemory>
-    ensures all { IfOk result (λ l. AreCorners (complex_of c.now) l.all.items) }
-    ensures starts { IfOk result (λ l. StandFrom l.all.items l.starts.items) }
+fn corners(alloc: Global, c: &Complex) -> Result<(Vec<Corner>, Vec<usize>), OutOfMemory>
+    ensures all { IfOk result (λ l. AreCorners (complex_of c.now) l.0.items) }
+    ensures starts { IfOk result (λ l. StandFrom l.0.items l.1.items) }
 {
     let mut all = Vec::new(alloc);
     let mut starts = Vec::with_capacity(alloc, c.vertices.len())?;
@@ -74,7 +68,7 @@ fn corners(alloc: Global, c: &Complex) -> Result<CornerList, OutOfMemory>
         starts.push(start)?;
         add_corners(&mut all, number, vertex.map.item_count())?;
     }
-    Ok(CornerList { all, starts })
+    Ok((all, starts))
 }
 
 // For each facet the first of its corners.
@@ -142,10 +136,7 @@ pub fn facets_of_ties(alloc: Global, c: &Complex, ties: &[Tie]) -> Result<FacetP
     ensures parts { IfOk result (λ p. IsFacetParts (complex_of c.now) p) }
 {
     let facet_of = facet_numbers(alloc, c, ties)?;
-    let CornerList {
-        all: corners,
-        starts,
-    } = corners(alloc, c)?;
+    let (corners, starts) = corners(alloc, c)?;
     let firsts = first_corners(alloc, &facet_of, &corners)?;
     let planes = planes(alloc, c, &firsts)?;
     let marks = marks(alloc, c, &firsts)?;

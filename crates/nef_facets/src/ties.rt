@@ -22,13 +22,14 @@ pub(crate) fn carrier_of(c: &Complex, k: &Corner) -> usize
     let item = vertex.map.item_at(k.item);
     let normal = item.normal();
     let holders = vertex_holders(c, k.vertex);
-    for number in holders {
-        let h = c.carriers.at(*number);
-        if plane_normal(h).is_same(normal) {
-            return *number;
+    let mut place = 0;
+    loop {
+        let number = holders[place];
+        if plane_normal(c.carriers.at(number)).is_same(normal) {
+            return number;
         }
+        place += 1;
     }
-    unreachable!()
 }
 
 // Whether one of the arcs begins and the other ends at the edge, each at its end of the edge.

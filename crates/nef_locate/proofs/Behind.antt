@@ -1,9 +1,11 @@
 -- The corner of a facet point: what it first meets has an item behind, and such an item is its corner.
-use Rattle.nef_locate.proofs.Prelude.{◌≡◌, ℕ, pos, refl, sym, ◌∙◌, ⊎_elim, subst, Flat, FlatDim, Place, Form, form_at, normal_of, slope, toward, IsBetween, Set, Vector, opposite, dot, IsDirection, IsNormal, SameDirection, plane_axis, Drop, between-turned, between-inner, even-until, even-germs, At, arc_item, Item, item_normal, dir_of, at-arc, on-level, normal-direction, Vertex, Corner, IsCorner, IsFlatIn, Shows, IsEdgePoint, PlaneMeet, meets_vertex, meets_edge, Meets, IsFirstInPlane, IsCornerAt, HasCorner, item_plane, FlatAre, edge-points, near_point, near-between, corner-one, through-at, ahead-back, low-end, way-is, arc-beside, item-seen, facets-complete, plane-ahead, end-meets, flat-onto, even-by, between-way, between-start, SameDirection-turned, SameDirection-trans, dir-self, opposite-same, level-way, direction-left}
+use Rattle.nef_locate.proofs.Prelude.{◌≡◌, ℕ, pos, refl, sym, ◌∙◌, ⊎_elim, subst, Flat, FlatDim, Place, Form, form_at, level-of_opposite, normal_of, slope, toward, IsBetween, Set, Vector, opposite, dot, IsDirection, IsNormal, SameDirection, plane_axis, Drop, between-turned, between-inner, even-until, even-germs, At, arc_item, Item, item_normal, dir_of, at-arc, on-level, normal-direction, Vertex, Corner, IsCorner, IsFlatIn, Shows, IsEdgePoint, PlaneMeet, meets_vertex, meets_edge, Meets, IsFirstInPlane, IsCornerAt, HasCorner, item_plane, FlatAre, edge-points, near_point, near-between, corner-one, through-at, ahead-back, low-end, way-is, arc-beside, item-seen, facets-complete, plane-ahead, end-meets, flat-onto, even-by, between-way, between-start, SameDirection-turned, SameDirection-trans, dir-self, level-way, direction-left}
 use Rattle.law_complex.specs.Complexes.{Complex}
 use Rattle.law_complex.proofs.FacetPoints.{facet-point}
 use Rattle.law_complex.proofs.FacetSides.{flats-one, flats-carried}
-use Rattle.nef_locate.proofs.SamePlanes.{level-back, scaled-same, axis-same, first-same, corner-same}
+use Rattle.law_links.proofs.Across.{through-same}
+use Rattle.nef_conn.proofs.WayInward.{names-same}
+use Rattle.nef_locate.proofs.SameAxis.{axis-same}
 
 module _ (s : Set) (C : Complex) (S : Shows s C) (h : Form) (y : Place) (normal : IsNormal (normal_of h)) (on : form_at h y ≡ pos 0) (d : Vector) (some : IsDirection d) (level : slope h d ≡ pos 0)
     (F : IsFlatIn s h y) (m : PlaneMeet) (I : IsFirstInPlane C h y d m) where
@@ -49,7 +51,7 @@ module _ (s : Set) (C : Complex) (S : Shows s C) (h : Form) (y : Place) (normal 
       let leads : IsDirection way = subst IsDirection (sym is) ((S.cones e.low v H.low).valid.shaped.svertex_dirs e.low_svertex u.0 u.1) in
       let along = ((edge-points s C i e v w z S a H b).1 way).1 (dir-self way leads).parallel in
       let flat = (F.1 way).0 (flat-onto s 2 y z (direction-left (toward y z) d I.ahead) F.0 all way along) in
-      let x = arc-beside s C S i e v w z a H b (opposite d) y to-y n normal (subst (λ (g : Vector). dot n g ≡ pos 0) is flat) (level-back n d level) (all q close) flat-close in
+      let x = arc-beside s C S i e v w z a H b (opposite d) y to-y n normal (subst (λ (g : Vector). dot n g ≡ pos 0) is flat) (level-of_opposite n d level) (all q close) flat-close in
       (record { vertex = e.low; item = x.0 }, (e, v, x.1, a, refl, H.low, x.2, x.3, x.4))
 
   by-meet : (t : PlaneMeet) → Meets C h t z → (k : Corner) × IsCornerAt C h (opposite d) t k
@@ -73,7 +75,7 @@ corner-has s C S h y normal on d w F m k I c =
     let o = item_normal x in
     let N = (S.cones H.beside.vertex v H.is_beside.vertex).valid.shaped.normals H.beside.item x H.is_beside.item in
     let same = flats-one s y n o normal N F.1 (facet-point s C S H.beside v x y H.is_beside H.facet_point).flat in
-    let to-plane = SameDirection-trans n o (normal_of (item_plane v x)) same (scaled-same o v.point (normal-direction o N)) in
+    let to-plane = SameDirection-trans n o (normal_of (item_plane v x)) same (through-same o v.point (normal-direction o N)) in
     let axis = SameDirection-trans d (plane_axis n) (plane_axis o) (SameDirection-turned (plane_axis n) d w) (axis-same n o same) in
     let on-item = through-at o v.point y ∙ on-level v.map x (toward v.point y) H.facet_point.on_item in
     record {
@@ -82,11 +84,7 @@ corner-has s C S h y normal on d w F m k I c =
       item = x;
       is_beside = H.is_beside;
       facet_point = H.facet_point;
-      named = (
-        m,
-        first-same C h (item_plane v x) y on on-item to-plane d (plane_axis o) axis m I,
-        corner-same C h (item_plane v x) to-plane (opposite d) (opposite (plane_axis o)) (opposite-same d (plane_axis o) axis) m k c,
-      );
+      named = names-same C h (item_plane v x) y on on-item to-plane d (plane_axis o) axis k (m, I, c);
     }
 
 -- the item of such a corner has the normal of the plane

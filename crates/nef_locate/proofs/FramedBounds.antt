@@ -1,7 +1,30 @@
 -- Fractions of the frame within bounds that are cut off next to the frame's sides.
-use Rattle.nef_locate.proofs.Prelude.{◌≡◌, ◌*◌, ◌+◌, ◌≤◌, ℤ, pos, neg_ℤ, ◌+ℤ◌, ◌-ℤ◌, ◌*ℤ◌, ◌<ℤ◌, ◌≤ℤ◌, nat_abs, ◌⊎◌, inl, inr, ◌↔◌, FitsSigned, arith, ap, ◌∙◌, subst, ints, to_z-of_z, half_side, mul_le_right, IsFramedLow, IsFramedHigh}
+use Rattle.nef_locate.proofs.Prelude.{◌≡◌, ◌*◌, ◌+◌, ◌≤◌, ℤ, pos, neg_ℤ, ◌+ℤ◌, ◌-ℤ◌, ◌*ℤ◌, ◌<ℤ◌, ◌≤ℤ◌, nat_abs, ◌⊎◌, inl, inr, ◌↔◌, FitsSigned, arith, ap, ◌∙◌, subst, ints, to_z-of_z, half_side, mul_le_right, LiesBetween}
 use mir.Syntax.{w128}
 use mir.Val.{to_z, of_z}
+use Rattle.std.specs.Int.{int_max, int_min}
+use Rattle.std.proofs.lemmas.Int.{by_lt_z, clamps}
+use Rattle.nef_complex.specs.declared.spans.Bounds.{Bounds}
+
+-- n is at most the frame's half side in size
+abbrev IsOfFrame : ℤ → Type 0
+IsOfFrame n = (neg_ℤ (pos half_side) ≤ℤ n) × (n ≤ℤ pos half_side)
+
+-- m is n, or, beyond the frame, a number next to the frame: the same numbers of the frame are at least m and at least n
+abbrev pub IsFramedLow : ℤ → ℤ → Type 0
+IsFramedLow n m = ((n <ℤ neg_ℤ (pos half_side)) × (m ≡ neg_ℤ (pos half_side))) ⊎ ((pos half_side <ℤ n) × (m ≡ pos half_side +ℤ pos 1)) ⊎ (IsOfFrame n × (m ≡ n))
+
+-- m is n, or, beyond the frame, a number next to the frame: the same numbers of the frame are at most m and at most n
+abbrev pub IsFramedHigh : ℤ → ℤ → Type 0
+IsFramedHigh n m = ((pos half_side <ℤ n) × (m ≡ pos half_side)) ⊎ ((n <ℤ neg_ℤ (pos half_side)) × (m ≡ neg_ℤ (pos half_side) -ℤ pos 1)) ⊎ (IsOfFrame n × (m ≡ n))
+
+pub clamped-low : (n m : ℤ) → m ≡ int_max (neg_ℤ (pos half_side)) (int_min n (pos half_side +ℤ pos 1)) → IsFramedLow n m
+clamped-low n m e = by_lt_z n (neg_ℤ (pos half_side)) (λ a. inl (a, omega (arith, ints, clamps)))
+    (λ a. by_lt_z (pos half_side) n (λ b. inr (inl (b, omega (arith, ints, clamps)))) (λ b. inr (inr ((a, b), omega (arith, ints, clamps)))))
+
+pub clamped-high : (n m : ℤ) → m ≡ int_max (neg_ℤ (pos half_side) -ℤ pos 1) (int_min n (pos half_side)) → IsFramedHigh n m
+clamped-high n m e = by_lt_z (pos half_side) n (λ a. inl (a, omega (arith, ints, clamps)))
+    (λ a. by_lt_z n (neg_ℤ (pos half_side)) (λ b. inr (inl (b, omega (arith, ints, clamps)))) (λ b. inr (inr ((b, a), omega (arith, ints, clamps)))))
 
 pub low-small : (l m : ℤ) → IsFramedLow l m → nat_abs m ≤ half_side + 1
 low-small l m (inl (o, e)) = omega (arith, ints)
@@ -62,9 +85,5 @@ module _ (n w : ℤ) (p : pos 0 <ℤ w) where
       join (inr (c, d)) (inl e) = absurd (omega (arith, ints))
 
 -- ---- a test of numbers that are read is one of the hit's numbers
--- n/w lies within the bounds and the frame's sides
-abbrev pub LiesBetween : ℤ → ℤ → ℤ → ℤ → Type 0
-LiesBetween low high n w = (nat_abs n ≤ half_side * nat_abs w) × ((low *ℤ w) ≤ℤ n) × (n ≤ℤ (high *ℤ w))
-
-pub read : (t : Type 0) (low high n m w v : ℤ) → FitsSigned w128 n → FitsSigned w128 w → n ≡ m → w ≡ v → t ↔ LiesBetween low high (to_z w128 (of_z w128 n)) (to_z w128 (of_z w128 w)) → t ↔ LiesBetween low high m v
-read t low high n m w v f g i j r = subst (λ (k : ℤ). t ↔ LiesBetween low high k v) (to_z-of_z w128 n f ∙ i) (subst (λ (k : ℤ). t ↔ LiesBetween low high (to_z w128 (of_z w128 n)) k) (to_z-of_z w128 w g ∙ j) r)
+pub read : (t : Type 0) (b : Bounds) (n m w v : ℤ) → FitsSigned w128 n → FitsSigned w128 w → n ≡ m → w ≡ v → t ↔ LiesBetween b (to_z w128 (of_z w128 n)) (to_z w128 (of_z w128 w)) → t ↔ LiesBetween b m v
+read t b n m w v f g i j r = subst (λ (k : ℤ). t ↔ LiesBetween b k v) (to_z-of_z w128 n f ∙ i) (subst (λ (k : ℤ). t ↔ LiesBetween b (to_z w128 (of_z w128 n)) k) (to_z-of_z w128 w g ∙ j) r)

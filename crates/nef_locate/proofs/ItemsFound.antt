@@ -4,7 +4,7 @@ use Rattle.nef_smap.proofs.Axes.{plus-of, minus-of}
 use Rattle.nef_smap.proofs.CloseSigns.{dir-from_get}
 use Rattle.law_complex.specs.Complexes.{Edge as PlainEdge, Complex as PlainComplex}
 use Rattle.nef_complex.specs.declared.complex.Vertex.{Vertex}
-use Rattle.nef_locate.proofs.SamePlanes.{side-turned}
+use Rattle.nef_conn.proofs.SamePlanes.{side-turned}
 
 -- the side of an arc by the turn from its svertex to a direction
 module _ (v : Vertex) (s : ℕ) (w : SVertex) (e : slice_get v.map.svertices s ≡ Some w) (n d : Vector) (t : Sign) (turn : t ≡ sign_of (triple n (vector_of w.dir) d)) (a : SArc) where

@@ -14,7 +14,7 @@ pub mod LastArcs
 pub mod NearSides
 pub mod Located
 pub mod UpwardSides
-pub mod SamePlanes
+pub mod SameAxis
 pub mod Behind
 pub mod ItemsFound
 pub mod FacetFound

@@ -39,7 +39,7 @@ pub use Rattle.nef_plane.proofs.Listed.{edge-lies, lies, lying-ends}
 pub use Rattle.nef_plane.proofs.Meeting.{level-same}
 pub use Rattle.nef_locate.specs.Ends.{IsLast, IsLastArc, IsNoArc, end_of}
 pub use Rattle.nef_locate.specs.Facets.{HasMet, IsArcBeside}
-pub use Rattle.nef_locate.specs.Frames.{IsAmid, IsFramedHigh, IsFramedLow, IsInside}
+pub use Rattle.nef_locate.specs.Frames.{IsAmid, IsFramedIn, IsInside, LiesBetween}
 pub use Rattle.nef_locate.specs.Halves.{AreHalves, IsBefore, IsEndAt, IsHalf, two_ends}
 pub use Rattle.nef_locate.specs.Orders.{AreThroughEnds, PartsOn}
 pub use Rattle.nef_locate.specs.Places.{IsFirstHit, IsPlaceAt, IsPlaceIn, IsPlaceLabel, IsPlaneOf, place_dimension}

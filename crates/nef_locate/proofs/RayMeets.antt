@@ -1,5 +1,6 @@
 -- What a ray along an upright direction meets in one plane, and what it meets first.
-use Rattle.nef_locate.proofs.Prelude.{◌≡◌, ℕ, ◌<◌, length, neg_ℤ, arith, Option, Some, None, IfSome, List, [], ◌∷◌, ◌⊎◌, inl, inr, slice_get, sym, subst, ints, ring, at, neg, ◌⊕◌, ◌⊗◌, IsAt, Place as PlainPlace, InClosedFrame, SamePlace, toward, IsAhead, IsBetween, Set, Vector, dot, opposite, IsUpright, IsCrossing, form_of, hit_place, Hit, Plane, place-toward, between-inner, IsSkeletonPoint, ahead-back, one-crossing, Complex, Span, complex_of, ShowsSet, AreSpans, IsInSpan, skeleton-framed, spanned, is-at_one, at-within, get-from_at, IsSkeletonIn, Met, IsFirstHit, IsMet, IsReachedMet, IsSooner, IsNotBefore, HasNoneOn, HasNoneOnCarrier, HasNotAt, HasNotAtCarrier, ahead-from, self-pos, SameDirection-turned, SameDirection-trans, direction-left, direction-right}
+use Rattle.nef_locate.proofs.Prelude.{◌≡◌, ℕ, ◌<◌, length, neg_ℤ, arith, Option, Some, None, IfSome, List, [], ◌∷◌, ◌⊎◌, inl, inr, slice_get, refl, sym, subst, ints, ring, at, neg, ◌⊕◌, ◌⊗◌, IsAt, Place as PlainPlace, InClosedFrame, SamePlace, toward, IsAhead, IsBetween, Set, Vector, dot, opposite, IsUpright, IsCrossing, form_of, hit_place, Hit, Plane, place-toward, between-inner, IsSkeletonPoint, ahead-back, one-crossing, Complex, Span, complex_of, ShowsSet, AreSpans, IsInSpan, skeleton-framed, spanned, is-at_one, at-within, get-from_at, IsSkeletonIn, Met, IsFirstHit, IsMet, IsReachedMet, IsSooner, IsNotBefore, HasNoneOn, HasNoneOnCarrier, HasNotAt, HasNotAtCarrier, ahead-from, self-pos, SameDirection-turned, SameDirection-trans, direction-left, direction-right}
+use Rattle.std.specs.Option.{option_or}
 use Rattle.law_complex.specs.Complexes.{Complex as PlainComplex}
 use Rattle.nef_plane.proofs.Found.{not-end}
 use Rattle.nef_plane.proofs.Nearest.{between-ahead}
@@ -29,6 +30,15 @@ on-carrier c p d best k g e N h a = subst (HasNoneOn c p d best) (is-at_one c.ca
 
 pub at-carrier : (c : Complex) (y : PlainPlace) (k : ℕ) (g : Plane) → slice_get c.carriers k ≡ Some g → HasNotAt c y g → HasNotAtCarrier c y k
 at-carrier c y k g e N h a = subst (HasNotAt c y) (is-at_one c.carriers k g h e a) N
+
+-- what is met so far, or else the guess
+pub begun-met : (P : Met → Type 0) (old guess new : Option Met) → new ≡ option_or old guess → IfSome old P → IfSome guess P → IfSome new P
+begun-met P None guess new e h g = subst (λ (o : Option Met). IfSome o P) (sym e) g
+begun-met P (Some m) guess new e h g = subst (λ (o : Option Met). IfSome o P) (sym e) h
+
+pub begun-kept : (old guess new : Option Met) → new ≡ option_or old guess → (old ≡ None) ⊎ (new ≡ old)
+begun-kept None guess new e = inl refl
+begun-kept (Some m) guess new e = inr e
 
 -- it stays so where what is known to be met is taken over
 pub kept-begun : (c : Complex) (p : PlainPlace) (d : Vector) (old new : Option Met) → (old ≡ None) ⊎ (new ≡ old) → (k : ℕ) → HasNoneOnCarrier c p d old k → HasNoneOnCarrier c p d new k

@@ -123,25 +123,6 @@ fn is_sooner(hit: &Hit, best: &Option<Met>) -> bool
     }
 }
 
-// Takes the guess over where nothing was met so far.
-fn begin_with(best: &mut Option<Met>, guess: &Option<Met>)
-    ensures met { (c : PlainComplex) (p : PlainPlace) (d : Vector) → IfSome best.old (IsMet c p d) → IfSome guess.now (IsMet c p d) → IfSome best.new (IsMet c p d) }
-    ensures kept { (best.old ≡ None) ⊎ (best.new ≡ best.old) }
-{
-    if let Some(met) = guess {
-        if best.is_none() {
-            *best = Some(*met);
-        }
-    }
-}
-
-// Whether the ray is known to meet nothing on the carrier with this number.
-fn is_missed(guess: &Option<Met>, missed: usize, number: usize) -> bool
-    ensures missed { IsTrue result → IsNone guess.now × (number ≡ missed) }
-{
-    guess.is_none() && number == missed
-}
-
 impl Search for Beam<'_> {
     type Found = Met;
 
@@ -164,14 +145,15 @@ impl Search for Beam<'_> {
         if !may_lead_into(&self.window, &carrier_spans(c)[number]) {
             return;
         }
-        if is_missed(&self.guess, self.missed, number) {
+        if self.guess.is_none() && number == self.missed {
             return;
         }
         let h = c.carriers.at(number);
         let Some(hit) = ray_hit(self.start, self.direction, h) else {
             return;
         };
-        begin_with(best, &self.guess);
+        // the guess is taken over where nothing was met so far
+        *best = best.or(self.guess);
         if !is_sooner(&hit, best) {
             return;
         }
@@ -196,14 +178,6 @@ struct Scout<'a> {
     start: &'a Point,
     direction: &'a Dir,
     window: Span,
-}
-
-// Whether the hit lies before the nearest crossing so far, or there is none.
-fn is_nearer(hit: &Hit, nearest: &Option<Crossing>) -> bool {
-    match nearest {
-        Some(crossing) => hit_order(hit, &crossing.at).is_lt(),
-        None => true,
-    }
 }
 
 impl Search for Scout<'_> {
@@ -232,7 +206,9 @@ impl Search for Scout<'_> {
         let Some(hit) = ray_hit(self.start, self.direction, c.carriers.at(number)) else {
             return;
         };
-        if is_nearer(&hit, nearest) && is_in_span(&hit, span) {
+        if nearest.is_none_or(|crossing| hit_order(&hit, &crossing.at).is_lt())
+            && is_in_span(&hit, span)
+        {
             *nearest = Some(Crossing { number, at: hit });
         }
     }
@@ -261,10 +237,8 @@ fn first_crossed(c: &Complex, p: &Point, d: &Dir, window: &Span) -> Option<usize
         direction: d,
         window: *window,
     };
-    match search_carriers(&scout, c) {
-        Some(crossing) => Some(crossing.number),
-        None => None,
-    }
+    let crossing = search_carriers(&scout, c)?;
+    Some(crossing.number)
 }
 
 // What the ray from `p` meets on the carrier with this number.
@@ -315,8 +289,6 @@ pub fn first_hit(c: &Complex, p: &Point, d: &Dir) -> Option<Place>
         guess,
         missed,
     };
-    match search_carriers(&beam, c) {
-        Some(met) => Some(met.place),
-        None => None,
-    }
+    let met = search_carriers(&beam, c)?;
+    Some(met.place)
 }

@@ -3,55 +3,43 @@
 
 ghost use Rattle.std.specs.Prelude.{◌≡◌, ◌≤◌, ◌*ℤ◌, ◌<ℤ◌, ◌*◌, ◌<◌, ◌≤ℤ◌, ◌↔◌};
 ghost use Rattle.nef_complex.specs.Prelude.{ℕ, pos, length, IsNone, IfSome, nat_abs, IfOk, IfErr, IsTrue, MatchOption, IsAt, Form, InClosedFrame, form_at, SamePlace, IsPlaceBelow, Set, IsPlaceAtMost, form_of, hit_place, place_of, upright_limit, upright_weight_limit, IsEdgePoint, IsVertexPoint, complex_of, ShowsSet, AreNumbersWith, EdgeLiesIn, LiesOn, IsSkeletonIn, MatchOrdering, point_limit, weight_limit, half_side, IsInSpan};
+ghost use Rattle.law_complex.specs.Spans.{coordinate_y, coordinate_z};
 ghost use Rattle.nef_complex.specs.Peaks.{ArePeaks};
-ghost use Rattle.nef_locate.specs.Frames.{IsFramedLow, IsFramedHigh};
+ghost use Rattle.nef_locate.specs.Frames.{IsFramedIn, LiesBetween};
 ghost use Rattle.nef_locate.specs.Orders.{PartsOn, AreThroughEnds};
 ghost use Rattle.nef_locate.specs.Rays.{IsSkeletonAt};
 
-use crate::facet::in_facet;
+use crate::facet::{has_item, in_facet_among};
 use crate::point::Place;
 use nef_complex::{Bounds, Complex, PlaneItems, Span, carrier_items, carrier_spans, point_spans};
 use nef_geo::{HALF_SIDE, Hit, Plane, Point};
 use nef_plane::is_in_line;
 use std::cmp::Ordering;
 
-// The lower bound, or for a bound beyond the frame a number at or just past the frame's border, so that products stay
-// small: the bound and the number divide the numbers of the frame alike.
-fn framed_low(low: i64) -> i64
-    ensures low { IsFramedLow low result }
-{
-    if low < -HALF_SIDE {
-        -HALF_SIDE
-    } else if HALF_SIDE < low {
-        HALF_SIDE + 1
-    } else {
-        low
-    }
-}
-
-// The upper bound, clamped as `framed_low` clamps the lower one.
-fn framed_high(high: i64) -> i64
-    ensures high { IsFramedHigh high result }
-{
-    if HALF_SIDE < high {
-        HALF_SIDE
-    } else if high < -HALF_SIDE {
-        -HALF_SIDE - 1
-    } else {
-        high
-    }
-}
-
-// Whether n/w lies within the bounds and within the closed frame's bounds. Products are cheaper than a quotient.
+// Whether n/w lies within the bounds and within the closed frame's bounds. Products are cheaper than a quotient. A bound
+// beyond the frame is clamped to a number at or just past the frame's border, so that products stay small.
 fn lies_between(n: i128, w: i128, bounds: &Bounds) -> bool
     requires w_small { nat_abs w ≤ upright_weight_limit }
     requires positive { pos 0 <ℤ w }
-    ensures between { IsTrue result ↔ ((nat_abs n ≤ half_side * nat_abs w) × ((bounds.now.low *ℤ w) ≤ℤ n) × (n ≤ℤ (bounds.now.high *ℤ w))) }
+    ensures between { IsTrue result ↔ LiesBetween bounds.now n w }
 {
-    if n < i128::from(framed_low(bounds.low)) * w {
+    let low = bounds.low.clamp(-HALF_SIDE, HALF_SIDE + 1);
+    if n < i128::from(low) * w {
         return false;
     }
-    n <= i128::from(framed_high(bounds.high)) * w
+    let high = bounds.high.clamp(-HALF_SIDE - 1, HALF_SIDE);
+    n <= i128::from(high) * w
+}
+
+// Whether the hit lies within the span, and within the closed frame's bounds, in y and in z.
+fn is_in_sides(q: &Hit, span: &Span) -> bool
+    requires numbers { IsPlaceAtMost upright_limit upright_weight_limit (hit_place q.now) }
+    ensures sides { IsTrue result ↔ (IsFramedIn coordinate_y span.now.y (hit_place q.now) × IsFramedIn coordinate_z span.now.z (hit_place q.now)) }
+{
+    if !lies_between(q.y(), q.w(), &span.y) {
+        return false;
+    }
+    lies_between(q.z(), q.w(), &span.z)
 }
 
 // Whether the hit lies in the closed frame and within the span.
@@ -62,10 +50,7 @@ pub(crate) fn is_in_span(q: &Hit, span: &Span) -> bool
     if !lies_between(q.x(), q.w(), &span.x) {
         return false;
     }
-    if !lies_between(q.y(), q.w(), &span.y) {
-        return false;
-    }
-    lies_between(q.z(), q.w(), &span.z)
+    is_in_sides(q, span)
 }
 
 // Compares x/w with y/v.
@@ -121,17 +106,6 @@ fn find_among(c: &Complex, numbers: &[usize], q: &Hit) -> Result<usize, usize>
     } else {
         Err(c.vertices.len())
     }
-}
-
-// Whether the hit, a point of the closed frame, lies within the span in y and in z.
-fn is_in_sides(q: &Hit, span: &Span) -> bool
-    requires numbers { IsPlaceAtMost upright_limit upright_weight_limit (hit_place q.now) }
-    ensures held { InClosedFrame (hit_place q.now) → IsInSpan span.now (hit_place q.now) → IsTrue result }
-{
-    if !lies_between(q.y(), q.w(), &span.y) {
-        return false;
-    }
-    lies_between(q.z(), q.w(), &span.z)
 }
 
 // Whether the hit, a point of the closed frame, lies on the line of the edge with this number, and within the span of
@@ -193,10 +167,14 @@ pub(crate) fn place_beside_vertices(
     ensures at { IfSome result (IsSkeletonAt (complex_of c.now) (hit_place q.now)) }
     ensures none { IsNone result → (s : Set) → ShowsSet s c.now → IsSkeletonIn s (complex_of c.now) (form_of h.now) (hit_place q.now) → ⊥ }
 {
-    if let Some(edge) = edge_among(c, &carrier_items(c, number), q, next) {
+    let items = carrier_items(c, number);
+    if let Some(edge) = edge_among(c, &items, q, next) {
         return Some(Place::OnEdge(edge));
     }
-    let corner = in_facet(c, h, q)?;
+    if !has_item(c, number) {
+        return None;
+    }
+    let corner = in_facet_among(c, h, items, q)?;
     Some(Place::InFacet(corner))
 }
 

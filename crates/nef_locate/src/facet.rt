@@ -1,11 +1,12 @@
 //! The facet of a plane in which a point lies.
 
-ghost use Rattle.nef_complex.specs.Prelude.{ℕ, length, pos, Some, IsTrue, IsNone, IfSome, form_at, normal_of, InClosedFrame, Set, SameDirection, dot, Item, item_normal, IsPlaceAtMost, form_of, vector_of, hit_place, upright_limit, upright_weight_limit, Corner as PlainCorner, IsCorner, IsFlatIn, PlaneMeet as PlainMeet, Meets, IsCornerAt, HasCorner, complex_of, corner_of, meet_of, vertex_of, ShowsSet};
+ghost use Rattle.nef_complex.specs.Prelude.{ℕ, length, pos, Some, IsTrue, IsNone, IfSome, form_at, normal_of, InClosedFrame, Set, SameDirection, dot, Item, item_normal, IsPlaceAtMost, form_of, vector_of, hit_place, upright_limit, upright_weight_limit, Corner as PlainCorner, IsCorner, IsFlatIn, PlaneMeet as PlainMeet, Meets, IsCornerAt, HasCorner, complex_of, corner_of, meet_of, vertex_of, ShowsSet, HasItemIn, IsAt, Plane as PlaneValue};
+ghost use Rattle.nef_plane.specs.Asked.{AreItems};
 ghost use Rattle.std.specs.Prelude.{MatchOption, ◌≡◌, ◌<◌, ◌⊎◌, ◌↔◌};
 ghost use Rattle.law_complex.specs.Complexes.{Vertex as PlainVertex};
 ghost use Rattle.nef_locate.specs.Facets.{IsArcBeside, HasMet};
 
-use nef_complex::{Complex, Corner, PlaneMeet, Vertex, plane_items};
+use nef_complex::{Complex, Corner, PlaneItems, PlaneMeet, Vertex, plane_items};
 use nef_geo::{Dir, Hit, Plane, Sign, plane_axis, plane_normal, triple};
 use nef_plane::first_along_axis;
 use nef_smap::SArc;
@@ -53,13 +54,40 @@ pub fn corner_toward(c: &Complex, h: &Plane, d: &Dir, met: PlaneMeet) -> Option<
         }
         PlaneMeet::AtEdge(number) => {
             let edge = c.edges.at(number);
-            let item = arc_beside(c.vertices.at(edge.low), edge.low_svertex, &normal, d)?;
-            Some(Corner {
-                vertex: edge.low,
-                item,
-            })
+            let vertex = edge.low;
+            let item = arc_beside(c.vertices.at(vertex), edge.low_svertex, &normal, d)?;
+            Some(Corner { vertex, item })
         }
     }
+}
+
+// Whether some vertex has an item in the carrier with this number: each facet has items in its plane.
+pub(crate) fn has_item(c: &Complex, number: usize) -> bool
+    requires shows { (s : Set) × ShowsSet s c.now }
+    requires within { number < length c.now.carriers }
+    ensures item { (h : PlaneValue) → IsAt c.now.carriers number h → (IsTrue result ↔ HasItemIn c.now.vertices (form_of h)) }
+{
+    *c.index.has_item.at(number)
+}
+
+// As `in_facet`, where the plane's edges and vertices are known.
+pub(crate) fn in_facet_among(c: &Complex, h: &Plane, items: PlaneItems, p: &Hit) -> Option<Corner>
+    requires shows { (s : Set) × ShowsSet s c.now }
+    requires items { AreItems c.now (form_of h.now) items }
+    requires framed { InClosedFrame (hit_place p.now) }
+    requires on { form_at (form_of h.now) (hit_place p.now) ≡ pos 0 }
+    requires off { (m : PlainMeet) → Meets (complex_of c.now) (form_of h.now) m (hit_place p.now) → ⊥ }
+    requires numbers { IsPlaceAtMost upright_limit upright_weight_limit (hit_place p.now) }
+    ensures flat { IfSome result (λ k. (s : Set) → ShowsSet s c.now → IsFlatIn s (form_of h.now) (hit_place p.now)) }
+    ensures corner { IfSome result (λ k. HasCorner (complex_of c.now) (hit_place p.now) (corner_of k)) }
+    ensures plane { IfSome result (λ k. (v : PlainVertex) (x : Item) → IsCorner (complex_of c.now) (corner_of k) v x → SameDirection (item_normal x) (normal_of (form_of h.now))) }
+    ensures none { IsNone result → (s : Set) → ShowsSet s c.now → IsFlatIn s (form_of h.now) (hit_place p.now) → ⊥ }
+{
+    // a ray from a point of a facet stays in the facet up to the first vertex or edge of the plane, which has an item
+    // on this side; and from such an item the facet reaches back to the point
+    let axis = plane_axis(h);
+    let met = first_along_axis(c, h, Some(items), p, &axis)?;
+    corner_toward(c, h, &axis.back(), met)
 }
 
 /// The corner of the plane's facet in which the point lies. The point lies on the plane and in the closed frame, is no
@@ -77,11 +105,5 @@ pub fn in_facet(c: &Complex, h: &Plane, p: &Hit) -> Option<Corner>
     ensures plane { IfSome result (λ k. (v : PlainVertex) (x : Item) → IsCorner (complex_of c.now) (corner_of k) v x → SameDirection (item_normal x) (normal_of (form_of h.now))) }
     ensures none { IsNone result → (s : Set) → ShowsSet s c.now → IsFlatIn s (form_of h.now) (hit_place p.now) → ⊥ }
 {
-    // a facet has items in its plane
-    let items = plane_items(c, h)?;
-    // a ray from a point of a facet stays in the facet up to the first vertex or edge of the plane, which has an item
-    // on this side; and from such an item the facet reaches back to the point
-    let axis = plane_axis(h);
-    let met = first_along_axis(c, h, Some(items), p, &axis)?;
-    corner_toward(c, h, &axis.back(), met)
+    in_facet_among(c, h, plane_items(c, h)?, p)
 }

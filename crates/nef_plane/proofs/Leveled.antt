@@ -1,7 +1,7 @@
 -- The vertices of a plane beside a line along its axis, and what the line doesn't meet of the plane.
-use Rattle.nef_plane.proofs.Prelude.{◌≡◌, ℕ, zero, suc, ◌+◌, ◌<◌, ◌≤◌, length, ℤ, pos, negsuc, Bool, true, false, ◌↔◌, IsTrue, List, arith, inl, inr, ⊎_elim, refl, subst, eq-or-lt_of_le, cases_lt, ints, by_order, IsAt, Place, Form, form_at, IsAhead, IsBetween, Set, Vector, form_of, place_of, sign_of, Plane, Minus, Zero, Plus, between-turned, same-place_sym, At, at-one, Shows, between-level, between-level_minus, is-at_one, is-at_within, Vertex, Edge, Complex, PlaneMeet, edge_of, complex_of, LiesOn, EdgeLiesIn, AreNumbersWith, got-at, map-at, IsShort, AreShortBelow, AreFarFrom, IsLevel, IsUnparted, IsSwept, MeetLiesIn, AreEnds, IsParallelToAxis, AtVertexNumber, AtEdgeNumber, AtMeet, sweep_form, IsMissed}
-use Rattle.nef_plane.specs.declared.plane.Level.{Level}
-use Rattle.nef_plane.proofs.Axes.{axis-some}
+use Rattle.nef_plane.proofs.Prelude.{◌≡◌, ℕ, zero, suc, ◌+◌, ◌<◌, ◌≤◌, length, ℤ, pos, negsuc, Bool, true, false, ◌↔◌, IsTrue, List, arith, inl, inr, ⊎_elim, refl, subst, eq-or-lt_of_le, cases_lt, ints, by_order, IsAt, Place, Form, form_at, IsAhead, IsBetween, Set, Vector, form_of, place_of, sign_of, Plane, Minus, Zero, Plus, between-turned, same-place_sym, At, at-one, Shows, between-level, between-level_minus, is-at_one, is-at_within, Vertex, Edge, Complex, PlaneMeet, edge_of, complex_of, LiesOn, EdgeLiesIn, AreNumbersWith, got-at, map-at, IsShort, AreShortBelow, AreFarFrom, IsExcluding, IsLevel, IsUnparted, IsSwept, MeetLiesIn, AreEnds, IsParallelToAxis, AtVertexNumber, AtEdgeNumber, AtMeet, sweep_form, IsMissed}
+use Rattle.nef_plane.specs.declared.course.Course.{Course}
+use Rattle.nef_plane.proofs.Axes.{axis-level, axis-some}
 use Rattle.nef_plane.proofs.Either.{by-numbers}
 use Rattle.nef_plane.proofs.Found.{vertex-none, edge-none}
 use Rattle.nef_plane.proofs.Listed.{held-vertex, lying-ends}
@@ -78,7 +78,7 @@ module _ (s : Set) (c : Complex) (S : Shows s (complex_of c)) (h : Plane) (k : F
   none-far j v l e o x = let y = is-at_within c.vertices j v e in omega (arith, l, y)
 
 -- ---- what a ray along the axis doesn't meet
-module _ (s : Set) (c : Complex) (S : Shows s (complex_of c)) (h : Plane) (p : Place) (d : Vector) (A : IsParallelToAxis (form_of h) d) (on : form_at (form_of h) p ≡ pos 0) (x : Level) (L : IsLevel c.vertices (form_of h) p x) where
+module _ (s : Set) (c : Complex) (S : Shows s (complex_of c)) (h : Plane) (p : Place) (d : Vector) (A : IsParallelToAxis (form_of h) d) (on : form_at (form_of h) p ≡ pos 0) (x : Course) (L : IsLevel c.vertices (form_of h) p x) where
   abbrev line : Form
   line = sweep_form (form_of h) p
 
@@ -125,7 +125,7 @@ module _ (s : Set) (c : Complex) (S : Shows s (complex_of c)) (h : Plane) (p : P
       let E = S.edges.edges n (edge_of e) (map-at edge_of c.edges n e a) in let m = E.upward in
       unparted-edge n e a M (inr (from-first e.low u i o g, omega (arith, g, m)))
 
-  pub past-missed : (m : PlaneMeet) (i j : ℕ) → AreEnds c m i j → IsPast m i j
+  past-missed : (m : PlaneMeet) (i j : ℕ) → AreEnds c m i j → IsPast m i j
   past-missed = by-numbers c IsPast (λ n (v, l, o) g. unparted-vertex n (v, l, o) (inr (from-first n v l o g, g))) past-edge
 
   -- nor one whose ends both have numbers below the level's first
@@ -140,5 +140,8 @@ module _ (s : Set) (c : Complex) (S : Shows s (complex_of c)) (h : Plane) (p : P
       let (v, j, r) = (lying-ends c.vertices c.edges (form_of h) n e l M).1 in
       unparted-edge n e (got-at c.edges n e l) M (inl (f, to-past e.high v j r g))
 
-  pub first-missed : (m : PlaneMeet) (i j : ℕ) → AreEnds c m i j → IsShortOf m i j
+  first-missed : (m : PlaneMeet) (i j : ℕ) → AreEnds c m i j → IsShortOf m i j
   first-missed = by-numbers c IsShortOf (λ n (v, l, o) f g. unparted-vertex n (v, l, o) (inl (f, to-past n v l o f))) short-edge
+
+  pub excluding-level : IsExcluding c (form_of h) p d x
+  excluding-level = record { holds = (on, axis-level h d A); first = first-missed; past = past-missed }

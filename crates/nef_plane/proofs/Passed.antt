@@ -1,5 +1,5 @@
 -- What the course of a ray within a plane passes over, the ray doesn't meet.
-use Rattle.nef_plane.proofs.Prelude.{◌≡◌, ℕ, zero, suc, ◌+◌, ◌≤◌, ℤ, pos, negsuc, ◌<ℤ◌, ◌≤ℤ◌, List, ◌⊎◌, arith, inl, inr, ⊎_elim, sym, ◌∙◌, subst, MatchOption, ints, by_order, sign-plus, sign-minus, plus-is, minus-is, IsAt, Place, Form, form_at, SamePlace, InClosedFrame, IsAhead, IsBetween, Set, Vector, dot, IsDirection, form_of, place_of, Plane, Point, Minus, Plus, sign_of, sign-same, At, at-one, map-at, get-from_at, same-itself, Shows, Vertex, Edge, Complex, PlaneMeet, vertex_of, edge_of, complex_of, LiesOn, EdgeLiesIn, listed_edge, ends, got-at, StartsAt, IsCourse, IsPassed, IsFirst, IsPast, MeetLiesIn, AreEnds, AtVertexNumber, AtEdgeNumber, AtMeet, AreOpposite, sweep_axis, sweep_form, IsMissed, ray_form}
+use Rattle.nef_plane.proofs.Prelude.{◌≡◌, ℕ, zero, suc, ◌+◌, ◌≤◌, ℤ, pos, negsuc, ◌<ℤ◌, ◌≤ℤ◌, List, ◌⊎◌, arith, inl, inr, ⊎_elim, sym, ◌∙◌, subst, MatchOption, ints, by_order, sign-plus, sign-minus, plus-is, minus-is, IsAt, Place, Form, form_at, SamePlace, InClosedFrame, IsAhead, IsBetween, Set, Vector, dot, IsDirection, form_of, place_of, Plane, Point, Minus, Plus, sign_of, sign-same, At, at-one, map-at, get-from_at, same-itself, Shows, Vertex, Edge, Complex, PlaneMeet, vertex_of, edge_of, complex_of, LiesOn, EdgeLiesIn, listed_edge, ends, got-at, StartsAt, IsCourse, IsExcluding, IsPassed, IsFirst, IsPast, MeetLiesIn, AreEnds, AtVertexNumber, AtEdgeNumber, AtMeet, AreOpposite, sweep_axis, sweep_form, IsMissed, ray_form}
 use Rattle.nef_complex.proofs.Framed.{vertex-framed, edge-framed}
 use Rattle.nef_plane.specs.declared.course.Course.{Course}
 use Rattle.nef_plane.proofs.Either.{by-numbers}
@@ -142,3 +142,6 @@ module _ (s : Set) (c : Complex) (S : Shows s (complex_of c)) (h : Plane) (P : P
 
   pub off-course : (m : PlaneMeet) (i j : ℕ) → AreEnds c m i j → IsOff m i j
   off-course = by-numbers c IsOff off-vertex (λ k e l. off-edge k e (got-at c.edges k e l))
+
+  pub excluding-course : IsExcluding c (form_of h) (place_of P) d x
+  excluding-course = record { holds = K.holds; first = λ m i j E H k l. off-course m i j E H (inl (inl l)); past = λ m i j E H l. off-course m i j E H (inl (inr l)) }

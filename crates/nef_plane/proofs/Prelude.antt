@@ -36,7 +36,7 @@ pub use Rattle.nef_complex.specs.declared.complex.Vertex.{Vertex}
 pub use Rattle.nef_complex.specs.declared.spans.Span.{Span}
 pub use Rattle.nef_plane.specs.Amid.{AllSideWith, AllThrough, AreAmid, IsAmid, SidesWith}
 pub use Rattle.nef_plane.specs.Asked.{AreItems, count_in, meet_at}
-pub use Rattle.nef_plane.specs.Courses.{IsBeside, IsCourse, IsFirst, IsPassed, IsPast, StartsAt, StaysClose, shifted_form}
+pub use Rattle.nef_plane.specs.Courses.{IsBeside, IsCourse, IsExcluding, IsFirst, IsPassed, IsPast, StartsAt, StaysClose, shifted_form}
 pub use Rattle.nef_plane.specs.Ends.{AreEnds, HasEndsAt, HasMeet, IsVertexOrLies, MeetLiesIn}
 pub use Rattle.nef_plane.specs.Levels.{AreFarFrom, AreShortBelow, IsLevel, IsShort, IsSwept, IsUnparted}
 pub use Rattle.nef_plane.specs.Meets.{AllHold, AreOpposite, AtEdgeNumber, AtMeet, AtSomeEdge, AtSomeVertex, AtVertexNumber, AtVertexOrEdge, Encounter, FromVertex, HasNoSvertex, HoldsRay, IsAlongAxis, IsAlongDir, IsHitThrough, IsMeetPoint, IsMet, IsMissed, IsNearer, IsNearest, IsNearestMet, IsNotPast, IsOffEdges, IsParallelToAxis, IsReachedMet, IsWithin, IsWithinDirection, NoneCrosses, Reach, far_met_of, far_reach_of, met_of, near_met_of, reach_of, sweep_axis, sweep_form}

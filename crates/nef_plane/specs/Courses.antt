@@ -1,11 +1,14 @@
 -- Courses of rays within a plane from a vertex.
 use Rattle.std.specs.Prelude.{◌≡◌, ◌*◌, ◌<◌, ◌≤◌, ◌-ℤ◌, ◌*ℤ◌, ◌<ℤ◌, ◌⊎◌}
 use Rattle.nef_space.specs.Prelude.{ℕ, ℤ, pos, nat_abs, Bool, true, false, List, IfSome, IsAt, Place, Form, form, form_at, toward, InClosedFrame, IsAhead, Vector, dot}
-use Rattle.nef_complex.specs.Prelude.{place_of, Point}
+use Rattle.nef_complex.specs.Prelude.{complex_of, place_of, Point}
+use Rattle.nef_complex.specs.declared.complex.Complex.{Complex}
+use Rattle.nef_complex.specs.declared.complex.PlaneMeet.{PlaneMeet}
 use Rattle.nef_complex.specs.declared.complex.Vertex.{Vertex}
 use Rattle.nef_plane.specs.declared.course.Course.{Course}
+use Rattle.nef_plane.specs.Ends.{AreEnds, MeetLiesIn}
 use Rattle.nef_plane.specs.Levels.{AreShortBelow, AreFarFrom}
-use Rattle.nef_plane.specs.Meets.{sweep_axis, sweep_form, HoldsRay}
+use Rattle.nef_plane.specs.Meets.{sweep_axis, sweep_form, AtMeet, HoldsRay, IsMissed}
 use Rattle.nef_plane.specs.Parting.{IsAcrossRay}
 
 -- the vertex with this number stands at the point
@@ -44,3 +47,9 @@ pub record IsCourse (vs : List Vertex) (h : Form) (p : Point) (d : Vector) (x : 
 -- both numbers are below the course's first, or both are at its past or above
 abbrev pub IsPassed : Course → ℕ → ℕ → Type 0
 IsPassed x low high = (high < x.first) ⊎ (x.past ≤ low)
+
+-- the plane h holds the ray, which meets nothing of h between vertices below x.first or between vertices from x.past on
+pub record IsExcluding (c : Complex) (h : Form) (p : Place) (d : Vector) (x : Course) : Type 0 where
+  pub holds : HoldsRay h p d
+  pub first : (m : PlaneMeet) (i j : ℕ) → AreEnds c m i j → MeetLiesIn c h m → i < x.first → j < x.first → IsMissed p d (AtMeet (complex_of c) h d m)
+  pub past : (m : PlaneMeet) (i j : ℕ) → AreEnds c m i j → MeetLiesIn c h m → x.past ≤ i → IsMissed p d (AtMeet (complex_of c) h d m)

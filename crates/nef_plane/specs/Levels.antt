@@ -3,7 +3,7 @@ use Rattle.std.specs.Prelude.{◌≡◌, ◌<◌, ◌≤◌, ◌*ℤ◌, ◌<ℤ
 use Rattle.nef_space.specs.Prelude.{ℕ, ℤ, pos, Bool, true, false, List, IsAt, Place, Form, form_at, slope, Vector, dot}
 use Rattle.nef_geo.specs.Shapes.{place_of}
 use Rattle.nef_complex.specs.declared.complex.Vertex.{Vertex}
-use Rattle.nef_plane.specs.declared.plane.Level.{Level}
+use Rattle.nef_plane.specs.declared.course.Course.{Course}
 use Rattle.nef_plane.specs.Meets.{sweep_axis, sweep_form}
 
 -- the form changes as a positive multiple of the coordinate that is constant along the plane's axis
@@ -24,12 +24,12 @@ abbrev pub AreFarFrom : List Vertex → Form → Form → Bool → ℕ → Type 
 AreFarFrom vs h k b n = (j : ℕ) (v : Vertex) → n ≤ j → IsAt vs j v → form_at h (place_of v.point) ≡ pos 0 → IsShort b (form_at k (place_of v.point)) → ⊥
 
 -- the vertices on h below x.first lie before the line through p, those from x.past on past it, and the others on it
-pub record IsLevel (vs : List Vertex) (h : Form) (p : Place) (x : Level) : Type 0 where
+pub record IsLevel (vs : List Vertex) (h : Form) (p : Place) (x : Course) : Type 0 where
   pub before : AreShortBelow vs h (sweep_form h p) false x.first
   pub not_before : AreFarFrom vs h (sweep_form h p) false x.first
   pub not_past : AreShortBelow vs h (sweep_form h p) true x.past
   pub past : AreFarFrom vs h (sweep_form h p) true x.past
 
 -- vertex low lies before the line and high not past it, or low not before the line and high past it
-abbrev pub IsUnparted : Level → ℕ → ℕ → Type 0
+abbrev pub IsUnparted : Course → ℕ → ℕ → Type 0
 IsUnparted x low high = ((low < x.first) × (high < x.past)) ⊎ ((x.first ≤ low) × (x.past ≤ high))

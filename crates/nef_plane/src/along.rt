@@ -3,9 +3,9 @@
 ghost use Rattle.std.specs.Prelude.{◌≡◌, ◌<◌, ◌↔◌};
 ghost use Rattle.nef_complex.specs.Prelude.{length, pos, IsTrue, IsNone, IfSome, Place, slope, IsAhead, form_at, Set, IsAtMost, form_of, vector_of, place_of, hit_place, ray_limit, upright_limit, upright_weight_limit, PlaneMeet as PlainMeet, Meets, IsFirstInPlane, IsVertexPoint, complex_of, meet_of, ShowsSet, AreWithin, AreHolders, IsPlaceAtMost};
 ghost use Rattle.nef_plane.specs.Asked.{AreItems};
-ghost use Rattle.nef_plane.specs.Courses.{StartsAt, IsCourse};
+ghost use Rattle.nef_plane.specs.Courses.{IsCourse, IsExcluding};
 ghost use Rattle.nef_plane.specs.Ends.{IsVertexOrLies};
-ghost use Rattle.nef_plane.specs.Meets.{HasNoSvertex, FromVertex, HoldsRay, IsHitThrough, AllHold, IsWithin, AtVertexOrEdge, IsNearest, near_met_of, reach_of, IsWithinDirection, IsAlongAxis, IsOffEdges};
+ghost use Rattle.nef_plane.specs.Meets.{HasNoSvertex, FromVertex, HoldsRay, IsHitThrough, AllHold, IsWithin, reach_of, IsWithinDirection, IsAlongAxis, IsOffEdges};
 
 use crate::course::{Course, VertexRay, may_pass};
 use crate::first::{Met, PlaneRay, met_of_all, nearest_met};
@@ -45,15 +45,13 @@ fn crossed_at(carriers: &[Plane], holders: &[usize], ray: &VertexRay) -> Option<
 impl PlaneRay for VertexRay<'_> {
     type At = Hit;
 
-    type Guide = Course;
-
     ghost plane = { λ r. form_of r.plane.now };
 
     ghost start = { λ r. place_of r.start.now };
 
     ghost way = { λ r. vector_of r.direction.now };
 
-    ghost guided = { λ r c x. IsCourse c.vertices (form_of r.plane.now) r.start.now (vector_of r.direction.now) x };
+    ghost has_course = { λ r c x. IsCourse c.vertices (form_of r.plane.now) r.start.now (vector_of r.direction.now) x × IsExcluding c (form_of r.plane.now) (place_of r.start.now) (vector_of r.direction.now) x };
 
     ghost tells = { λ r c m. IsVertexOrLies c (form_of r.plane.now) m };
 
@@ -85,43 +83,13 @@ impl PlaneRay for VertexRay<'_> {
         may_pass(&course.normal, self.start, a, b)
     }
 
-    fn first(&self, _c: &Complex, course: &Course) -> usize {
-        course.first
-    }
-
-    fn past(&self, _c: &Complex, course: &Course) -> usize {
-        course.past
-    }
-
     fn start_span(&self) -> Option<Span> {
         Some(Span::of(self.start))
     }
 
     ghost leads = { λ r. r.direction.now.some };
 
-    ghost holds = { λ r c x y. y.holds };
-}
-
-// What the ray from the vertex with this number first meets. Where the plane holds the ray and the plane's items are
-// listed, only these are asked, or else all vertices and edges.
-fn first_met(
-    c: &Complex,
-    ray: &VertexRay,
-    start: usize,
-    items: Option<PlaneItems>,
-) -> Option<Met<Hit>>
-    requires shows { (s : Set) × ShowsSet s c.now }
-    requires start { StartsAt c.now.vertices start ray.now.start.now }
-    requires items { IfSome items (AreItems c.now (form_of ray.now.plane.now)) }
-    ensures nearest { IsNearest near_met_of (place_of ray.now.start.now) (vector_of ray.now.direction.now) (AtVertexOrEdge (complex_of c.now) (form_of ray.now.plane.now) (vector_of ray.now.direction.now)) result }
-{
-    match items {
-        Some(listed) if is_held(ray) => {
-            let course = Course::of(c, ray, start, listed.vertices);
-            nearest_met(ray, c, &course, listed)
-        }
-        _ => met_of_all(ray, c),
-    }
+    ghost excludes = { λ r c x y. y.1 };
 }
 
 /// The first vertex, or edge in the plane `h`, strictly ahead on the ray from the vertex with this number along `d`.
@@ -143,14 +111,21 @@ pub fn first_along_dir(
     ensures some { IfSome result (λ m. FromVertex (complex_of c.now) vertex (λ p. IsFirstInPlane (complex_of c.now) (form_of h.now) p (vector_of d.now) (meet_of m))) }
     ensures none { IsNone result → FromVertex (complex_of c.now) vertex (λ p. (m : PlainMeet) (q : Place) → IsAhead p (vector_of d.now) q → Meets (complex_of c.now) (form_of h.now) m q → ⊥) }
 {
-    let p = &c.vertices.at(vertex).point;
     let ray = VertexRay {
         plane: h,
-        start: p,
+        start: &c.vertices.at(vertex).point,
         direction: d,
     };
-    let met = first_met(c, &ray, vertex, items)?;
-    Some(met.meet)
+    let held = is_held(&ray);
+    let met = match items {
+        Some(listed) if held => {
+            let course = Course::of(c, &ray, vertex, listed.vertices);
+            nearest_met(&ray, c, &course, listed)
+        }
+        _ => met_of_all(&ray, c),
+    };
+    let first = met?;
+    Some(first.meet)
 }
 
 // Whether the direction is that of the plane's axis, or the opposite direction.

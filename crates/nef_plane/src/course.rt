@@ -73,7 +73,7 @@ pub(crate) struct VertexRay<'a> {
 }
 
 // What numbers of vertices tell of a ray within a plane: the ray meets nothing between vertices of the plane that are
-// all below `first`, nor between vertices that are all at `past` or above. The normal is that of a plane along the ray.
+// all below `first`, nor between vertices all at `past` or above. The normal, if any, is that of a plane along the ray.
 #[derive(Clone, Copy)]
 pub(crate) struct Course {
     pub(crate) first: usize,

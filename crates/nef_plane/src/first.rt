@@ -4,11 +4,14 @@ ghost use Rattle.std.specs.Prelude.{◌≡◌, ◌<◌, ◌≤◌};
 ghost use Rattle.nef_complex.specs.Prelude.{ℕ, length, IsTrue, IfSome, Place, Form, SamePlace, IsAhead, Set, Vector, IsDirection, complex_of, ShowsSet, AreNumbersWith, LiesOn, IsAt, MatchOrdering, PlaneMeet as PlainMeet, IsInSpan, AreAlone};
 ghost use Rattle.nef_complex.specs.declared.complex.Complex.{Complex as ComplexValue};
 ghost use Rattle.nef_complex.specs.declared.complex.PlaneMeet.{PlaneMeet as PlaneMeetValue};
+ghost use Rattle.nef_plane.specs.declared.course.Course.{Course as CourseValue};
 ghost use Rattle.nef_plane.specs.Asked.{meet_at, count_in, AreItems};
-ghost use Rattle.nef_plane.specs.Ends.{HasMeet, MeetLiesIn, AreEnds};
+ghost use Rattle.nef_plane.specs.Courses.{IsExcluding};
+ghost use Rattle.nef_plane.specs.Ends.{HasMeet, MeetLiesIn};
 ghost use Rattle.nef_plane.specs.Windows.{IsOutside, IsWindowTo};
-ghost use Rattle.nef_plane.specs.Meets.{HoldsRay, AtMeet, AtSome, AtSomeVertex, AtSomeEdge, AtVertexOrEdge, IsMissed, IsNearest, met_of, Reach, reach_of, far_reach_of, IsReachedAt, IsReachedMet, IsNearer};
+ghost use Rattle.nef_plane.specs.Meets.{AtMeet, AtSome, AtSomeVertex, AtSomeEdge, AtVertexOrEdge, IsMissed, IsNearest, met_of, Reach, reach_of, far_reach_of, IsReachedAt, IsReachedMet, IsNearer};
 
+use crate::course::Course;
 use crate::window::{may_lie_within, span_up_to};
 use nef_complex::{Complex, PlaneItems, PlaneMeet, Span, point_spans};
 use nef_geo::{FarHit, Hit, far_order, hit_order};
@@ -62,11 +65,9 @@ fn nearer<H: Stepped>(one: Option<Met<H>>, other: Option<Met<H>>) -> Option<Met<
 }
 
 // A ray that is asked about one vertex or edge at a time. Where its plane holds the ray and the plane's items are
-// listed, a guide excludes most vertices and edges without a look at carriers.
+// listed, a course excludes most vertices and edges without a look at carriers.
 pub(crate) trait PlaneRay {
     type At: Stepped;
-
-    type Guide;
 
     ghost plane: { Self → Form };
 
@@ -74,8 +75,8 @@ pub(crate) trait PlaneRay {
 
     ghost way: { Self → Vector };
 
-    // The guide is right for the ray in the complex.
-    ghost guided: { Self → ComplexValue → Self.Guide → Type 0 };
+    // The course is one of the ray in the complex.
+    ghost has_course: { Self → ComplexValue → CourseValue → Type 0 };
 
     // The ray can tell where it meets this vertex or edge.
     ghost tells: { Self → ComplexValue → PlaneMeetValue → Type 0 };
@@ -94,24 +95,12 @@ pub(crate) trait PlaneRay {
         ensures off { (IsTrue result → ⊥) → IsMissed (start self.now) (way self.now) (AtMeet (complex_of c.now) (plane self.now) (way self.now) meet) };
 
     // Whether the ray may meet this vertex or edge of the plane. If so, the ray can tell where.
-    fn may_meet(&self, c: &Complex, guide: &Self::Guide, meet: PlaneMeet) -> bool
+    fn may_meet(&self, c: &Complex, course: &Course, meet: PlaneMeet) -> bool
         requires shows { (s : Set) × ShowsSet s c.now }
-        requires guide { guided self.now c.now guide.now }
+        requires course { has_course self.now c.now course.now }
         requires lies { MeetLiesIn c.now (plane self.now) meet }
         ensures told { IsTrue result → tells self.now c.now meet }
         ensures off { (IsTrue result → ⊥) → IsMissed (start self.now) (way self.now) (AtMeet (complex_of c.now) (plane self.now) (way self.now) meet) };
-
-    // The number of a vertex: the ray meets nothing of the plane between vertices with smaller numbers.
-    fn first(&self, c: &Complex, guide: &Self::Guide) -> usize
-        requires shows { (s : Set) × ShowsSet s c.now }
-        requires guide { guided self.now c.now guide.now }
-        ensures missed { (m : PlaneMeetValue) (i j : ℕ) → AreEnds c.now m i j → MeetLiesIn c.now (plane self.now) m → i < result → j < result → IsMissed (start self.now) (way self.now) (AtMeet (complex_of c.now) (plane self.now) (way self.now) m) };
-
-    // The number of a vertex: the ray meets nothing of the plane between vertices with this number or greater ones.
-    fn past(&self, c: &Complex, guide: &Self::Guide) -> usize
-        requires shows { (s : Set) × ShowsSet s c.now }
-        requires guide { guided self.now c.now guide.now }
-        ensures missed { (m : PlaneMeetValue) (i j : ℕ) → AreEnds c.now m i j → MeetLiesIn c.now (plane self.now) m → result ≤ i → IsMissed (start self.now) (way self.now) (AtMeet (complex_of c.now) (plane self.now) (way self.now) m) };
 
     // A span of the ray's start, if its coordinates fit 64 bits.
     fn start_span(&self) -> Option<Span>
@@ -120,11 +109,11 @@ pub(crate) trait PlaneRay {
     // The direction of a ray isn't zero.
     ghost leads: { (r : Self) → IsDirection (way r) };
 
-    // Where there is a guide, the plane holds the ray.
-    ghost holds: { (r : Self) (c : ComplexValue) (x : Self.Guide) → guided r c x → HoldsRay (plane r) (start r) (way r) };
+    // The plane holds a ray that has a course, and the ray meets nothing between vertices that the course excludes.
+    ghost excludes: { (r : Self) (c : ComplexValue) (x : CourseValue) → has_course r c x → IsExcluding c (plane r) (start r) (way r) x };
 }
 
-// Whether all vertices or all edges are asked.
+// What is asked, all vertices or all edges: what a ray may meet, without its number.
 #[derive(Clone, Copy)]
 enum Kind {
     Vertex,
@@ -157,20 +146,20 @@ fn count_below(numbers: &[usize], limit: usize) -> usize
 fn nearest_vertex<R: PlaneRay>(
     ray: &R,
     c: &Complex,
-    guide: &R::Guide,
+    course: &Course,
     numbers: &[usize],
 ) -> Option<Met<R::At>>
     requires shows { (s : Set) × ShowsSet s c.now }
-    requires guide { R.guided ray.now c.now guide.now }
+    requires course { R.has_course ray.now c.now course.now }
     requires listed { AreNumbersWith (LiesOn c.now.vertices (R.plane ray.now)) numbers.now }
     ensures nearest { IsNearest (met_of R.At.reach) (R.start ray.now) (R.way ray.now) (AtSomeVertex (complex_of c.now)) result }
 {
     let mut best = None;
-    let first = count_below(numbers, ray.first(c, guide));
-    let end = count_below(numbers, ray.past(c, guide));
+    let first = count_below(numbers, course.first);
+    let end = count_below(numbers, course.past);
     for place in first..end {
         let meet = PlaneMeet::AtVertex(numbers[place]);
-        if ray.may_meet(c, guide, meet) {
+        if ray.may_meet(c, course, meet) {
             best = nearer(best, ray.met(c, meet));
         }
     }
@@ -210,19 +199,19 @@ fn window_to<H>(
 fn may_meet_within<R: PlaneRay>(
     ray: &R,
     c: &Complex,
-    guide: &R::Guide,
+    course: &Course,
     spans: &[Span],
     window: &Option<Span>,
     meet: PlaneMeet,
 ) -> bool
     requires shows { (s : Set) × ShowsSet s c.now }
-    requires guide { R.guided ray.now c.now guide.now }
+    requires course { R.has_course ray.now c.now course.now }
     requires alone { AreAlone c.now.vertices spans.now }
     requires lies { MeetLiesIn c.now (R.plane ray.now) meet }
     ensures told { IsTrue result → R.tells ray.now c.now meet }
     ensures outside { (IsTrue result → ⊥) → (n : PlainMeet) (q : Place) → IsAhead (R.start ray.now) (R.way ray.now) q → AtMeet (complex_of c.now) (R.plane ray.now) (R.way ray.now) meet n q → IsOutside window.now q }
 {
-    may_lie_within(c, spans, window, meet) && ray.may_meet(c, guide, meet)
+    may_lie_within(c, spans, window, meet) && ray.may_meet(c, course, meet)
 }
 
 // What the ray first meets of the plane's edges that aren't along the ray: an edge along the ray has an end that the
@@ -231,12 +220,12 @@ fn may_meet_within<R: PlaneRay>(
 fn nearest_edge<R: PlaneRay>(
     ray: &R,
     c: &Complex,
-    guide: &R::Guide,
+    course: &Course,
     spans: &[Span],
     items: &PlaneItems,
 ) -> Option<Met<R::At>>
     requires shows { (s : Set) × ShowsSet s c.now }
-    requires guide { R.guided ray.now c.now guide.now }
+    requires course { R.has_course ray.now c.now course.now }
     requires alone { AreAlone c.now.vertices spans.now }
     requires items { AreItems c.now (R.plane ray.now) items.now }
     ensures nearest { IsNearest (met_of R.At.reach) (R.start ray.now) (R.way ray.now) (AtSomeEdge (complex_of c.now) (R.plane ray.now) (R.way ray.now)) result }
@@ -245,18 +234,17 @@ fn nearest_edge<R: PlaneRay>(
     let mut left = ASKED_AT_ONCE;
     let mut start = None;
     let mut window = None;
-    let first = ray.first(c, guide);
-    let count = items.edges_before(c, ray.past(c, guide));
-    let mut place = items.last_reaching(c, count, first);
+    let count = items.edges_before(c, course.past);
+    let mut place = items.last_reaching(c, count, course.first);
     while 0 < place {
         let meet = PlaneMeet::AtEdge(items.edges[place - 1]);
-        if may_meet_within(ray, c, guide, spans, &window, meet) {
+        if may_meet_within(ray, c, course, spans, &window, meet) {
             best = nearer(best, ray.met(c, meet));
             start = known_start(ray, left, start);
             left = left.saturating_sub(1);
             window = window_to(c, spans, &start, &best);
         }
-        place = items.last_reaching(c, place - 1, first);
+        place = items.last_reaching(c, place - 1, course.first);
     }
     best
 }
@@ -265,16 +253,16 @@ fn nearest_edge<R: PlaneRay>(
 pub(crate) fn nearest_met<R: PlaneRay>(
     ray: &R,
     c: &Complex,
-    guide: &R::Guide,
+    course: &Course,
     items: PlaneItems,
 ) -> Option<Met<R::At>>
     requires shows { (s : Set) × ShowsSet s c.now }
-    requires guide { R.guided ray.now c.now guide.now }
+    requires course { R.has_course ray.now c.now course.now }
     requires items { AreItems c.now (R.plane ray.now) items }
     ensures nearest { IsNearest (met_of R.At.reach) (R.start ray.now) (R.way ray.now) (AtVertexOrEdge (complex_of c.now) (R.plane ray.now) (R.way ray.now)) result }
 {
-    let vertex = nearest_vertex(ray, c, guide, items.vertices);
-    let edge = nearest_edge(ray, c, guide, point_spans(c), &items);
+    let vertex = nearest_vertex(ray, c, course, items.vertices);
+    let edge = nearest_edge(ray, c, course, point_spans(c), &items);
     nearer(vertex, edge)
 }
 

@@ -4,10 +4,12 @@
 ghost use Rattle.std.specs.Prelude.{◌≡◌, ◌<◌, ◌≤◌, ◌*ℤ◌, ◌-ℤ◌, ◌↔◌};
 ghost use Rattle.nef_complex.specs.Prelude.{pos, nat_abs, IsTrue, IsNone, IfSome, MatchOption, normal_limit, point_limit, weight_limit, Place, form_at, IsAhead, Form, Set, IsAtMost, IsPlaceAtMost, form_of, vector_of, place_of, hit_place, sign_of, upright_limit, upright_weight_limit, ratio_limit, PlaneMeet as PlainMeet, Meets, IsFirstInPlane, complex_of, meet_of, ShowsSet, LiesOn, AreNumbersWith, AreWithin, AreHolders};
 ghost use Rattle.nef_plane.specs.Asked.{AreItems};
+ghost use Rattle.nef_plane.specs.Courses.{IsExcluding};
 ghost use Rattle.nef_plane.specs.Ends.{MeetLiesIn};
 ghost use Rattle.nef_plane.specs.Levels.{IsLevel, IsUnparted, IsShort, AreShortBelow, AreFarFrom, IsSwept};
-ghost use Rattle.nef_plane.specs.Meets.{IsAlongAxis, IsParallelToAxis, sweep_form, HoldsRay, HasNoSvertex, IsOffEdges, AreOpposite, IsHitThrough, NoneCrosses, far_reach_of};
+ghost use Rattle.nef_plane.specs.Meets.{IsAlongAxis, IsParallelToAxis, sweep_form, HasNoSvertex, IsOffEdges, AreOpposite, IsHitThrough, NoneCrosses, far_reach_of};
 
+use crate::course::Course;
 use crate::first::{Met, PlaneRay, met_of_all, nearest_met};
 use crate::places::{ends_of, holders_of, lies_in};
 use crate::window::hit_span;
@@ -103,25 +105,15 @@ impl Line for AxisRay<'_> {
     }
 }
 
-// What numbers of vertices tell of a line along a plane's axis, as the plane's vertices stand in order of the
-// coordinate that is constant along the axis: vertices below `first` lie before the line, vertices at `past` or above
-// lie past the line, and vertices between lie on the line. So most edges of the plane are known to miss the line.
-#[derive(Clone, Copy)]
-pub(crate) struct Level {
-    pub(crate) first: usize,
-    pub(crate) past: usize,
-}
-
-impl Level {
-    // Whether the plane's vertices with these numbers, in order, may lie on different sides of the line, or both on it.
-    fn may_part(&self, low: usize, high: usize) -> bool
-        ensures unparted { (IsTrue result → ⊥) → IsUnparted self.now low high }
-    {
-        if low < self.first {
-            self.past <= high
-        } else {
-            high < self.past
-        }
+// Whether the plane's vertices with these numbers, in order, may lie on different sides of the line along the plane's
+// axis, or both on it: vertices below `first` of its course lie before it, and those at `past` or above past it.
+fn may_part(course: &Course, low: usize, high: usize) -> bool
+    ensures unparted { (IsTrue result → ⊥) → IsUnparted course.now low high }
+{
+    if low < course.first {
+        course.past <= high
+    } else {
+        high < course.past
     }
 }
 
@@ -148,15 +140,13 @@ fn are_parted(ray: &AxisRay, a: &Point, b: &Point) -> bool
 impl PlaneRay for AxisRay<'_> {
     type At = FarHit;
 
-    type Guide = Level;
-
     ghost plane = { λ r. form_of r.plane.now };
 
     ghost start = { λ r. hit_place r.start.now };
 
     ghost way = { λ r. vector_of r.direction.now };
 
-    ghost guided = { λ r c x. IsLevel c.vertices (form_of r.plane.now) (hit_place r.start.now) x × HoldsRay (form_of r.plane.now) (hit_place r.start.now) (vector_of r.direction.now) };
+    ghost has_course = { λ r c x. IsLevel c.vertices (form_of r.plane.now) (hit_place r.start.now) x × IsExcluding c (form_of r.plane.now) (hit_place r.start.now) (vector_of r.direction.now) x };
 
     ghost tells = { λ r c m. MeetLiesIn c (form_of r.plane.now) m };
 
@@ -176,18 +166,10 @@ impl PlaneRay for AxisRay<'_> {
         lies_in(c, self.plane, meet)
     }
 
-    // By the numbers of their ends, the level excludes most vertices and edges, which the ray doesn't meet.
-    fn may_meet(&self, c: &Complex, level: &Level, meet: PlaneMeet) -> bool {
+    // By the numbers of their ends, the course excludes most vertices and edges, which the ray doesn't meet.
+    fn may_meet(&self, c: &Complex, course: &Course, meet: PlaneMeet) -> bool {
         let (low, high) = ends_of(c, meet);
-        level.may_part(low, high)
-    }
-
-    fn first(&self, _c: &Complex, level: &Level) -> usize {
-        level.first
-    }
-
-    fn past(&self, _c: &Complex, level: &Level) -> usize {
-        level.past
+        may_part(course, low, high)
     }
 
     fn start_span(&self) -> Option<Span> {
@@ -196,7 +178,7 @@ impl PlaneRay for AxisRay<'_> {
 
     ghost leads = { λ r. r.axis.0 };
 
-    ghost holds = { λ r c x y. y.1 };
+    ghost excludes = { λ r c x y. y.1 };
 }
 
 /// The first vertex, or edge in the plane `h`, strictly ahead on the ray from `p` along `d`. `items` are those of the
@@ -227,11 +209,12 @@ pub fn first_along_axis(
     };
     let met = match items {
         Some(listed) => {
-            let level = Level {
+            let course = Course {
                 first: first_far(c, h, &ray, false, listed.vertices),
                 past: first_far(c, h, &ray, true, listed.vertices),
+                normal: None,
             };
-            nearest_met(&ray, c, &level, listed)
+            nearest_met(&ray, c, &course, listed)
         }
         None => met_of_all(&ray, c),
     };

@@ -30,13 +30,6 @@ fn slope(h: &Plane, d: &Dir) -> i64
     h.a() * d.x() + h.b() * d.y() + h.c() * d.z()
 }
 
-fn size(n: i64) -> i64
-    requires small { nat_abs n ≤ start_form_limit }
-    ensures size { result ≡ pos (nat_abs n) }
-{
-    if n < 0 { -n } else { n }
-}
-
 // The point at the step num/den from p along d.
 fn reached(p: &Point, d: &Dir, num: i64, den: i64) -> Point
     requires p_small { IsPlaceAtMost ray_point_limit ray_weight_limit (place_of p.now) }
@@ -61,7 +54,7 @@ fn crossing(p: &Point, d: &Dir, h: &Plane) -> Point
     requires crosses { (q : Place) × IsCrossing (place_of p.now) (vector_of d.now) (form_of h.now) q }
     ensures crossing { IsCrossing (place_of p.now) (vector_of d.now) (form_of h.now) (place_of result) }
 {
-    reached(p, d, size(form(h, p)), size(slope(h, d)))
+    reached(p, d, form(h, p).abs(), slope(h, d).abs())
 }
 
 // The label just after the point along the direction.

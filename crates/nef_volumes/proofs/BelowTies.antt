@@ -1,7 +1,8 @@
 -- The side above the point where a ray down ends is one, up to its sface.
-use Rattle.nef_volumes.proofs.Prelude.{◌≡◌, ℕ, ◌+◌, pos, ◌⊎◌, inl, inr, [], ◌∷◌, arith, ap, sym, ◌∙◌, subst, ints, ring, at, num, ◌⊕◌, ◌⊖◌, ◌⊗◌, Place, Form, form_at, normal_of, SamePlace, toward, IsBetween, Set, Vector, IsDirection, SameDirection, dot, cross, opposite, blend, plane_axis, up, Label, same-place_sym, between-same, At, item_normal, pos_item, Side, dir_of, HasSide, Sees, InOneSface, here, link, BoundsSector, normals-same, on-level, normal-is, at-one, bounds-sees, Vertex, Edge, Complex, Corner, Shows, item_plane, IsVertexPoint, IsEdgePoint, Spot, at_vertex, on_edge, in_facet, IsSpot, HasCorner, VertexSide, HasSideLabel, IsAbove, RayDown, same-itself, same-place_trans, facet-point, through-at, through-level, axis-in, LinkInSface, through-same, corner-same as corner-like, level-back, one-vertex, one-named, SameDirection-turned, SameDirection-trans, opposite-same}
+use Rattle.nef_volumes.proofs.Prelude.{◌≡◌, ℕ, ◌+◌, pos, ◌⊎◌, inl, inr, [], ◌∷◌, arith, ap, sym, ◌∙◌, subst, ints, ring, at, num, ◌⊕◌, ◌⊖◌, ◌⊗◌, Place, Form, form_at, normal_of, SamePlace, toward, IsBetween, Set, Vector, IsDirection, SameDirection, dot, cross, opposite, blend, plane_axis, up, Label, same-place_sym, between-same, At, item_normal, pos_item, Side, dir_of, HasSide, Sees, InOneSface, here, link, BoundsSector, normals-same, on-level, normal-is, at-one, bounds-sees, Vertex, Edge, Complex, Corner, Shows, item_plane, IsVertexPoint, IsEdgePoint, Spot, at_vertex, on_edge, in_facet, IsSpot, HasCorner, VertexSide, HasSideLabel, IsAbove, RayDown, same-itself, same-place_trans, facet-point, through-at, through-level, axis-in, LinkInSface, through-same, corner-same as corner-like, level-of_opposite, one-vertex, one-named, SameDirection-turned, SameDirection-trans, opposite-same}
 use Rattle.law_cones.proofs.Smooth.{parallel-by}
-use Rattle.nef_locate.proofs.SamePlanes.{first-same, corner-same, axis-same}
+use Rattle.nef_conn.proofs.WayInward.{names-same}
+use Rattle.nef_locate.proofs.SameAxis.{axis-same}
 use Rattle.nef_conn.proofs.OneNamed.{one-edge_through, edge-inside}
 use Rattle.nef_conn.proofs.SameRay.{on-ray}
 
@@ -118,9 +119,9 @@ module _ (s : Set) (C : Complex) (S : Shows s C) where
         let f = plane_axis (item_normal K.item) in
         let axis = axis-in (item_normal H.item) some-n in
         let r = K.named in
-        let level = (through-level (item_normal H.item) (opposite d) H.vertex.point).0 (level-back (item_normal H.item) d axis.1) in
+        let level = (through-level (item_normal H.item) (opposite d) H.vertex.point).0 (level-of_opposite (item_normal H.item) d axis.1) in
         one-named s C S g z d (away d axis.0) level j k H.named
-        (r.0, first-same C h g z on-h on-g planes f d axes r.0 r.1, corner-same C h g planes (opposite f) (opposite d) (opposite-same f d axes) r.0 k r.2)
+        (names-same C h g z on-h on-g planes f d axes k r)
       where
         away : (d : Vector) → IsDirection d → IsDirection (opposite d)
         away d i z = i (let x = z.0 in let y = z.1 in let w = z.2 in (omega (arith, ints), omega (arith, ints), omega (arith, ints)))

@@ -114,7 +114,12 @@ fn accepted_words(rt: HostRuntime) -> Result<(), Fail> {
 
 fn check_refused(rt: &impl Abort, alloc: Global, table: &str) -> Result<(), Fail> {
     for words in table.split('\n') {
-        check_text(rt, answer(alloc, &read(alloc, words)?)?.as_str(), "Refused", words);
+        check_text(
+            rt,
+            answer(alloc, &read(alloc, words)?)?.as_str(),
+            "Refused",
+            words,
+        );
     }
     Ok(())
 }

@@ -1,4 +1,4 @@
-use Rattle.nef_facets.proofs.Prelude.{◌≡◌, pos, Option, None, refl, sym, ◌∙◌, subst, normal_of, Vector, dot, not_true, is-at_within, form_of, vector_of, some-at, Corner, complex_of, corner_of, vertex_of, meet_of, level-back, IsLinkedFrom}
+use Rattle.nef_facets.proofs.Prelude.{◌≡◌, pos, Option, None, refl, sym, ◌∙◌, subst, normal_of, Vector, dot, not_true, is-at_within, form_of, vector_of, some-at, Corner, complex_of, corner_of, vertex_of, meet_of, level-of_opposite, IsLinkedFrom}
 use Rattle.nef_locate.proofs.ItemsFound.{met-listed}
 use Rattle.nef_facets.proofs.ItemCarriers.{vertex-within, item-within, corner-at, carrier-plane}
 use Rattle.nef_facets.proofs.WayInward.{level-inward, not-on, none-along, linked-from, small-back, vertex-some, named-met}
@@ -36,7 +36,7 @@ corner_toward-requires-clause-level c =
     let b = corner-at c.args.c.now (corner_of c.args.k.now) u (some-at c.args.c.now.vertices c.args.k.now.vertex u c.at.ensures.element) r.0 r.1 in
     let level = level-inward c.requires.shows.0 c.args.c.now c.requires.shows.1 (corner_of c.args.k.now) (vertex_of u) r.0 b c.at-h.result.now (carrier-plane c.args.c.now (corner_of c.args.k.now) c.carrier_of-carrier.result c.at-h.result.now c.carrier_of-carrier.ensures.plane c.at-h.ensures.element)
     (vector_of c.plane_dir.result) (vector_of c.back-inward.result) c.plane_dir.ensures.dir c.plane_dir.ensures.in_plane c.back-inward.ensures.back in
-    subst (λ (v : Vector). dot (normal_of h) v ≡ pos 0) (sym c.back.ensures.back) (level-back (normal_of h) (vector_of c.back-inward.result) level)
+    subst (λ (v : Vector). dot (normal_of h) v ≡ pos 0) (sym c.back.ensures.back) (level-of_opposite (normal_of h) (vector_of c.back-inward.result) level)
 
 pub first_along_dir-requires-clause-no_svertex : goal.first_along_dir-requires-clause-no_svertex
 first_along_dir-requires-clause-no_svertex c =

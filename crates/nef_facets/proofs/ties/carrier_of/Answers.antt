@@ -1,7 +1,7 @@
-use Rattle.nef_facets.proofs.Prelude.{◌≡◌, ◌↔◌, ℕ, pos, get_or, arith, sym, ◌∙◌, subst, not_true, form_at, normal_of, Vector, SameDirection, form_of, place_of, vector_of, Plane, At, item_normal, at-one, item_of, none-more, some-at, at-some, at-read, at-within, corner_of, SameDirection-turned, SameDirection-trans}
+use Rattle.nef_facets.proofs.Prelude.{◌≡◌, ◌↔◌, ◌+◌, ℕ, pos, get_or, arith, sym, ◌∙◌, subst, not_true, form_at, normal_of, Vector, SameDirection, form_of, place_of, vector_of, Plane, At, item_normal, at-one, item_of, none-more, some-at, at-some, at-read, at-within, corner_of, SameDirection-turned, SameDirection-trans}
 use Rattle.nef_complex.specs.declared.complex.Vertex.{Vertex}
 use Rattle.nef_edges.proofs.Places.{get-at}
-use Rattle.nef_facets.proofs.ItemCarriers.{CarriesWith, none-carried, none-held}
+use Rattle.nef_facets.proofs.ItemCarriers.{CarriesWith, holder-left}
 use Rattle.nef_facets.proofs.ItemCarriers.{vertex-within, item-within, of-item}
 use Rattle.nef_facets.proofs.ties.carrier_of.Goals as goal
 
@@ -18,16 +18,27 @@ item_at-item-requires c = record { within = item-within c.args.c.now (corner_of 
 pub vertex_holders-holders-requires-clause-within : goal.vertex_holders-holders-requires-clause-within
 vertex_holders-holders-requires-clause-within c = vertex-within c.args.c.now (corner_of c.args.k.now) c.requires.corner
 
-pub loop-number-init : goal.loop-number-init
-loop-number-init c = λ j k l. absurd (omega (arith, l))
+pub loop-normal-init : goal.loop-normal-init
+loop-normal-init c = (
+  holder-left c.requires.shows.0 c.args.c.now (corner_of c.args.k.now) c.at-vertex.result.now (item_of c.item_at-item.result) (vector_of c.normal-normal.result.now) c.vertex_holders-holders.result.now 0 c.requires.shows.1.shows c.requires.corner
+      (some-at c.args.c.now.vertices c.args.k.now.vertex c.at-vertex.result.now c.at-vertex.ensures.element) c.item_at-item.ensures.item (sym c.normal-normal.ensures.normal) (c.vertex_holders-holders.ensures.holders c.at-vertex.result.now c.at-vertex.ensures.element) (λ j k l. absurd (omega (arith, l))),
+  λ j k l. absurd (omega (arith, l)),
+)
 
-pub at-h-requires : goal.at-h-requires
-at-h-requires c =
+pub bounds-holders-place : goal.bounds-holders-place
+bounds-holders-place c = c.loop-normal.invariant.0
+
+pub loop-normal-smaller : goal.loop-normal-smaller
+loop-normal-smaller c = let l = c.loop-normal.invariant.0 in omega (arith, l)
+
+pub at-requires : goal.at-requires
+at-requires c =
     let hs = c.args.c.now.carriers in
     let ns = c.vertex_holders-holders.result.now in
-    let i = c.loop-number.number-index in
+    let i = c.loop-normal.place in
     let g = get_or ns i 0 in
-    let r = (c.vertex_holders-holders.ensures.holders c.at-vertex.result.now c.at-vertex.ensures.element).each i g (at-some ns i g (get-at ns i 0 c.loop-number-test.true)) in
+    let l = c.loop-normal.invariant.0 in
+    let r = (c.vertex_holders-holders.ensures.holders c.at-vertex.result.now c.at-vertex.ensures.element).each i g (at-some ns i g (get-at ns i 0 l)) in
     record { within = at-within hs g r.0 (some-at hs g r.0 r.1) }
 
 pub returns-then-is_same : goal.returns-then-is_same
@@ -36,42 +47,36 @@ returns-then-is_same c =
     let a = some-at c.args.c.now.vertices c.args.k.now.vertex u c.at-vertex.ensures.element in
     let hs = c.args.c.now.carriers in
     let ns = c.vertex_holders-holders.result.now in
-    let i = c.loop-number.number-index in
+    let i = c.loop-normal.place in
+    let l = c.loop-normal.invariant.0 in
     let g = get_or ns i 0 in
-    let r = (c.vertex_holders-holders.ensures.holders u c.at-vertex.ensures.element).each i g (at-some ns i g (get-at ns i 0 c.loop-number-test.true)) in
-    let e = at-one hs g r.0 c.at-h.result.now (some-at hs g r.0 r.1) (some-at hs g c.at-h.result.now c.at-h.ensures.element) in
-    let h = form_of c.at-h.result.now in
+    let r = (c.vertex_holders-holders.ensures.holders u c.at-vertex.ensures.element).each i g (at-some ns i g (get-at ns i 0 l)) in
+    let e = at-one hs g r.0 c.at.result.now (some-at hs g r.0 r.1) (some-at hs g c.at.result.now c.at.ensures.element) in
+    let h = form_of c.at.result.now in
     let on = subst (λ (f : Plane). form_at (form_of f) (place_of u.point) ≡ pos 0) e r.2.0 in
     record {
       plane = (
-        c.at-h.result.now,
-        c.at-h.ensures.element,
+        c.at.result.now,
+        c.at.ensures.element,
         of-item c.args.c.now (corner_of c.args.k.now) c.requires.corner u a (λ v x. (form_at h v.point ≡ pos 0) × SameDirection (normal_of h) (item_normal x)) (item_of c.item_at-item.result) c.item_at-item.ensures.item
             (on, subst (λ (n : Vector). SameDirection (normal_of h) n) c.normal-normal.ensures.normal ((of-like (normal_of h) (vector_of c.plane_normal.result) (vector_of c.normal-normal.result.now) c.plane_normal.ensures.normal c.is_same.ensures.direction).0 c.if-is_same.true)),
       );
     }
 
-pub loop-number-preserved : goal.loop-number-preserved
-loop-number-preserved c =
+pub loop-normal-preserved : goal.loop-normal-preserved
+loop-normal-preserved c =
     let hs = c.args.c.now.carriers in
     let ns = c.vertex_holders-holders.result.now in
-    let i = c.loop-number.number-index in
+    let i = c.loop-normal.place in
+    let l = c.loop-normal.invariant.0 in
     let g = get_or ns i 0 in
     let vs = c.args.c.now.vertices in
     let n = vector_of c.normal-normal.result.now in
-    let h = c.at-h.result.now in
-    none-more (λ (k : ℕ). (u : Vertex) × At vs c.args.k.now.vertex u × CarriesWith c.args.c.now (place_of u.point) n k) ns i g c.loop-number-test.true (sym (at-read ns i g g (get-at ns i 0 c.loop-number-test.true))) c.loop-number.invariant
+    let h = c.at.result.now in
+    let none = none-more (λ (k : ℕ). (u : Vertex) × At vs c.args.k.now.vertex u × CarriesWith c.args.c.now (place_of u.point) n k) ns i g l (sym (at-read ns i g g (get-at ns i 0 l))) c.loop-normal.invariant.1
     (λ (u, a, w). not_true (sym c.if-is_same.false ∙ (of-like (normal_of (form_of h)) (vector_of c.plane_normal.result) n c.plane_normal.ensures.normal c.is_same.ensures.direction).1
-    (subst (λ (k : Plane). SameDirection (normal_of (form_of k)) n) (at-one hs g w.0 h (some-at hs g w.0 w.1) (some-at hs g h c.at-h.ensures.element)) w.2.1)))
-
-pub unreachable-requires : goal.unreachable-requires
-unreachable-requires c =
-    let S = c.requires.shows in
-    let u = c.at-vertex.result.now in
-    let a = some-at c.args.c.now.vertices c.args.k.now.vertex u c.at-vertex.ensures.element in
-    let p = place_of u.point in
-    let n = vector_of c.normal-normal.result.now in
-    let ns = c.vertex_holders-holders.result.now in
-    none-carried S.0 c.args.c.now (corner_of c.args.k.now) u (item_of c.item_at-item.result) n S.1.shows c.requires.corner a c.item_at-item.ensures.item (sym c.normal-normal.ensures.normal)
-    (none-held c.args.c.now p n ns (c.vertex_holders-holders.ensures.holders u c.at-vertex.ensures.element)
-    (λ j k b w. c.loop-number.invariant j k (let l = at-within ns j k b in let f = c.loop-number-test.false in omega arith) b (u, a, w)))
+    (subst (λ (k : Plane). SameDirection (normal_of (form_of k)) n) (at-one hs g w.0 h (some-at hs g w.0 w.1) (some-at hs g h c.at.ensures.element)) w.2.1))) in (
+      holder-left c.requires.shows.0 c.args.c.now (corner_of c.args.k.now) c.at-vertex.result.now (item_of c.item_at-item.result) n ns (i + 1) c.requires.shows.1.shows c.requires.corner
+          (some-at vs c.args.k.now.vertex c.at-vertex.result.now c.at-vertex.ensures.element) c.item_at-item.ensures.item (sym c.normal-normal.ensures.normal) (c.vertex_holders-holders.ensures.holders c.at-vertex.result.now c.at-vertex.ensures.element) none,
+      none,
+    )

@@ -8,20 +8,20 @@ invariant_of-beam c = record { ahead = λ q f a. c.ray_window-window.ensures.ahe
 pub search_carriers-requires-clause-right : goal.search_carriers-requires-clause-right
 search_carriers-requires-clause-right c = (c.requires.upright, tt, c.first_guess-guess.ensures.met, c.first_guess-guess.ensures.none)
 
-pub returns-in-Some-clause-place : goal.returns-in-Some-clause-place
-returns-in-Some-clause-place c =
-    let M = subst (λ (o : Option Met). IfSome o (IsMet (complex_of c.args.c.now) (place_of c.args.p.now) (vector_of c.args.d.now))) c.in-Some.is c.search_carriers.ensures.right.1 in
+pub returns-clause-place : goal.returns-clause-place
+returns-clause-place c =
+    let M = subst (λ (o : Option Met). IfSome o (IsMet (complex_of c.args.c.now) (place_of c.args.p.now) (vector_of c.args.d.now))) c.in_ok-met.was c.search_carriers.ensures.right.1 in
     let on = M.on in
     on.has
 
-pub returns-in-Some-clause-some : goal.returns-in-Some-clause-some
-returns-in-Some-clause-some c =
+pub returns-clause-some : goal.returns-clause-some
+returns-clause-some c =
     let C = c.args.c.now in let p = place_of c.args.p.now in let d = vector_of c.args.d.now in let S = c.requires.shows in
-    first-some S.0 C S.1 p d c.requires.upright c.in-Some.met
-    (subst (λ (o : Option Met). IfSome o (IsMet (complex_of C) p d)) c.in-Some.is c.search_carriers.ensures.right.1)
-    (λ k l h a s y T X I. subst (IsNotBefore p y) c.in-Some.is (c.search_carriers.ensures.passed k l h a s y T X I))
+    first-some S.0 C S.1 p d c.requires.upright c.in_ok-met.met
+    (subst (λ (o : Option Met). IfSome o (IsMet (complex_of C) p d)) c.in_ok-met.was c.search_carriers.ensures.right.1)
+    (λ k l h a s y T X I. subst (IsNotBefore p y) c.in_ok-met.was (c.search_carriers.ensures.passed k l h a s y T X I))
 
-pub returns-in-None-clause-none : goal.returns-in-None-clause-none
-returns-in-None-clause-none c _ =
+pub returns-in_err-met-clause-none : goal.returns-in_err-met-clause-none
+returns-in_err-met-clause-none c _ =
     let C = c.args.c.now in let p = place_of c.args.p.now in let d = vector_of c.args.d.now in let S = c.requires.shows in
-    first-none S.0 C S.1 p d c.requires.upright (λ k l h a s y T X I. subst (IsNotBefore p y) c.in-None.is (c.search_carriers.ensures.passed k l h a s y T X I))
+    first-none S.0 C S.1 p d c.requires.upright (λ k l h a s y T X I. subst (IsNotBefore p y) c.in_err-met.was (c.search_carriers.ensures.passed k l h a s y T X I))

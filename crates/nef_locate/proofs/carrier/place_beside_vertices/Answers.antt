@@ -1,20 +1,41 @@
-use Rattle.nef_locate.proofs.Prelude.{⊎_elim, refl, form_of, hit_place, is-at_within, complex_of}
+use Rattle.nef_locate.proofs.Prelude.{IsTrue, ⊎_elim, refl, rules, form_of, hit_place, is-at_within, complex_of}
 use Rattle.nef_locate.proofs.EdgeOrder.{parts-off}
-use Rattle.nef_locate.proofs.Listed.{unmet}
+use Rattle.nef_locate.proofs.Listed.{flat-item, unmet}
 use Rattle.nef_locate.proofs.Located.{corner-at, edge-at}
 use Rattle.nef_locate.proofs.carrier.place_beside_vertices.Goals as goal
 
-pub carrier_items-requires : goal.carrier_items-requires
-carrier_items-requires c = record { shows = c.requires.shows; within = is-at_within c.args.c.now.carriers c.args.number c.args.h.now c.requires.number }
+pub carrier_items-items-requires : goal.carrier_items-items-requires
+carrier_items-items-requires c = record { shows = c.requires.shows; within = is-at_within c.args.c.now.carriers c.args.number c.args.h.now c.requires.number }
 
 pub edge_among-requires-clause-parts : goal.edge_among-requires-clause-parts
-edge_among-requires-clause-parts c = (form_of c.args.h.now, c.carrier_items.ensures.edges c.args.h.now c.requires.number, c.requires.parts)
+edge_among-requires-clause-parts c = (form_of c.args.h.now, c.carrier_items-items.ensures.edges c.args.h.now c.requires.number, c.requires.parts)
+
+pub has_item-requires : goal.has_item-requires
+has_item-requires c = record { shows = c.requires.shows; within = is-at_within c.args.c.now.carriers c.args.number c.args.h.now c.requires.number }
+
+pub in_facet_among-requires-clause-items : goal.in_facet_among-requires-clause-items
+in_facet_among-requires-clause-items c =
+    let I = c.carrier_items-items.ensures in let h = c.args.h.now in let a = c.requires.number in
+    record { edges = I.edges h a; vertices = I.vertices h a; peaks = I.peaks }
+
+pub in_facet_among-requires-clause-off : goal.in_facet_among-requires-clause-off
+in_facet_among-requires-clause-off c =
+    let C = c.args.c.now in let h = form_of c.args.h.now in let q = hit_place c.args.q.now in
+    unmet C h q c.carrier_items-items.result.edges.now (c.carrier_items-items.ensures.edges c.args.h.now c.requires.number) (parts-off C h q c.args.next c.requires.on c.requires.parts) c.in_default.ensures.edge
+
+pub returns-then-not-has_item-clause-none : goal.returns-then-not-has_item-clause-none
+returns-then-not-has_item-clause-none c = λ e s S.
+    let C = c.args.c.now in let h = form_of c.args.h.now in let q = hit_place c.args.q.now in
+    let off : IsTrue c.has_item.result → ⊥ = search rules in
+    ⊎_elim
+    (λ m. unmet C h q c.carrier_items-items.result.edges.now (c.carrier_items-items.ensures.edges c.args.h.now c.requires.number) (parts-off C h q c.args.next c.requires.on c.requires.parts) c.in_default.ensures.edge m.0 m.1)
+    (λ F. off ((c.has_item.ensures.item c.args.h.now c.requires.number).1 (flat-item s C S c.args.h.now q c.requires.on F)))
 
 pub returns-in_err-corner-clause-none : goal.returns-in_err-corner-clause-none
 returns-in_err-corner-clause-none c = λ e s S.
     let C = c.args.c.now in let h = form_of c.args.h.now in let q = hit_place c.args.q.now in
     ⊎_elim
-    (λ m. unmet C h q c.carrier_items.result.edges.now (c.carrier_items.ensures.edges c.args.h.now c.requires.number) (parts-off C h q c.args.next c.requires.on c.requires.parts) c.in_default.ensures.edge m.0 m.1)
+    (λ m. unmet C h q c.carrier_items-items.result.edges.now (c.carrier_items-items.ensures.edges c.args.h.now c.requires.number) (parts-off C h q c.args.next c.requires.on c.requires.parts) c.in_default.ensures.edge m.0 m.1)
     (c.in_err-corner.ensures.none refl s S)
 
 pub returns-clause-at : goal.returns-clause-at
@@ -22,8 +43,3 @@ returns-clause-at c = corner-at (complex_of c.args.c.now) (hit_place c.args.q.no
 
 pub returns-in-Some-clause-at : goal.returns-in-Some-clause-at
 returns-in-Some-clause-at c = edge-at (complex_of c.args.c.now) (hit_place c.args.q.now) c.in-Some.edge c.in-Some.ensures.edge
-
-pub in_facet-requires-clause-off : goal.in_facet-requires-clause-off
-in_facet-requires-clause-off c =
-    let C = c.args.c.now in let h = form_of c.args.h.now in let q = hit_place c.args.q.now in
-    unmet C h q c.carrier_items.result.edges.now (c.carrier_items.ensures.edges c.args.h.now c.requires.number) (parts-off C h q c.args.next c.requires.on c.requires.parts) c.in_default.ensures.edge

@@ -31,13 +31,14 @@ pub loop-place-init : goal.loop-place-init
 loop-place-init g c =
     let C = c.args.c.now in let ray = c.args.ray.now in let h = g.R.PlaneRay.plane ray in let p = g.R.PlaneRay.start ray in let d = g.R.PlaneRay.way ray in
     let ns = c.args.items.now.edges.now in let S = c.requires.shows in let N = c.requires.items.edges in
-    let n = c.last_reaching-place.result in let count = c.edges_before-count.result in let b = c.edges_before-count.ensures.within in let f = c.last_reaching-place.ensures.count in (
+    let n = c.last_reaching-place.result in let count = c.edges_before-count.result in let b = c.edges_before-count.ensures.within in let f = c.last_reaching-place.ensures.count in
+    let E = g.met.R.PlaneRay.excludes ray C c.args.course.now c.requires.course in (
       omega (arith, b, f),
       asked-none (met_of g.R.At.Stepped.reach) p d ns (λ k. AtEdgeNumber (complex_of C) h d k) n (λ j k l a.
           let L = N.each j k a in
           ⊎_elim
-          (λ t. let B = both-below S.0 C S.1.shows h ns n count c.first-first.result c.last_reaching-place.ensures.passed j k l t a L in c.first-first.ensures.missed (AtEdge k) B.0 B.1 B.2 L B.3 B.4)
-          (λ t. c.past.ensures.missed (AtEdge k) L.0.low L.0.high (L.0, L.1, refl, refl) L (c.edges_before-count.ensures.beyond j k L.0 t a L.1))
+          (λ t. let B = both-below S.0 C S.1.shows h ns n count c.args.course.now.first c.last_reaching-place.ensures.passed j k l t a L in E.first (AtEdge k) B.0 B.1 B.2 L B.3 B.4)
+          (λ t. E.past (AtEdge k) L.0.low L.0.high (L.0, L.1, refl, refl) L (c.edges_before-count.ensures.beyond j k L.0 t a L.1))
           (cases_lt j count)),
       tt,
       tt,
@@ -85,7 +86,7 @@ loop-place-preserved g c =
     ] in (
       omega (arith, e, f, t),
       asked-over seen p d ns R m i J.best J.best refl f
-          (λ j r o u b. let L = N.each j r b in let B = both-below S.0 C S.1.shows h ns m i c.first-first.result c.last_reaching-place-in-loop-place.ensures.passed j r o u b L in c.first-first.ensures.missed (AtEdge r) B.0 B.1 B.2 L B.3 B.4)
+          (λ j r o u b. let L = N.each j r b in let B = both-below S.0 C S.1.shows h ns m i c.args.course.now.first c.last_reaching-place-in-loop-place.ensures.passed j r o u b L in (g.met.R.PlaneRay.excludes ray C c.args.course.now c.requires.course).first (AtEdge r) B.0 B.1 B.2 L B.3 B.4)
           B.0,
       B.1,
       B.2,
@@ -97,5 +98,5 @@ returns g c =
     let t = c.loop-place-test.false in
     record {
       nearest = asked-each (met_of g.R.At.Stepped.reach) p d c.args.items.now.edges.now (λ k. AtEdgeNumber (complex_of C) h d k) c.loop-place.place c.loop-place.best (omega (arith, t))
-          (λ k m q w x. c.requires.items.edges.all k (met-lies C h d m q p (g.met.R.PlaneRay.leads ray) (g.met.R.PlaneRay.holds ray C c.args.guide.now c.requires.guide) w (AtEdge k) x)) c.loop-place.invariant.1;
+          (λ k m q w x. c.requires.items.edges.all k (met-lies C h d m q p (g.met.R.PlaneRay.leads ray) (g.met.R.PlaneRay.excludes ray C c.args.course.now c.requires.course).holds w (AtEdge k) x)) c.loop-place.invariant.1;
     }

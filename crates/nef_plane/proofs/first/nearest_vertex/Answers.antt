@@ -21,7 +21,7 @@ met-requires-clause-told g c = c.may_meet.ensures.told c.if-may_meet.true
 
 pub loop-place-init : goal.loop-place-init
 loop-place-init g c = λ m q w (i, l, (k, a, x)).
-    let H = c.requires.listed.each i k a in let b = c.count_below-first.ensures.below i k l a in c.first.ensures.missed (AtVertex k) k k (refl, refl) H b b m q w x
+    let H = c.requires.listed.each i k a in let b = c.count_below-first.ensures.below i k l a in (g.met.R.PlaneRay.excludes c.args.ray.now c.args.c.now c.args.course.now c.requires.course).first (AtVertex k) k k (refl, refl) H b b m q w x
 
 pub loop-place-preserved : goal.loop-place-preserved
 loop-place-preserved g c =
@@ -36,9 +36,9 @@ loop-place-preserved g c =
 
 pub returns : goal.returns
 returns g c =
-    let C = c.args.c.now in let ray = c.args.ray.now in let h = g.R.PlaneRay.plane ray in let p = g.R.PlaneRay.start ray in let d = g.R.PlaneRay.way ray in let A = c.requires.listed in
+    let C = c.args.c.now in let ray = c.args.ray.now in let h = g.R.PlaneRay.plane ray in let p = g.R.PlaneRay.start ray in let d = g.R.PlaneRay.way ray in let A = c.requires.listed in let E = g.met.R.PlaneRay.excludes ray C c.args.course.now c.requires.course in
     record {
       nearest = asked-all (met_of g.R.At.Stepped.reach) p d c.args.numbers.now (λ k. AtVertexNumber (complex_of C) k) c.count_below-end.result c.loop-place.place c.loop-place.best (let f = c.loop-place-test.false in omega (arith, f))
-          (λ j k l a. c.past.ensures.missed (AtVertex k) k k (refl, refl) (A.each j k a) (c.count_below-end.ensures.beyond j k l a))
-          (λ k m q w x. A.all k (met-lies C h d m q p (g.met.R.PlaneRay.leads ray) (g.met.R.PlaneRay.holds ray C c.args.guide.now c.requires.guide) w (AtVertex k) x)) c.loop-place.invariant;
+          (λ j k l a. E.past (AtVertex k) k k (refl, refl) (A.each j k a) (c.count_below-end.ensures.beyond j k l a))
+          (λ k m q w x. A.all k (met-lies C h d m q p (g.met.R.PlaneRay.leads ray) E.holds w (AtVertex k) x)) c.loop-place.invariant;
     }

@@ -1,8 +1,10 @@
-use Rattle.nef_plane.proofs.Prelude.{rules, sym, subst, form_of, hit_place, vector_of, AreItems, IsNearest, far_met_of}
-use Rattle.nef_plane.proofs.Axes.{along-parallel, axis-level}
+use Rattle.nef_plane.proofs.Prelude.{None, rules, sym, subst, form_of, hit_place, vector_of, AreItems, IsLevel, IsNearest, far_met_of}
+use Rattle.nef_plane.specs.declared.course.Course.{Course}
+use Rattle.nef_plane.proofs.Axes.{along-parallel}
 use Rattle.nef_plane.proofs.AxisSizes.{axis-small}
 use Rattle.nef_plane.proofs.Choosing.{some-at}
 use Rattle.nef_plane.proofs.Found.{Any, first-some, first-none}
+use Rattle.nef_plane.proofs.Leveled.{excluding-level}
 use Rattle.nef_plane.proofs.Ordered.{swept}
 use Rattle.nef_plane.proofs.plane.first_along_axis.Goals.{in-Some, in-None}
 use Rattle.nef_plane.proofs.plane.first_along_axis.Goals as goal
@@ -19,12 +21,12 @@ first_far-requires-clause-swept c = swept (form_of c.args.h.now) (hit_place c.ar
 pub first_far-requires-in-Some-clause-swept : goal.first_far-requires-in-Some-clause-swept
 first_far-requires-in-Some-clause-swept c = swept (form_of c.args.h.now) (hit_place c.args.p.now)
 
-pub nearest_met-met-requires-clause-guide : goal.nearest_met-met-requires-clause-guide
-nearest_met-met-requires-clause-guide c =
-    let h = c.args.h.now in let d = vector_of c.args.d.now in (
-      record { before = c.first_far.ensures.short; not_before = c.first_far.ensures.far; not_past = c.first_far-in-Some.ensures.short; past = c.first_far-in-Some.ensures.far },
-      (c.requires.on, axis-level h d (along-parallel h d c.requires.direction)),
-    )
+pub nearest_met-met-requires-clause-course : goal.nearest_met-met-requires-clause-course
+nearest_met-met-requires-clause-course c =
+    let S = c.requires.shows in let C = c.args.c.now in let h = c.args.h.now in let p = hit_place c.args.p.now in let d = vector_of c.args.d.now in
+    let x : Course = record { first = c.first_far.result; past = c.first_far-in-Some.result; normal = None } in
+    let L : IsLevel C.vertices (form_of h) p x = record { before = c.first_far.ensures.short; not_before = c.first_far.ensures.far; not_past = c.first_far-in-Some.ensures.short; past = c.first_far-in-Some.ensures.far } in
+    (L, excluding-level S.0 C S.1.shows h p d (along-parallel h d c.requires.direction) c.requires.on x L)
 
 pub nearest_met-met-requires-clause-items : goal.nearest_met-met-requires-clause-items
 nearest_met-met-requires-clause-items c = some-at (AreItems c.args.c.now (form_of c.args.h.now)) c.args.items c.in-Some.listed (search rules) c.requires.items

@@ -19,8 +19,7 @@ loop-slot-preserved g c =
     let outs = c.loop-slot.outs in
     let added = c.in_ok-add_result.ensures.added in
     let new = added.0 in
-    let last = subst (λ n. g.J.Job.right c.args.job.now n new) outs.ok.0 added.1 in
-    (
+    let last = subst (λ n. g.J.Job.right c.args.job.now n new) outs.ok.0 added.1 in (
       omega (arith, ap length added.2, outs.ok.0, c.add_result.new.outs.ok.0, length-append outs.items (new ∷ []), length-append c.loop-slot.yielded (c.in-Some.slot ∷ []), I.0),
       subst (λ n. g.J.Job.count c.args.job.now ≤ n) (sym c.in_ok-add_result.ensures.room) I.1,
       subst (λ xs. (i : ℕ) (out : _) → slice_get xs i ≡ Some out → g.J.Job.right c.args.job.now i out) (sym added.2) (pushed_right (g.J.Job.right c.args.job.now) outs.items new I.2 last),

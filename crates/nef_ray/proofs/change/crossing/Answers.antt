@@ -6,7 +6,7 @@ pub returns : goal.returns
 returns c =
     let X = c.requires.crosses in
     let small = c.slope.ensures.width in
-    let en = c.size.ensures.size ∙ ap (λ (i : ℤ). pos (nat_abs i)) (kept c.form.result c.form.ensures.width) in
-    let em = c.size-2.ensures.size ∙ ap (λ (i : ℤ). pos (nat_abs i)) (kept c.slope.result (omega (arith, small))) in
-    let same = rw (kept c.size.result (size-small c.size.result c.form.result en c.form.ensures.width), kept c.size-2.result (size-small c.size-2.result c.slope.result em (omega (arith, small)))) at c.reached.ensures.reached in
-    record { crossing = crossed-at c.args.h.now c.args.p.now c.args.d.now X.0 X.1 c.form.result c.slope.result c.size.result c.size-2.result c.form.ensures.value c.slope.ensures.value en em (place_of c.reached.result) same }
+    let en = c.abs.ensures.value ∙ ap (λ (i : ℤ). pos (nat_abs i)) (kept c.form.result c.form.ensures.width) in
+    let em = c.abs-2.ensures.value ∙ ap (λ (i : ℤ). pos (nat_abs i)) (kept c.slope.result (omega (arith, small))) in
+    let same = rw (kept c.abs.result (size-small c.abs.result c.form.result en c.form.ensures.width), kept c.abs-2.result (size-small c.abs-2.result c.slope.result em (omega (arith, small)))) at c.reached.ensures.reached in
+    record { crossing = crossed-at c.args.h.now c.args.p.now c.args.d.now X.0 X.1 c.form.result c.slope.result c.abs.result c.abs-2.result c.form.ensures.value c.slope.ensures.value en em (place_of c.reached.result) same }

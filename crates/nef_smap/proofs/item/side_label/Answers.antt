@@ -19,7 +19,7 @@ item_at-requires c =
     let count = c.around_sides.ensures.count in
     record {
       within = elim c.in_default-ground.branch [
-        in_default-ground-via-in-Some-ground+else-of_items-item_count w ↦ (let f = ap (λ o. bool_byte (is_some o)) w.in-Some-ground.is in let l = w.item_count.ensures.count in let n = w.if-of_items-item_count in omega arith)
+        | in_default-ground-via-in-Some-ground+else-of_items-item_count w ↦ (let f = ap (λ o. bool_byte (is_some o)) w.in-Some-ground.is in let l = w.item_count.ensures.count in let n = w.if-of_items-item_count in omega arith)
         | in_default-ground-via-in_default-ground w ↦ (let f = ap (λ o. bool_byte (is_some o)) w.in_default-ground.is in omega arith)
       ];
     }

@@ -1,5 +1,6 @@
-use Rattle.nef_locate.proofs.Prelude.{ℕ, refl, rules, arith, IsTrue, List, Some, get_or, subst, IsAt, vector_of, place_of, is-at_get, complex_of, Span, no_span, Met}
-use Rattle.nef_locate.proofs.RayMeets.{on-carrier, reached-of, stays, taken, passed, found, kept-begun, span-passed}
+use Rattle.nef_locate.proofs.Prelude.{ℕ, refl, rules, arith, IsTrue, List, Some, get_or, subst, IsAt, vector_of, place_of, is-at_get, complex_of, Span, no_span, Met, IsMet}
+use Rattle.std.specs.Option.{IsNone}
+use Rattle.nef_locate.proofs.RayMeets.{on-carrier, reached-of, stays, taken, passed, found, begun-met, begun-kept, kept-begun, span-passed}
 use Rattle.nef_locate.proofs.Upward.{upright-some}
 use Rattle.nef_locate.proofs.beam.BeamSearch.ask.Goals as goal
 
@@ -11,10 +12,10 @@ returns-then-not-may_lead_into-clause-passed c =
     span-passed c.args.c.now (place_of b.start.now) (vector_of b.direction.now) c.args.best.now n spans (get_or spans n no_span) A (is-at_get spans n no_span (omega (arith, m, l)))
     (λ y f a i. off (c.may_lead_into.ensures.leads y (b.amid y f a) i))
 
-pub returns-then-is_missed-clause-passed : goal.returns-then-is_missed-clause-passed
-returns-then-is_missed-clause-passed c = λ h a s y S X I.
-    let z = c.is_missed.ensures.missed c.if-is_missed.true in
-    absurd (c.requires.right.3 z.0 h (subst (λ (k : ℕ). IsAt c.args.c.now.carriers k h) z.1 a) s y S X I)
+pub returns-then-number-self-clause-passed : goal.returns-then-number-self-clause-passed
+returns-then-number-self-clause-passed c = λ h a s y S X I.
+    let g : IsNone c.args.self.now.guess = search rules in
+    absurd (c.requires.right.3 g h (subst (λ (k : ℕ). IsAt c.args.c.now.carriers k h) c.if-number-self.true a) s y S X I)
 
 pub returns-in_default-clause-passed : goal.returns-in_default-clause-passed
 returns-in_default-clause-passed c =
@@ -25,16 +26,16 @@ returns-in_default-clause-passed c =
 pub returns-then-not-is_sooner-clause-right : goal.returns-then-not-is_sooner-clause-right
 returns-then-not-is_sooner-clause-right c =
     let b = c.args.self.now in let R = c.requires.right in
-    (R.0, c.begin_with.ensures.met (complex_of c.args.c.now) (place_of b.start.now) (vector_of b.direction.now) R.1 R.2, R.2, R.3)
+    (R.0, begun-met (IsMet (complex_of c.args.c.now) (place_of b.start.now) (vector_of b.direction.now)) c.args.best.now b.guess c.or.result c.or.ensures R.1 R.2, R.2, R.3)
 
 pub returns-then-not-is_sooner-clause-kept : goal.returns-then-not-is_sooner-clause-kept
-returns-then-not-is_sooner-clause-kept c = let b = c.args.self.now in kept-begun c.args.c.now (place_of b.start.now) (vector_of b.direction.now) c.args.best.now c.begin_with.new.best c.begin_with.ensures.kept
+returns-then-not-is_sooner-clause-kept c = let b = c.args.self.now in kept-begun c.args.c.now (place_of b.start.now) (vector_of b.direction.now) c.args.best.now c.or.result (begun-kept c.args.best.now c.args.self.now.guess c.or.result c.or.ensures)
 
 pub returns-then-not-is_sooner-clause-passed : goal.returns-then-not-is_sooner-clause-passed
 returns-then-not-is_sooner-clause-passed c =
-    let b = c.args.self.now in let C = c.args.c.now in let h = c.at-h.result.now in let R = c.requires.right in let best = c.begin_with.new.best in
+    let b = c.args.self.now in let C = c.args.c.now in let h = c.at-h.result.now in let R = c.requires.right in let best = c.or.result in
     let p = place_of b.start.now in let d = vector_of b.direction.now in let hit = c.in-Some.hit in
-    let M = c.begin_with.ensures.met (complex_of C) p d R.1 R.2 in
+    let M = begun-met (IsMet (complex_of C) p d) c.args.best.now b.guess c.or.result c.or.ensures R.1 R.2 in
     let q = c.is_sooner.ensures.sooner p d (upright-some d R.0) c.in-Some.ensures.step (reached-of (complex_of C) p d best M) in
     let off : IsTrue c.is_sooner.result → ⊥ = search rules in
     on-carrier C p d best c.args.number h c.at-h.ensures.element (λ s y S X I. stays p d h hit c.in-Some.ensures.crossing best (λ w. off (q.1 w)) y X)
@@ -44,12 +45,12 @@ returns-in-Some-place_on-clause-right c = let X = c.in-Some.ensures.crossing in 
 
 pub returns-in-Some-place_on-clause-kept : goal.returns-in-Some-place_on-clause-kept
 returns-in-Some-place_on-clause-kept c = λ k n g a s y S X I.
-    let b = c.args.self.now in let R = c.requires.right in let best = c.begin_with.new.best in
+    let b = c.args.self.now in let R = c.requires.right in let best = c.or.result in
     let p = place_of b.start.now in let d = vector_of b.direction.now in let hit = c.in-Some.hit in
-    let M = c.begin_with.ensures.met (complex_of c.args.c.now) p d R.1 R.2 in
+    let M = begun-met (IsMet (complex_of c.args.c.now) p d) c.args.best.now b.guess c.or.result c.or.ensures R.1 R.2 in
     let q = c.is_sooner.ensures.sooner p d (upright-some d R.0) c.in-Some.ensures.step (reached-of (complex_of c.args.c.now) p d best M) in
     let on : IsTrue c.is_sooner.result = search rules in
-    passed p d c.at-h.result.now hit c.in-Some.ensures.crossing best (q.0 on) y (kept-begun c.args.c.now p d c.args.best.now best c.begin_with.ensures.kept k n g a s y S X I)
+    passed p d c.at-h.result.now hit c.in-Some.ensures.crossing best (q.0 on) y (kept-begun c.args.c.now p d c.args.best.now best (begun-kept c.args.best.now c.args.self.now.guess c.or.result c.or.ensures) k n g a s y S X I)
 
 pub returns-in-Some-place_on-clause-passed : goal.returns-in-Some-place_on-clause-passed
 returns-in-Some-place_on-clause-passed c =
@@ -60,13 +61,13 @@ returns-in-Some-place_on-clause-passed c =
 pub returns-in_default-place_on-clause-right : goal.returns-in_default-place_on-clause-right
 returns-in_default-place_on-clause-right c =
     let b = c.args.self.now in let R = c.requires.right in
-    (R.0, c.begin_with.ensures.met (complex_of c.args.c.now) (place_of b.start.now) (vector_of b.direction.now) R.1 R.2, R.2, R.3)
+    (R.0, begun-met (IsMet (complex_of c.args.c.now) (place_of b.start.now) (vector_of b.direction.now)) c.args.best.now b.guess c.or.result c.or.ensures R.1 R.2, R.2, R.3)
 
 pub returns-in_default-place_on-clause-kept : goal.returns-in_default-place_on-clause-kept
-returns-in_default-place_on-clause-kept c = let b = c.args.self.now in kept-begun c.args.c.now (place_of b.start.now) (vector_of b.direction.now) c.args.best.now c.begin_with.new.best c.begin_with.ensures.kept
+returns-in_default-place_on-clause-kept c = let b = c.args.self.now in kept-begun c.args.c.now (place_of b.start.now) (vector_of b.direction.now) c.args.best.now c.or.result (begun-kept c.args.best.now c.args.self.now.guess c.or.result c.or.ensures)
 
 pub returns-in_default-place_on-clause-passed : goal.returns-in_default-place_on-clause-passed
 returns-in_default-place_on-clause-passed c =
     let b = c.args.self.now in let p = place_of b.start.now in let d = vector_of b.direction.now in let h = c.at-h.result.now in
-    on-carrier c.args.c.now p d c.begin_with.new.best c.args.number h c.at-h.ensures.element
+    on-carrier c.args.c.now p d c.or.result c.args.number h c.at-h.ensures.element
     (λ s y S X I. absurd (c.in_default-place_on.ensures.none refl s S (found p d h c.in-Some.hit c.in-Some.ensures.crossing s (complex_of c.args.c.now) y X I)))

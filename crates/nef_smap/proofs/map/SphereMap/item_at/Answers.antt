@@ -10,7 +10,7 @@ at-requires c =
     let within = c.requires.within in
     record {
       within = elim c.in_default.branch [
-        in_default-via-in-Some+else-number-len w ↦ (let f = ap (λ o. bool_byte (is_some o)) w.in-Some.is in let l = w.len.ensures in let n = w.if-number-len in omega arith)
+        | in_default-via-in-Some+else-number-len w ↦ (let f = ap (λ o. bool_byte (is_some o)) w.in-Some.is in let l = w.len.ensures in let n = w.if-number-len in omega arith)
         | in_default-via-in_default w ↦ (let f = ap (λ o. bool_byte (is_some o)) w.in_default.is in omega arith)
       ];
     }

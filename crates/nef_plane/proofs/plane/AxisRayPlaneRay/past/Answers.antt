@@ -1,8 +1,0 @@
-use Rattle.nef_plane.proofs.Prelude.{hit_place, vector_of}
-use Rattle.nef_plane.proofs.Leveled.{past-missed}
-use Rattle.nef_plane.proofs.plane.AxisRayPlaneRay.past.Goals as goal
-
-pub returns : goal.returns
-returns c =
-    let ray = c.args.self.now in let S = c.requires.shows in
-    record { missed = λ m i j E H l. past-missed S.0 c.args._c.now S.1.shows ray.plane.now (hit_place ray.start.now) (vector_of ray.direction.now) ray.axis ray.on c.args.level.now c.requires.guide.0 m i j E H l }
