@@ -2,7 +2,7 @@
 use Rattle.std.specs.Prelude.{◌≡◌, ℕ, Bool, true, false, length, nat_lt}
 use Rattle.nef_complex.specs.Prelude.{IsAt, Place, Set, Vector, Label, Out, Not, In, Point}
 use Rattle.nef_complex.specs.declared.complex.Complex.{Complex}
-use Rattle.nef_complex.specs.declared.complex.Edge.{Edge}
+use Rattle.nef_index.specs.declared.skeleton.Edge.{Edge}
 use Rattle.nef_complex.specs.declared.complex.Vertex.{Vertex}
 use Rattle.nef_complex.specs.declared.parts.Facet.{Facet}
 use Rattle.nef_conn.specs.Components.{HasComponents}

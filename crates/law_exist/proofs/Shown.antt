@@ -1,9 +1,9 @@
 -- Every set whose carriers are planes of the program, and not too many, has a complex of the program that shows it. In each complex of the program that shows a set the maps are within their limits.
 use Rattle.law_exist.proofs.Prelude.{◌≡◌, ℕ, ◌≤◌, ◌^◌, refl, sym, ap, ◌∙◌, List, length, map, subst, [], each, Place, Form, Set, At, Map, Vertex as PlainVertex, Edge as PlainEdge, SamePlane, Shows, form_of, place_of, Plane, map_of, map-at, at-map, at-from_get, vertex_of, edge_of, complex_of, HasLeastMaps, AreCarried, EveryCarriedSetIsShown, at-lies}
+use Rattle.nef_complex.specs.Index.{skeleton}
 use Rattle.nef_complex.specs.declared.complex.Complex.{Complex}
 use Rattle.nef_complex.specs.declared.complex.Vertex.{Vertex}
-use Rattle.nef_complex.specs.declared.complex.Edge.{Edge}
-use Rattle.nef_complex.specs.declared.complex.PlaneIndex.{PlaneIndex}
+use Rattle.nef_index.specs.declared.skeleton.Edge.{Edge}
 use Rattle.law_exist.proofs.Complexes.{VerticesAt, vertices-at, vertex_edges, shown-by}
 use Rattle.law_exist.proofs.Lifted.{lifted, sphere-map}
 use Rattle.law_exist.proofs.Planes.{lies-image, planes, PointList, points}
@@ -52,13 +52,9 @@ module _ (s : Set) (hs : List Plane) (few : length hs ≤ 2 ^ 32) (A : AreCarrie
           fs : (ds : List Edge) × (map edge_of ds ≡ es)
           fs = lifted edge_of es (λ k e a. edge-from k e)
 
--- an index without rows: whether a complex shows a set doesn't depend on the index
-no_index : PlaneIndex
-no_index = record { has_item = []; at_vertex = []; at_edge = []; on_carrier = []; in_carrier = []; points = []; spans = []; clusters = []; peaks = [] }
-
 -- EVERY SUCH SET HAS A COMPLEX
 pub carried-shown : EveryCarriedSetIsShown
-carried-shown s hs few A = let L = lists s hs few A in (record { carriers = L.carriers; vertices = L.vertices; edges = L.edges; index = no_index }, L.shows)
+carried-shown s hs few A = let L = lists s hs few A in (record { carriers = L.carriers; vertices = L.vertices; edges = L.edges; has_item = []; index = skeleton L.carriers L.vertices L.edges }, L.shows)
 
 -- ---- the maps of a complex that shows a set
 -- its carriers are planes of the program

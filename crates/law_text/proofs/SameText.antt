@@ -3,7 +3,7 @@ use Rattle.law_text.proofs.Prelude.{◌≡◌, ℕ, List, map, sym, ◌∙◌, a
 use Rattle.law_complex.specs.Laws.{BelongsHolds}
 use Rattle.nef_complex.specs.declared.complex.Complex.{Complex}
 use Rattle.nef_complex.specs.declared.complex.Vertex.{Vertex}
-use Rattle.nef_complex.specs.declared.complex.Edge.{Edge}
+use Rattle.nef_index.specs.declared.skeleton.Edge.{Edge}
 use Rattle.nef_unique.proofs.Sets.{vertices-set}
 use Rattle.law_text.proofs.Whole.{vertices-read}
 use Rattle.law_text.proofs.Carriers.{made, parts-too, belongs-too}
@@ -19,12 +19,12 @@ same-parts c d p e f a =
 -- the text looks at vertices, edges and parts alone
 text-of : (version : TextVersion) (c d : Complex) (p q : Parts) → c.vertices ≡ d.vertices → c.edges ≡ d.edges → p ≡ q → text version c p ≡ text version d q
 text-of One c d p q e f g =
-    ap (λ (vs : List Vertex). text One (record { carriers = c.carriers; vertices = vs; edges = c.edges; index = c.index }) p) e
-    ∙ ap (λ (es : List Edge). text One (record { carriers = c.carriers; vertices = d.vertices; edges = es; index = c.index }) p) f
+    ap (λ (vs : List Vertex). text One (record { carriers = c.carriers; vertices = vs; edges = c.edges; has_item = c.has_item; index = c.index }) p) e
+    ∙ ap (λ (es : List Edge). text One (record { carriers = c.carriers; vertices = d.vertices; edges = es; has_item = c.has_item; index = c.index }) p) f
     ∙ ap (λ (r : Parts). text One d r) g
 text-of Two c d p q e f g =
-    ap (λ (vs : List Vertex). text Two (record { carriers = c.carriers; vertices = vs; edges = c.edges; index = c.index }) p) e
-    ∙ ap (λ (es : List Edge). text Two (record { carriers = c.carriers; vertices = d.vertices; edges = es; index = c.index }) p) f
+    ap (λ (vs : List Vertex). text Two (record { carriers = c.carriers; vertices = vs; edges = c.edges; has_item = c.has_item; index = c.index }) p) e
+    ∙ ap (λ (es : List Edge). text Two (record { carriers = c.carriers; vertices = d.vertices; edges = es; has_item = c.has_item; index = c.index }) p) f
     ∙ ap (λ (r : Parts). text Two d r) g
 
 pub same-set_text : (version : TextVersion) (s t : Set) (c d : Complex) (p q : Parts) → Shows s (complex_of c) → Shows t (complex_of d) → SameSet s t → IsParts (complex_of c) p → IsParts (complex_of d) q → (p ≡ q) × (text version c p ≡ text version d q)

@@ -1,7 +1,7 @@
 -- The edges, facets and volumes of a text, and the whole text.
 use Rattle.law_text.proofs.Prelude.{◌≡◌, ℕ, arith, refl, ap, sym, ◌∙◌, List, [], ◌∷◌, ◌++◌, length, append_assoc, decimal, signed_decimal, flat_map, length-map, Label, Cycle, Facet, TextVersion, One, Two, Parts, Shell, Word, label_word, numbers, corner_words, edge_line, cycle_line, facet_line, facet_text, volume_line, side_words, shell_line, shelled_text, with_rows, counts, version_word, first_line, vertices_text, volumes_text, text}
 use Rattle.nef_complex.specs.declared.complex.Corner.{Corner}
-use Rattle.nef_complex.specs.declared.complex.Edge.{Edge}
+use Rattle.nef_index.specs.declared.skeleton.Edge.{Edge}
 use Rattle.nef_complex.specs.declared.complex.Vertex.{Vertex}
 use Rattle.nef_complex.specs.declared.complex.Complex.{Complex}
 use Rattle.nef_complex.specs.declared.parts.Side.{Side}

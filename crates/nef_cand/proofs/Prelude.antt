@@ -25,9 +25,9 @@ pub use Rattle.nef_complex.proofs.Framed.{dim-framed, edge-framed, vertex-framed
 pub use Rattle.nef_complex.proofs.Order.{IsOrder, as-ordered, one-order, point-ordered, point_order, point_total}
 pub use Rattle.nef_complex.proofs.Parted.{independent, parted-apart, parted-slope}
 pub use Rattle.nef_complex.proofs.Reading.{all-more, read-at}
-pub use Rattle.nef_complex.proofs.Spanned.{within-both}
-pub use Rattle.nef_complex.proofs.Spanning.{narrower-still, weight}
-pub use Rattle.nef_complex.specs.declared.spans.Bounds.{Bounds}
+pub use Rattle.nef_index.proofs.Spanning.{within-both}
+pub use Rattle.nef_index.proofs.Spanning.{narrower-still, weight}
+pub use Rattle.nef_index.specs.declared.spans.Bounds.{Bounds}
 pub use Rattle.nef_locate.proofs.Located.{held-same, skeleton-same, vertices-sorted}
 pub use Rattle.nef_cand.specs.Candidates.{AreCandidates, AreCutCandidates, AreExactly, AreFramed, IsCutBy, IsListed, IsVertexOf}
 pub use Rattle.nef_cand.specs.Names.{AreNamed, AreNamedBelow, AreNamedInOrder, IsAmong, IsNamed, IsNamedBetween, IsNamedIn, IsOnceEach, named_point}

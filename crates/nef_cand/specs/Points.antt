@@ -6,7 +6,7 @@ use Rattle.nef_space.specs.Place.{Place, Form, form_at, InClosedFrame, SamePlace
 use Rattle.nef_geo.specs.Steps.{HasOppositeSigns}
 use Rattle.law_complex.specs.Complexes.{Complex as PlainComplex}
 use Rattle.nef_complex.specs.declared.complex.Complex.{Complex}
-use Rattle.nef_complex.specs.declared.complex.Edge.{Edge}
+use Rattle.nef_index.specs.declared.skeleton.Edge.{Edge}
 use Rattle.nef_complex.specs.declared.complex.Vertex.{Vertex}
 use Rattle.nef_cand.specs.declared.named.Named.{Named}
 use Rattle.nef_cand.specs.Names.{IsAmong}

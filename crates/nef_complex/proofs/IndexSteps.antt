@@ -1,5 +1,5 @@
 -- Which carriers are planes of items, carrier by carrier.
-use Rattle.nef_complex.proofs.Prelude.{◌≡◌, ◌↔◌, ℕ, ◌+◌, ◌<◌, ◌≤◌, pos, Bool, IsTrue, List, [], ◌∷◌, ◌++◌, length, length-append, true, false, Option, Some, None, is_some, arith, refl, sym, subst, ◌∙◌, IsAt, Form, form_at, normal_of, Vector, SameDirection, form_of, place_of, Plane, At, Map, Item, items, item_normal, map_of, is-at_one, is-at_within, Either, earlier, last, is-at_either, Vertex, HasItemIn, LiesOn, AreNumbersWith, AreHeld, HasNormal, SameDirection-turned, SameDirection-trans}
+use Rattle.nef_complex.proofs.Prelude.{◌≡◌, ℕ, ◌<◌, ◌≤◌, pos, List, length, true, false, Option, Some, None, is_some, arith, sym, subst, IsAt, Form, form_at, normal_of, Vector, SameDirection, form_of, place_of, Plane, At, Map, Item, items, item_normal, map_of, is-at_one, is-at_within, Vertex, HasItemIn, LiesOn, AreNumbersWith, AreHeld, HasNormal, SameDirection-turned, SameDirection-trans}
 use Rattle.std.specs.Option.{MatchOption}
 use Rattle.nef_complex.proofs.SamePlanes.{parallel-equal}
 
@@ -27,27 +27,6 @@ module _ (vs : List Vertex) (h : Form) (n : Vector) (w : SameDirection (normal_o
   no-item on m le N none (k, v, j, x, a, i, z, s) =
       let o = N.all k (v, a, z) in
       none o.0 k v (let l = is-at_within on o.0 k o.1 in omega arith) o.1 a (j, x, i, SameDirection-trans (item_normal x) (normal_of h) n s w)
-
--- ---- flags
--- the flags are those of the first n carriers
-pub record AreFlagsTo (hs : List Plane) (vs : List Vertex) (n : ℕ) (flags : List Bool) : Type 0 where
-  pub as_many : length flags ≡ n
-  pub each : (k : ℕ) (h : Plane) (b : Bool) → IsAt hs k h → IsAt flags k b → IsTrue b ↔ HasItemIn vs (form_of h)
-
-pub flags-none : (hs : List Plane) (vs : List Vertex) → AreFlagsTo hs vs 0 []
-flags-none hs vs = record { as_many = refl; each = λ k h b x y. absurd (let l = is-at_within [] k b y in omega arith) }
-
-pub flags-more : (hs : List Plane) (vs : List Vertex) (n : ℕ) (flags : List Bool) (h : Plane) (b : Bool) → IsAt hs n h → IsTrue b ↔ HasItemIn vs (form_of h) → AreFlagsTo hs vs n flags → AreFlagsTo hs vs (n + 1) (flags ++ b ∷ [])
-flags-more hs vs n flags h b here item F = record {
-  as_many = let e = F.as_many in let f = length-append flags (b ∷ []) in omega arith;
-  each = λ k g d x y. by k g d x (is-at_either flags k d b y);
-}
-  where
-    by : (k : ℕ) (g : Plane) (d : Bool) → IsAt hs k g → Either flags k d b → IsTrue d ↔ HasItemIn vs (form_of g)
-    by k g d x (earlier y) = F.each k g d x y
-    by k g d x (last e f) =
-        let same : h ≡ g = is-at_one hs n h g here (subst (λ (i : ℕ). IsAt hs i g) (e ∙ F.as_many) x) in
-        subst (λ (r : Plane). IsTrue d ↔ HasItemIn vs (form_of r)) same (subst (λ (t : Bool). IsTrue t ↔ HasItemIn vs (form_of h)) (sym f) item)
 
 -- ---- planes
 -- the plane of an item is the carrier that holds the item

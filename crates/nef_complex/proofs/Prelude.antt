@@ -1,24 +1,22 @@
 -- The names that most proofs cite, passed on from one place. Declares nothing.
 pub use Rattle.nef_space.proofs.Prelude.{fits_signed_from_abs, ltb}
-pub use Rattle.nef_geo.proofs.Prelude.{HasOppositeSigns, IsPlaceBelow, IsSamePlane, MatchOrdering, false≢true, form_numbers, form_of, int_cmp, int_ranks, on_total, ordering_then, place_of, point_limit, pos-abs, sub_pos, w64, weight_limit}
-pub use Rattle.law_complex.proofs.Prelude.{Corner, FlatDim, FlatDim-one, Form, HasEnds, InClosedFrame, IsBetween, IsCorner, IsEdgePoint, IsMixed, IsSkeletonIn, IsVertexPoint, Place, Poly, SamePlace, Set, Shows, between-turned, cancel_le, carriers, cases_order, facet-support, follows_times, form-sum, form_at, half_side, in-span, meets_edge, meets_vertex, mixed-of, normal_of, of_place, reach_all, same-place_sym, sign, slope, slope-toward, start, start-toward, toward, toward-place}
+pub use Rattle.nef_geo.proofs.Prelude.{HasOppositeSigns, IsPlaceBelow, IsSamePlane, MatchOrdering, false≢true, form_numbers, form_of, int_cmp, int_ranks, on_total, ordering_then, place_of, point_limit, pos-abs, w64, weight_limit}
+pub use Rattle.law_complex.proofs.Prelude.{Corner, FlatDim, FlatDim-one, Form, HasEnds, InClosedFrame, IsBetween, IsCorner, IsEdgePoint, IsMixed, IsSkeletonIn, IsVertexPoint, Place, Poly, SamePlace, Set, Shows, between-turned, carriers, cases_order, facet-support, follows_times, form-sum, form_at, half_side, in-span, meets_edge, meets_vertex, mixed-of, normal_of, of_place, reach_all, same-place_sym, sign, slope, slope-toward, start, start-toward, toward, toward-place}
 pub use Rattle.law_links.proofs.Prelude.{ahead, dim-same, edge-points, in-facet, item-point, keeps-all, near-ahead, near-germ, same-itself, step-within}
-pub use Rattle.nef_classes.proofs.Prelude.{append-nil, drop, drop_of_length-le, get_or-take, get_or_from_slice_get, length-set, set, slice_get_within, take-append-le, take_all}
-pub use Rattle.nef_smap.proofs.Prelude.{At, Bool, Contains, Decides-int_eq, Either, Err, Global, IfSome, IsAt, IsBelow, IsDirection, IsNormal, IsTotalOrder, IsTrue, IsZero, Item, List, Map, None, Ok, Option, Out, Result, SameDirection, SameDirection-trans, SameDirection-turned, Some, Vec, Vector, Zero, [], ap, arith, at, at-one, by_order, by_side, cases_lt, cond, cross, cross-turned, dedup, direction-left, dot, earlier, eq-or-lt_of_le, eqb-true, false, follows, get_or, given, inl, inr, ints, is-at_either, is-at_get, is-at_is, is-at_last, is-at_left, is-at_some, is-at_within, is_eq, is_some, item_mark, item_neg, item_normal, item_pos, items, last, length, length-append, less-or-last, map, map_of, mul_neg, mul_nonneg, mul_pos, nat_abs, near-item, neg, neg_ℤ, negsuc, none, not_true, nought-is, nought-or, num, of_z, pos, refl, ring, rules, sign_number, sign_of, slice_get, slice_get-get_or, slice_get_read, subst, suc, sym, take, to_z, to_z-of_z, triple, true, vector_of, zero, zero-decided, ℕ, ℤ, ⊎_elim, ◌*ℤ◌, ◌*◌, ◌++◌, ◌+ℤ◌, ◌+◌, ◌-ℤ◌, ◌-◌, ◌/◌, ◌<ℤ◌, ◌<◌, ◌^◌, ◌↔◌, ◌∙◌, ◌∷◌, ◌≡◌, ◌≢◌, ◌≤ℤ◌, ◌≤◌, ◌⊎◌, ◌⊕◌, ◌⊖◌, ◌⊗◌}
-pub use Rattle.std.proofs.Common.{HoldsAt, IfErr, append_assoc, eq-eqb, length-take, ne_eqb}
+pub use Rattle.nef_classes.proofs.Prelude.{append-nil, drop, get_or_from_slice_get, length-set, set, slice_get_within, take_all}
+pub use Rattle.nef_smap.proofs.Prelude.{At, Bool, Contains, Decides-int_eq, Either, Err, Global, IfSome, IsAt, IsBelow, IsDirection, IsNormal, IsTotalOrder, IsTrue, IsZero, Item, List, Map, None, Ok, Option, Out, Result, SameDirection, SameDirection-trans, SameDirection-turned, Some, Vec, Vector, Zero, [], ap, arith, at, at-one, by_order, by_side, cases_lt, cond, cross, cross-turned, dedup, direction-left, dot, earlier, eq-or-lt_of_le, eqb-true, false, follows, get_or, given, inl, inr, ints, is-at_either, is-at_get, is-at_is, is-at_last, is-at_left, is-at_some, is-at_within, is_eq, is_some, item_mark, item_neg, item_normal, item_pos, items, last, length, length-append, less-or-last, map, map_of, mul_neg, mul_nonneg, mul_pos, nat_abs, near-item, neg, neg_ℤ, negsuc, none, not_true, nought-is, nought-or, num, of_z, pos, refl, ring, rules, sign_of, slice_get, slice_get-get_or, slice_get_read, subst, suc, sym, take, to_z, to_z-of_z, triple, true, vector_of, zero, zero-decided, ℕ, ℤ, ⊎_elim, ◌*ℤ◌, ◌*◌, ◌++◌, ◌+ℤ◌, ◌+◌, ◌-ℤ◌, ◌-◌, ◌/◌, ◌<ℤ◌, ◌<◌, ◌^◌, ◌↔◌, ◌∙◌, ◌∷◌, ◌≡◌, ◌≢◌, ◌≤ℤ◌, ◌≤◌, ◌⊎◌, ◌⊕◌, ◌⊖◌, ◌⊗◌}
+pub use Rattle.std.proofs.Common.{HoldsAt, IfErr, append_assoc}
 pub use Rattle.std.proofs.Math.Dec.{eqb}
-pub use Rattle.std.proofs.Math.Nat.{div-le_self, div-mul-le_self, lt-div-mul-add}
-pub use Rattle.std.proofs.lemmas.Bool.{cases_eq, ltb-true}
-pub use Rattle.std.proofs.lemmas.Bool.Decides.{Decides-and, nat_tests}
+pub use Rattle.std.proofs.lemmas.Bool.{ltb-true}
+pub use Rattle.std.proofs.lemmas.Bool.Decides.{Decides-and}
 pub use Rattle.std.proofs.lemmas.Cmp.{by_ranked}
 pub use Rattle.std.proofs.lemmas.Fn.{always_returns_same}
-pub use Rattle.std.proofs.lemmas.List.{drop-append-le, drop_at, drop_more, get_or-drop, length-drop, nil_from_length}
+pub use Rattle.std.proofs.lemmas.List.{length-drop}
 pub use Rattle.std.proofs.lemmas.List.Sorted.{Contains-permutation, IsPermutation-sym, searchable_from_sorted}
 pub use Rattle.std.specs.Int.{int_div_euclid}
 pub use Rattle.std.specs.List.Sorted.{IsBinarySearchResult, IsNonDecreasingBy, IsPartitionPoint, IsPermutation, IsSearchInRange, IsSorted}
 pub use Rattle.std.specs.Ordering.{nat_cmp, ordering_index, ordering_reverse}
-pub use Rattle.std.specs.Slice.Iter.{chunks_rest}
-pub use Rattle.std.specs.Vec.{vec_capacity, vec_len}
+pub use Rattle.std.specs.Vec.{vec_len}
 pub use Rattle.std.specs.declared.cmp.Ordering.{Ordering}
 pub use Rattle.std.specs.declared.cmp.Ordering.TheVariants.{Equal, Greater, Less}
 pub use Rattle.nef_space.proofs.Order.{lt_by}
@@ -31,25 +29,27 @@ pub use Rattle.nef_geo.specs.declared.point.Point.{Point}
 pub use Rattle.law_complex.proofs.Planes.{plane-point, plane-slope, plane-turned, plane-way}
 pub use Rattle.law_complex.specs.Complexes.{IsEdgeBelow}
 pub use Rattle.law_complex.specs.Spans.{Coordinate, EachPointOn, EachVertexOn, IsWithin, coordinate_of, coordinate_x, coordinate_y, coordinate_z}
-pub use Rattle.nef_classes.proofs.ClassLists.{is-at_one, is-at_take, refilled}
+pub use Rattle.nef_classes.proofs.ClassLists.{is-at_one, is-at_take}
 pub use Rattle.nef_smap.proofs.Lists.{at-map, at-within, map-at}
 pub use Rattle.nef_smap.proofs.SideLists.{at-from_get, get-from_at}
 pub use Rattle.nef_smap.proofs.SortedOnce.{sorted-from_order}
-pub use Rattle.nef_complex.specs.Common.{AreCommon, AreCommonAlong, AreCommonRows, DoAllRise, HasAdded, HaveRows}
+pub use Rattle.std.proofs.lemmas.Option.{slice_get-map}
+pub use Rattle.std.specs.Prelude.{option_map}
+pub use Rattle.nef_index.specs.Carriers.{AreHolders, AreInOrder, IsHolder}
+pub use Rattle.nef_index.specs.Groups.{IsInCluster, IsInGroup, StandsIn}
+pub use Rattle.nef_index.specs.Index.{AreCarrierSpans, AreClusters, AreEndHolders, ArePointHolders, ArePointSpans, AreSpanned, HoldsPointsOn}
+pub use Rattle.nef_index.specs.Numbers.{AreNumbersWith, AreWithin, DoRise, HasEntry}
+pub use Rattle.nef_index.specs.Peaks.{ArePeaks, EndBelow}
+pub use Rattle.nef_index.specs.Skeleton.{HaveEnds, HoldsBoth, IsEdgeIn, IsPointOn, Skeleton}
+pub use Rattle.nef_index.specs.Spans.{IsInSpan, IsNarrower}
+pub use Rattle.nef_index.specs.Tables.{AreRead}
+pub use Rattle.nef_index.specs.declared.groups.Cluster.{Cluster}
+pub use Rattle.nef_index.specs.declared.groups.Group.{Group}
+pub use Rattle.nef_index.specs.declared.skeleton.Edge.{Edge}
+pub use Rattle.nef_index.specs.declared.spans.Bounds.{Bounds}
+pub use Rattle.nef_index.specs.declared.spans.Span.{Span}
 pub use Rattle.nef_complex.specs.Complexes.{AreAbove, AreBelow, AreSorted, LiesOutside, ShowsSet, complex_of, edge_of, vertex_of}
-pub use Rattle.nef_complex.specs.Counting.{AreNumbersBelow, ArePlaces, AreRowsPlaced, HaveCounts, StandsFor, many_below, many_equal, ordered_place}
-pub use Rattle.nef_complex.specs.Index.{AreCarrierEdges, AreCarrierVertices, AreClusters, AreEdgeHolders, AreHeld, AreHolders, AreInOrder, AreItemFlags, AreNumbersWith, AreSpanned, AreSpans, AreVertexHolders, AreWithin, EdgeLiesIn, HasHolders, HasItemIn, HaveEnds, IsHolder, IsInCluster, IsInGroup, IsSpanOn, LiesOn, StandsIn}
-pub use Rattle.nef_complex.specs.Indexing.{AreAlone, AreKeyed, AreNarrowerListed, AreOnce, AreRowsOfOnce, HasNormal, HasNumber, IsWide}
-pub use Rattle.nef_complex.specs.Peaks.{ArePeaks, EndBelow, HavePeaks, block_start}
-pub use Rattle.nef_complex.specs.Planes.{HoldsBoth}
-pub use Rattle.nef_complex.specs.Runs.{AreRuns, AreRunsTo, GoesOn, IsHolderIn, IsOnlyHolder, IsRun}
-pub use Rattle.nef_complex.specs.Spans.{AreInSpan, AreNarrower, IsInSpan, IsNarrower}
-pub use Rattle.nef_complex.specs.Tables.{AreEnds, AreRead, rows_of}
-pub use Rattle.nef_complex.specs.Taken.{AreAdded, AreTaken, DoRise, HasEntry, IsRowAdded, IsSourceAmong, StandsAmong}
+pub use Rattle.nef_complex.specs.Index.{AreAlone, AreHeld, AreItemFlags, AreSpans, AreVertexHolders, EdgeLiesIn, HasItemIn, HasNormal, IsSpanOn, LiesOn, points_of, skeleton}
+pub use Rattle.nef_complex.specs.Taken.{AreAdded, AreTaken, IsRowAdded, IsSourceAmong, StandsAmong}
 pub use Rattle.nef_complex.specs.declared.complex.Complex.{Complex}
-pub use Rattle.nef_complex.specs.declared.complex.Edge.{Edge}
 pub use Rattle.nef_complex.specs.declared.complex.Vertex.{Vertex}
-pub use Rattle.nef_complex.specs.declared.groups.Cluster.{Cluster}
-pub use Rattle.nef_complex.specs.declared.groups.Group.{Group}
-pub use Rattle.nef_complex.specs.declared.spans.Bounds.{Bounds}
-pub use Rattle.nef_complex.specs.declared.spans.Span.{Span}

@@ -1,15 +1,8 @@
 -- What lies within two spans, between two points of a span, and in a plane with a span of its vertices.
-use Rattle.nef_complex.proofs.Prelude.{◌≡◌, ℤ, pos, ◌*ℤ◌, ◌≤ℤ◌, arith, sym, subst, inl, inr, ints, cancel_le, Place, Form, form_at, SamePlace, IsBetween, Set, place_of, at-map, get-from_at, meets_vertex, meets_edge, IsSkeletonIn, Coordinate, coordinate_of, coordinate_x, coordinate_y, coordinate_z, EachVertexOn, EachPointOn, IsWithin, Complex, Bounds, Span, vertex_of, complex_of, ShowsSet, IsSpanOn, IsInSpan, IsNarrower}
+use Rattle.nef_complex.proofs.Prelude.{◌≡◌, ℤ, pos, sym, subst, inl, inr, Place, Form, form_at, SamePlace, IsBetween, Set, place_of, at-map, get-from_at, meets_vertex, meets_edge, IsSkeletonIn, Coordinate, coordinate_x, coordinate_y, coordinate_z, EachVertexOn, EachPointOn, IsWithin, Complex, Bounds, Span, vertex_of, complex_of, ShowsSet, IsSpanOn, IsInSpan, IsNarrower}
 use Rattle.law_complex.specs.Complexes.{Vertex as PlainVertex}
 use Rattle.law_complex.proofs.Spans.{plane-within, within-same, within-between}
-use Rattle.nef_complex.proofs.Spanning.{weight, span-wider}
-
--- ---- bounds that hold a coordinate in common
-pub within-both : (c : Coordinate) (a b : Bounds) (q : Place) → IsWithin c a.low a.high q → IsWithin c b.low b.high q → (a.low ≤ℤ b.high) × (b.low ≤ℤ a.high)
-within-both c a b q i j = (below a.low b.high i.0 j.1, below b.low a.high j.0 i.1)
-  where
-    below : (l h : ℤ) → (l *ℤ pos q.w) ≤ℤ coordinate_of c q → coordinate_of c q ≤ℤ (h *ℤ pos q.w) → l ≤ℤ h
-    below l h u v = cancel_le l h (pos q.w) (weight q) (omega (arith, ints))
+use Rattle.nef_index.proofs.Spanning.{span-wider}
 
 -- ---- at equal points, and between two points
 pub span-same : (s : Span) (p q : Place) → SamePlace p q → IsInSpan s p → IsInSpan s q

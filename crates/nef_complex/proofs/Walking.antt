@@ -128,16 +128,6 @@ added-more table places n j m old new here there A = record {
     only k i (last e f) = inr (n, j, omega arith, here, subst (IsAt table j) (sym f) there)
 
 -- ---- numbers that are read
-pub read-none : (table places row : List ℕ) → row ≡ [] → AreRead table places 0 row
-read-none table places row e = subst (AreRead table places 0) (sym e) (refl, λ i k a. cc)
-
-pub read-more : (table places : List ℕ) (n j m : ℕ) (row : List ℕ) → IsAt places n j → IsAt table j m → AreRead table places n row → AreRead table places (n + 1) (row ++ m ∷ [])
-read-more table places n j m row here there R = ((let e = R.0 in let f = length-append row (m ∷ []) in omega arith), λ i k a. by i k (is-at_either row i k m a))
-  where
-    by : (i k : ℕ) → Either row i k m → (j : ℕ) × IsAt places i j × IsAt table j k
-    by i k (earlier a) = R.1 i k a
-    by i k (last e f) = (j, subst (λ (p : ℕ). IsAt places p j) (sym (e ∙ R.0)) here, subst (IsAt table j) (sym f) there)
-
 -- of places that increase, in a table of numbers that do, the numbers increase
 pub read-rise : (table places row : List ℕ) (n : ℕ) → AreRead table places n row → DoRise table → DoRise places → DoRise row
 read-rise table places row n R rise rises i j k l h a b =

@@ -5,16 +5,16 @@ use Rattle.nef_geo.specs.Shapes.{place_of, form_of}
 use Rattle.nef_geo.specs.declared.plane.Plane.{Plane}
 use Rattle.nef_geo.specs.declared.point.Point.{Point}
 use Rattle.nef_smap.specs.Maps.{map_of, IsLeastMap}
+use Rattle.nef_index.specs.declared.skeleton.Edge.{Edge}
+use Rattle.nef_index.specs.declared.spans.Span.{Span}
+use Rattle.nef_index.specs.Spans.{IsInSpan}
 use Rattle.law_complex.specs.Prelude.{Vertex as PlainVertex, Edge as PlainEdge, Complex as PlainComplex, Corner as PlainCorner, Edges, IsSkeletonIn, Shows, PlaneMeet as PlainMeet, meets_vertex, meets_edge}
 use Rattle.nef_complex.specs.declared.complex.Vertex.{Vertex}
-use Rattle.nef_complex.specs.declared.complex.Edge.{Edge}
 use Rattle.nef_complex.specs.declared.complex.Complex.{Complex}
 use Rattle.nef_complex.specs.declared.complex.Corner.{Corner}
 use Rattle.nef_complex.specs.declared.complex.PlaneMeet.{PlaneMeet}
 use Rattle.nef_complex.specs.declared.complex.PlaneMeet.TheVariants.{AtVertex, AtEdge}
-use Rattle.nef_complex.specs.declared.spans.Span.{Span}
-use Rattle.nef_complex.specs.Index.{IsIndexOf, HasHolders}
-use Rattle.nef_complex.specs.Spans.{IsInSpan}
+use Rattle.nef_complex.specs.Index.{skeleton, AreFlagged}
 
 abbrev pub vertex_of : Vertex → PlainVertex
 vertex_of v = record { point = place_of v.point; map = map_of v.map }
@@ -36,12 +36,16 @@ meet_of (AtEdge k) = meets_edge k
 abbrev pub AreSorted : List Vertex → Type 0
 AreSorted vs = (i k : ℕ) (u v : Vertex) → i < k → IsAt vs i u → IsAt vs k v → IsPlaceBelow (place_of u.point) (place_of v.point)
 
--- the complex shows the set with least maps; its index is the index of its carriers, vertices and edges
+-- the index of the complex is that of its carriers, vertices and edges
+pub record IsIndexed (c : Complex) : Type 0 where
+  pub is : c.index ≡ skeleton c.carriers c.vertices c.edges
+
+-- the complex shows the set with least maps, its flags are right, and its index is its own
 pub record ShowsSet (s : Set) (c : Complex) : Type 0 where
   pub shows : Shows s (complex_of c)
   pub maps : (k : ℕ) (v : Vertex) → IsAt c.vertices k v → IsLeastMap v.map
-  pub index : IsIndexOf c.carriers c.vertices c.index
-  pub holders : HasHolders c.carriers c.vertices c.edges c.index
+  pub flagged : AreFlagged c.carriers c.vertices c.has_item
+  pub indexed : IsIndexed c
 
 -- what the carrier with this number holds of the skeleton lies in the closed frame and outside the window
 abbrev pub LiesOutside : Complex → Span → ℕ → Type 0

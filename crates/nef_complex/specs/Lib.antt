@@ -1,15 +1,7 @@
-pub mod Complexes
-pub mod Planes
-pub mod Spans
-pub mod Peaks
-pub mod Indexing
 pub mod Index
-pub mod Runs
-pub mod Tables
+pub mod Complexes
 pub mod Taken
-pub mod Common
 pub mod Sides
-pub mod Counting
 pub mod Cycles
 pub mod Shells
 pub mod Numbers

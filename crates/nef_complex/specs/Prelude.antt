@@ -6,7 +6,7 @@ pub use Rattle.std.specs.Fmt.{signed_decimal}
 pub use Rattle.std.specs.List.Sorted.{IsSortedBy}
 pub use Rattle.std.specs.Option.{MatchOption, option_copied}
 pub use Rattle.std.specs.Ordering.{nat_cmp, ordering_then}
-pub use Rattle.std.specs.Prelude.{IsErr, IsOk, IsSome, Ok, decimal, flat_map, min, slice_index, slice_set}
+pub use Rattle.std.specs.Prelude.{IsErr, IsOk, decimal, flat_map, min, slice_set}
 pub use Rattle.std.specs.Process.{exit_status}
 pub use Rattle.nef_space.specs.Limits.{half_side, ray_point_limit, ray_weight_limit}
 pub use Rattle.nef_space.specs.Local.{FlatDim, Germ, IsVertex, Joined, SameSet}
@@ -25,21 +25,18 @@ pub use Rattle.law_complex.specs.Laws.{IsFlatIn, IsSkeletonIn, IsVertexOfBoth}
 pub use Rattle.law_complex.specs.Shows.{Carriers, SamePlane}
 pub use Rattle.law_complex.specs.Skeleton.{HasCorner, IsCornerAt, IsEdgePoint, IsFirstInPlane, IsOnEdges, IsSkeletonPoint, IsVertexPoint, Meets, PlaneMeet}
 pub use Rattle.law_complex.specs.Spans.{coordinate_of}
-pub use Rattle.nef_complex.specs.Common.{AreCommon, AreCommonRows, DoAllRise, HasAdded, HaveRows}
-pub use Rattle.nef_complex.specs.Complexes.{AreAbove, AreBelow, AreSorted, AreVerticesOf, ShowsSet, complex_of, corner_of, edge_of, meet_of, vertex_of}
-pub use Rattle.nef_complex.specs.Counting.{AreNumbersBelow, ArePlaces, AreRowsPlaced, HaveCounts, StandsFor}
+pub use Rattle.nef_index.specs.Carriers.{AreHolders, AreInOrder}
+pub use Rattle.nef_index.specs.Index.{AreClusters}
+pub use Rattle.nef_index.specs.Numbers.{AreNumbersWith, AreWithin}
+pub use Rattle.nef_index.specs.Peaks.{ArePeaks, EndBelow}
+pub use Rattle.nef_index.specs.Skeleton.{HaveEnds, HoldsBoth, Skeleton}
+pub use Rattle.nef_index.specs.Spans.{AreSmall, IsInSpan, IsNarrower}
+pub use Rattle.nef_index.specs.declared.skeleton.Edge.{Edge}
+pub use Rattle.nef_complex.specs.Complexes.{AreAbove, AreBelow, AreSorted, AreVerticesOf, IsIndexed, ShowsSet, complex_of, corner_of, edge_of, meet_of, vertex_of}
 pub use Rattle.nef_complex.specs.Cycles.{Leads}
-pub use Rattle.nef_complex.specs.Index.{AreCarrierEdges, AreCarrierVertices, AreClusters, AreHeld, AreHolders, AreHoldersAlong, AreInOrder, AreItemFlags, AreNumbersWith, AreSpans, AreVertexHolders, AreWithin, EdgeLiesIn, HasHolders, HasItemIn, HaveEnds, IsInCluster, IsInGroup, IsIndexOf, LiesOn, StandsIn}
-pub use Rattle.nef_complex.specs.Indexing.{AreAlone, AreKeyed, AreNarrowerListed, AreRowsOfOnce, HasNumber, IsWide}
+pub use Rattle.nef_complex.specs.Index.{AreAlone, AreFlagged, AreHeld, AreHoldersAlong, AreItemFlags, AreSpans, AreVertexHolders, EdgeLiesIn, HasItemIn, LiesOn, points_of, skeleton}
 pub use Rattle.nef_complex.specs.Numbers.{FacetNumbers, IsFacetOf, IsParts, IsVolumeOf, VolumeNumbers, count_items}
-pub use Rattle.nef_complex.specs.Peaks.{ArePeaks, EndBelow, HavePeaks, block_start}
 pub use Rattle.nef_complex.specs.Shells.{SfaceNumbers}
-pub use Rattle.nef_complex.specs.Spans.{AreNarrower, AreSmall, DoOverlap, HaveCommon, IsInSpan, IsNarrower}
-pub use Rattle.nef_complex.specs.Tables.{AreEnds}
-pub use Rattle.nef_complex.specs.Taken.{AreAdded, DoRise, IsRowAdded, IsSourceAmong}
+pub use Rattle.nef_complex.specs.Taken.{AreAdded, IsRowAdded, IsSourceAmong}
 pub use Rattle.nef_complex.specs.Text.{Text, arc_line, cycle_line, dir_words, edge_line, facet_text, first_line, label_word, option_word, plane_words, point_words, sface_line, shell_line, sloop_line, svertex_line, text, vertex_text, vertices_text, volumes_text}
-pub use Rattle.nef_complex.specs.declared.complex.Edge.{Edge}
 pub use Rattle.nef_complex.specs.declared.complex.Vertex.{Vertex}
-pub use Rattle.nef_complex.specs.declared.groups.Cluster.{Cluster}
-pub use Rattle.nef_complex.specs.declared.groups.Group.{Group}
-pub use Rattle.nef_complex.specs.Planes.{HoldsBoth}

@@ -4,15 +4,8 @@ use Rattle.nef_space.specs.Prelude.{ℕ, List, [], length, IsAt, Place, Set}
 use Rattle.nef_geo.specs.declared.plane.Plane.{Plane}
 use Rattle.nef_complex.specs.declared.taken_rows.Source.{Source}
 use Rattle.nef_complex.specs.Complexes.{ShowsSet}
-use Rattle.nef_complex.specs.Index.{AreHolders}
-
--- the number stands in the list
-abbrev pub HasEntry : List ℕ → ℕ → Type 0
-HasEntry ns k = (i : ℕ) × IsAt ns i k
-
--- the numbers increase
-abbrev pub DoRise : List ℕ → Type 0
-DoRise ns = (i j k l : ℕ) → i < j → IsAt ns i k → IsAt ns j l → k < l
+use Rattle.nef_index.specs.Numbers.{HasEntry, DoRise}
+use Rattle.nef_index.specs.Carriers.{AreHolders}
 
 -- the plane number i of gs is the plane number k of hs
 abbrev pub StandsAmong : List Plane → List Plane → ℕ → ℕ → Type 0

@@ -1,13 +1,11 @@
-//! The parts of a complex, the lookup of vertices by their points, and the index: what each carrier holds, and which
+//! A complex, the lookup of its vertices by their points, and what its index tells: what each carrier holds, and which
 //! carriers hold a vertex or an edge.
 
 ghost use Rattle.std.specs.Prelude.{◌<◌};
-ghost use Rattle.nef_complex.specs.Prelude.{ℕ, IsNone, IfSome, IfOk, IfErr, length, place_of, form_of, IsAt, Set, Plane, IsVertexPoint, complex_of, AreSorted, AreBelow, AreAbove, ShowsSet, Edge as EdgeValue, Vertex as VertexValue, HasItemIn, LiesOn, EdgeLiesIn, AreNumbersWith, AreHolders, AreHoldersAlong, AreSpans, AreClusters, AreAlone, ArePeaks};
+ghost use Rattle.nef_complex.specs.Prelude.{ℕ, IsNone, IfSome, IfOk, IfErr, length, place_of, form_of, IsAt, Set, Plane, IsVertexPoint, complex_of, AreSorted, AreBelow, AreAbove, ShowsSet, IsIndexed, Edge as EdgeValue, Vertex as VertexValue, HasItemIn, LiesOn, EdgeLiesIn, AreNumbersWith, AreHolders, AreHoldersAlong, AreSpans, AreAlone, ArePeaks, AreClusters, points_of};
 
-use crate::groups::Cluster;
-use crate::spans::Span;
-use crate::table::Table;
-use nef_geo::{Label, List, Plane, Point, lex_cmp};
+use nef_geo::{List, Plane, Point, lex_cmp};
+use nef_index::{Cluster, Edge, Index, Span};
 use nef_smap::SphereMap;
 
 /// A vertex: a point where no direction is flat, with the least map of the set there.
@@ -17,27 +15,17 @@ pub struct Vertex {
     pub map: SphereMap,
 }
 
-/// An edge joins a svertex of a vertex with the svertex of the opposite direction of the next vertex on the ray along
-/// that svertex. `low` is less than `high`; the edge's mark is that of both svertices.
-#[derive(Clone, Copy, PartialEq, Eq)]
-pub struct Edge {
-    pub low: usize,
-    pub low_svertex: usize,
-    pub high: usize,
-    pub high_svertex: usize,
-    pub mark: Label,
-}
-
 /// A complex. Its carriers are the planes of the halves that the set was made of and the six planes of the frame, in
 /// order of their four numbers, once each. Vertices stand in increasing order of their points, edges in increasing
-/// order of their lower vertex and its svertex. The type doesn't say that the index is that of these vertices and
-/// edges: `Complex::of` makes that index, and calls that read the index ask for a complex that shows a set.
+/// order of their lower vertex and its svertex. For each carrier a flag tells whether it is the plane of an item of some
+/// vertex. The index is that of some carriers, points and edges: calls that read it ask that it be that of the complex.
 #[derive(Drop)]
 pub struct Complex {
     pub carriers: List<Plane>,
     pub vertices: List<Vertex>,
     pub edges: List<Edge>,
-    pub index: PlaneIndex,
+    pub has_item: List<bool>,
+    pub index: Index,
 }
 
 /// An item of a vertex: the number of an arc, or the number of arcs for the sloop.
@@ -78,23 +66,6 @@ pub fn vertex_at(c: &Complex, p: &Point) -> Option<usize>
     }
 }
 
-/// The index of a complex. For each carrier: whether the carrier is the plane of an item of some vertex; the numbers of
-/// the vertices on the carrier and of the edges in the carrier; a span of these vertices. For each vertex: the numbers
-/// of its carriers, and its span. For each edge: the numbers of the carriers that hold both ends. All rows of numbers
-/// increase. Clusters of groups hold carriers that lie close to one another; long rows of edges have peaks.
-#[derive(Drop)]
-pub struct PlaneIndex {
-    pub has_item: List<bool>,
-    pub at_vertex: Table,
-    pub at_edge: Table,
-    pub on_carrier: Table,
-    pub in_carrier: Table,
-    pub points: List<Span>,
-    pub spans: List<Span>,
-    pub clusters: List<Cluster>,
-    pub peaks: Table,
-}
-
 /// The numbers of the edges in a plane and of the vertices on it, in increasing order, and the peaks of the edges.
 #[derive(Clone, Copy)]
 pub struct PlaneItems<'a> {
@@ -115,7 +86,7 @@ pub fn plane_items<'a>(c: &'a Complex, h: &Plane) -> Option<PlaneItems<'a>>
 {
     match c.carriers.as_slice().binary_search(h) {
         Ok(number) => {
-            if *c.index.has_item.at(number) {
+            if *c.has_item.at(number) {
                 Some(carrier_items(c, number))
             } else {
                 None
@@ -127,58 +98,59 @@ pub fn plane_items<'a>(c: &'a Complex, h: &Plane) -> Option<PlaneItems<'a>>
 
 /// The numbers of the carriers that hold the vertex with this number, in increasing order.
 pub fn vertex_holders(c: &Complex, number: usize) -> &[usize]
-    requires shows { (s : Set) × ShowsSet s c.now }
+    requires indexed { IsIndexed c.now }
     requires within { number < length c.now.vertices }
     ensures holders { (v : VertexValue) → IsAt c.now.vertices number v → AreHolders c.now.carriers (place_of v.point) (place_of v.point) result.now }
 {
-    c.index.at_vertex.row(number)
+    c.index.point_holders(number)
 }
 
 /// The numbers of the carriers that hold both ends of the edge with this number, in increasing order.
 pub fn edge_holders(c: &Complex, number: usize) -> &[usize]
-    requires shows { (s : Set) × ShowsSet s c.now }
+    requires indexed { IsIndexed c.now }
     requires within { number < length c.now.edges }
     ensures holders { (e : EdgeValue) → IsAt c.now.edges number e → AreHoldersAlong c.now.carriers c.now.vertices e result.now }
 {
-    c.index.at_edge.row(number)
+    c.index.edge_holders(number)
 }
 
 /// The edges that lie in the carrier with this number, and the vertices on the carrier.
 pub fn carrier_items<'a>(c: &'a Complex, number: usize) -> PlaneItems<'a>
-    requires shows { (s : Set) × ShowsSet s c.now }
+    requires indexed { IsIndexed c.now }
     requires within { number < length c.now.carriers }
     ensures edges { (h : Plane) → IsAt c.now.carriers number h → AreNumbersWith (EdgeLiesIn c.now.vertices c.now.edges (form_of h)) result.edges.now }
     ensures vertices { (h : Plane) → IsAt c.now.carriers number h → AreNumbersWith (LiesOn c.now.vertices (form_of h)) result.vertices.now }
     ensures peaks { ArePeaks c.now.edges result.edges.now result.peaks.now }
 {
+    let (edges, peaks) = c.index.carrier_edges(number);
     PlaneItems {
-        edges: c.index.in_carrier.row(number),
-        vertices: c.index.on_carrier.row(number),
-        peaks: c.index.peaks.row_or_none(number),
+        edges,
+        vertices: c.index.carrier_points(number),
+        peaks,
     }
 }
 
 /// For each vertex the span of its point alone.
 pub fn point_spans(c: &Complex) -> &[Span]
-    requires shows { (s : Set) × ShowsSet s c.now }
+    requires indexed { IsIndexed c.now }
     ensures alone { AreAlone c.now.vertices result.now }
 {
-    c.index.points.as_slice()
+    c.index.point_spans()
 }
 
 /// For each carrier a span of the vertices on it.
 pub fn carrier_spans(c: &Complex) -> &[Span]
-    requires shows { (s : Set) × ShowsSet s c.now }
+    requires indexed { IsIndexed c.now }
     ensures spans { AreSpans c.now.carriers c.now.vertices result.now }
 {
-    c.index.spans.as_slice()
+    c.index.carrier_spans()
 }
 
 /// The carriers in groups, and the groups in clusters, with spans of the vertices on their carriers. Each carrier
 /// stands in some group of some cluster.
 pub(crate) fn carrier_clusters(c: &Complex) -> &[Cluster]
-    requires shows { (s : Set) × ShowsSet s c.now }
-    ensures clusters { AreClusters c.now.carriers c.now.vertices result.now }
+    requires indexed { IsIndexed c.now }
+    ensures clusters { AreClusters c.now.carriers (points_of c.now.vertices) result.now }
 {
-    c.index.clusters.as_slice()
+    c.index.clusters()
 }

@@ -5,26 +5,19 @@
 #![tactic(auto)]
 
 mod complex;
-mod counting;
-mod groups;
 mod indexing;
+mod items;
 mod parts;
-mod peaks;
-mod sorted_carriers;
-mod spans;
-mod table;
 mod taken_rows;
 mod walk;
 
 pub use complex::{
-    Complex, Corner, Edge, PlaneIndex, PlaneItems, PlaneMeet, Vertex, carrier_items, carrier_spans,
-    edge_holders, find_vertex, plane_items, point_spans, vertex_at, vertex_holders,
+    Complex, Corner, PlaneItems, PlaneMeet, Vertex, carrier_items, carrier_spans, edge_holders,
+    find_vertex, plane_items, point_spans, vertex_at, vertex_holders,
 };
 pub use indexing::vertex_rows;
+pub use nef_index::{Bounds, Edge, SortedCarriers, Span, Table, holds, may_meet};
 pub use parts::{Cycle, Facet, Parts, Shell, Side};
-pub use sorted_carriers::{SortedCarriers, holds};
-pub use spans::{Bounds, Span, may_meet};
 pub use std::alloc::AllocError as OutOfMemory;
-pub use table::Table;
 pub use taken_rows::vertex_rows_from;
 pub use walk::{Search, search_carriers};

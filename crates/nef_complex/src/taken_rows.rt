@@ -7,9 +7,8 @@ ghost use Rattle.std.specs.Prelude.{◌≡◌, ◌<◌};
 use crate::OutOfMemory;
 use crate::complex::{Complex, Vertex, vertex_holders};
 use crate::indexing::CARRIERS_AT_VERTEX;
-use crate::sorted_carriers::SortedCarriers;
-use crate::table::Table;
 use nef_geo::{List, Plane, Point, lex_cmp};
+use nef_index::{SortedCarriers, Table};
 use std::alloc::Global;
 use std::cmp::Ordering;
 

@@ -3,14 +3,16 @@
 ghost use Rattle.std.specs.Prelude.{◌≡◌, ◌<◌};
 ghost use Rattle.nef_geo.specs.Prelude.{ℕ, length, Option, None, IsTrue, IsAt, Set};
 ghost use Rattle.nef_complex.specs.Complexes.{ShowsSet, LiesOutside};
-ghost use Rattle.nef_complex.specs.Index.{AreWithin, IsInGroup, IsInCluster, AreSpanned};
+ghost use Rattle.nef_index.specs.Numbers.{AreWithin};
+ghost use Rattle.nef_index.specs.Groups.{IsInGroup, IsInCluster};
+ghost use Rattle.nef_index.specs.Index.{AreSpanned};
+ghost use Rattle.nef_index.specs.declared.groups.Group.{Group as GroupValue};
+ghost use Rattle.nef_index.specs.declared.spans.Span.{Span as SpanValue};
+ghost use Rattle.nef_complex.specs.Index.{points_of};
 ghost use Rattle.nef_complex.specs.declared.complex.Complex.{Complex as ComplexValue};
-ghost use Rattle.nef_complex.specs.declared.groups.Group.{Group as GroupValue};
-ghost use Rattle.nef_complex.specs.declared.spans.Span.{Span as SpanValue};
 
 use crate::complex::{Complex, carrier_clusters, carrier_spans};
-use crate::groups::{Cluster, Group};
-use crate::spans::{Span, may_meet};
+use nef_index::{Cluster, Group, Span, may_meet};
 
 /// A search for something on one carrier after the other, within a window.
 pub trait Search {
@@ -69,7 +71,7 @@ fn ask_group<S: Search>(search: &S, c: &Complex, group: &Group, found: &mut Opti
 // Asks the carriers of the cluster's groups whose spans meet the window.
 fn ask_cluster<S: Search>(search: &S, c: &Complex, cluster: &Cluster, found: &mut Option<S::Found>)
     requires shows { (s : Set) × ShowsSet s c.now }
-    requires groups { (i : ℕ) (g : GroupValue) → IsAt cluster.now.groups i g → AreSpanned c.now.carriers c.now.vertices (IsInGroup g) g.span }
+    requires groups { (i : ℕ) (g : GroupValue) → IsAt cluster.now.groups i g → AreSpanned c.now.carriers (points_of c.now.vertices) (IsInGroup g) g.span }
     requires right { S.right search.now c.now found.old }
     ensures right { S.right search.now c.now found.new }
     ensures kept { (k : ℕ) → S.passed search.now c.now found.old k → S.passed search.now c.now found.new k }

@@ -1,5 +1,5 @@
 -- The vertices of a set are joined: their svertices are ends of edges.
-use Rattle.nef_edges.proofs.Prelude.{◌≡◌, ℕ, ◌<◌, List, map, length, sym, subst, IsAt, IsPlaceBelow, Set, form_of, Plane, At, Shaped, InOrder, Complex as PlainComplex, Edges, Shows, Vertex, Edge, vertex_of, edge_of, AreVerticesOf, ShowsSet, IsIndexOf, HasHolders, AreHeld, AreInOrder, HaveEnds, AreJoined}
+use Rattle.nef_edges.proofs.Prelude.{◌≡◌, ℕ, ◌<◌, List, map, length, sym, subst, IsAt, IsPlaceBelow, Set, form_of, Plane, At, Shaped, InOrder, Complex as PlainComplex, Edges, Shows, Vertex, Edge, vertex_of, edge_of, AreVerticesOf, ShowsSet, AreFlagged, IsIndexed, AreHeld, AreInOrder, HaveEnds, AreJoined}
 use Rattle.law_complex.specs.Complexes.{Vertex as PlainVertex}
 use Rattle.nef_complex.specs.declared.complex.Complex.{Complex}
 use Rattle.nef_complex.proofs.Carried.{items-held}
@@ -45,12 +45,12 @@ module _ (s : Set) (carriers : List Plane) (vertices : List Vertex) (V : AreVert
         vertex-within : (i : ℕ) (v : PlainVertex) → At (map vertex_of vertices) i v → i < length vertices
         vertex-within i v b = let u = map-at vertex_of vertices i v b in at-within vertices i u.0 u.1
 
-    pub shows-set : (c : Complex) → c.carriers ≡ carriers → c.vertices ≡ vertices → c.edges ≡ es → IsIndexOf c.carriers c.vertices c.index → HasHolders c.carriers c.vertices c.edges c.index → ShowsSet s c
-    shows-set c h v e I H = record {
+    pub shows-set : (c : Complex) → c.carriers ≡ carriers → c.vertices ≡ vertices → c.edges ≡ es → AreFlagged c.carriers c.vertices c.has_item → IsIndexed c → ShowsSet s c
+    shows-set c h v e F I = record {
       shows = subst (λ (hs : List Plane). Shows s (record { carriers = map form_of hs; vertices = map vertex_of c.vertices; edges = map edge_of c.edges })) (sym h)
           (subst (λ (vs : List Vertex). Shows s (record { carriers = map form_of carriers; vertices = map vertex_of vs; edges = map edge_of c.edges })) (sym v)
           (subst (λ (fs : List Edge). Shows s (record { carriers = map form_of carriers; vertices = map vertex_of vertices; edges = map edge_of fs })) (sym e) shown));
       maps = λ k u a. V.maps k u (subst (λ (vs : List Vertex). IsAt vs k u) v a);
-      index = I;
-      holders = H;
+      flagged = F;
+      indexed = I;
     }

@@ -1,6 +1,6 @@
 -- Equal fractions have equal whole parts.
 use Rattle.nef_edges.proofs.Prelude.{◌≡◌, ℤ, pos, ◌+ℤ◌, ◌*ℤ◌, ◌<ℤ◌, [], ◌∷◌, arith, sym, ints, int_div_euclid, mul_pos, mul_le_right, mul_lt_right, cancel_lt, ring, at, num, ◌⊕◌, ◌⊗◌}
-use Rattle.nef_complex.proofs.Spanning.{euclid-below, euclid-above}
+use Rattle.nef_index.proofs.Spanning.{euclid-below, euclid-above}
 
 -- of n/w = m/v the whole part on the left isn't above the one on the right
 not-above : (n w m v : ℤ) → pos 0 <ℤ w → pos 0 <ℤ v → n *ℤ v ≡ m *ℤ w → int_div_euclid n w <ℤ (int_div_euclid m v +ℤ pos 1)

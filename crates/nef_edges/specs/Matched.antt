@@ -6,7 +6,7 @@ use Rattle.law_complex.specs.Complexes.{Vertex, Edge, IsEdgeBelow, Edges}
 use Rattle.nef_geo.specs.Shapes.{place_of, vector_of}
 use Rattle.nef_smap.specs.declared.map.SVertex.{SVertex}
 use Rattle.nef_complex.specs.declared.complex.Vertex.{Vertex as ProgramVertex}
-use Rattle.nef_complex.specs.declared.complex.Edge.{Edge as ProgramEdge}
+use Rattle.nef_index.specs.declared.skeleton.Edge.{Edge as ProgramEdge}
 use Rattle.nef_edges.specs.Pairs.{AreJoined}
 
 -- the edge joins a svertex that leads to later points with one of a later vertex that leads back along the same line

@@ -4,7 +4,7 @@ use Rattle.nef_complex.specs.Prelude.{ℕ, List, map, IsPlaceBelow, opposite, Is
 use Rattle.law_sphere.specs.Least.{InOrder}
 use Rattle.law_complex.specs.Complexes.{Vertex as PlainVertex, Edge as PlainEdge, IsEdge, IsEdgeBelow}
 use Rattle.nef_complex.specs.declared.complex.Vertex.{Vertex}
-use Rattle.nef_complex.specs.declared.complex.Edge.{Edge}
+use Rattle.nef_index.specs.declared.skeleton.Edge.{Edge}
 
 -- the edge leaves svertex a of vertex i
 abbrev pub IsFrom : List PlainVertex → ℕ → ℕ → PlainEdge → Type 0

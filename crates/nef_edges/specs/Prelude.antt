@@ -4,7 +4,7 @@ pub use Rattle.nef_complex.specs.Prelude.{AreVertexHolders, AreVerticesOf, At, E
 pub use Rattle.std.specs.Prelude.{set}
 pub use Rattle.std.specs.declared.cmp.Ordering.TheVariants.{Equal}
 pub use Rattle.nef_space.specs.Place.{toward}
-pub use Rattle.nef_complex.specs.declared.complex.Edge.{Edge}
+pub use Rattle.nef_index.specs.declared.skeleton.Edge.{Edge}
 pub use Rattle.nef_complex.specs.declared.complex.Vertex.{Vertex}
 pub use Rattle.nef_edges.specs.EdgeEnds.{AreArriving, IsAfter, IsBefore, IsNext, NoneAfter}
 pub use Rattle.nef_edges.specs.Laid.{AreLaid, IsEnd, IsJoinedAt, IsPart, LeadsTo}

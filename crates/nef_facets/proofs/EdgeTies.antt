@@ -3,7 +3,7 @@ use Rattle.nef_facets.proofs.Prelude.{◌≡◌, ℕ, ◌<◌, ◌≤◌, List, 
 use Rattle.std.proofs.lemmas.List.{length-map}
 use Rattle.nef_smap.proofs.Lists.{at-within, map-at}
 use Rattle.nef_complex.specs.declared.complex.Complex.{Complex as ProgramComplex}
-use Rattle.nef_complex.specs.declared.complex.Edge.{Edge as ProgramEdge}
+use Rattle.nef_index.specs.declared.skeleton.Edge.{Edge as ProgramEdge}
 use Rattle.nef_complex.specs.declared.complex.Vertex.{Vertex as ProgramVertex}
 use Rattle.nef_facets.proofs.Adding.{adds-one, adds-none, adds-as}
 

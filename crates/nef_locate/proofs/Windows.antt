@@ -2,7 +2,7 @@
 use Rattle.nef_locate.proofs.Prelude.{◌≡◌, ℕ, ◌+◌, ◌*◌, ◌≤◌, ℤ, pos, neg_ℤ, ◌+ℤ◌, ◌-ℤ◌, ◌*ℤ◌, ◌<ℤ◌, ◌≤ℤ◌, nat_abs, [], ◌∷◌, arith, ap, sym, inl, inr, subst, ints, mul_nonneg, mul_le_right, cancel_le, cancel_lt, ring, at, num, ◌⊕◌, ◌⊖◌, ◌⊗◌, half_side, Place, InClosedFrame, IsAhead, Vector, opposite, up, IsUpright, Coordinate, coordinate_of, coordinate_x, coordinate_y, coordinate_z, IsWithin, ahead-back, Span, IsInSpan, IsInside, IsAmid}
 use Rattle.law_complex.specs.Spans.{IsJustAbove, IsCloseAbove}
 use Rattle.law_complex.proofs.Spans.{stays-close}
-use Rattle.nef_complex.specs.declared.spans.Bounds.{Bounds}
+use Rattle.nef_index.specs.declared.spans.Bounds.{Bounds}
 
 weight : (p : Place) → pos 0 <ℤ pos p.w
 weight p = let m = p.proper in omega (arith, ints)

@@ -2,8 +2,8 @@
 use Rattle.std.specs.Prelude.{◌*◌, ◌≤◌, ◌*ℤ◌, ◌<ℤ◌, ◌≤ℤ◌}
 use Rattle.nef_space.specs.Prelude.{ℤ, pos, nat_abs, half_side, Place}
 use Rattle.law_complex.specs.Spans.{Coordinate, coordinate_of, coordinate_y, coordinate_z}
-use Rattle.nef_complex.specs.declared.spans.Bounds.{Bounds}
-use Rattle.nef_complex.specs.declared.spans.Span.{Span}
+use Rattle.nef_index.specs.declared.spans.Bounds.{Bounds}
+use Rattle.nef_index.specs.declared.spans.Span.{Span}
 
 -- n/w lies within the bounds and is at most the frame's half side in size
 abbrev pub LiesBetween : Bounds → ℤ → ℤ → Type 0

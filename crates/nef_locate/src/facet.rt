@@ -67,7 +67,7 @@ pub(crate) fn has_item(c: &Complex, number: usize) -> bool
     requires within { number < length c.now.carriers }
     ensures item { (h : PlaneValue) → IsAt c.now.carriers number h → (IsTrue result ↔ HasItemIn c.now.vertices (form_of h)) }
 {
-    *c.index.has_item.at(number)
+    *c.has_item.at(number)
 }
 
 // As `in_facet`, where the plane's edges and vertices are known.

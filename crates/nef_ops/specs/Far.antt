@@ -3,7 +3,7 @@ use Rattle.std.specs.Prelude.{◌≡◌, ◌*ℤ◌, ◌<ℤ◌, ◌≤ℤ◌, �
 use Rattle.nef_complex.specs.Prelude.{HasLabel, FlatDim, Place, Form, form_at, InFrame, Set, Label, place_of, Point, At, IsSkeletonPoint, complex_of, ShowsSet, IsInSpan}
 use Rattle.law_complex.specs.Spans.{Coordinate, coordinate_of, coordinate_x, coordinate_y, coordinate_z}
 use Rattle.nef_complex.specs.declared.complex.Complex.{Complex}
-use Rattle.nef_complex.specs.declared.spans.Span.{Span}
+use Rattle.nef_index.specs.declared.spans.Span.{Span}
 use Rattle.nef_ops.specs.declared.regions.Axis.{Axis}
 use Rattle.nef_ops.specs.declared.regions.Axis.TheVariants.{X, Y, Z}
 use Rattle.nef_ops.specs.declared.regions.Way.{Way}

@@ -25,15 +25,15 @@ pub use Rattle.nef_complex.proofs.ListedHolders.{AllListed, all-holders, holder-
 pub use Rattle.nef_complex.proofs.Parted.{along-cross, crossed-parted, held-between, parted-cut, times-neg, times-nought, times-pos}
 pub use Rattle.nef_complex.proofs.Reading.{got-at}
 pub use Rattle.nef_complex.proofs.Spanned.{span-between, span-same}
-pub use Rattle.nef_complex.proofs.Spanning.{euclid-above, euclid-below, span-wider}
+pub use Rattle.nef_index.proofs.Spanning.{euclid-above, euclid-below, span-wider}
 pub use Rattle.nef_complex.specs.Complexes.{meet_of}
 pub use Rattle.nef_complex.specs.Index.{AreHoldersAlong}
 pub use Rattle.nef_complex.specs.declared.complex.Complex.{Complex}
-pub use Rattle.nef_complex.specs.declared.complex.Edge.{Edge}
+pub use Rattle.nef_index.specs.declared.skeleton.Edge.{Edge}
 pub use Rattle.nef_complex.specs.declared.complex.PlaneMeet.{PlaneMeet}
 pub use Rattle.nef_complex.specs.declared.complex.PlaneMeet.TheVariants.{AtEdge, AtVertex}
 pub use Rattle.nef_complex.specs.declared.complex.Vertex.{Vertex}
-pub use Rattle.nef_complex.specs.declared.spans.Span.{Span}
+pub use Rattle.nef_index.specs.declared.spans.Span.{Span}
 pub use Rattle.nef_plane.specs.Amid.{AllSideWith, AllThrough, AreAmid, IsAmid, SidesWith}
 pub use Rattle.nef_plane.specs.Asked.{AreItems, count_in, meet_at}
 pub use Rattle.nef_plane.specs.Courses.{IsBeside, IsCourse, IsExcluding, IsFirst, IsPassed, IsPast, StartsAt, StaysClose, shifted_form}

@@ -2,7 +2,7 @@
 use Rattle.std.specs.Prelude.{◌≡◌, ◌<◌}
 use Rattle.nef_complex.specs.Prelude.{ℕ, length, IsAt, Form, LiesOn, EdgeLiesIn}
 use Rattle.nef_complex.specs.declared.complex.Vertex.{Vertex}
-use Rattle.nef_complex.specs.declared.complex.Edge.{Edge}
+use Rattle.nef_index.specs.declared.skeleton.Edge.{Edge}
 use Rattle.nef_complex.specs.declared.complex.Complex.{Complex}
 use Rattle.nef_complex.specs.declared.complex.PlaneMeet.{PlaneMeet}
 use Rattle.nef_complex.specs.declared.complex.PlaneMeet.TheVariants.{AtVertex, AtEdge}

@@ -6,7 +6,7 @@
 
 ghost use Rattle.std.specs.Prelude.{◌<◌, ◌↔◌};
 ghost use Rattle.nef_complex.specs.Prelude.{length, IsTrue, IsAt, Place, Set, form_of, place_of, hit_place, IsVertexPoint, IsEdgePoint, complex_of, ShowsSet, AreWithin, AreHolders};
-ghost use Rattle.nef_complex.specs.declared.complex.Edge.{Edge};
+ghost use Rattle.nef_index.specs.declared.skeleton.Edge.{Edge};
 ghost use Rattle.nef_complex.specs.declared.complex.Vertex.{Vertex};
 ghost use Rattle.nef_plane.specs.Amid.{AllSideWith, AllThrough};
 ghost use Rattle.nef_plane.specs.Ends.{HasMeet, MeetLiesIn, AreEnds, HasEndsAt};

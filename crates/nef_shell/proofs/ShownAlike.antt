@@ -27,4 +27,4 @@ shows-alike s t C a S = record {
 }
 
 pub shown-alike : (s t : Set) (c : Complex) → AreAlike s t → ShowsSet s c → ShowsSet t c
-shown-alike s t c a S = record { shows = shows-alike s t (complex_of c) a S.shows; maps = S.maps; index = S.index; holders = S.holders }
+shown-alike s t c a S = record { shows = shows-alike s t (complex_of c) a S.shows; maps = S.maps; flagged = S.flagged; indexed = S.indexed }

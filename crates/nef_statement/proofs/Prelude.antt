@@ -19,7 +19,7 @@ pub use Rattle.std.specs.List.{join_with_byte, list_all, zip}
 pub use Rattle.std.specs.Prelude.{codes, drop, int_le, nat_le, option_to_list}
 pub use Rattle.law_near.proofs.Alike.{Joined-same}
 pub use Rattle.law_near.proofs.Decided.{InFrame-decided}
-pub use Rattle.nef_complex.specs.declared.complex.Edge.{Edge}
+pub use Rattle.nef_index.specs.declared.skeleton.Edge.{Edge}
 pub use Rattle.nef_expr.proofs.Operands.{names-from, operand-below}
 pub use Rattle.nef_expr.proofs.Tables.{IsCopying, base-image, base-new, copy-image, copy-is, copy-there, copying-length, copying-more, copying-operands, copying-start, new-image, new-names, ordered-push, origins-push, stays-same, stays-twice}
 pub use Rattle.law_exist.proofs.Points.{point-with}

@@ -36,14 +36,14 @@ text-holds version s x d y (c, p, S, P, e) spells inside = spelled-holds (λ s C
 pub count-tells : (s : Set) (x : List ℕ) → IsWrittenOf s count_line x → CountTells s x
 count-tells s x (c, p, S, P, e) = subst (CountTells s) (sym e) (counted-by s (length c.vertices) (length c.edges) (length p.facets) (length p.volumes) (shown-counted c p P s S (upright-by_maps s c S (shown-maps s c S))))
 
-text-same : (version : TextVersion) (c : Complex) (p : Parts) → text version c p ≡ text version (record { carriers = []; vertices = c.vertices; edges = c.edges; index = c.index }) p
+text-same : (version : TextVersion) (c : Complex) (p : Parts) → text version c p ≡ text version (record { carriers = []; vertices = c.vertices; edges = c.edges; has_item = c.has_item; index = c.index }) p
 text-same One c p = refl
 text-same Two c p = refl
 
 -- to the vertices and edges of a complex that shows the set a point of the frame belongs exactly where the set holds, whatever the carriers
 shown-holds : (version : TextVersion) (t : Set) (c : Complex) (p : Parts) (y : Place) → Shows t (complex_of c) → IsParts (complex_of c) p → InFrame y → Belongs (with_edges (map vertex_of c.vertices) (map edge_of c.edges)) y ↔ Holds t y
 shown-holds version t c p y S P inside =
-    let d : Complex = record { carriers = []; vertices = c.vertices; edges = c.edges; index = c.index } in
+    let d : Complex = record { carriers = []; vertices = c.vertices; edges = c.edges; has_item = c.has_item; index = c.index } in
     spelled-holds (λ s C p S inside. belongs-holds s C S (facet-at s C S) (facet-of s C S) p inside) version t c d p (text version c p) y S refl
     (S.edges, (p, same-parts c d p refl refl P, text-same version c p)) inside
 

@@ -1,7 +1,7 @@
 -- What the program holds is told by what it stands for.
 use Rattle.nef_unique.proofs.Prelude.{◌≡◌, ℕ, ◌<◌, ◌^◌, refl, ap, ◌∙◌, List, [], ◌∷◌, map, subst, Option, Some, None, option_map, SameDirection, Label, vector_of, Dir, same_directions_equal, MapVertex, Arc, MapSloop, Map, svertex_of, arc_of, sloop_of, map_of, SVertex, SArc, SLoop, SphereMap, Edge as PlainEdge, Vertex, edge_of, dir-self}
 use Rattle.std.proofs.Props.{props}
-use Rattle.nef_complex.specs.declared.complex.Edge.{Edge}
+use Rattle.nef_index.specs.declared.skeleton.Edge.{Edge}
 
 -- ---- lists and options
 pub map-one : {A B : Type 0} (f : A → B) → ((x y : A) → f x ≡ f y → x ≡ y) → (xs ys : List A) → map f xs ≡ map f ys → xs ≡ ys

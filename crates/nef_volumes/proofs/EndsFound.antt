@@ -1,7 +1,7 @@
 -- The ends of the program's edges.
 use Rattle.nef_volumes.proofs.Prelude.{◌≡◌, ℕ, ◌<◌, length, map, Option, Some, None, slice_get, arith, ap, sym, ◌∙◌, subst, length-map, Label, Set, At, MapVertex, at-one, SVertex, svertex_of, map-at, at-within, at-from_get, Vertex, Edge, edge_of, complex_of, ShowsSet, Cell, Tie, HasSvertex, IsAroundCell, IsTieOfEnds}
 use Rattle.nef_complex.specs.declared.complex.Complex.{Complex}
-use Rattle.nef_complex.specs.declared.complex.Edge.{Edge as ProgramEdge}
+use Rattle.nef_index.specs.declared.skeleton.Edge.{Edge as ProgramEdge}
 use Rattle.nef_complex.specs.declared.complex.Vertex.{Vertex as ProgramVertex}
 use Rattle.nef_volumes.proofs.ReadVertex.{edge-there, edge-read, vertex-read, vertex-within}
 

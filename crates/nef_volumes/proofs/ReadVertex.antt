@@ -1,7 +1,7 @@
 -- The program's vertices and edges as those of its complex.
 use Rattle.nef_volumes.proofs.Prelude.{◌≡◌, ℕ, ◌<◌, length, Some, slice_get, arith, length-map, At, at-one, map-at, at-within, at-from_get, Vertex, Edge, vertex_of, edge_of, complex_of}
 use Rattle.nef_complex.specs.declared.complex.Complex.{Complex}
-use Rattle.nef_complex.specs.declared.complex.Edge.{Edge as ProgramEdge}
+use Rattle.nef_index.specs.declared.skeleton.Edge.{Edge as ProgramEdge}
 use Rattle.nef_complex.specs.declared.complex.Vertex.{Vertex as ProgramVertex}
 
 pub vertex-there : (c : Complex) (k : ℕ) (u : ProgramVertex) → slice_get c.vertices k ≡ Some u → At (complex_of c).vertices k (vertex_of u)

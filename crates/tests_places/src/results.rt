@@ -7,7 +7,7 @@ ghost use Rattle.nef_smap.specs.Maps.{map_of, IsLeastMap};
 use crate::items::{add_planes, letter};
 use crate::words::{add_numbers, case_of, check, oriented, parted};
 use nef_classes::{Link, class_numbers, class_of_each};
-use nef_complex::{Complex, OutOfMemory, PlaneIndex, Table};
+use nef_complex::{Complex, OutOfMemory, Table};
 use nef_geo::{Label, List, Plane, Point};
 use nef_result::{add_carrier, copy_carriers, half_map, merge_carriers};
 use nef_smap::{SphereMap, face_map};
@@ -78,23 +78,16 @@ fn of_carriers(alloc: Global, first: usize, second: usize) -> Result<Complex, Ou
     let mut carriers = List::new(alloc);
     carriers.push(Plane::frame(first))?;
     carriers.push(Plane::frame(second))?;
-    let index = PlaneIndex {
-        has_item: List::new(alloc),
-        at_vertex: Table::with_rows(alloc, 0, 0)?,
-        at_edge: Table::with_rows(alloc, 0, 0)?,
-        on_carrier: Table::with_rows(alloc, 0, 0)?,
-        in_carrier: Table::with_rows(alloc, 0, 0)?,
-        points: List::new(alloc),
-        spans: List::new(alloc),
-        clusters: List::new(alloc),
-        peaks: Table::with_rows(alloc, 0, 0)?,
-    };
-    Ok(Complex {
-        carriers,
-        vertices: List::new(alloc),
-        edges: List::new(alloc),
-        index,
-    })
+    let table = Table::with_rows(alloc, 0, 0)?;
+    let mut complex = Complex::of(
+        alloc,
+        List::new(alloc),
+        List::new(alloc),
+        List::new(alloc),
+        table,
+    )?;
+    complex.carriers = carriers;
+    Ok(complex)
 }
 
 // The merged carriers of both, the carriers of `a` with the side x = -2048, and a copy of the carriers of `b`.

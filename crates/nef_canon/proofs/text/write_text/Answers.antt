@@ -1,5 +1,5 @@
 use Rattle.nef_canon.proofs.Prelude.{◌≡◌, List, ℕ, ◌++◌, ap, ◌∙◌, flat_map, first_line, vertices_text, edge_line, facet_text, volumes_text, text}
-use Rattle.nef_complex.specs.declared.complex.Edge.{Edge}
+use Rattle.nef_index.specs.declared.skeleton.Edge.{Edge}
 use Rattle.nef_complex.specs.declared.parts.Facet.{Facet}
 use Rattle.nef_canon.proofs.Lines.{pieces-behind}
 use Rattle.nef_canon.proofs.text.write_text.Goals as goal

@@ -1,6 +1,6 @@
 use Rattle.nef_complex.proofs.Prelude.{ℕ, ◌+◌, List, Option, IfSome, length, arith, refl, sym, subst, slice_get_read, place_of, Vertex, AreHolders, IsSourceAmong}
 use Rattle.nef_complex.specs.declared.taken_rows.Source.{Source}
-use Rattle.nef_complex.proofs.Numbered.{AreRowsTo, rows-none, rows-more}
+use Rattle.nef_index.proofs.Numbered.{AreValuesTo, values-none, values-more}
 use Rattle.nef_complex.proofs.taken_rows.rows_by.Goals as goal
 
 pub loop-vertex-init : goal.loop-vertex-init
@@ -9,7 +9,7 @@ loop-vertex-init c =
     record {
       first = c.requires.first;
       second = c.requires.second;
-      rows = subst (AreRowsTo P c.args.vertices.now 0) (sym c.in_ok-rows.ensures.empty) (rows-none P c.args.vertices.now);
+      rows = subst (AreValuesTo P c.args.vertices.now 0) (sym c.in_ok-rows.ensures.empty) (values-none P c.args.vertices.now);
     }
 
 pub loop-vertex-preserved : goal.loop-vertex-preserved
@@ -24,8 +24,8 @@ loop-vertex-preserved c =
     record {
       first = subst (λ (o : Option Source). IfSome o (IsSourceAmong hs)) (sym c.in_ok-push_row_at.ensures.first) I.first;
       second = subst (λ (o : Option Source). IfSome o (IsSourceAmong hs)) (sym c.in_ok-push_row_at.ensures.second) I.second;
-      rows = subst (AreRowsTo P vs (n + 1)) (sym added.2)
-          (rows-more P vs n c.loop-vertex.rows v added.0 (slice_get_read vs (length vs) n v refl c.loop-vertex-test.true c.vertex-item.is) added.1 I.rows);
+      rows = subst (AreValuesTo P vs (n + 1)) (sym added.2)
+          (values-more P vs n c.loop-vertex.rows v added.0 (slice_get_read vs (length vs) n v refl c.loop-vertex-test.true c.vertex-item.is) added.1 I.rows);
     }
 
 pub returns : goal.returns

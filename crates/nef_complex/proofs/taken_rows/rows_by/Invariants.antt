@@ -1,11 +1,11 @@
 use Rattle.std.specs.Prelude.{ℕ, List, IfSome}
 use Rattle.nef_complex.proofs.Prelude.{place_of, Vertex, AreHolders, IsSourceAmong}
-use Rattle.nef_complex.proofs.Numbered.{AreRowsTo}
+use Rattle.nef_index.proofs.Numbered.{AreValuesTo}
 use Rattle.nef_complex.proofs.taken_rows.rows_by.Given as goal
 
 abbrev pub invariant-loop-vertex : goal.invariant-loop-vertex
 invariant-loop-vertex l = record {
   first : IfSome l.first.source (IsSourceAmong l.carriers);
   second : IfSome l.second.source (IsSourceAmong l.carriers);
-  rows : AreRowsTo (λ (v : Vertex) (ns : List ℕ). AreHolders l.carriers (place_of v.point) (place_of v.point) ns) l.vertices l.vertex-index l.rows;
+  rows : AreValuesTo (λ (v : Vertex) (ns : List ℕ). AreHolders l.carriers (place_of v.point) (place_of v.point) ns) l.vertices l.vertex-index l.rows;
 }

@@ -24,4 +24,4 @@ if-all P Q R T f (Err e) p q r = tt
 pub returns-clause-shows : goal.returns-clause-shows
 returns-clause-shows c =
     let E = subst (λ (es : List Edge). Edges (map vertex_of c.args.vertices) (map edge_of es)) (sym c.from_vec.ensures.all) c.requires.edges in
-    if-all _ _ _ _ (λ d k i h s V. shows-set s c.args.carriers c.args.vertices V c.from_vec.result E d k.0 k.1 k.2 i h) c.of.result c.of.ensures.kept c.of.ensures.index c.of.ensures.holders
+    if-all _ _ _ _ (λ d k f i s V. shows-set s c.args.carriers c.args.vertices V c.from_vec.result E d k.0 k.1 k.2 f i) c.of.result c.of.ensures.kept c.of.ensures.flagged c.of.ensures.indexed

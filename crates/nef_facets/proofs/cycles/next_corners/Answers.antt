@@ -1,5 +1,5 @@
 use Rattle.nef_facets.proofs.Prelude.{◌≡◌, ℕ, ◌<◌, List, length, get_or, arith, refl, ap, inl, inr, subst, IsAt, Out, At, is-at_get, some-at, at-map, map-at, at-within, edge_of, complex_of}
-use Rattle.nef_complex.specs.declared.complex.Edge.{Edge}
+use Rattle.nef_index.specs.declared.skeleton.Edge.{Edge}
 use Rattle.nef_complex.specs.declared.complex.Complex.{Complex}
 use Rattle.nef_facets.proofs.Nexts.{next-none, next-more, next-all}
 use Rattle.nef_facets.proofs.cycles.next_corners.Goals as goal

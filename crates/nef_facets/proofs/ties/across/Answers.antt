@@ -16,8 +16,8 @@ item_holds-requires-clause-map c = (c.requires.shows.1.maps c.args.k.now.vertex 
 pub item_holds-requires-clause-within : goal.item_holds-requires-clause-within
 item_holds-requires-clause-within c = item-within c.args.c.now (corner_of c.args.k.now) c.requires.corner c.at.result.now (some-at c.args.c.now.vertices c.args.k.now.vertex c.at.result.now c.at.ensures.element)
 
-pub carrier_items-requires : goal.carrier_items-requires
-carrier_items-requires c = record { shows = c.requires.shows; within = is-at_within c.args.c.now.carriers c.carrier_of-carrier.result c.at-h.result.now c.at-h.ensures.element }
+pub carrier_items-requires-clause-within : goal.carrier_items-requires-clause-within
+carrier_items-requires-clause-within c = is-at_within c.args.c.now.carriers c.carrier_of-carrier.result c.at-h.result.now c.at-h.ensures.element
 
 pub first_along_dir-requires-clause-items : goal.first_along_dir-requires-clause-items
 first_along_dir-requires-clause-items c = record { edges = c.carrier_items.ensures.edges c.at-h.result.now c.at-h.ensures.element; vertices = c.carrier_items.ensures.vertices c.at-h.result.now c.at-h.ensures.element; peaks = c.carrier_items.ensures.peaks }

@@ -4,8 +4,8 @@ use Rattle.nef_locate.proofs.Listed.{flat-item, unmet}
 use Rattle.nef_locate.proofs.Located.{corner-at, edge-at}
 use Rattle.nef_locate.proofs.carrier.place_beside_vertices.Goals as goal
 
-pub carrier_items-items-requires : goal.carrier_items-items-requires
-carrier_items-items-requires c = record { shows = c.requires.shows; within = is-at_within c.args.c.now.carriers c.args.number c.args.h.now c.requires.number }
+pub carrier_items-items-requires-clause-within : goal.carrier_items-items-requires-clause-within
+carrier_items-items-requires-clause-within c = is-at_within c.args.c.now.carriers c.args.number c.args.h.now c.requires.number
 
 pub edge_among-requires-clause-parts : goal.edge_among-requires-clause-parts
 edge_among-requires-clause-parts c = (form_of c.args.h.now, c.carrier_items-items.ensures.edges c.args.h.now c.requires.number, c.requires.parts)

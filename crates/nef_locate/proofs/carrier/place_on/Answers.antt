@@ -12,8 +12,8 @@ returns-then-not-is_in_span-clause-none c =
       spanned s c.args.c.now S (form_of c.args.h.now) (get_or spans n no_span) (A.each n c.args.h.now (get_or spans n no_span) c.requires.number (is-at_get spans n no_span (omega (arith, m, l)))) (hit_place c.args.q.now) c.requires.on i,
     ))
 
-pub carrier_items-requires : goal.carrier_items-requires
-carrier_items-requires c = record { shows = c.requires.shows; within = is-at_within c.args.c.now.carriers c.args.number c.args.h.now c.requires.number }
+pub carrier_items-requires-clause-within : goal.carrier_items-requires-clause-within
+carrier_items-requires-clause-within c = is-at_within c.args.c.now.carriers c.args.number c.args.h.now c.requires.number
 
 pub find_among-requires-clause-listed : goal.find_among-requires-clause-listed
 find_among-requires-clause-listed c = (form_of c.args.h.now, c.carrier_items.ensures.vertices c.args.h.now c.requires.number)

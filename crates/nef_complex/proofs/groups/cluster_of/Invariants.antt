@@ -1,6 +1,0 @@
-use Rattle.nef_complex.proofs.Prelude.{chunks_rest, IsInGroup}
-use Rattle.nef_complex.proofs.Grouped.{AreTaken, IsGroupWithin}
-use Rattle.nef_complex.proofs.groups.cluster_of.Given as goal
-
-abbrev pub invariant-loop-next : goal.invariant-loop-next
-invariant-loop-next l = record { taken : AreTaken IsInGroup (IsGroupWithin l.spans l.span) l.keyed (chunks_rest l.next-iterator) l.groups }

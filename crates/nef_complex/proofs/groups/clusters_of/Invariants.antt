@@ -1,7 +1,0 @@
-use Rattle.nef_complex.proofs.Prelude.{ℕ, List, length, chunks_rest, IsInCluster, AreKeyed}
-use Rattle.nef_complex.proofs.Grouped.{AreTaken, AreWide}
-use Rattle.nef_complex.proofs.groups.clusters_of.Given as goal
-
--- the clusters have taken the numbers of all pairs but those that are left
-abbrev pub invariant-loop-next : goal.invariant-loop-next
-invariant-loop-next l = (pairs : List (ℕ × ℕ)) × AreKeyed (length l.spans) pairs × AreTaken IsInCluster (AreWide l.spans) pairs (chunks_rest l.next-iterator) l.clusters

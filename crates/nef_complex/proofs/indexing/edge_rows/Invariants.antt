@@ -1,7 +1,0 @@
-use Rattle.std.specs.Prelude.{length}
-use Rattle.nef_complex.proofs.Prelude.{AreCommonAlong, rows_of, AreEnds}
-use Rattle.nef_complex.proofs.Numbered.{AreRowsTo}
-use Rattle.nef_complex.proofs.indexing.edge_rows.Given as goal
-
-abbrev pub invariant-loop-edge : goal.invariant-loop-edge
-invariant-loop-edge l = record { ended : AreEnds 0 l.ends.items (length l.numbers.items); rows : AreRowsTo (AreCommonAlong l.at_vertex) l.edges l.edge-index (rows_of 0 l.ends.items l.numbers.items) }

@@ -1,6 +1,0 @@
-use Rattle.nef_complex.proofs.Prelude.{arith}
-use Rattle.nef_complex.proofs.Peaked.{end-none}
-use Rattle.nef_complex.proofs.peaks.greatest_end.Goals as goal
-
-pub loop-place-init : goal.loop-place-init
-loop-place-init c = end-none c.args.edges.now c.args.numbers.now c.args.first c.args.first 1 (omega arith)

@@ -1,5 +1,0 @@
-use Rattle.nef_complex.proofs.Prelude.{arith, ints}
-use Rattle.nef_complex.proofs.spans.Span.none.Goals as goal
-
-pub returns : goal.returns
-returns c = record { none = λ y i. let l = i.0.0 in let h = i.0.1 in let p = y.proper in omega (arith, ints, l, h, p) }

@@ -1,5 +1,0 @@
-use Rattle.nef_complex.proofs.Prelude.{AreNarrowerListed}
-use Rattle.nef_complex.proofs.spans.span_of.Given as goal
-
-abbrev pub invariant-loop-number : goal.invariant-loop-number
-invariant-loop-number l = AreNarrowerListed l.alone l.listed l.number-index l.span

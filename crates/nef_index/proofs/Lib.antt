@@ -1,0 +1,11 @@
+pub mod Prelude
+pub mod Rows
+pub mod Counted
+pub mod Placed
+pub mod Numbered
+pub mod Parallel
+pub mod CommonRows
+pub mod Turned
+pub mod Spanning
+pub mod Grouped
+pub mod Peaked

@@ -1,0 +1,12 @@
+pub mod Numbers
+pub mod Tables
+pub mod Counting
+pub mod Skeleton
+pub mod Carriers
+pub mod Runs
+pub mod Spans
+pub mod Groups
+pub mod Peaks
+pub mod Common
+pub mod Index
+pub mod Prelude
