@@ -62,7 +62,7 @@ hole = common_set Set.full false (
 abbrev pub leg : Set
 leg = Set.less plate hole
 
--- the leg that lies, and the leg with x and z exchanged, which stands
+-- the leg that lies, and the leg with x and z swapped, which stands
 abbrev pub bracket : Set
 bracket = Set.either leg (turned_set 40 leg)
 

@@ -93,7 +93,7 @@ impl<'a, R: Threads + Wait + Sync> Maker<'a, R> {
         self.combined(Op::Diff, &plate, &hole)
     }
 
-    /// The bracket: a leg that lies flat, and one that stands, which is the first with x and z exchanged.
+    /// The bracket: a leg that lies flat, and one that stands, which is the first with x and z swapped.
     pub fn bracket(&self) -> Result<Complex, OutOfMemory>
         ensures shows { IfOk result (ShowsSet bracket) }
     {

@@ -7,7 +7,7 @@ use Rattle.law_turns.specs.Turned.{turned_vector, differ, is_odd, signed}
 abbrev pub turned_svertex : ℕ → MapVertex → MapVertex
 turned_svertex k v = record { dir = turned_vector k v.dir; mark = v.mark; around = v.around }
 
--- b is the turned arc a: with the normal opposite by `flip`, the sides are exchanged; with an odd turn or `flip`, not
+-- b is the turned arc a: with the normal opposite by `flip`, the sides are swapped; with an odd turn or `flip`, not
 -- both, the ends are. `vertex` gives the new numbers of svertices.
 pub record IsTurnedArc (k : ℕ) (vertex : ℕ → ℕ) (flip : Bool) (a b : Arc) : Type 0 where
   pub normal : b.normal ≡ signed flip (turned_vector k a.normal)

@@ -26,7 +26,7 @@ AreTiedWithin counts ts = (k : ℕ) (t : Tie) → IsAt ts k t → IsCellIn count
 abbrev pub AreTied : List Tie → Cell → Cell → Type 0
 AreTied ts x y = (k : ℕ) × (t : Tie) × IsAt ts k t × (t.first ≡ x) × (t.second ≡ y)
 
--- the order of elements by their rows and then by their places in the rows
+-- the order of elements by their rows and then by their numbers in the rows
 abbrev pub IsCellBelow : Cell → Cell → Type 0
 IsCellBelow x y = IsBelow (pos x.row ∷ pos x.column ∷ []) (pos y.row ∷ pos y.column ∷ [])
 

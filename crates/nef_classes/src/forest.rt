@@ -16,7 +16,7 @@ pub struct Link {
     pub second: usize,
 }
 
-/// The numbers below `count`, each at its own place. `OutOfMemory` says that memory was wanted and not found.
+/// The numbers below `count` in order: each is its own parent. `OutOfMemory` says that memory was wanted and not found.
 pub fn own_numbers(alloc: Global, count: usize) -> Result<Vec<usize>, OutOfMemory>
     ensures as_many { IfOk result (λ v. length v.items ≡ count) }
     ensures own { IfOk result (λ v. (i n : ℕ) → IsAt v.items i n → n ≡ i) }

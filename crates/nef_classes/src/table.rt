@@ -12,7 +12,7 @@ use crate::forest::{Link, class_numbers, class_of_each};
 use nef_geo::List;
 use std::alloc::Global;
 
-/// An element of a table, by its row and its place in the row.
+/// An element of a table, by its row and its number in the row.
 #[derive(Clone, Copy, PartialEq, Eq, Drop)]
 pub struct Cell {
     pub row: usize,
@@ -135,7 +135,7 @@ pub fn number_rows(
     rows_of(alloc, counts, &numbers)
 }
 
-/// The number at this row and place of the table.
+/// The number of this element of the table.
 pub fn number_at(rows: &List<List<usize>>, row: usize, column: usize) -> usize
     requires some { (n : ℕ) × IsInTable rows.now row column n }
     ensures number { IsInTable rows.now row column result }

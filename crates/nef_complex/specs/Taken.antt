@@ -20,7 +20,7 @@ pub record AreTaken (gs hs : List Plane) (ns : List ℕ) (others : List Plane) (
   pub others_each : (i k : ℕ) → IsAt ks i k → StandsAmong others hs i k
   pub all : (k : ℕ) → k < length hs → HasEntry ns k ⊎ HasEntry ks k
 
--- the new list has exactly the numbers of the old list, and the table's numbers at the first n of the places
+-- the new list has exactly the numbers of the old list, and those of the table that stand under the first n of the other numbers
 pub record AreAdded (table places : List ℕ) (n : ℕ) (old new : List ℕ) : Type 0 where
   pub kept : (k : ℕ) → HasEntry old k → HasEntry new k
   pub added : (i j k : ℕ) → i < n → IsAt places i j → IsAt table j k → HasEntry new k

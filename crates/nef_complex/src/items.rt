@@ -29,7 +29,7 @@ impl PlaneItems<'_> {
         high
     }
 
-    /// The last of the first `count` edges whose upper end isn't below `least`, by its place in the row, counted from
+    /// The last of the first `count` edges whose upper end isn't below `least`, by its number in the row, counted from
     /// 1; 0 where each upper end is below.
     pub fn last_reaching(&self, c: &Complex, count: usize, least: usize) -> usize
         requires within { AreWithin c.now.edges self.now.edges.now }

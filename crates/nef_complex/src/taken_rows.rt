@@ -21,7 +21,7 @@ struct Source<'a> {
     other_numbers: Vec<usize>,
 }
 
-// Whether the plane stands at this place.
+// Whether the plane is the one with this number.
 fn stands_at(planes: &[Plane], place: usize, h: &Plane) -> bool
     ensures stands { IsTrue result → IsAt planes.now place h.now }
 {
@@ -68,7 +68,7 @@ fn source_of<'a>(
     }))
 }
 
-// Adds the numbers of the table at the listed places.
+// Adds those of the table's numbers that stand under the listed numbers.
 fn add_numbers(table: &[usize], listed: &[usize], row: &mut Vec<usize>) -> Result<(), OutOfMemory>
     requires within { AreWithin table.now listed.now }
     ensures added { OnOk result (AreAdded table.now listed.now (length listed.now) row.old.items row.new.items) }

@@ -2,7 +2,7 @@
 -- what a plane cuts out of the set's volumes are facets of the new set.
 use Rattle.nef_space.specs.Prelude.{neg_ℤ, true, Form, form, Set}
 
--- the form of the plane h with its sides exchanged
+-- the form of the plane h with its sides swapped
 abbrev pub minus_form : Form → Form
 minus_form h = form (neg_ℤ h.a) (neg_ℤ h.b) (neg_ℤ h.c) (neg_ℤ h.d)
 

@@ -21,7 +21,7 @@ is_done_by w Open = 0
 is_done_by w (InHand v) = 0
 is_done_by w (Done v) = one_if (v == w)
 
--- a count over all slots, and over one place, which may be none
+-- a count over all slots, and over one slot, which may be none
 abbrev pub total : (Slot → ℕ) → List Slot → ℕ
 total count [] = 0
 total count (x ∷ xs) = count x + total count xs

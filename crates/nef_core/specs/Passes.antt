@@ -36,7 +36,7 @@ deposited v job = record { live = v.live; number = v.number; jobs = v.jobs; made
 abbrev pub gave_back : View → View
 gave_back v = record { live = v.live; number = v.number; jobs = v.jobs; made = v.made; spare = v.spare; hand = None; ended = v.ended; deposits = v.deposits }
 
--- what a pass knows fits the machine, where there are so many passes. Its number is its place among them
+-- what a pass knows fits the machine, where there are so many passes. Its number counts those before it
 pub record Fits (jobs seats : ℕ) (m : Machine) (count place : ℕ) (v : View) : Type 0 where
   pub number : v.number ≡ place
   pub jobs_are : v.jobs ≡ jobs

@@ -172,7 +172,7 @@ pub trait Board<J: Job>: Sync + Drop {
         ensures closed { IfOk result (λ v. IsClosedWith (J.count (made_for self)) (deposits pass) v.items) };
 }
 
-/// So many places with nothing there. `OutOfMemory` says that memory was wanted and not found.
+/// So many entries with nothing there. `OutOfMemory` says that memory was wanted and not found.
 pub fn empty_places<X: Drop>(alloc: Global, count: usize) -> Result<Vec<Option<X>>, OutOfMemory>
     ensures count { IfOk result (λ v. vec_len v ≡ count) }
     ensures items { IfOk result (λ v. v.items ≡ replicate count None) }

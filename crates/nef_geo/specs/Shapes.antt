@@ -1,4 +1,4 @@
--- Planes, points, directions and hits as forms, places and vectors.
+-- Planes, points, directions and hits as forms, points of space and vectors.
 use Rattle.std.specs.Prelude.{◌<◌, ◌<ℤ◌, ℤ, pos, neg_ℤ, nat_abs, cond}
 use Rattle.std.proofs.Common.{arith}
 use Rattle.std.proofs.lemmas.Int.{ints}

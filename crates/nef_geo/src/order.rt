@@ -54,7 +54,7 @@ pub fn far_order(p: &FarHit, q: &FarHit) -> Ordering
     (p.num * q.den).cmp(&(q.num * p.den))
 }
 
-/// Normal forms are unique: equal are points at one place, directions that are the same, and forms of one plane.
+/// Normal forms are unique: equal are points that are the same, directions that are the same, and forms of one plane.
 pub fn normal_form_laws()
     ensures places { SamePlacesAreEqual }
     ensures directions { SameDirectionsAreEqual }

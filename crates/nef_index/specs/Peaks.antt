@@ -3,7 +3,7 @@ use Rattle.std.specs.Prelude.{ℕ, ◌+◌, ◌-◌, ◌*◌, ◌<◌, ◌≤◌
 use Rattle.nef_space.specs.Lists.{IsAt}
 use Rattle.nef_index.specs.declared.skeleton.Edge.{Edge}
 
--- the edges at these places of the row, from `first` to before `past`, have upper ends below n
+-- the edges of the row with these numbers, from `first` to before `past`, have upper ends below n
 abbrev pub EndBelow : List Edge → List ℕ → ℕ → ℕ → ℕ → Type 0
 EndBelow es ns first past n = (j k : ℕ) (e : Edge) → first ≤ j → j < past → IsAt ns j k → IsAt es k e → e.high < n
 

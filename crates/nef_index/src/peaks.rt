@@ -27,7 +27,7 @@ fn start_of_last(count: usize) -> usize
     count & (count - 1)
 }
 
-// The greatest upper end of the edges from place `first` to before place `past` of the row.
+// The greatest upper end of the edges from number `first` to before number `past` of the row.
 fn greatest_end(edges: &[Edge], numbers: &[usize], first: usize, past: usize) -> usize
     requires within { AreWithin edges.now numbers.now }
     requires past { past ≤ length numbers.now }
@@ -85,7 +85,7 @@ pub(crate) fn peaks_of(alloc: Global, edges: &[Edge], rows: &Table) -> Result<Ta
     Ok(table)
 }
 
-/// The place where the edges of the peak before `place` begin, if by the peak all these edges end before `least`.
+/// The number at which the edges of the peak before `place` begin, if by the peak all these edges end before `least`.
 pub fn passed_from(peaks: &[usize], place: usize, least: usize) -> Option<usize>
     ensures before { IfSome result (λ first. first < place) }
     ensures passed { IfSome result (λ first. (es : Sequence EdgeValue) (ns : Sequence ℕ) → ArePeaks es ns peaks.now → EndBelow es ns first place least) }

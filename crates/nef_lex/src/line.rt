@@ -57,7 +57,7 @@ impl<'a> Iterator for Lines<'a> {
     }
 }
 
-/// The place of the first byte of this value.
+/// The number of the first byte of this value.
 pub(crate) fn index_of(bytes: &[u8], byte: u8) -> Option<usize>
     ensures place { result ≡ position (λ b. b == byte) bytes.now }
 {

@@ -1,7 +1,7 @@
 -- How large the numbers of blocks get.
 use Rattle.std.specs.Prelude.{ℕ}
 
--- a place along an axis, as its type has it
+-- a coordinate along an axis, as its type has it
 abbrev pub place_limit : ℕ
 place_limit = 32768
 

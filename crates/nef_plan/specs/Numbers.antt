@@ -1,4 +1,4 @@
--- The numbers of values in the place of nodes.
+-- The numbers of values for those of nodes.
 use Rattle.std.specs.Prelude.{◌≡◌, ◌↔◌, ◌⊎◌, ℕ, ◌+◌, ◌<◌, ◌≤◌, true, List, [], ◌∷◌, Option, None, Some, slice_get, slice_index, slice_set}
 use Rattle.std.specs.Option.{unwrap_or}
 use Rattle.nef_expr.specs.declared.nodes.Node.{Node}
@@ -68,7 +68,7 @@ IsAmong n (draft.Ask c) = IsWithin n c.now
 abbrev pub LookBelow : ℕ → List Task → Type 0
 LookBelow n tasks = (i : ℕ) (t : Task) → slice_get tasks i ≡ Some t → (k : ℕ) → LooksAtValue t k → k < n
 
--- at each value's place the number of a task that none comes after which looks at it
+-- for each value the number of a task that none comes after which looks at it
 abbrev pub AreLastUses : List Task → List ℕ → Type 0
 AreLastUses tasks uses = (i k : ℕ) (t : Task) → slice_get tasks i ≡ Some t → LooksAtValue t k → i ≤ slice_index uses k
 

@@ -97,7 +97,7 @@ pub(crate) fn tasks_of<'a>(
     Ok(tasks)
 }
 
-// Puts this number at the value's place, if there is a value.
+// Puts this number under the value's number, if there is a value.
 fn mark(uses: &mut [usize], value: Option<usize>, now: usize)
     requires within { IfSome value (λ k. k < length uses.old) }
     ensures length { length uses.new ≡ length uses.old }

@@ -40,7 +40,7 @@ IsThere us vs p Here = Unit {0}
 IsThere us vs p (Kept o k) = (v : Vertex) × StandsAt (of_operand o us vs) k v p
 IsThere us vs p (Turned o k) = (v : Vertex) × StandsAt (of_operand o us vs) k v p × IsLeastMap v.map
 
--- the vertices stand in order, and each source names a vertex at the place of its own
+-- the vertices stand in order, and each source names a vertex at its vertex's point
 pub record AreThere (us vs ys : List Vertex) (fs : List MapSource) : Type 0 where
   pub alike : length fs ≡ length ys
   pub each : (i : ℕ) (y : Vertex) (f : MapSource) → At ys i y → At fs i f → IsThere us vs (place_of y.point) f
@@ -74,6 +74,6 @@ pub record AreFilledTo (us vs ys : List Vertex) (fs : List MapSource) (n : ℕ) 
   pub done : (i : ℕ) (y : Vertex) (f : MapSource) → i < n → At ys i y → At fs i f → IsFilledAt us vs f i y xs
   pub rest : (i : ℕ) (y : Vertex) → (i < n → ⊥) → At ys i y → At xs i y
 
--- of the vertices of an operand those at none of the first places are as they were
+-- of the vertices of an operand those at none of the first points are as they were
 abbrev pub AreLeft : List Vertex → ℕ → List Vertex → List Vertex → Type 0
 AreLeft ys n us ws = (k : ℕ) (u : Vertex) → At us k u → ((i : ℕ) (y : Vertex) → i < n → At ys i y → StandsAt us k u (place_of y.point) → ⊥) → At ws k u

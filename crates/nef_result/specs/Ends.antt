@@ -26,17 +26,17 @@ abbrev pub end_at : Bool → ℤ
 end_at true = pos half_side
 end_at false = neg_ℤ (pos half_side)
 
--- a corner: for each axis whether it is at its high end
+-- a corner of the frame: for each axis whether it is at its high end
 pub record Ends : Type 0 where
   pub x : Bool
   pub y : Bool
   pub z : Bool
 
--- the corner at these ends
+-- the corner of the frame at these ends
 abbrev pub ends : Bool → Bool → Bool → Ends
 ends x y z = record { x = x; y = y; z = z }
 
--- all corners, in order
+-- all corners of the frame, in order
 abbrev pub all_ends : List Ends
 all_ends = ends false false false ∷ ends false false true ∷ ends false true false ∷ ends false true true
     ∷ ends true false false ∷ ends true false true ∷ ends true true false ∷ ends true true true ∷ []
@@ -58,18 +58,18 @@ pub record IsWall (axis : Vector) (high : Bool) (l : Label) (m : SphereMap) : Ty
   pub mark : m.mark ≡ Out
   pub labels : (d : Vector) → IsDirection d → MapLabel (map_of m) d (at_wall high l (sign (dot axis d)))
 
--- at the corner a direction has the label where it leads inward from all three sides, and is Out elsewhere
+-- at the corner of the frame a direction has the label where it leads inward from all three sides, and is Out elsewhere
 abbrev pub corner_label : Label → Ends → Vector → Label
 corner_label l k d = op_label And (op_label And (at_wall k.x l (sign (dot x_axis d))) (at_wall k.y l (sign (dot y_axis d)))) (at_wall k.z l (sign (dot z_axis d)))
 
--- the program's vertex at the corner
+-- the program's vertex at the corner of the frame
 pub record IsCornerOf (l : Label) (k : Ends) (v : Vertex) : Type 0 where
   pub place : IsCornerPlace k (place_of v.point)
   pub mark : v.map.mark ≡ Out
   pub map : IsLeastMap v.map
   pub labels : (d : Vector) → IsDirection d → MapLabel (map_of v.map) d (corner_label l k d)
 
--- the vertices are those at the corners, one by one
+-- the vertices are those at the corners of the frame, one by one
 abbrev pub AreCorners : Label → List Ends → List Vertex → Type 0
 AreCorners l [] [] = Unit {0}
 AreCorners l [] (v ∷ vs) = ⊥

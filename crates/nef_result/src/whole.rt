@@ -41,7 +41,7 @@ fn end(high: bool) -> i64
     if high { HALF_SIDE } else { -HALF_SIDE }
 }
 
-// The corner at these ends of the axes, with the map that has the label on the inward side of all three planes.
+// The frame's corner at these ends of the axes, with the map that has the label on the inward side of all three planes.
 fn corner(alloc: Global, label: Label, x: bool, y: bool, z: bool) -> Result<Vertex, OutOfMemory>
     ensures corner { IfOk result (IsCornerOf label (ends x y z)) }
 {
@@ -56,7 +56,7 @@ fn corner(alloc: Global, label: Label, x: bool, y: bool, z: bool) -> Result<Vert
     })
 }
 
-// Adds the two corners at these ends of the axes of x and y.
+// Adds the two corners of the frame at these ends of the axes of x and y.
 fn add_two(
     vertices: &mut List<Vertex>,
     alloc: Global,

@@ -171,7 +171,7 @@ fn work_apart<R: Threads + Wait + Sync, T: Stage>(
     )
 }
 
-// Puts each result to the place of the number beside it.
+// Puts each result under the number beside it.
 fn keep_outs<T: Stage>(stage: &T, done: &mut Results<T::Out>, mut outs: Vec<(usize, T::Out)>)
     requires sound { AreSound (T.size stage.now) (T.fits stage.now) done.old.list.items }
     requires each { AreFitting (T.size stage.now) (T.fits stage.now) outs.items }

@@ -29,7 +29,7 @@ impl<T> Results<T> {
 }
 
 impl<T: Drop> Results<T> {
-    // Puts this result, or none, to the place of the number.
+    // Puts this result, or none, under the number.
     pub(crate) fn set(&mut self, i: usize, out: Option<T>)
         requires number { i < length self.old.list.items }
         ensures set { self.new.list.items ≡ slice_set self.old.list.items i out }
@@ -134,7 +134,7 @@ fn no_groups(alloc: Global, count: usize) -> Result<Vec<Vec<usize>>, OutOfMemory
     Ok(groups)
 }
 
-// Adds the number to the group at this place.
+// Adds the number to the group with this number.
 fn add_to(groups: &mut [Vec<usize>], place: usize, number: usize) -> Result<(), OutOfMemory>
     requires place { place < length groups.old }
     ensures len { length groups.new ≡ length groups.old }

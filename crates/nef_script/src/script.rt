@@ -189,7 +189,7 @@ impl Script {
     }
 }
 
-/// The names that are bound, in order. A name's place, counted from 0, is the place of its node among the bound nodes.
+/// The names that are bound, in order. A name's number, counted from 0, is that of its node among the bound nodes.
 #[derive(Drop)]
 pub(crate) struct Names<'a> {
     order: Vec<&'a [u8]>,
@@ -223,7 +223,7 @@ impl<'a> Names<'a> {
         self.order.len()
     }
 
-    /// The place of the name, if the name is bound.
+    /// The number of the name, if the name is bound.
     pub(crate) fn find(&self, name: &[u8]) -> Option<usize>
         ensures place { result ≡ position (bytes_eq name.now) self.now }
     {

@@ -54,7 +54,7 @@ needed_complex values results operand (Some n) = option_and_then complex_in (kep
 abbrev pub Fits : {Z : Type 0} → List Step → List Early → ℕ → Option (Box Held Z) → Type 0
 Fits steps early n o = (e : Early) → slice_get early n ≡ Some e → IsSomeAnd o (λ b. IsNew (value_set steps e.value) b.value)
 
--- what stands at a place is what stood there, or the thing of its value
+-- what stands under a number is what stood there, or the thing of its value
 pub record ArePut {X : Type 0} (early : List Early) (things old new : List (Option X)) : Type 0 where
   pub count : length new ≡ length old
   pub only : (k : ℕ) (x : Option X) → slice_get new k ≡ Some x → (slice_get old k ≡ Some x) ⊎ ((n : ℕ) × IsEarlyAt early n k × (slice_get things n ≡ Some x))

@@ -22,11 +22,11 @@ IsNew s h = ShowsSet s h.complex × (h.parts ≡ None) × (h.text ≡ None)
 abbrev pub without_parts : Held → Held
 without_parts h = record { complex = h.complex; parts = None; text = h.text }
 
--- something is kept at place k
+-- something is kept under number k
 abbrev pub IsThere : {X : Type 0} → List (Option X) → ℕ → Type 0
 IsThere {X} list k = (x : X) × (slice_get list k ≡ Some (Some x))
 
--- what is kept at place k is right of the set
+-- what is kept under number k is right of the set
 abbrev pub IsHeldAt : {Z : Type 0} → TextVersion → Set → List (Option (Box Held Z)) → ℕ → Type 0
 IsHeldAt {Z} version s list k = (b : Box Held Z) × (slice_get list k ≡ Some (Some b)) × IsHeld version s b.value
 
@@ -40,7 +40,7 @@ pub record AreStill {Z : Type 0} (version : TextVersion) (old new : List (Option
   pub there : (k : ℕ) → IsThere old k → IsThere new k
   pub held : (k : ℕ) (b : Box Held Z) → slice_get new k ≡ Some (Some b) → (a : Box Held Z) × (slice_get old k ≡ Some (Some a)) × ((s : Set) → IsHeld version s a.value → IsHeld version s b.value)
 
--- the complex at the place, if something is kept there
+-- the complex under the number, if something is kept there
 abbrev pub complex_in : {Z : Type 0} → Option (Box Held Z) → Option Complex
 complex_in None = None
 complex_in (Some b) = Some b.value.complex

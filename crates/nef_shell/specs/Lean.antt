@@ -26,7 +26,7 @@ pub record StandAt {Z : Type 0} (version : TextVersion) (steps : List Step) (n :
   pub placed : ArePlaced version steps values
   pub ready : AreReady steps n values
 
--- nothing comes, and nothing goes but at these places
+-- nothing comes, and nothing goes but under these numbers
 pub record AreLess {X : Type 0} (MayGo : ℕ → Type 0) (old new : List (Option X)) : Type 0 where
   pub count : length new ≡ length old
   pub only : (k : ℕ) (x : X) → slice_get new k ≡ Some (Some x) → slice_get old k ≡ Some (Some x)

@@ -102,7 +102,7 @@ fn early_values(
     Ok(early)
 }
 
-// Puts each thing to the place of its value.
+// Puts each thing under the number of its value.
 fn put_each<X: Drop>(places: &mut [Option<X>], early: &[Early], mut things: Vec<Option<X>>)
     requires within { (n : ℕ) (e : Early) → slice_get early.now n ≡ Some e → e.value < length places.old }
     requires count { vec_len things ≡ length early.now }

@@ -1,4 +1,4 @@
-//! The values of a script's work: the sets that its steps make, each at the place of its step.
+//! The values of a script's work: the sets that its steps make, each under the number of its step.
 
 ghost use Rattle.nef_shell.specs.Prelude.{IsSomeAnd, true, ℕ, List, Some, None, IfOk, IfSome, OnOk, length, option_map, slice_get, slice_set, Set, operand, Step, IsTask, LooksAtValue, MakesValue, first_value, made_of, second_value, given_of, AreHeld, IsNew, IsShownAt, IsSpent, IsThere, cleared, handed_complex, AreLess, HasDone, IsLastUse, IsLet, StandAt, AreMeans, IsShown, op_set};
 ghost use Rattle.std.specs.Prelude.{◌≡◌, ◌<◌};
@@ -22,7 +22,7 @@ fn is_there<X>(places: &[Option<X>], k: usize) -> bool
     places[k].is_some()
 }
 
-/// Puts this in the place of what is there.
+/// Puts this there instead of what is there.
 pub(crate) fn put_at<X: Drop>(places: &mut [Option<X>], k: usize, thing: Option<X>)
     requires within { k < length places.old }
     ensures put { places.new ≡ slice_set places.old k thing }
@@ -30,7 +30,7 @@ pub(crate) fn put_at<X: Drop>(places: &mut [Option<X>], k: usize, thing: Option<
     places[k] = thing;
 }
 
-/// Takes out what is there, and leaves the place empty.
+/// Takes out what is there, and leaves nothing.
 pub(crate) fn taken_from<X>(places: &mut [Option<X>], k: usize) -> Option<X>
     requires within { k < length places.old }
     ensures taken { slice_get places.old k ≡ Some result }
@@ -64,7 +64,7 @@ pub(crate) fn release(values: &mut [Value], step: &Step, now: usize)
     let_go(values, Some(now), step.ends_made);
 }
 
-// What is kept of the value, taken from its place where the other operand is another value and the step ends this one, and
+// What is kept of the value, taken out where the other operand is another value and the step ends this one, and
 // else nothing.
 fn spend(values: &mut [Value], value: usize, other: usize, ends: bool) -> Value
     requires within { value < length values.old }
@@ -84,7 +84,7 @@ fn complex_of(made: Box<Held>) -> Complex
     complex
 }
 
-// The complex of the value, given away where it was taken from its place, and else lent.
+// The complex of the value, given away where it was taken out, and else lent.
 fn handed(values: &[Value], value: usize, spent: Value) -> Option<Given>
     ensures complex { option_map given_of result ≡ handed_complex spent value values.now }
 {

@@ -32,7 +32,7 @@ pub record IsAlong (kept : List Star) (a : SArc) (m : ℕ) : Type 0 where
 abbrev pub IsTwin : SArc → SArc → Type 0
 IsTwin a b = (a.normal ≡ b.normal) × (a.source ≡ b.source)
 
--- no two places of the list have elements that are the same by Same
+-- no two numbers have elements of the list that are the same by Same
 abbrev pub StandApart : {A : Type 0} → (A → A → Type 0) → List A → Type 0
 StandApart {A} Same xs = (i j : ℕ) (x y : A) → At xs i x → At xs j y → Same x y → i ≡ j
 

@@ -50,7 +50,7 @@ svertex_in u = u.svertex
 abbrev pub IsOfMoved : ℕ → Moved → SVertex → Type 0
 IsOfMoved j u v = v ≡ svertex_in u
 
--- the number at place i of the list
+-- number i of the list
 abbrev pub number_in : List ℕ → ℕ → ℕ
 number_in ns i = slice_index_or ns i 0
 

@@ -62,7 +62,7 @@ fn unnumbered(alloc: Global, svertices: &[Moved]) -> Result<Vec<SVertex>, OutOfM
     svertices.iter().map(|moved| moved.svertex).collect(alloc)
 }
 
-// The two values, exchanged if asked.
+// The two values, swapped if asked.
 fn exchanged_if<T: Copy>(exchange: bool, first: T, second: T) -> (T, T)
     ensures first { result.0 ≡ cond exchange second first }
     ensures second { result.1 ≡ cond exchange first second }
@@ -74,7 +74,7 @@ fn exchanged_if<T: Copy>(exchange: bool, first: T, second: T) -> (T, T)
     }
 }
 
-// The turned arc. The ends are exchanged by a turn that makes counterclockwise clockwise, and the ends and the sides
+// The turned arc. The ends are swapped by a turn that makes counterclockwise clockwise, and the ends and the sides
 // where the normal form is opposite to the turned normal.
 fn turned_arc(turn: &Turn, numbers: &[usize], arc: &SArc) -> SArc
     requires ends { HasEnds (length numbers.now) arc.now }
@@ -116,7 +116,7 @@ fn turned_arcs(
     Ok(images)
 }
 
-// The turned sloop, if there is one. The sides are exchanged where the normal form is opposite to the turned normal.
+// The turned sloop, if there is one. The sides are swapped where the normal form is opposite to the turned normal.
 fn turned_sloop(turn: &Turn, sloop: Option<SLoop>) -> Option<SLoop>
     ensures turned { IsTurnedOption turn.now.number (option_map sloop_of sloop) (option_map sloop_of result) }
     ensures normal { IfSome result (λ l. IsNormal (vector_of l.normal)) }

@@ -22,7 +22,7 @@ pub record AreNumberLinks (rows : List (List ℕ)) (ts : List Tie) (ls : List Li
   pub as_many : length ls ≡ length ts
   pub each : (k : ℕ) (l : Link) (t : Tie) → IsAt ls k l → IsAt ts k t → IsCellNumber rows t.first l.first × IsCellNumber rows t.second l.second
 
--- in place of each number the one that stands at its place in the list
+-- in place of each number the one that stands under it in the list
 pub record IsRenumbered (ns new old : List ℕ) : Type 0 where
   pub as_many : length new ≡ length old
   pub each : (k n m : ℕ) → IsAt new k n → IsAt old k m → IsAt ns m n

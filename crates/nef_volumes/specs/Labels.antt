@@ -10,7 +10,7 @@ use Rattle.law_complex.specs.Prelude.{Complex, VertexSide, HasSideLabel}
 abbrev pub HasAppeared : ℕ → List ℕ → Type 0
 HasAppeared low row = (s m j : ℕ) → IsAt row s m → low ≤ j → j < m → (t : ℕ) × (t < s) × IsAt row t j
 
--- the labels xs, and those of the volumes that appear in the row before place n
+-- the labels xs, and those of the volumes that appear among the first n of the row
 pub record AreLabelsTo (M : Map) (row : List ℕ) (xs : List Label) (n : ℕ) (ys : List Label) : Type 0 where
   pub long : length xs ≤ length ys
   pub kept : (k : ℕ) (l : Label) → IsAt xs k l → IsAt ys k l

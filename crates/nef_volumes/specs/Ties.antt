@@ -81,7 +81,7 @@ tie_within i r s = record { first = side_cell i r; second = side_cell i s }
 abbrev pub HasSfaces : Complex → ℕ → List ℕ → Type 0
 HasSfaces C i ns = (v : Vertex) × At C.vertices i v × AreSfaces v.map ns
 
--- r is the first place of the number
+-- the number first stands in the list under r
 abbrev pub IsFirstPlace : List ℕ → ℕ → ℕ → Type 0
 IsFirstPlace ns n r = IsAt ns r n × ((k : ℕ) → k < r → IsAt ns k n → ⊥)
 

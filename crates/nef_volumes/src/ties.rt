@@ -104,7 +104,7 @@ pub(crate) fn down_ties(
     Ok(ties)
 }
 
-// The first place of the number in the list.
+// Where the number first stands in the list.
 fn first_place(numbers: &[usize], number: usize) -> Option<usize>
     ensures place { MatchOption result ((k : ℕ) → IsAt numbers.now k number → ⊥) (IsFirstPlace numbers.now number) }
 {

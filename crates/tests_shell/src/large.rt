@@ -13,7 +13,7 @@ use std::thread::Threads;
 const ROOM: usize = 4_194_304;
 
 // Questions about 512 boxes, and the answers: about the complement, which has the same parts; about the union of both,
-// which is the frame; and about the boxes with y and z exchanged, which are the same set.
+// which is the frame; and about the boxes with y and z swapped, which are the same set.
 const QUESTIONS: &str =
     "count G\nnot N G\ncount N\nor U G N\nfull F\nsame U F\nturn T G 8\nsame T G\n\
     joined G 3 3 3 2 7 3 3 2\njoined G 0 0 0 1 0 0 1 2\nray G 3 3 3 2 1 0 0\nprint G\n";
