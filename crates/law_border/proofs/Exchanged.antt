@@ -1,5 +1,5 @@
 -- A map with In and Not exchanged everywhere: its parts are those of the map.
-use Rattle.law_border.proofs.Prelude.{◌≡◌, ℕ, zero, suc, refl, ap, sym, ◌⊎◌, List, ◌∷◌, subst, map, Option, Some, None, [], option_map, Vector, IsDirection, SameDirection, IsNormal, Label, IsPrimitive, VectorBelow, IsStrictlyOn, At, MapVertex, Arc, MapSloop, Map, Item, arc_item, sloop_item, items, items_then, item_normal, item_pos, item_mark, item_neg, dir_of, OnItem, IsFree, HasArc, ArcBetween, Shaped, ArcBelow, Ordered, exchanged, exchanged_svertex, exchanged_arc, exchanged_sloop, exchanged_map, at-map, map-at, map-empty}
+use Rattle.law_border.proofs.Prelude.{◌≡◌, ℕ, zero, suc, refl, ap, sym, ◌⊎◌, List, ◌∷◌, subst, map, Option, Some, None, [], option_map, Vector, IsDirection, SameDirection, IsNormal, Label, IsPrimitive, VectorBelow, IsStrictlyOn, At, MapVertex, Arc, MapSloop, Map, Item, arc_item, sloop_item, items, items_then, item_normal, item_pos, item_mark, item_neg, dir_of, OnItem, IsFree, HasArc, ArcBetween, Shaped, ArcBelow, Ordered, exchanged, exchanged_svertex, exchanged_arc, exchanged_sloop, exchanged_map, at-map, map-at, map-empty, is-at_none, is-at_first}
 use Rattle.law_border.proofs.Listed.{option-was, none-was}
 
 pub twice : (l : Label) → exchanged (exchanged l) ≡ l
@@ -17,17 +17,17 @@ item-same (sloop_item l) = (refl, refl, refl, refl)
 
 -- ---- lists and options
 items-was : (as' : List Arc) (o : Option MapSloop) (i : ℕ) (y : Item) → At (items_then (map exchanged_arc as') (option_map exchanged_sloop o)) i y → (x : Item) × At (items_then as' o) i x × (exchanged_item x ≡ y)
-items-was [] None i y a = absurd a
-items-was [] (Some l) zero y e = (sloop_item l, refl, e)
-items-was [] (Some l) (suc i) y a = absurd a
-items-was (r ∷ as') o zero y e = (arc_item r, refl, e)
+items-was [] None i y a = absurd (is-at_none a)
+items-was [] (Some l) zero y e = (sloop_item l, refl, is-at_first e)
+items-was [] (Some l) (suc i) y a = absurd (is-at_none a)
+items-was (r ∷ as') o zero y e = (arc_item r, refl, is-at_first e)
 items-was (r ∷ as') o (suc i) y a = items-was as' o i y a
 
 items-are : (as' : List Arc) (o : Option MapSloop) (i : ℕ) (x : Item) → At (items_then as' o) i x → At (items_then (map exchanged_arc as') (option_map exchanged_sloop o)) i (exchanged_item x)
-items-are [] None i x a = absurd a
-items-are [] (Some l) zero x e = ap exchanged_item e
-items-are [] (Some l) (suc i) x a = absurd a
-items-are (r ∷ as') o zero x e = ap exchanged_item e
+items-are [] None i x a = absurd (is-at_none a)
+items-are [] (Some l) zero x e = ap (option_map exchanged_item) e
+items-are [] (Some l) (suc i) x a = absurd (is-at_none a)
+items-are (r ∷ as') o zero x e = ap (option_map exchanged_item) e
 items-are (r ∷ as') o (suc i) x a = items-are as' o i x a
 
 pub way-same : (vs : List MapVertex) (k : ℕ) → dir_of (map exchanged_svertex vs) k ≡ dir_of vs k

@@ -1,5 +1,5 @@
 -- A map with In and Not exchanged everywhere is valid and has the labels of the complement; it is least where the map is.
-use Rattle.law_border.proofs.Prelude.{◌≡◌, ℕ, refl, ap, sym, ◌∙◌, subst, Some, Sign, minus, nought, plus, sign, Vector, IsDirection, cross, dot, blend, Label, At, MapVertex, Map, Item, item_normal, item_pos, item_mark, item_neg, OnItem, IsFree, HasArc, MapLabel, at_svertex, on_item, NearLabel, Shaped, Valid, forms, by_side, NearPlain, NearStraight, Least, Labelling, Near, Plain, Agrees, Full, label-exists, label-unique, label-direction, near-free, near-item, near-lone, not-both, only-ground, complement, TopologyLabel, IsTopologyMap, exchanged, exchanged_svertex, exchanged_map, ExchangedMap, dir-self, neg}
+use Rattle.law_border.proofs.Prelude.{◌≡◌, ℕ, refl, ap, sym, ◌∙◌, subst, Some, Sign, minus, nought, plus, sign, Vector, IsDirection, cross, dot, blend, Label, At, MapVertex, Map, Item, item_normal, item_pos, item_mark, item_neg, OnItem, IsFree, HasArc, MapLabel, at_svertex, on_item, NearLabel, Shaped, Valid, forms, by_side, NearPlain, NearStraight, Least, Labelling, Near, Plain, Agrees, Full, label-exists, label-unique, label-direction, near-free, near-item, near-lone, not-both, only-ground, complement, TopologyLabel, IsTopologyMap, exchanged, exchanged_svertex, exchanged_map, ExchangedMap, dir-self}
 use Rattle.law_sphere.proofs.Built.{agrees-valid, agrees-label, label-agrees}
 use Rattle.law_border.proofs.Made.{exchange-made}
 use Rattle.law_border.proofs.PlaceLabels.{topology-one, topology-exists, topology-labels}

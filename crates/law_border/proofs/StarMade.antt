@@ -1,5 +1,5 @@
 -- The labels that directions close to the axis of a star get: on the axis by all rays and sectors, on a ray by the two sectors beside it, in a sector by the sector alone.
-use Rattle.law_border.proofs.Prelude.{◌≡◌, ℕ, zero, suc, ◌+◌, ◌≤◌, ℤ, pos, ◌<ℤ◌, arith, refl, ap, sym, ◌∙◌, ◌⊎◌, inl, inr, ⊎_elim, List, ◌∷◌, subst, length, map, [], ints, Lies, lies-left, lies-right, lies-append, Sign, minus, nought, plus, sign, sign-plus, sign-minus, sign-scaled, nought-or, Vector, IsDirection, triple, cross, dot, IsZero, blend, opposite, Label, At, Map, NearLabel, Valid, SameSigns, axes, forms, arc_forms, by_side, Ray, Star, ray_dir, across, OnRay, PastRay, NextRay, StarLabel, on_ray, in_sector, in_only_sector, StarShows, Follows, axes-forms, across-side, across-same, next-ray, previous, ray-level, amount, far-keeps, far-level, IsStrictlyOn-stays, past_source, arc-point, circle-point, label-by_signs, near-from_far, far-from_near, IsStrictlyOn-same, far_directed-by, sector_count, IsWellFormed, at-other, at-map, map-at, Topology, TopologyLabel, label_from, face_label, ray_mark, star_labels, zero-decided, self-pos, triple-dot, dir-self, dir-signs, in-span, dot-opposite, cross-blend, lies-at, at-lies}
+use Rattle.law_border.proofs.Prelude.{◌≡◌, ℕ, zero, suc, ◌+◌, ◌≤◌, ℤ, pos, ◌<ℤ◌, arith, refl, ap, sym, ◌∙◌, ◌⊎◌, inl, inr, ⊎_elim, List, ◌∷◌, subst, length, map, [], ints, Lies, lies-left, lies-right, lies-append, Sign, minus, nought, plus, sign, sign-plus, sign-minus, sign-scaled, nought-or, Vector, IsDirection, triple, cross, dot, IsZero, blend, opposite, Label, At, Map, NearLabel, Valid, SameSigns, axes, forms, arc_forms, by_side, Ray, Star, ray_dir, across, OnRay, PastRay, NextRay, StarLabel, on_ray, in_sector, in_only_sector, StarShows, Follows, axes-forms, across-side, across-same, next-ray, previous, ray-level, amount, far-keeps, far-level, IsStrictlyOn-stays, past_source, arc-point, circle-point, label-by_signs, near-from_far, far-from_near, IsStrictlyOn-same, far_directed-by, sector_count, IsWellFormed, at-other, at-map, map-at, Topology, TopologyLabel, label_from, face_label, ray_mark, star_labels, zero-decided, self-pos, triple-dot, dir-self, dir-signs, in-span, dot-opposite, cross-blend, lies-at, at-lies, is-at_none}
 use Rattle.law_build.proofs.BuiltAround.{sector-there}
 use Rattle.law_build.proofs.RayStraight.{off-axis}
 use Rattle.law_build.proofs.RayClose.{across-level, ray-close}
@@ -142,9 +142,9 @@ module _ (t : Star) (M : Map) (V : Valid M) (W : IsWellFormed t) (S : StarShows 
   sectors-found k l b = by t.rays refl
     where
       alone : (ls : List Label) → length ls ≡ 1 → (k : ℕ) → At ls k l → k ≡ zero
-      alone [] e k a = absurd a
+      alone [] e k a = absurd (is-at_none a)
       alone (m ∷ ls) e zero a = refl
-      alone (m ∷ []) e (suc k) a = absurd a
+      alone (m ∷ []) e (suc k) a = absurd (is-at_none a)
       alone (m ∷ n ∷ ls) e (suc k) a = absurd (omega arith)
 
       by : (rs : List Ray) → t.rays ≡ rs → (e : Vector) × NearLabel M d e l

@@ -1,5 +1,5 @@
 -- A ray that goes back is the end of an arc; so a svertex without arcs has no ray, and one label round it.
-use Rattle.law_build.proofs.Prelude.{◌≡◌, ℕ, zero, ◌+◌, pos, arith, refl, ap, sym, ◌∙◌, inl, inr, ⊎_elim, List, ◌∷◌, map, length, subst, Some, None, Bool, true, false, cond, [], ints, Vector, IsDirection, cross, dot, IsZero, SameDirection, IsNormal, opposite, Label, IsStrictlyOn, At, MapVertex, Arc, Map, HasArc, Near, StraightAt, IsSmooth, StraightAfter, Proper, Ray, Star, ray_dir, in_only_sector, normal-direction, amount, at-one, past_source, arc-point, IsStrictlyOn-same, ends-together, level-same, reversed, flipped, unflipped, directed-by, far_directed-by, previous, RawMap, Of, sector_count, ShowsLabels, around_of, IsArcFrom, nought-if, SameDirection-turned, dir-self, direction-opposite, level-opposite, opposite-dot, opposite-twice}
+use Rattle.law_build.proofs.Prelude.{◌≡◌, ℕ, zero, ◌+◌, pos, arith, refl, ap, sym, ◌∙◌, inl, inr, ⊎_elim, List, ◌∷◌, map, length, subst, Some, None, Bool, true, false, cond, [], ints, Vector, IsDirection, cross, dot, IsZero, SameDirection, IsNormal, opposite, Label, IsStrictlyOn, At, MapVertex, Arc, Map, HasArc, Near, StraightAt, IsSmooth, StraightAfter, Proper, Ray, Star, ray_dir, in_only_sector, normal-direction, amount, at-one, past_source, arc-point, IsStrictlyOn-same, ends-together, level-same, reversed, flipped, unflipped, directed-by, far_directed-by, previous, RawMap, Of, sector_count, ShowsLabels, around_of, IsArcFrom, nought-if, SameDirection-turned, dir-self, direction-opposite, level-opposite, opposite-dot, opposite-twice, is-at_none}
 use Rattle.law_sphere.proofs.ArcLabels.{arc-along}
 use Rattle.law_sphere.proofs.Firsts.{First, first-after}
 use Rattle.law_build.proofs.BuiltLabels.{with_axes, labelling, axial}
@@ -17,7 +17,7 @@ pub sector-there : (t : Star) → length t.sectors ≡ sector_count t.rays → (
 sector-there t e k r a = by t.rays e a
   where
     by : (rs : List Ray) → length t.sectors ≡ sector_count rs → At rs k r → (l : Label) × At t.sectors k l
-    by [] f b = absurd b
+    by [] f b = absurd (is-at_none b)
     by (q ∷ rs) f b = at-other (q ∷ rs) t.sectors k r (sym f) b
 
 lone-around : (rs : List Ray) (ls : List Label) → length ls ≡ sector_count rs → ((j : ℕ) (r : Ray) → At rs j r → ⊥) → (m : Label) × (around_of rs ls ≡ Some m)
@@ -26,7 +26,7 @@ lone-around [] (l ∷ ls) e none = (l, refl)
 lone-around (r ∷ rs) ls e none = absurd (none zero r refl)
 
 ray-around : (rs : List Ray) (ls : List Label) (j : ℕ) (r : Ray) → At rs j r → around_of rs ls ≡ None
-ray-around [] ls j r a = absurd a
+ray-around [] ls j r a = absurd (is-at_none a)
 ray-around (q ∷ rs) ls j r a = refl
 
 around-some : (rs : List Ray) (ls : List Label) (m : Label) → around_of rs ls ≡ Some m → (rs ≡ []) × At ls zero m

@@ -1,5 +1,5 @@
 -- What a builder is given, and the svertices that it makes of the kept stars.
-use Rattle.law_build.proofs.Prelude.{◌≡◌, ℕ, zero, suc, ◌<◌, pos, arith, refl, ap, sym, ◌⊎◌, inl, inr, List, ◌∷◌, map, subst, [], ints, by_order, Vector, IsDirection, SameDirection, Label, VectorBelow, At, MapVertex, Map, dir_of, IsSmooth, plain, straight, Star, IsPlain, IsStraight, IsSimplified, normal-direction, below-itself, Found, search_list, SameDirection-decided, dir-at, lowest-same, RawMap, Of, IsLabelling, ShowsLabels, IsRawOf, AreSimplified, svertex_at, IsBuiltFrom}
+use Rattle.law_build.proofs.Prelude.{◌≡◌, ℕ, zero, suc, ◌<◌, pos, arith, refl, ap, sym, ◌⊎◌, inl, inr, List, ◌∷◌, map, subst, [], ints, by_order, Vector, IsDirection, SameDirection, Label, VectorBelow, At, MapVertex, Map, dir_of, IsSmooth, plain, straight, Star, IsPlain, IsStraight, IsSimplified, normal-direction, below-itself, Found, search_list, SameDirection-decided, dir-at, lowest-same, RawMap, Of, IsLabelling, ShowsLabels, IsRawOf, AreSimplified, svertex_at, IsBuiltFrom, is-at_none, is-at_first, Some}
 use Rattle.law_build.proofs.BuiltLabels.{smooth-same_way}
 use Rattle.law_build.proofs.StarSmooth.{star-plain, star-straight, star-normal}
 
@@ -11,13 +11,13 @@ pub record IsMade (gs : List Vector) (L : Vector → Label) (R : RawMap) (M : Ma
   pub built : IsBuiltFrom R M
 
 pub at-map : {A B : Type 0} (f : A → B) (xs : List A) (k : ℕ) (y : B) → At (map f xs) k y → (x : A) × At xs k x × (f x ≡ y)
-at-map f [] k y a = absurd a
-at-map f (x ∷ xs) zero y e = (x, refl, e)
+at-map f [] k y a = absurd (is-at_none a)
+at-map f (x ∷ xs) zero y e = (x, refl, is-at_first e)
 at-map f (x ∷ xs) (suc k) y a = at-map f xs k y a
 
 pub map-at : {A B : Type 0} (f : A → B) (xs : List A) (k : ℕ) (x : A) → At xs k x → At (map f xs) k (f x)
-map-at f [] k x a = absurd a
-map-at f (z ∷ xs) zero x e = ap f e
+map-at f [] k x a = absurd (is-at_none a)
+map-at f (z ∷ xs) zero x e = ap Some (ap f (is-at_first e))
 map-at f (z ∷ xs) (suc k) x a = map-at f xs k x a
 
 pub map-empty : {A B : Type 0} (f : A → B) (xs : List A) → map f xs ≡ [] → xs ≡ []

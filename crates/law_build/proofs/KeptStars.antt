@@ -1,9 +1,9 @@
 -- Stars that have kept their labels show the same.
-use Rattle.law_build.proofs.Prelude.{◌≡◌, ℕ, zero, suc, arith, refl, ap, sym, ◌∙◌, List, ◌∷◌, subst, length, [], Vector, IsDirection, cross, dot, SameDirection, Label, VectorBelow, At, Star, Near, RawMap, Of, ShowsLabels, IsBare, IsRawOf, IsKeptStar, IsKeptRaw}
+use Rattle.law_build.proofs.Prelude.{◌≡◌, ℕ, zero, suc, arith, refl, ap, sym, ◌∙◌, List, ◌∷◌, subst, length, [], Vector, IsDirection, cross, dot, SameDirection, Label, VectorBelow, At, Star, Near, RawMap, Of, ShowsLabels, IsBare, IsRawOf, IsKeptStar, IsKeptRaw, is-at_none}
 
 -- lists of one length have elements at the same places
 pub at-other : {A B : Type 0} (xs : List A) (ys : List B) (k : ℕ) (x : A) → length xs ≡ length ys → At xs k x → (y : B) × At ys k y
-at-other [] ys k x e a = absurd a
+at-other [] ys k x e a = absurd (is-at_none a)
 at-other (x ∷ xs) [] k z e a = absurd (omega arith)
 at-other (x ∷ xs) (y ∷ ys) zero z e a = (y, refl)
 at-other (x ∷ xs) (y ∷ ys) (suc k) z e a = at-other xs ys k z (omega arith) a

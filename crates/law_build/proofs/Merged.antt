@@ -1,5 +1,5 @@
 -- Overlaid stars: what op of two maps' labels says of a label function with them; the axes, and the lone circle.
-use Rattle.law_build.proofs.Prelude.{◌≡◌, ℕ, ◌+◌, ℤ, pos, ◌+ℤ◌, ◌-ℤ◌, ◌*ℤ◌, ◌<ℤ◌, neg_ℤ, arith, ap, sym, ◌∙◌, inl, inr, ⊎_elim, ◌∷◌, subst, [], ints, ring, at, num, ◌⊕◌, ◌⊖◌, ◌⊗◌, sign-plus, sign-minus, Vector, IsDirection, cross, dot, IsZero, SameDirection, opposite, blend, Label, IsOnCircle, At, MapVertex, Map, Item, items, item_normal, OnItem, Valid, by_side, Star, Near, StraightAt, IsSmooth, plain, straight, ByOp, label-direction, level-same, op-labelling, RawMap, Of, ShowsLabels, IsBare, IsAxis, NearByOp, Raw, zero-decided, self-pos, SameDirection-turned, dir-self, apart}
+use Rattle.law_build.proofs.Prelude.{◌≡◌, ℕ, ◌+◌, ℤ, pos, ◌+ℤ◌, ◌-ℤ◌, ◌*ℤ◌, ◌<ℤ◌, neg_ℤ, arith, ap, sym, ◌∙◌, inl, inr, ⊎_elim, ◌∷◌, subst, [], ints, ring, at, num, ◌⊕◌, ◌⊖◌, ◌⊗◌, sign-plus, sign-minus, Vector, IsDirection, cross, dot, IsZero, SameDirection, opposite, blend, Label, IsOnCircle, At, MapVertex, Map, Item, items, item_normal, OnItem, Valid, by_side, Star, Near, StraightAt, IsSmooth, plain, straight, ByOp, label-direction, level-same, op-labelling, RawMap, Of, ShowsLabels, IsBare, IsAxis, NearByOp, Raw, zero-decided, self-pos, SameDirection-turned, dir-self}
 use Rattle.law_sphere.proofs.Smooth.{op-smooth}
 
 -- the opposite of a direction lies behind it

@@ -1,5 +1,5 @@
 -- At a straight direction the rays of a simplified star that is well formed go different ways, and two opposite ones make it a straight star.
-use Rattle.law_build.proofs.Prelude.{◌≡◌, ℕ, zero, suc, ◌<◌, pos, ◌-ℤ◌, ◌<ℤ◌, arith, refl, ap, sym, ◌∙◌, inl, ⊎_elim, List, ◌∷◌, subst, length, Bool, true, false, cond, [], ints, ring, num, ◌⊖◌, neg, sign, sign-scaled, nought-is, Vector, IsDirection, cross, triple, dot, IsZero, SameDirection, IsOpposite, Label, VectorBelow, At, Map, NearLabel, Valid, NearStraight, Ray, Star, ray_dir, across, in_sector, IsRay, StarShows, IsStraight, IsSimplified, normal-direction, same-plus, direction-by, below-itself, Beside, same_way, other_way, beside, normals-not_opposite, whole-passes, lowest-same, across-side, ray-level, straight-level, RaysApart, TwoRays, sector_count, IsWellFormed, dot-comm, dot-zero, zero-dot, self-pos, cross-turned, nought-if, opposites, SameDirection-turned, dir-signs, parallel-trans, parallel-in_plane, crossed, cross_of, dot_of, triple_of, vec, numbers}
+use Rattle.law_build.proofs.Prelude.{◌≡◌, ℕ, zero, suc, ◌<◌, pos, ◌-ℤ◌, ◌<ℤ◌, arith, refl, ap, sym, ◌∙◌, inl, ⊎_elim, List, ◌∷◌, subst, length, Bool, true, false, cond, [], ints, ring, num, ◌⊖◌, sign, sign-scaled, nought-is, Vector, IsDirection, cross, triple, dot, IsZero, SameDirection, IsOpposite, Label, VectorBelow, At, Map, NearLabel, Valid, NearStraight, Ray, Star, ray_dir, across, in_sector, IsRay, StarShows, IsStraight, IsSimplified, normal-direction, same-plus, direction-by, below-itself, Beside, same_way, other_way, beside, normals-not_opposite, whole-passes, lowest-same, across-side, ray-level, straight-level, RaysApart, TwoRays, sector_count, IsWellFormed, dot-comm, dot-zero, zero-dot, self-pos, cross-turned, nought-if, opposites, SameDirection-turned, dir-signs, parallel-trans, parallel-in_plane, crossed, cross_of, dot_of, triple_of, vec, numbers, is-at_none}
 use Rattle.law_sphere.proofs.Simplified.{not-even}
 use Rattle.law_build.proofs.RayClose.{across-level}
 use Rattle.law_build.proofs.RayStraight.{off-axis}
@@ -181,10 +181,10 @@ module _ (t : Star) (W : IsWellFormed t) (M : Map) (V : Valid M) (S : StarShows 
     where
       -- a list with a place beyond the second has three elements
       third : {j : ℕ} (rs : List Ray) (k : ℕ) (r : Ray) → j < k → t.rays ≡ rs → At rs (suc k) r → ⊥
-      third [] k r l e c = c
-      third (p ∷ []) k r l e c = c
+      third [] k r l e c = is-at_none c
+      third (p ∷ []) k r l e c = is-at_none c
       third (p ∷ q ∷ []) zero r l e c = absurd (omega arith)
-      third (p ∷ q ∷ []) (suc k) r l e c = c
+      third (p ∷ q ∷ []) (suc k) r l e c = is-at_none c
       third (p ∷ q ∷ s ∷ rs) k r l e c = no-third p q s (listed zero p refl) (listed (suc zero) q refl) (listed (suc (suc zero)) s refl)
         where
           listed : (i : ℕ) (x : Ray) → At (p ∷ q ∷ s ∷ rs) i x → At t.rays i x

@@ -1,5 +1,5 @@
 -- The points of a set with one flat direction are those strictly between the ends of edges.
-use Rattle.law_complex.proofs.Prelude.{◌≡◌, ℕ, zero, suc, pos, arith, refl, sym, inl, inr, ⊎_elim, ◌↔◌, subst, sign, HasLabel, Germ, Flat, FlatDim, IsVertex, IsEven, Place, toward, IsBetween, Set, Vector, zero_vector, opposite, dot, cross, IsZero, IsDirection, SameDirection, Label, carriers, NearGerm, IsOnSegment, Drop, label_of, germ_of, Flat-from_cone, FlatCone-from_flat, Germ-zero, signs-same, same-place_sym, slope-same, germs-by_cell, Flat-by_germs, FlatDim-by_germs, flat-germ, flat-plane, flat-line, germ-nearby, flat-toward, even-germs, labels-by_germs, span-1, span-3, flat_dim-of, near-by_signs, flat-by_signs, between-inner, start, start-close, start-between, start-toward, even-until, reach_all, between-same, at-one, dir-at, label-unique, by_side, NearPlain, NearStraight, Cone, At, Map, MapVertex, MapLabel, at_svertex, NearLabel, dir_of, Item, items, Vertex, Edge, Complex, HasEnds, IsEdge, Corner, IsCorner, Shows, cross-turned, parallel-both, SameDirection-turned, SameDirection-trans, dir-self, direction-left, neg}
+use Rattle.law_complex.proofs.Prelude.{◌≡◌, ℕ, zero, suc, pos, arith, refl, sym, inl, inr, ⊎_elim, ◌↔◌, subst, sign, HasLabel, Germ, Flat, FlatDim, IsVertex, IsEven, Place, toward, IsBetween, Set, Vector, zero_vector, opposite, dot, cross, IsZero, IsDirection, SameDirection, Label, carriers, NearGerm, IsOnSegment, Drop, label_of, germ_of, Flat-from_cone, FlatCone-from_flat, Germ-zero, signs-same, same-place_sym, slope-same, germs-by_cell, Flat-by_germs, FlatDim-by_germs, flat-germ, flat-plane, flat-line, germ-nearby, flat-toward, even-germs, labels-by_germs, span-1, span-3, flat_dim-of, near-by_signs, flat-by_signs, between-inner, start, start-close, start-between, start-toward, even-until, reach_all, between-same, at-one, dir-at, label-unique, by_side, NearPlain, NearStraight, Cone, At, Map, MapVertex, MapLabel, at_svertex, NearLabel, dir_of, Item, items, Vertex, Edge, Complex, HasEnds, IsEdge, Corner, IsCorner, Shows, cross-turned, parallel-both, SameDirection-turned, SameDirection-trans, dir-self, direction-left}
 use Rattle.law_near.proofs.Topology.{near-germ_zero}
 use Rattle.law_complex.proofs.Ways.{between-way, between-rest, between-outer, same-itself}
 use Rattle.law_complex.proofs.Cones.{germ-label, near-germ, near-label, FlatAre, plane-sides}

@@ -1,5 +1,5 @@
 -- Where the labels near a direction of a least map are the germs of a facet point, an item of the facet's plane lies at that direction.
-use Rattle.law_complex.proofs.Prelude.{◌≡◌, ℕ, ◌+◌, ◌≤◌, pos, ◌+ℤ◌, ◌*ℤ◌, arith, refl, ap, sym, ◌∙◌, inr, ⊎_elim, ◌∷◌, subst, [], ints, sign, ring, at, num, ◌⊕◌, ◌⊗◌, neg, sign-scaled, nought-or, HasLabel, Germ, FlatDim, Place, Set, Vector, zero_vector, opposite, blend, dot, IsDirection, IsNormal, SameDirection, Label, label_of, germ_of, Germ-zero, same-nought, same-off, SameSigns, forms, by_side, NearStraight, Least, At, Map, Item, items, item_normal, item_pos, item_mark, item_neg, OnItem, MapLabel, NearLabel, Valid, normal-direction, normal-is, dot-comb, amount, far-keeps, far-level, PlaceOf, svertex_place, item_place, free_place, place_of, label-by_signs, near-from_far, far-from_near, near-unique, near-free, near-item, svertex-neither, dot-zero}
+use Rattle.law_complex.proofs.Prelude.{◌≡◌, ℕ, ◌+◌, ◌≤◌, pos, ◌+ℤ◌, ◌*ℤ◌, arith, refl, ap, sym, ◌∙◌, inr, ⊎_elim, ◌∷◌, subst, [], ints, sign, ring, at, num, ◌⊕◌, ◌⊗◌, sign-scaled, nought-or, HasLabel, Germ, FlatDim, Place, Set, Vector, zero_vector, opposite, blend, dot, IsDirection, IsNormal, SameDirection, Label, label_of, germ_of, Germ-zero, same-nought, same-off, SameSigns, forms, by_side, NearStraight, Least, At, Map, Item, items, item_normal, item_pos, item_mark, item_neg, OnItem, MapLabel, NearLabel, Valid, normal-direction, normal-is, dot-comb, amount, far-keeps, far-level, PlaceOf, svertex_place, item_place, free_place, place_of, label-by_signs, near-from_far, far-from_near, near-unique, near-free, near-item, svertex-neither, dot-zero}
 use Rattle.law_complex.proofs.Cones.{FlatAre, plane-sides}
 use Rattle.law_complex.proofs.FacetSides.{IsSided, one-label-not_two, sided-flats, flats-one}
 

@@ -1,5 +1,5 @@
 -- Each facet point sees a vertex: of the vertices in the triangle with a point of an edge that it sees and an end of the edge, it sees that of the least angle or one before it.
-use Rattle.law_complex.proofs.Prelude.{◌≡◌, ℕ, zero, suc, ℤ, pos, ◌<ℤ◌, ◌≤ℤ◌, arith, refl, ap, sym, ◌∙◌, ◌⊎◌, inl, inr, ⊎_elim, List, ◌∷◌, subst, [], ints, sign, by_order, nought-is, nought-or, FlatDim, Place, Form, form_at, normal_of, SamePlace, toward, IsBetween, Set, Vector, cross, IsDirection, Drop, Decided, decided-both, sign-same, same-place_sym, span-1, between-turned, even-until, flat_way-end, between-same, place-toward, toward-place, At, positive-or, same-plus, circle-point, turn-last, Vertex, Complex, Shows, IsEdgePoint, IsOnEdges, IsFlatIn, dot-zero, triple-dot, cross-turned, dir-self, parallel-in_plane, direction-left}
+use Rattle.law_complex.proofs.Prelude.{◌≡◌, ℕ, zero, suc, ℤ, pos, ◌<ℤ◌, ◌≤ℤ◌, arith, refl, ap, sym, ◌∙◌, ◌⊎◌, inl, inr, ⊎_elim, List, ◌∷◌, subst, [], ints, sign, by_order, nought-is, nought-or, FlatDim, Place, Form, form_at, normal_of, SamePlace, toward, IsBetween, Set, Vector, cross, IsDirection, Drop, Decided, decided-both, sign-same, same-place_sym, span-1, between-turned, even-until, flat_way-end, between-same, place-toward, toward-place, At, positive-or, same-plus, circle-point, turn-last, Vertex, Complex, Shows, IsEdgePoint, IsOnEdges, IsFlatIn, dot-zero, triple-dot, cross-turned, dir-self, parallel-in_plane, direction-left, is-at_none, is-at_first}
 use Rattle.law_complex.proofs.Planes.{plane-way}
 use Rattle.law_complex.proofs.Ways.{between-way, between-start, same-itself}
 use Rattle.law_complex.proofs.Edges.{near_point, near-between}
@@ -81,7 +81,7 @@ module _ (s : Set) (C : Complex) (S : Shows s C) (h : Form) (hn : IsDirection (n
           record { number = r.number; vertex = r.vertex; has = r.has; candidate = r.candidate; from = trans x a r.vertex d c r.candidate r.from (omega (arith, ints)); least = by r }
         where
           by : (r : Best xs x) (k : ℕ) (v : Vertex) → At (x ∷ xs) k v → Candidate v → pos 0 ≤ℤ angle n y r.vertex.point v.point
-          by r zero v e q = subst (λ (u : Vertex). pos 0 ≤ℤ angle n y r.vertex.point u.point) e r.from
+          by r zero v e q = subst (λ (u : Vertex). pos 0 ≤ℤ angle n y r.vertex.point u.point) (is-at_first e) r.from
           by r (suc k) v e q = r.least k v e q
 
       farther : (Candidate x × (pos 0 <ℤ angle n y x.point a.point) → ⊥) → Best (x ∷ xs) a
@@ -91,17 +91,17 @@ module _ (s : Set) (C : Complex) (S : Shows s C) (h : Form) (hn : IsDirection (n
         where
           by : (r : Best xs a) (k : ℕ) (v : Vertex) → At (x ∷ xs) k v → Candidate v → pos 0 ≤ℤ angle n y r.vertex.point v.point
           by r zero v e q =
-              let d = subst Candidate (sym e) q in
+              let d = subst Candidate (sym (is-at_first e)) q in
               let l : pos 0 ≤ℤ angle n y a.point x.point = by_order (angle n y x.point a.point) (pos 0)
               (λ l. let g = angle-turned n y a.point x.point in omega (arith, ints)) (λ l. let g = angle-turned n y a.point x.point in omega (arith, ints)) (λ l. absurd (other (d, l))) in
-              subst (λ (u : Vertex). pos 0 ≤ℤ angle n y r.vertex.point u.point) e (trans a x r.vertex c d r.candidate r.from l)
+              subst (λ (u : Vertex). pos 0 ≤ℤ angle n y r.vertex.point u.point) (is-at_first e) (trans a x r.vertex c d r.candidate r.from l)
           by r (suc k) v e q = r.least k v e q
 
       step : Best (x ∷ xs) a
       step = ⊎_elim (λ d. nearer d.0 d.1) farther (decided-both (candidate-decided x) (positive-or (angle n y x.point a.point)))
 
     best-of : (xs : List Vertex) → ((k : ℕ) (v : Vertex) → At xs k v → (l : ℕ) × At C.vertices l v) → (a : Vertex) → Candidate a → (m : ℕ) → At C.vertices m a → Best xs a
-    best-of [] f a c m o = record { number = m; vertex = a; has = o; candidate = c; from = (let e = angle-self n y a.point in omega (arith, ints)); least = λ k v e. absurd e }
+    best-of [] f a c m o = record { number = m; vertex = a; has = o; candidate = c; from = (let e = angle-self n y a.point in omega (arith, ints)); least = λ k v e. absurd (is-at_none e) }
     best-of (x ∷ xs) f a c m o = step x xs f a c m o (best-of xs (λ k v e. f (suc k) v e))
 
     best : Best C.vertices w

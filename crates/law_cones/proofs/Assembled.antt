@@ -1,5 +1,5 @@
 -- The map of a labelling, put together from its svertices, arcs and sloop.
-use Rattle.law_cones.proofs.Prelude.{◌≡◌, ℕ, pos, refl, sym, ◌∙◌, ◌⊎◌, inl, inr, ⊎_elim, List, ◌++◌, subst, Option, Some, None, [], none-some, same_Some, lies-left, lies-right, Vector, IsDirection, cross, dot, SameDirection, IsNormal, Label, Decided, IsStrictlyOn, IsPrimitive, At, MapVertex, Arc, MapSloop, Map, Item, arc_item, sloop_item, items, item_normal, dir_of, OnItem, ArcBetween, HasArc, axes, Ordered, Labelling, Near, StraightAfter, IsBuilt, Kept, lowest-same, sloop-at, Axial, labelling-more, SameDirection-turned, neg, none-at, none-empty}
+use Rattle.law_cones.proofs.Prelude.{◌≡◌, ℕ, pos, refl, sym, ◌∙◌, ◌⊎◌, inl, inr, ⊎_elim, List, ◌++◌, subst, Option, Some, None, [], none-some, same_Some, lies-left, lies-right, Vector, IsDirection, cross, dot, SameDirection, IsNormal, Label, Decided, IsStrictlyOn, IsPrimitive, At, MapVertex, Arc, MapSloop, Map, Item, arc_item, sloop_item, items, item_normal, dir_of, OnItem, ArcBetween, HasArc, axes, Ordered, Labelling, Near, StraightAfter, IsBuilt, Kept, lowest-same, sloop-at, Axial, labelling-more, SameDirection-turned, none-at, none-empty}
 use Rattle.law_sphere.proofs.Shot.{dir-at, arc-at}
 use Rattle.law_sphere.proofs.Unique.{HasArc-decided, beside-d}
 use Rattle.law_cones.proofs.Listing.{Mapped, map-list}

@@ -1,5 +1,5 @@
 -- A circle that is needed close before a svertex has an arc to it; so a svertex without arcs has one label all around it.
-use Rattle.law_cones.proofs.Prelude.{◌≡◌, ℕ, ◌+◌, pos, arith, sym, ◌⊎◌, inl, inr, ⊎_elim, List, ◌∷◌, subst, [], ints, neg, Vector, IsDirection, cross, dot, SameDirection, IsNormal, opposite, Label, IsStrictlyOn, At, Arc, Labelling, Near, StraightAt, IsSmooth, StraightAfter, Proper, normal-direction, at-one, amount, past_source, arc-point, level-same, First, first-after, reversed, unflipped, Axial, directed-by, far_directed-by, SameDirection-turned, dir-self, direction-opposite, level-opposite, level-opposite-back, opposite-dot, opposite-twice, normal-either}
+use Rattle.law_cones.proofs.Prelude.{◌≡◌, ℕ, ◌+◌, pos, arith, sym, ◌⊎◌, inl, inr, ⊎_elim, List, ◌∷◌, subst, [], ints, Vector, IsDirection, cross, dot, SameDirection, IsNormal, opposite, Label, IsStrictlyOn, At, Arc, Labelling, Near, StraightAt, IsSmooth, StraightAfter, Proper, normal-direction, at-one, amount, past_source, arc-point, level-same, First, first-after, reversed, unflipped, Axial, directed-by, far_directed-by, SameDirection-turned, dir-self, direction-opposite, level-opposite, level-opposite-back, opposite-dot, opposite-twice, normal-either}
 use Rattle.law_sphere.proofs.Turn.{IsStrictlyOn-same, ends-together}
 use Rattle.law_sphere.proofs.ArcLabels.{arc-along}
 use Rattle.law_cones.proofs.Smooth.{even-or}

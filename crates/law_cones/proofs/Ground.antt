@@ -1,5 +1,5 @@
 -- Where there is no svertex and no sloop, all directions have one label.
-use Rattle.law_cones.proofs.Prelude.{◌≡◌, arith, refl, sym, ◌∙◌, inl, inr, ⊎_elim, List, ◌∷◌, subst, Option, Some, None, [], ints, none-some, same_Some, Vector, IsDirection, IsOpposite, IsNormal, blend, opposite, Label, Decided, decided-both, IsOnCircle, axis_x, Labelling, Near, Plain, StraightAt, IsSmooth, plain, straight, Proper, IsOpposite-decided, circle-point, carried, cross-direction_left, flipped, Axial, dot-comm, in-span, normal-either, neg, none-at}
+use Rattle.law_cones.proofs.Prelude.{◌≡◌, arith, refl, sym, ◌∙◌, inl, inr, ⊎_elim, List, ◌∷◌, subst, Option, Some, None, [], ints, none-some, same_Some, Vector, IsDirection, IsOpposite, IsNormal, blend, opposite, Label, Decided, decided-both, IsOnCircle, axis_x, Labelling, Near, Plain, StraightAt, IsSmooth, plain, straight, Proper, IsOpposite-decided, circle-point, carried, cross-direction_left, flipped, Axial, dot-comm, in-span, normal-either, none-at}
 use Rattle.law_cones.proofs.Smooth.{even-side, even-or}
 use Rattle.law_cones.proofs.SmoothDecided.{smooth-decided}
 use Rattle.law_cones.proofs.Dirs.{Dirs}

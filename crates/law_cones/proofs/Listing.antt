@@ -1,9 +1,9 @@
 -- Lists of exactly the elements that are wanted, in order.
-use Rattle.law_cones.proofs.Prelude.{◌≡◌, ℕ, zero, suc, arith, refl, sym, ◌⊎◌, inl, inr, ⊎_elim, List, ◌∷◌, subst, [], Lies, each, lies-each, At, InOrder, at-lies}
+use Rattle.law_cones.proofs.Prelude.{◌≡◌, ℕ, zero, suc, arith, refl, sym, ◌⊎◌, inl, inr, ⊎_elim, List, ◌∷◌, subst, [], Lies, each, lies-each, At, InOrder, at-lies, is-at_none, is-at_first}
 
 -- ---- places
 pub at-or : {A : Type 0} (xs : List A) (k : ℕ) → ((x : A) × At xs k x) ⊎ ((x : A) → At xs k x → ⊥)
-at-or [] k = inr (λ x a. a)
+at-or [] k = inr (λ x a. is-at_none a)
 at-or (y ∷ ys) zero = inl (y, refl)
 at-or (y ∷ ys) (suc k) = at-or ys k
 
@@ -13,7 +13,7 @@ numbers [] = []
 numbers (y ∷ ys) = zero ∷ each suc (numbers ys)
 
 pub at-number : {A : Type 0} (xs : List A) (k : ℕ) (x : A) → At xs k x → Lies (numbers xs) k
-at-number [] k x a = absurd a
+at-number [] k x a = absurd (is-at_none a)
 at-number (y ∷ ys) zero x e = inl refl
 at-number (y ∷ ys) (suc k) x a = inr (lies-each suc (numbers ys) k (at-number ys k x a))
 
@@ -24,18 +24,18 @@ pub record Mapped {X A : Type 0} (xs : List X) (S : ℕ → X → A → Type 0) 
   pub all : (k : ℕ) (x : X) → At xs k x → (a : A) × At list k a × S k x a
 
 pub map-list : {X A : Type 0} (xs : List X) (S : ℕ → X → A → Type 0) → ((k : ℕ) (x : X) → At xs k x → (a : A) × S k x a) → Mapped xs S
-map-list [] S f = record { list = []; sound = λ k a l. absurd l; all = λ k x l. absurd l }
+map-list [] S f = record { list = []; sound = λ k a l. absurd (is-at_none l); all = λ k x l. absurd (is-at_none l) }
 map-list {X} {A} (y ∷ ys) S f = by (f zero y refl) (map-list ys (λ k x a. S (suc k) x a) (λ k x l. f (suc k) x l))
   where
     by : ((a : A) × S zero y a) → Mapped ys (λ k x a. S (suc k) x a) → Mapped (y ∷ ys) S
     by (b, s) r = record { list = b ∷ r.list; sound = sound; all = all }
       where
         sound : (k : ℕ) (a : A) → At (b ∷ r.list) k a → (x : X) × At (y ∷ ys) k x × S k x a
-        sound zero a e = (y, refl, subst (S zero y) e s)
+        sound zero a e = (y, refl, subst (S zero y) (is-at_first e) s)
         sound (suc k) a l = r.sound k a l
 
         all : (k : ℕ) (x : X) → At (y ∷ ys) k x → (a : A) × At (b ∷ r.list) k a × S k x a
-        all zero x e = (b, refl, subst (λ (z : X). S zero z b) e s)
+        all zero x e = (b, refl, subst (λ (z : X). S zero z b) (is-at_first e) s)
         all (suc k) x l = r.all k x l
 
 -- ---- what each element of a list gives, or doesn't
@@ -74,9 +74,9 @@ module _ {A : Type 0} (Below Same : A → A → Type 0) where
     pub all : (x : A) → Lies xs x → (y : A) × Lies list y × Same x y
 
   pub chain-order : (xs : List A) → Chain xs → InOrder Below xs
-  chain-order [] c i k x y l a b = absurd a
+  chain-order [] c i k x y l a b = absurd (is-at_none a)
   chain-order (z ∷ zs) c zero zero x y l a b = absurd (omega arith)
-  chain-order (z ∷ zs) c zero (suc k) x y l e b = subst (λ (r : A). Below r y) e (c.0 y (at-lies zs k y b))
+  chain-order (z ∷ zs) c zero (suc k) x y l e b = subst (λ (r : A). Below r y) (is-at_first e) (c.0 y (at-lies zs k y b))
   chain-order (z ∷ zs) c (suc i) zero x y l a b = absurd (omega arith)
   chain-order (z ∷ zs) c (suc i) (suc k) x y l a b = chain-order zs c.1 i k x y (omega arith) a b
 

@@ -1,5 +1,5 @@
 -- What sides see: the same way, some direction each, everything where there is nothing.
-use Rattle.law_links.proofs.Prelude.{◌≡◌, ℕ, ◌*◌, ◌<◌, ◌≤◌, pos, ◌*ℤ◌, ◌<ℤ◌, arith, ap, sym, ◌∙◌, ⊎_elim, List, ◌∷◌, subst, Some, [], ints, mul-pos, sign, at, neg, ◌⊕◌, ◌⊗◌, given, none, follows, sign-scaled, mul_pos, Vector, vector, opposite, blend, dot, cross, IsDirection, SameDirection, IsOpposite, Label, SameUpToFactor, of_direction, same-factor, same-nought, forms, Keeps, At, MapVertex, Map, Item, arc_item, sloop_item, items, item_normal, OnItem, IsFree, Side, around_svertex, pos_item, neg_item, whole, HasSide, IsClear, Reaches, Sees, directly, by_way_of, HasArc, Shaped, dot-comb, normal-is, same-plus, same-minus, amount, far-keeps, far-level, axes-forms, free-by_signs, on-direction, on-level, circle-point, arc-at, item-point, keeps-between, kept-not_opposite, Beside, same_way, other_way, beside, free-beside, between-direction, ends-of, sloop-at, sees-around, dot-comm, zero-decided, dot-zero, self-pos, nought-if, dir-signs, opposite-turned, parallel-trans, dot-opposite, direction-right, blend-turned}
+use Rattle.law_links.proofs.Prelude.{◌≡◌, ℕ, ◌*◌, ◌<◌, ◌≤◌, pos, ◌*ℤ◌, ◌<ℤ◌, arith, ap, sym, ◌∙◌, ⊎_elim, List, ◌∷◌, subst, Some, [], ints, mul-pos, sign, at, neg, ◌⊕◌, ◌⊗◌, given, none, follows, sign-scaled, mul_pos, Vector, vector, opposite, blend, dot, cross, IsDirection, SameDirection, IsOpposite, Label, SameUpToFactor, of_direction, same-factor, same-nought, forms, Keeps, At, MapVertex, Map, Item, arc_item, sloop_item, items, item_normal, OnItem, IsFree, Side, around_svertex, pos_item, neg_item, whole, HasSide, IsClear, Reaches, Sees, directly, by_way_of, HasArc, Shaped, dot-comb, normal-is, same-plus, same-minus, amount, far-keeps, far-level, axes-forms, free-by_signs, on-direction, on-level, circle-point, arc-at, item-point, keeps-between, kept-not_opposite, Beside, same_way, other_way, beside, free-beside, between-direction, ends-of, sloop-at, sees-around, dot-comm, zero-decided, dot-zero, self-pos, nought-if, dir-signs, opposite-turned, parallel-trans, dot-opposite, direction-right, blend-turned, is-at_none}
 use Rattle.law_sphere.proofs.Direct.{between-off_target}
 use Rattle.law_sphere.proofs.Sight.{clear-self}
 
@@ -105,7 +105,7 @@ free-whole M V l e d i = record {
 }
   where
     none : (k : ℕ) (v : MapVertex) → At M.svertices k v → ⊥
-    none k v a = subst (λ (vs : List MapVertex). At vs k v) (let g = V.ground_not l e in g.0) a
+    none k v a = is-at_none (subst (λ (vs : List MapVertex). At vs k v) (let g = V.ground_not l e in g.0) a)
 
     off : (k : ℕ) (x : Item) → At (items M) k x → OnItem M x d → ⊥
     off k (arc_item r) a o = let E = ends-of M V k r (arc-at M.arcs M.sloop k r a) in none r.source E.source E.has_source

@@ -1,5 +1,5 @@
 -- Two least maps with the same labels have the same arcs and the same sloop.
-use Rattle.law_sphere.proofs.Prelude.{◌≡◌, ℕ, zero, suc, ◌+◌, pos, ◌<ℤ◌, arith, refl, ap, sym, ◌∙◌, inl, inr, List, ◌∷◌, subst, Option, Some, None, [], sign, Vector, IsDirection, triple, cross, dot, SameDirection, At, MapVertex, Arc, MapSloop, Map, Item, arc_item, sloop_item, items, items_then, item_normal, item_pos, item_mark, item_neg, dir_of, OnItem, Shaped, Valid, IsStrictlyOn, Keeps, arc_forms, forms, Least, SameLabels, MatchedArc, MatchedSloop, Decided, same-nought, same-off, dot-comm, SameDirection-turned, SameDirection-trans, dir-self, dir-signs, direction-left, neg}
+use Rattle.law_sphere.proofs.Prelude.{◌≡◌, ℕ, zero, suc, ◌+◌, pos, ◌<ℤ◌, arith, refl, ap, sym, ◌∙◌, inl, inr, List, ◌∷◌, subst, Option, Some, None, [], sign, Vector, IsDirection, triple, cross, dot, SameDirection, At, MapVertex, Arc, MapSloop, Map, Item, arc_item, sloop_item, items, items_then, item_normal, item_pos, item_mark, item_neg, dir_of, OnItem, Shaped, Valid, IsStrictlyOn, Keeps, arc_forms, forms, Least, SameLabels, MatchedArc, MatchedSloop, Decided, same-nought, same-off, dot-comm, SameDirection-turned, SameDirection-trans, dir-self, dir-signs, direction-left, is-at_none, is-at_first}
 use Rattle.law_sphere.proofs.Vectors.{normal-is, same-plus}
 use Rattle.law_sphere.proofs.Generic.{amount, far-keeps}
 use Rattle.law_sphere.proofs.Places.{SameDirection-decided}
@@ -50,19 +50,19 @@ level-same n m d e a w z = same-nought (dot n d) (dot m e) (ap sign (dot-comm m 
 
 -- ---- lists
 pub sloop-at : (as' : List Arc) (o : Option MapSloop) (k : ℕ) (l : MapSloop) → At (items_then as' o) k (sloop_item l) → o ≡ Some l
-sloop-at [] None k l h = absurd h
-sloop-at [] (Some m) zero l e = ap (λ r. Some (sloop_of m r)) e
+sloop-at [] None k l h = absurd (is-at_none h)
+sloop-at [] (Some m) zero l e = ap (λ r. Some (sloop_of m r)) (is-at_first e)
   where
     sloop_of : MapSloop → Item → MapSloop
     sloop_of d (arc_item x) = d
     sloop_of d (sloop_item x) = x
-sloop-at [] (Some m) (suc k) l h = absurd h
+sloop-at [] (Some m) (suc k) l h = absurd (is-at_none h)
 sloop-at (b ∷ as') o zero l e = cc
 sloop-at (b ∷ as') o (suc k) l h = sloop-at as' o k l h
 
 pub at-sloop : (as' : List Arc) (o : Option MapSloop) (l : MapSloop) → o ≡ Some l → (k : ℕ) × At (items_then as' o) k (sloop_item l)
 at-sloop [] None l e = cc
-at-sloop [] (Some m) l e = (zero, ap (λ r. sloop_item (in_option m r)) e)
+at-sloop [] (Some m) l e = (zero, ap (λ r. Some (sloop_item (in_option m r))) e)
   where
     in_option : MapSloop → Option MapSloop → MapSloop
     in_option d None = d
@@ -70,8 +70,8 @@ at-sloop [] (Some m) l e = (zero, ap (λ r. sloop_item (in_option m r)) e)
 at-sloop (b ∷ as') o l e = let r = at-sloop as' o l e in (suc r.0, r.1)
 
 pub at-arc : (as' : List Arc) (o : Option MapSloop) (k : ℕ) (a : Arc) → At as' k a → At (items_then as' o) k (arc_item a)
-at-arc [] o k a h = absurd h
-at-arc (b ∷ as') o zero a e = ap arc_item e
+at-arc [] o k a h = absurd (is-at_none h)
+at-arc (b ∷ as') o zero a e = ap (λ (x : Arc). Some (arc_item x)) (is-at_first e)
 at-arc (b ∷ as') o (suc k) a h = at-arc as' o k a h
 
 module _ (M N : Map) (V : Valid M) (W : Valid N) (L : Least M) (K : Least N) (s : SameLabels M N) where

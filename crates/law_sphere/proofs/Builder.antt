@@ -1,5 +1,5 @@
 -- A map that is built of a labelling is well shaped, and agrees with it; so it is valid and has its labels.
-use Rattle.law_sphere.proofs.Prelude.{◌≡◌, ℕ, zero, suc, ◌+◌, pos, arith, refl, ap, sym, ◌∙◌, ◌⊎◌, inl, inr, ⊎_elim, List, ◌∷◌, subst, Option, Some, None, [], ints, Sign, sign, by_order, nought-or, Vector, IsDirection, cross, dot, SameDirection, IsNormal, opposite, Label, At, MapVertex, Arc, MapSloop, Map, Item, arc_item, sloop_item, items, items_then, item_normal, item_pos, item_mark, item_neg, dir_of, OnItem, IsFree, Shaped, IsStrictlyOn, by_side, Labelling, Near, Plain, Agrees, StraightAt, IsSmooth, plain, straight, StraightAfter, Proper, IsBuilt, Decided, square-cross, SameDirection-turned, dir-self, dir-signs, direction-opposite, level-opposite, level-opposite-back, vector-same}
+use Rattle.law_sphere.proofs.Prelude.{◌≡◌, ℕ, zero, suc, ◌+◌, pos, arith, refl, ap, sym, ◌∙◌, ◌⊎◌, inl, inr, ⊎_elim, List, ◌∷◌, subst, Option, Some, None, [], ints, Sign, sign, by_order, nought-or, Vector, IsDirection, cross, dot, SameDirection, IsNormal, opposite, Label, At, MapVertex, Arc, MapSloop, Map, Item, arc_item, sloop_item, items, items_then, item_normal, item_pos, item_mark, item_neg, dir_of, OnItem, IsFree, Shaped, IsStrictlyOn, by_side, Labelling, Near, Plain, Agrees, StraightAt, IsSmooth, plain, straight, StraightAfter, Proper, IsBuilt, Decided, square-cross, SameDirection-turned, dir-self, dir-signs, direction-opposite, level-opposite, level-opposite-back, vector-same, is-at_none, is-at_first}
 use Rattle.law_sphere.proofs.Vectors.{normal-direction, even-side}
 use Rattle.law_sphere.proofs.Generic.{amount}
 use Rattle.law_sphere.proofs.Lists.{Found, search_list, at-one}
@@ -24,20 +24,20 @@ dirs [] = []
 dirs (v ∷ vs) = v.dir ∷ dirs vs
 
 pub at-dirs : (vs : List MapVertex) (k : ℕ) (v : MapVertex) → At vs k v → At (dirs vs) k v.dir
-at-dirs [] k v a = absurd a
-at-dirs (u ∷ vs) zero v e = ap (λ (r : MapVertex). r.dir) e
+at-dirs [] k v a = absurd (is-at_none a)
+at-dirs (u ∷ vs) zero v e = ap (λ (r : MapVertex). Some r.dir) (is-at_first e)
 at-dirs (u ∷ vs) (suc k) v a = at-dirs vs k v a
 
 pub dirs-at : (vs : List MapVertex) (k : ℕ) (x : Vector) → At (dirs vs) k x → (v : MapVertex) × At vs k v × (v.dir ≡ x)
-dirs-at [] k x a = absurd a
-dirs-at (u ∷ vs) zero x e = (u, refl, e)
+dirs-at [] k x a = absurd (is-at_none a)
+dirs-at (u ∷ vs) zero x e = (u, refl, is-at_first e)
 dirs-at (u ∷ vs) (suc k) x a = dirs-at vs k x a
 
 sloops-one : (as' : List Arc) (o : Option MapSloop) (i k : ℕ) (l c : MapSloop) → At (items_then as' o) i (sloop_item l) → At (items_then as' o) k (sloop_item c) → i ≡ k
-sloops-one [] None i k l c a b = absurd a
+sloops-one [] None i k l c a b = absurd (is-at_none a)
 sloops-one [] (Some m) zero zero l c a b = refl
-sloops-one [] (Some m) zero (suc k) l c a b = absurd b
-sloops-one [] (Some m) (suc i) k l c a b = absurd a
+sloops-one [] (Some m) zero (suc k) l c a b = absurd (is-at_none b)
+sloops-one [] (Some m) (suc i) k l c a b = absurd (is-at_none a)
 sloops-one (x ∷ as') o zero k l c a b = cc
 sloops-one (x ∷ as') o (suc i) zero l c a b = cc
 sloops-one (x ∷ as') o (suc i) (suc k) l c a b = ap suc (sloops-one as' o i k l c a b)

@@ -1,5 +1,5 @@
 -- Two least maps with the same labels have the same svertices, and items in the same places.
-use Rattle.law_sphere.proofs.Prelude.{◌≡◌, ℕ, ℤ, pos, ◌+ℤ◌, ◌-ℤ◌, ◌*ℤ◌, ◌<ℤ◌, arith, refl, ap, sym, ◌∙◌, ⊎_elim, ◌∷◌, subst, [], ints, ring, at, num, ◌⊕◌, ◌⊖◌, ◌⊗◌, neg, Sign, minus, nought, plus, sign, sign-plus, sign-minus, by_order, nought-or, Vector, IsDirection, cross, dot, IsZero, SameDirection, IsOpposite, IsNormal, blend, opposite, Label, comb, At, MapVertex, Map, Item, items, item_normal, item_pos, item_mark, item_neg, OnItem, IsFree, MapLabel, at_svertex, on_item, NearLabel, Valid, by_side, NearPlain, NearStraight, Least, SameLabels, dot-comm, zero-decided, self-pos, SameDirection-trans, scaled-coordinates, cross_of, dot-opposite, dot_of, dot_poly, numbers, vec}
+use Rattle.law_sphere.proofs.Prelude.{◌≡◌, ℕ, ℤ, pos, ◌+ℤ◌, ◌-ℤ◌, ◌*ℤ◌, ◌<ℤ◌, arith, refl, ap, sym, ◌∙◌, ⊎_elim, ◌∷◌, subst, [], ints, ring, at, num, ◌⊕◌, ◌⊖◌, ◌⊗◌, Sign, minus, nought, plus, sign, sign-plus, sign-minus, by_order, nought-or, Vector, IsDirection, cross, dot, IsZero, SameDirection, IsOpposite, IsNormal, blend, opposite, Label, comb, At, MapVertex, Map, Item, items, item_normal, item_pos, item_mark, item_neg, OnItem, IsFree, MapLabel, at_svertex, on_item, NearLabel, Valid, by_side, NearPlain, NearStraight, Least, SameLabels, dot-comm, zero-decided, self-pos, SameDirection-trans, scaled-coordinates, cross_of, dot-opposite, dot_of, dot_poly, numbers, vec}
 use Rattle.law_sphere.proofs.Shot.{product-off}
 use Rattle.law_sphere.proofs.Vectors.{normal-is, normal-direction, dot-comb}
 use Rattle.law_sphere.proofs.Forms.{on-direction, PlaceOf, svertex_place, item_place, free_place, place_of}

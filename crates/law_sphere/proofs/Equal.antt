@@ -1,5 +1,5 @@
 -- Two least maps with one mark and one label in every direction are equal; so a set has at most one least map at a point.
-use Rattle.law_sphere.proofs.Prelude.{◌≡◌, ℕ, zero, suc, ℤ, pos, ◌+ℤ◌, ◌-ℤ◌, ◌*ℤ◌, ◌<ℤ◌, arith, refl, ap, sym, ◌∙◌, inl, inr, ⊎_elim, List, ◌∷◌, subst, Option, Some, None, [], ints, ring, at, num, ◌⊕◌, ◌⊖◌, ◌⊗◌, neg, by_order, mul_pos, mul_le_right, cancel_eq, Place, Vector, IsDirection, cross, dot, IsZero, SameDirection, Set, Label, Germ-unique, label-one, IsPrimitive, VectorBelow, At, MapVertex, Arc, MapSloop, Map, arc_item, sloop_item, dir_of, MapLabel, Valid, Least, SameLabels, MatchedArc, Within, ArcBelow, InOrder, Ordered, Cone, self-pos, vector-same, SameDirection-turned, direction-right, direction-left, scaled-coordinates}
+use Rattle.law_sphere.proofs.Prelude.{◌≡◌, ℕ, zero, suc, ℤ, pos, ◌+ℤ◌, ◌-ℤ◌, ◌*ℤ◌, ◌<ℤ◌, arith, refl, ap, sym, ◌∙◌, inl, inr, ⊎_elim, List, ◌∷◌, subst, Option, Some, None, [], ints, ring, at, num, ◌⊕◌, ◌⊖◌, ◌⊗◌, by_order, mul_pos, mul_le_right, cancel_eq, Place, Vector, IsDirection, cross, dot, IsZero, SameDirection, Set, Label, Germ-unique, label-one, IsPrimitive, VectorBelow, At, MapVertex, Arc, MapSloop, Map, arc_item, sloop_item, dir_of, MapLabel, Valid, Least, SameLabels, MatchedArc, Within, ArcBelow, InOrder, Ordered, Cone, self-pos, vector-same, SameDirection-turned, direction-right, direction-left, scaled-coordinates, is-at_none, is-at_first}
 use Rattle.law_sphere.proofs.Labels.{label-direction, label-unique}
 use Rattle.law_sphere.proofs.Compare.{labels-turned}
 use Rattle.law_sphere.proofs.Arcs.{Ends, ends-of, at-arc, at-sloop}
@@ -82,8 +82,8 @@ arc-below a b (inr x) (inr y) = let p = x.1 in let q = y.1 in omega arith
 pub same-lists : {A : Type 0} (Below : A → A → Type 0) → ((x y : A) → Below x y → Below y x → ⊥) → (xs ys : List A)
     → InOrder Below xs → InOrder Below ys → ((k : ℕ) (x : A) → At xs k x → (l : ℕ) × At ys l x) → ((k : ℕ) (y : A) → At ys k y → (l : ℕ) × At xs l y) → xs ≡ ys
 same-lists Below asym [] [] o p f g = refl
-same-lists Below asym [] (y ∷ ys) o p f g = let r = g zero y refl in absurd r.1
-same-lists Below asym (x ∷ xs) [] o p f g = let r = f zero x refl in absurd r.1
+same-lists Below asym [] (y ∷ ys) o p f g = let r = g zero y refl in absurd (is-at_none r.1)
+same-lists Below asym (x ∷ xs) [] o p f g = let r = f zero x refl in absurd (is-at_none r.1)
 same-lists {A} Below asym (x ∷ xs) (y ∷ ys) o p f g =
     let e = heads (f zero x refl) (g zero y refl) in
     let t = same-lists Below asym xs ys (λ i k a b l m n. o (suc i) (suc k) a b (omega arith) m n) (λ i k a b l m n. p (suc i) (suc k) a b (omega arith) m n)
@@ -91,12 +91,12 @@ same-lists {A} Below asym (x ∷ xs) (y ∷ ys) o p f g =
     ap (λ r. r ∷ xs) e ∙ ap (λ r. y ∷ r) t
   where
     heads : (l : ℕ) × At (y ∷ ys) l x → (l : ℕ) × At (x ∷ xs) l y → x ≡ y
-    heads (zero, a) b = sym a
-    heads (suc l, a) (zero, b) = b
+    heads (zero, a) b = sym (is-at_first a)
+    heads (suc l, a) (zero, b) = is-at_first b
     heads (suc l, a) (suc k, b) = absurd (asym x y (o zero (suc k) x y (omega arith) refl b) (p zero (suc l) y x (omega arith) refl a))
 
     later : (x y : A) (xs ys : List A) → InOrder Below (x ∷ xs) → x ≡ y → (k : ℕ) (a : A) → At xs k a → (l : ℕ) × At (y ∷ ys) l a → (l : ℕ) × At ys l a
-    later x y xs ys o e k a m (zero, h) = let b = o zero (suc k) x a (omega arith) refl m in let c = subst (λ (r : A). Below x r) (sym (e ∙ h)) b in absurd (asym x x c c)
+    later x y xs ys o e k a m (zero, h) = let b = o zero (suc k) x a (omega arith) refl m in let c = subst (λ (r : A). Below x r) (sym (e ∙ is-at_first h)) b in absurd (asym x x c c)
     later x y xs ys o e k a m (suc l, h) = (l, h)
 
 -- ---- records

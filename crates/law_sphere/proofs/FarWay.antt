@@ -1,5 +1,5 @@
 -- The way from a direction that sees a svertex to one close to the svertex, where no ray of the svertex lies between.
-use Rattle.law_sphere.proofs.Prelude.{◌≡◌, ℕ, zero, suc, ◌+◌, ◌<◌, ◌≤◌, ℤ, pos, nat_abs, ◌+ℤ◌, ◌*ℤ◌, ◌-ℤ◌, ◌<ℤ◌, arith, refl, ap, sym, ◌∙◌, inl, ⊎_elim, List, ◌∷◌, subst, [], ints, ring, at, num, ◌⊕◌, ◌⊖◌, ◌⊗◌, sign, nought-is, by_order, mul_pos, mul_neg, sign-scaled, nought-or, square_pos, follows, given, none as none_given, Vector, IsDirection, triple, cross, dot, SameDirection, blend, same-off, At, MapVertex, Map, Item, items, item_normal, OnItem, IsClear, Shaped, ArcRay, ray_left, Keeps, forms, gather, dot-zero, vector-same, triple-in_plane, cross-none, blend_of, cross_of, numbers, triple_of, triple_poly, vec}
+use Rattle.law_sphere.proofs.Prelude.{◌≡◌, ℕ, zero, suc, ◌+◌, ◌<◌, ◌≤◌, ℤ, pos, nat_abs, ◌+ℤ◌, ◌*ℤ◌, ◌-ℤ◌, ◌<ℤ◌, arith, refl, ap, sym, ◌∙◌, inl, ⊎_elim, List, ◌∷◌, subst, [], ints, ring, at, num, ◌⊕◌, ◌⊖◌, ◌⊗◌, sign, nought-is, by_order, mul_pos, mul_neg, sign-scaled, nought-or, square_pos, follows, given, none as none_given, Vector, IsDirection, triple, cross, dot, SameDirection, blend, same-off, At, MapVertex, Map, Item, items, item_normal, OnItem, IsClear, Shaped, ArcRay, ray_left, Keeps, forms, gather, dot-zero, vector-same, triple-in_plane, cross-none, blend_of, cross_of, numbers, triple_of, triple_poly, vec, is-at_none, is-at_first}
 use Rattle.law_sphere.proofs.Vectors.{dot-comb, normal-is, direction-by, same-plus, same-minus}
 use Rattle.law_sphere.proofs.Generic.{amount, far-keeps, far-level}
 use Rattle.law_sphere.proofs.Lists.{gather-has}
@@ -12,11 +12,11 @@ use Rattle.law_sphere.proofs.NearSvertex.{near-ray}
 
 -- a bound of finitely many numbers
 pub bound-of : {A : Type 0} (xs : List A) (g : A → ℕ) → (n : ℕ) × ((k : ℕ) (x : A) → At xs k x → g x ≤ n)
-bound-of [] g = (0, λ k x a. absurd a)
+bound-of [] g = (0, λ k x a. absurd (is-at_none a))
 bound-of {A} (y ∷ ys) g = let r = bound-of ys g in (g y + r.0, by r.0 r.1)
   where
     by : (n : ℕ) → ((k : ℕ) (x : A) → At ys k x → g x ≤ n) → (k : ℕ) (x : A) → At (y ∷ ys) k x → g x ≤ g y + n
-    by n h zero x e = subst (λ (r : A). g r ≤ g y + n) e (omega arith)
+    by n h zero x e = subst (λ (r : A). g r ≤ g y + n) (is-at_first e) (omega arith)
     by n h (suc k) x a = let q = h k x a in omega arith
 
 module _ (M : Map) (V : Shaped M) (k : ℕ) (v : MapVertex) (a : At M.svertices k v) (d f : Vector) (way : IsClear M d v.dir) (wide : triple v.dir d f ≡ pos 0 → ⊥)

@@ -1,5 +1,5 @@
 -- Arcs of one circle from one source lie in each other; the first of a list after a direction; arcs that meet begin together.
-use Rattle.law_sphere.proofs.Prelude.{◌≡◌, ℕ, zero, suc, ℤ, pos, ◌+ℤ◌, ◌-ℤ◌, ◌*ℤ◌, ◌≤ℤ◌, ◌<ℤ◌, arith, refl, ap, sym, ◌⊎◌, inl, inr, ⊎_elim, List, ◌∷◌, subst, [], ints, ring, at, num, ◌⊖◌, ◌⊗◌, by_order, mul_pos, mul_nonneg, Vector, IsDirection, cross, triple, dot, SameDirection, IsOpposite, At, IsStrictlyOn, Decided, dot-comm, dot-zero, self-pos, cross-turned, triple-turned, opposites, SameDirection-turned, SameDirection-trans, dir-self, parallel-in_plane}
+use Rattle.law_sphere.proofs.Prelude.{◌≡◌, ℕ, zero, suc, ℤ, pos, ◌+ℤ◌, ◌-ℤ◌, ◌*ℤ◌, ◌≤ℤ◌, ◌<ℤ◌, arith, refl, ap, sym, ◌⊎◌, inl, inr, ⊎_elim, List, ◌∷◌, subst, [], ints, ring, at, num, ◌⊖◌, ◌⊗◌, by_order, mul_pos, mul_nonneg, Vector, IsDirection, cross, triple, dot, SameDirection, IsOpposite, At, IsStrictlyOn, Decided, dot-comm, dot-zero, self-pos, cross-turned, triple-turned, opposites, SameDirection-turned, SameDirection-trans, dir-self, parallel-in_plane, is-at_first, is-at_none}
 use Rattle.law_sphere.proofs.Turning.{turns}
 use Rattle.law_sphere.proofs.Vectors.{same-plus, same-minus}
 use Rattle.law_sphere.proofs.Places.{IsStrictlyOn-decided, SameDirection-decided}
@@ -96,7 +96,7 @@ pub record First (n s : Vector) (xs : List Vector) : Type 0 where
 
 module _ (n s : Vector) (hn : IsDirection n) (hs : IsDirection s) (ls : dot n s ≡ pos 0) where
   pub first-after : (xs : List Vector) → First n s xs
-  first-after [] = record { target = s; listed = inl refl; direction = hs; level = ls; none_before = λ k x a o. a }
+  first-after [] = record { target = s; listed = inl refl; direction = hs; level = ls; none_before = λ k x a o. is-at_none a }
   first-after (x ∷ xs) = by (first-after xs)
     where
       by : First n s xs → First n s (x ∷ xs)
@@ -106,11 +106,11 @@ module _ (n s : Vector) (hn : IsDirection n) (hs : IsDirection s) (ls : dot n s 
           (IsStrictlyOn-decided n s r.target x)
         where
           shorter : IsStrictlyOn n s r.target x → (k : ℕ) (y : Vector) → At (x ∷ xs) k y → IsStrictlyOn n s x y → ⊥
-          shorter o zero y e p = p.not_target (subst (SameDirection x) e (dir-self x o.on_circle.direction))
+          shorter o zero y e p = p.not_target (subst (SameDirection x) (is-at_first e) (dir-self x o.on_circle.direction))
           shorter o (suc k) y a p = r.none_before k y a (nested n s r.target hn hs r.direction ls r.level x y o p)
 
           same : (IsStrictlyOn n s r.target x → ⊥) → (k : ℕ) (y : Vector) → At (x ∷ xs) k y → IsStrictlyOn n s r.target y → ⊥
-          same f zero y e p = f (subst (IsStrictlyOn n s r.target) (sym e) p)
+          same f zero y e p = f (subst (IsStrictlyOn n s r.target) (sym (is-at_first e)) p)
           same f (suc k) y a p = r.none_before k y a p
 
 -- ---- arcs that meet

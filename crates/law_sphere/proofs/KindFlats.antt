@@ -1,5 +1,5 @@
 -- Maps of volume, facet and edge points stay the same along the directions that their kind names.
-use Rattle.law_sphere.proofs.Prelude.{◌≡◌, ℕ, zero, suc, ◌<◌, ℤ, pos, ◌+ℤ◌, ◌-ℤ◌, ◌*ℤ◌, ◌<ℤ◌, arith, refl, ap, sym, ◌∙◌, ◌⊎◌, inl, inr, ⊎_elim, List, ◌∷◌, subst, Some, [], ints, ring, at, num, ◌⊕◌, ◌⊖◌, ◌⊗◌, Sign, sign, sign-plus, sign-minus, by_order, mul_pos, sign-scaled, Vector, IsDirection, cross, triple, dot, IsZero, SameDirection, IsOpposite, blend, Label, comb, At, MapVertex, Arc, MapSloop, Map, Item, arc_item, sloop_item, items, item_normal, dir_of, OnItem, IsFree, pos_item, neg_item, IsClear, directly, MapLabel, at_svertex, on_item, seen, Valid, IsOnCircle, by_side, Least, Full, FlatMap, IsInVolume, IsInFacet, IsOnEdge, zero-decided, dot-zero, triple-dot, cross-turned, opposites, SameDirection-turned, dir-self, in-span, apart, parallel-trans}
+use Rattle.law_sphere.proofs.Prelude.{◌≡◌, ℕ, zero, suc, ◌<◌, ℤ, pos, ◌+ℤ◌, ◌-ℤ◌, ◌*ℤ◌, ◌<ℤ◌, arith, refl, ap, sym, ◌∙◌, ◌⊎◌, inl, inr, ⊎_elim, List, ◌∷◌, subst, Some, [], ints, ring, at, num, ◌⊕◌, ◌⊖◌, ◌⊗◌, Sign, sign, sign-plus, sign-minus, by_order, mul_pos, sign-scaled, Vector, IsDirection, cross, triple, dot, IsZero, SameDirection, IsOpposite, blend, Label, comb, At, MapVertex, Arc, MapSloop, Map, Item, arc_item, sloop_item, items, item_normal, dir_of, OnItem, IsFree, pos_item, neg_item, IsClear, directly, MapLabel, at_svertex, on_item, seen, Valid, IsOnCircle, by_side, Least, Full, FlatMap, IsInVolume, IsInFacet, IsOnEdge, zero-decided, dot-zero, triple-dot, cross-turned, opposites, SameDirection-turned, dir-self, in-span, apart, parallel-trans, is-at_first, is-at_none}
 use Rattle.law_sphere.proofs.Vectors.{normal-is, dot-comb, direction-by}
 use Rattle.law_sphere.proofs.Forms.{on-level}
 use Rattle.law_sphere.proofs.Parallel.{circle-point}
@@ -97,9 +97,9 @@ pub at-second : {A : Type 0} (xs : List A) (x y : A) → xs ≡ x ∷ y ∷ [] �
 at-second {A} xs x y e = subst (λ (r : List A). At r (suc zero) y) (sym e) refl
 
 one-of-two : {A : Type 0} (x y : A) (k : ℕ) (z : A) → At (x ∷ y ∷ []) k z → (x ≡ z) ⊎ (y ≡ z)
-one-of-two x y zero z e = inl e
-one-of-two x y (suc zero) z e = inr e
-one-of-two x y (suc (suc k)) z e = absurd e
+one-of-two x y zero z e = inl (is-at_first e)
+one-of-two x y (suc zero) z e = inr (is-at_first e)
+one-of-two x y (suc (suc k)) z e = absurd (is-at_none e)
 
 module _ (M : Map) (V : Valid M) (d : Vector) (K : IsOnEdge M d) where
   abbrev u : Vector

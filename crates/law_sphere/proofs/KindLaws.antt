@@ -1,5 +1,5 @@
 -- The map of an edge point stays the same along the edge; a least map that stays the same along a direction is of one of three kinds.
-use Rattle.law_sphere.proofs.Prelude.{◌≡◌, ℕ, zero, suc, ◌+◌, ◌*◌, ◌<◌, ℤ, pos, ◌+ℤ◌, ◌-ℤ◌, ◌*ℤ◌, arith, refl, ap, sym, ◌∙◌, ◌⊎◌, inl, inr, ⊎_elim, List, ◌∷◌, subst, Option, Some, None, neg_ℤ, [], ints, ring, at, num, ◌⊕◌, ◌⊖◌, ◌⊗◌, neg, follows, given, none, sign, mul_neg, sign-scaled, Vector, IsDirection, cross, triple, dot, IsZero, SameDirection, IsOpposite, blend, opposite, Label, comb, At, MapVertex, MapSloop, Map, sloop_item, item_mark, IsFree, IsClear, MapLabel, at_svertex, on_item, NearLabel, Valid, by_side, NearPlain, NearStraight, Least, Full, FlatMap, IsInVolume, IsInFacet, IsOnEdge, dot-comm, zero-decided, self-pos, vector-same, cross-turned, triple-middle, opposites, SameDirection-turned, dir-self, dir-signs, parallel-trans, direction-opposite, dot-opposite, opposite-itself}
+use Rattle.law_sphere.proofs.Prelude.{◌≡◌, ℕ, zero, suc, ◌+◌, ◌*◌, ◌<◌, ℤ, pos, ◌+ℤ◌, ◌-ℤ◌, ◌*ℤ◌, arith, refl, ap, sym, ◌∙◌, ◌⊎◌, inl, inr, ⊎_elim, List, ◌∷◌, subst, Option, Some, None, neg_ℤ, [], ints, ring, at, num, ◌⊕◌, ◌⊖◌, ◌⊗◌, neg, follows, given, none, sign, mul_neg, sign-scaled, Vector, IsDirection, cross, triple, dot, IsZero, SameDirection, IsOpposite, blend, opposite, Label, comb, At, MapVertex, MapSloop, Map, sloop_item, item_mark, IsFree, IsClear, MapLabel, at_svertex, on_item, NearLabel, Valid, by_side, NearPlain, NearStraight, Least, Full, FlatMap, IsInVolume, IsInFacet, IsOnEdge, dot-comm, zero-decided, self-pos, vector-same, cross-turned, triple-middle, opposites, SameDirection-turned, dir-self, dir-signs, parallel-trans, direction-opposite, dot-opposite, opposite-itself, is-at_none, is-at_first}
 use Rattle.law_sphere.proofs.Vectors.{dot-comb, same-minus}
 use Rattle.law_sphere.proofs.Lists.{search_list, at-one}
 use Rattle.law_sphere.proofs.Forms.{PlaceOf, svertex_place, item_place, free_place, place_of, OnItem-by_signs}
@@ -119,17 +119,17 @@ edge-direction M V d K = subst IsDirection K.named (V.shaped.svertex_dirs (suc z
 -- ---- which kind
 two-listed : {A : Type 0} (xs : List A) (k l : ℕ) (x y : A) → At xs k x → At xs l y → (k ≡ l → ⊥) → ((i : ℕ) (z : A) → At xs i z → (i ≡ k) ⊎ (i ≡ l))
     → (xs ≡ x ∷ y ∷ []) ⊎ (xs ≡ y ∷ x ∷ [])
-two-listed [] k l x y a b n all = absurd a
+two-listed [] k l x y a b n all = absurd (is-at_none a)
 two-listed (p ∷ []) zero zero x y a b n all = absurd (n refl)
-two-listed (p ∷ []) zero (suc l) x y a b n all = absurd b
-two-listed (p ∷ []) (suc k) l x y a b n all = absurd a
+two-listed (p ∷ []) zero (suc l) x y a b n all = absurd (is-at_none b)
+two-listed (p ∷ []) (suc k) l x y a b n all = absurd (is-at_none a)
 two-listed (p ∷ q ∷ []) zero zero x y a b n all = absurd (n refl)
-two-listed (p ∷ q ∷ []) zero (suc zero) x y a b n all = inl (ap (λ r. r ∷ q ∷ []) a ∙ ap (λ r. x ∷ r ∷ []) b)
-two-listed (p ∷ q ∷ []) zero (suc (suc l)) x y a b n all = absurd b
-two-listed (p ∷ q ∷ []) (suc zero) zero x y a b n all = inr (ap (λ r. r ∷ q ∷ []) b ∙ ap (λ r. y ∷ r ∷ []) a)
+two-listed (p ∷ q ∷ []) zero (suc zero) x y a b n all = inl (ap (λ r. r ∷ q ∷ []) (is-at_first a) ∙ ap (λ r. x ∷ r ∷ []) (is-at_first b))
+two-listed (p ∷ q ∷ []) zero (suc (suc l)) x y a b n all = absurd (is-at_none b)
+two-listed (p ∷ q ∷ []) (suc zero) zero x y a b n all = inr (ap (λ r. r ∷ q ∷ []) (is-at_first b) ∙ ap (λ r. y ∷ r ∷ []) (is-at_first a))
 two-listed (p ∷ q ∷ []) (suc zero) (suc zero) x y a b n all = absurd (n refl)
-two-listed (p ∷ q ∷ []) (suc zero) (suc (suc l)) x y a b n all = absurd b
-two-listed (p ∷ q ∷ []) (suc (suc k)) l x y a b n all = absurd a
+two-listed (p ∷ q ∷ []) (suc zero) (suc (suc l)) x y a b n all = absurd (is-at_none b)
+two-listed (p ∷ q ∷ []) (suc (suc k)) l x y a b n all = absurd (is-at_none a)
 two-listed (p ∷ q ∷ r ∷ rs) k l x y a b n all =
     let i = all zero p refl in let j = all (suc zero) q refl in let h = all (suc (suc zero)) r refl in
     absurd (⊎_elim (λ e. ⊎_elim (λ f. omega arith) (λ f. ⊎_elim (λ g. omega arith) (λ g. omega arith) h) j) (λ e. ⊎_elim (λ f. ⊎_elim (λ g. omega arith) (λ g. omega arith) h) (λ f. omega arith) j) i)

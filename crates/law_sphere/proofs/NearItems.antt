@@ -1,5 +1,5 @@
 -- The labels near a free direction and near a direction on an item.
-use Rattle.law_sphere.proofs.Prelude.{◌≡◌, ℕ, ◌<◌, pos, ◌*ℤ◌, ◌≤ℤ◌, arith, refl, ap, sym, ◌∙◌, inl, inr, ⊎_elim, List, ◌∷◌, subst, [], ints, ring, at, num, ◌⊗◌, neg, Sign, sign, sign-plus, sign-minus, by_order, nought-or, Vector, dot, IsOpposite, blend, Label, At, Map, Item, items, item_normal, item_pos, item_mark, item_neg, OnItem, IsFree, pos_item, neg_item, IsClear, directly, MapLabel, on_item, seen, NearLabel, Shaped, Valid, Keeps, axes, forms, by_side, NearPlain, NearStraight, opposite-turned, blend-turned}
+use Rattle.law_sphere.proofs.Prelude.{◌≡◌, ℕ, ◌<◌, pos, ◌*ℤ◌, ◌≤ℤ◌, arith, refl, ap, sym, ◌∙◌, inl, inr, ⊎_elim, List, ◌∷◌, subst, [], ints, ring, at, num, ◌⊗◌, Sign, sign, sign-plus, sign-minus, by_order, nought-or, Vector, dot, IsOpposite, blend, Label, At, Map, Item, items, item_normal, item_pos, item_mark, item_neg, OnItem, IsFree, pos_item, neg_item, IsClear, directly, MapLabel, on_item, seen, NearLabel, Shaped, Valid, Keeps, axes, forms, by_side, NearPlain, NearStraight, opposite-turned, blend-turned}
 use Rattle.law_sphere.proofs.Vectors.{normal-is, dot-comb}
 use Rattle.law_sphere.proofs.Generic.{amount, far-keeps, far-level}
 use Rattle.law_sphere.proofs.Places.{axis_x, axis_y, axis_z, axis_x-is, axis_y-is, axis_z-is}

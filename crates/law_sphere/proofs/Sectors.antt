@@ -1,5 +1,5 @@
 -- What bounds the sector of a svertex in which a direction lies sees all that is close to the svertex toward it; and something bounds it.
-use Rattle.law_sphere.proofs.Prelude.{◌≡◌, ℕ, zero, suc, ◌≤◌, pos, ◌<ℤ◌, arith, refl, sym, ◌∙◌, ◌⊎◌, inl, inr, ⊎_elim, List, ◌∷◌, subst, [], ints, Vector, IsDirection, dot, cross, opposite, SameDirection, blend, Label, Passes, IsOnCircle, Decided, At, MapVertex, Arc, Map, arc_item, IsClear, Side, around_svertex, HasSide, dir_of, Sees, HasArc, Shaped, ArcRay, end_left, end_side, ray_left, ray_side, Unrayed, IsLastRay, IsLastSide, BoundsSector, forms, dot-comm, level-way, opposite-dot, square-cross, level_cross_second, SameDirection-turned, SameDirection-trans, dir-self, direction-left, blend-turned}
+use Rattle.law_sphere.proofs.Prelude.{◌≡◌, ℕ, zero, suc, ◌≤◌, pos, ◌<ℤ◌, arith, refl, sym, ◌∙◌, ◌⊎◌, inl, inr, ⊎_elim, List, ◌∷◌, subst, [], ints, Vector, IsDirection, dot, cross, opposite, SameDirection, blend, Label, Passes, IsOnCircle, Decided, At, MapVertex, Arc, Map, arc_item, IsClear, Side, around_svertex, HasSide, dir_of, Sees, HasArc, Shaped, ArcRay, end_left, end_side, ray_left, ray_side, Unrayed, IsLastRay, IsLastSide, BoundsSector, forms, dot-comm, level-way, opposite-dot, square-cross, level_cross_second, SameDirection-turned, SameDirection-trans, dir-self, direction-left, blend-turned, is-at_none, is-at_first}
 use Rattle.law_cyclic.proofs.Cyclic.{ways_glue}
 use Rattle.law_sphere.proofs.Generic.{amount, far-keeps}
 use Rattle.law_sphere.proofs.Places.{IsStrictlyOn-decided}
@@ -76,7 +76,7 @@ module _ (M : Map) (V : Shaped M) (k : ℕ) (v : MapVertex) (a : At M.svertices 
   LastAmong xs q = (i : ℕ) (b : Arc) → At xs i b → (t : (b.source ≡ k) ⊎ (b.target ≡ k)) → Passes p (ray_left q) (end_left b t) (cross p e) → ⊥
 
   last-among : (xs : List Arc) → ((i : ℕ) (b : Arc) → At xs i b → (j : ℕ) × At M.arcs j b) → ArcRay M k → (q : ArcRay M k) × LastAmong xs q
-  last-among [] listed q = (q, λ i b h. absurd h)
+  last-among [] listed q = (q, λ i b h. absurd (is-at_none h))
   last-among (c ∷ cs) listed q =
       let l = listed zero c refl in
       let rest = last-among cs (λ i b h. listed (suc i) b h) q in
@@ -88,8 +88,8 @@ module _ (M : Map) (V : Shaped M) (k : ℕ) (v : MapVertex) (a : At M.svertices 
           → (s : ArcRay M k) → KeepsPassed r s → (c.target ≡ k → Passes p (ray_left s) (opposite c.normal) (cross p e) → ⊥) → LastAmong (c ∷ cs) s
       among q L r f n s g m zero b h (inl z) =
           let l = listed zero b h in
-          g (ray l.0 b l.1 (inl z)) (subst (λ (x : Arc). Passes p (ray_left r) x.normal (cross p e) → ⊥) h (n (subst (λ (x : Arc). x.source ≡ k) (sym h) z)))
-      among q L r f n s g m zero b h (inr z) = subst (λ (x : Arc). Passes p (ray_left s) (opposite x.normal) (cross p e) → ⊥) h (m (subst (λ (x : Arc). x.target ≡ k) (sym h) z))
+          g (ray l.0 b l.1 (inl z)) (subst (λ (x : Arc). Passes p (ray_left r) x.normal (cross p e) → ⊥) (is-at_first h) (n (subst (λ (x : Arc). x.source ≡ k) (sym (is-at_first h)) z)))
+      among q L r f n s g m zero b h (inr z) = subst (λ (x : Arc). Passes p (ray_left s) (opposite x.normal) (cross p e) → ⊥) (is-at_first h) (m (subst (λ (x : Arc). x.target ≡ k) (is-at_first (sym h)) z))
       among q L r f n s g m (suc i) b h t =
           let l = listed (suc i) b h in
           let x = ray l.0 b l.1 t in

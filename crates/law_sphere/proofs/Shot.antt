@@ -1,5 +1,5 @@
 -- The first thing that is met on the way from a free direction to a well chosen point of an item, from a definite side.
-use Rattle.law_sphere.proofs.Prelude.{◌≡◌, ℕ, zero, suc, ◌+◌, ◌*◌, ◌<◌, ℤ, pos, ◌+ℤ◌, ◌*ℤ◌, ◌<ℤ◌, nat_abs, arith, refl, ap, sym, ◌∙◌, ⊎_elim, List, ◌∷◌, subst, Option, Some, None, [], ints, unsigned_abs-mul, mul-pos, ring, at, num, ◌⊕◌, ◌⊗◌, sign, nought-is, by_order, nought-or, Vector, IsDirection, cross, dot, blend, sign-scaled, At, MapVertex, Arc, MapSloop, Map, Item, arc_item, sloop_item, items, items_then, item_normal, dir_of, OnItem, Shaped, dot-comm, left-of, square-cross}
+use Rattle.law_sphere.proofs.Prelude.{◌≡◌, ℕ, zero, suc, ◌+◌, ◌*◌, ◌<◌, ℤ, pos, ◌+ℤ◌, ◌*ℤ◌, ◌<ℤ◌, nat_abs, arith, refl, ap, sym, ◌∙◌, ⊎_elim, List, ◌∷◌, subst, Option, Some, None, [], ints, unsigned_abs-mul, mul-pos, ring, at, num, ◌⊕◌, ◌⊗◌, sign, nought-is, by_order, nought-or, Vector, IsDirection, cross, dot, blend, sign-scaled, At, MapVertex, Arc, MapSloop, Map, Item, arc_item, sloop_item, items, items_then, item_normal, dir_of, OnItem, Shaped, dot-comm, left-of, square-cross, is-at_none, is-at_first}
 use Rattle.law_sphere.proofs.Vectors.{normal-is, dot-comb}
 use Rattle.law_sphere.proofs.Generic.{SameSigns, amount}
 use Rattle.law_sphere.proofs.Forms.{item_forms, on-level, OnItem-decided, OnItem-by_signs}
@@ -10,15 +10,15 @@ product-off k x h f z = f (nought-is x (sym (sign-scaled k x h) ∙ ap sign z))
 
 -- ---- lists of a map
 pub dir-at : (vs : List MapVertex) (k : ℕ) (v : MapVertex) → At vs k v → dir_of vs k ≡ v.dir
-dir-at [] k v a = absurd a
-dir-at (u ∷ vs) zero v e = ap (λ (r : MapVertex). r.dir) e
+dir-at [] k v a = absurd (is-at_none a)
+dir-at (u ∷ vs) zero v e = ap (λ (r : MapVertex). r.dir) (is-at_first e)
 dir-at (u ∷ vs) (suc k) v a = dir-at vs k v a
 
 pub arc-at : (as' : List Arc) (o : Option MapSloop) (k : ℕ) (a : Arc) → At (items_then as' o) k (arc_item a) → At as' k a
-arc-at [] None k a h = absurd h
+arc-at [] None k a h = absurd (is-at_none h)
 arc-at [] (Some l) zero a e = cc
-arc-at [] (Some l) (suc k) a h = absurd h
-arc-at (b ∷ as') o zero a e = ap arc_of e
+arc-at [] (Some l) (suc k) a h = absurd (is-at_none h)
+arc-at (b ∷ as') o zero a e = ap (λ (x : Item). Some (arc_of x)) (is-at_first e)
   where
     arc_of : Item → Arc
     arc_of (arc_item x) = x
@@ -134,11 +134,11 @@ module _ (M : Map) (d : Vector) where
     pub unmet : (k : ℕ) (x : Item) → At xs k x → Unmet at_vector x
 
   pub shoot : (c : Vector) → Target c → (xs : List Item) → ((k : ℕ) (x : Item) → At xs k x → (l : ℕ) × At (items M) l x) → Shot xs
-  shoot c t [] sub = record { at_vector = c; target = t; unmet = λ k x a. absurd a }
+  shoot c t [] sub = record { at_vector = c; target = t; unmet = λ k x a. absurd (is-at_none a) }
   shoot c t (x ∷ xs) sub = by (shoot c t xs (λ k y a. sub (suc k) y a)) (sub zero x refl)
     where
       cons : (c : Vector) → Unmet c x → ((k : ℕ) (y : Item) → At xs k y → Unmet c y) → (k : ℕ) (y : Item) → At (x ∷ xs) k y → Unmet c y
-      cons c u f zero y e = subst (λ (r : Item). Unmet c r) e u
+      cons c u f zero y e = subst (λ (r : Item). Unmet c r) (is-at_first e) u
       cons c u f (suc k) y a = f k y a
 
       by : Shot xs → (l : ℕ) × At (items M) l x → Shot (x ∷ xs)

@@ -1,5 +1,5 @@
 -- Every free direction is seen, and one side sees both ends of a clear way.
-use Rattle.law_sphere.proofs.Prelude.{◌≡◌, ℕ, zero, suc, ◌+◌, ◌<◌, pos, ◌<ℤ◌, arith, refl, ap, ◌∙◌, ◌⊎◌, inl, inr, ⊎_elim, List, ◌∷◌, subst, Option, Some, None, [], ints, ring, at, ◌⊕◌, ◌⊗◌, sign, sign-scaled, nought-or, Vector, dot, SameDirection, blend, Label, At, MapVertex, Arc, MapSloop, Map, Item, arc_item, sloop_item, items, items_then, item_normal, IsFree, Side, around_svertex, whole, HasSide, IsClear, Sees, directly, by_way_of, SeenAs, Shaped, Valid, here, link, decided-not, self-pos, cross-turned, cross-self, blend-turned}
+use Rattle.law_sphere.proofs.Prelude.{◌≡◌, ℕ, zero, suc, ◌+◌, ◌<◌, pos, ◌<ℤ◌, arith, refl, ap, ◌∙◌, ◌⊎◌, inl, inr, ⊎_elim, List, ◌∷◌, subst, Option, Some, None, [], ints, ring, at, ◌⊕◌, ◌⊗◌, sign, sign-scaled, nought-or, Vector, dot, SameDirection, blend, Label, At, MapVertex, Arc, MapSloop, Map, Item, arc_item, sloop_item, items, items_then, item_normal, IsFree, Side, around_svertex, whole, HasSide, IsClear, Sees, directly, by_way_of, SeenAs, Shaped, Valid, here, link, decided-not, self-pos, cross-turned, cross-self, blend-turned, is-at_none}
 use Rattle.law_sphere.proofs.Vectors.{normal-is, dot-comb}
 use Rattle.law_sphere.proofs.Generic.{SameSigns}
 use Rattle.law_sphere.proofs.Lists.{Found, search_list}
@@ -53,7 +53,7 @@ level-or M d = ⊎_elim (λ f. inl f) (λ n. inr (λ k x a. ⊎_elim (λ z. z) (
     (search_list (items M) (Crosses d) (λ k x. decided-not (nought-or (dot (item_normal x) d))))
 
 empty-arcs : (as' : List Arc) (o : Option MapSloop) → ((k : ℕ) (x : Item) → At (items_then as' o) k x → ⊥) → (k : ℕ) (a : Arc) → At as' k a → ⊥
-empty-arcs [] o n k a h = h
+empty-arcs [] o n k a h = is-at_none h
 empty-arcs (b ∷ as') o n k a h = n zero (arc_item b) refl
 
 empty-sloop : (as' : List Arc) (o : Option MapSloop) → ((k : ℕ) (x : Item) → At (items_then as' o) k x → ⊥) → o ≡ None

@@ -1,5 +1,5 @@
 -- The maps of one label and of one plane: they are well shaped, and agree with what has their labels.
-use Rattle.law_sphere.proofs.Prelude.{◌≡◌, ℕ, zero, suc, arith, refl, ap, sym, ◌∙◌, inl, ◌∷◌, subst, Some, None, [], sign, Vector, IsDirection, cross, dot, IsNormal, blend, Label, At, MapSloop, Map, Item, sloop_item, items, item_normal, item_pos, item_mark, item_neg, OnItem, IsFree, Shaped, Valid, by_side, Least, Labelling, Near, Plain, Agrees}
+use Rattle.law_sphere.proofs.Prelude.{◌≡◌, ℕ, zero, suc, arith, refl, ap, sym, ◌∙◌, inl, ◌∷◌, subst, Some, None, [], sign, Vector, IsDirection, cross, dot, IsNormal, blend, Label, At, MapSloop, Map, Item, sloop_item, items, item_normal, item_pos, item_mark, item_neg, OnItem, IsFree, Shaped, Valid, by_side, Least, Labelling, Near, Plain, Agrees, is-at_none, is-at_first}
 use Rattle.law_sphere.proofs.Generic.{amount, far-keeps, far-level}
 use Rattle.law_sphere.proofs.Walk.{between-direction}
 use Rattle.law_sphere.proofs.Built.{agrees-valid}
@@ -11,24 +11,24 @@ ground_map k g = record { mark = k; svertices = []; arcs = []; sloop = None; gro
 
 pub ground-shaped : (k g : Label) → Shaped (ground_map k g)
 ground-shaped k g = record {
-  svertex_dirs = λ i v a. absurd a;
-  svertices_apart = λ i j u v a b w. absurd a;
-  normals = λ i x a. absurd a;
-  arcs_between = λ i x a. absurd a;
-  no_svertex_on_item = λ i j v x a b o. absurd a;
-  no_items_meet = λ i j x y d a b o p. absurd a;
-  around_lone = λ i v a n. absurd a;
-  around_not = λ i v a h. absurd a;
+  svertex_dirs = λ i v a. absurd (is-at_none a);
+  svertices_apart = λ i j u v a b w. absurd (is-at_none a);
+  normals = λ i x a. absurd (is-at_none a);
+  arcs_between = λ i x a. absurd (is-at_none a);
+  no_svertex_on_item = λ i j v x a b o. absurd (is-at_none a);
+  no_items_meet = λ i j x y d a b o p. absurd (is-at_none a);
+  around_lone = λ i v a n. absurd (is-at_none a);
+  around_not = λ i v a h. absurd (is-at_none a);
   ground_alone = λ e f. (g, refl);
   ground_not = λ m e. (refl, refl);
 }
 
 pub ground-agrees : (k g : Label) (F : Vector → Label → Type 0) → ((d : Vector) → IsDirection d → F d g) → ((d : Vector) (m n : Label) → IsDirection d → F d m → F d n → m ≡ n) → Agrees (ground_map k g) F
 ground-agrees k g F all one = record {
-  svertices = λ i v a. absurd a;
-  marks = λ i x d a o. absurd a;
-  beside = λ i x d e a o f. absurd a;
-  lone = λ i v m e a q f. absurd a;
+  svertices = λ i v a. absurd (is-at_none a);
+  marks = λ i x d a o. absurd (is-at_none a);
+  beside = λ i x d e a o f. absurd (is-at_none a);
+  lone = λ i v m e a q f. absurd (is-at_none a);
   free = λ d G m f e h. (1, λ i l. subst (F (blend i d 1 e)) (one d g m G.direction (all d G.direction) f) (all (blend i d 1 e) (between-direction d e i 1 (omega arith) h)));
   ground = λ m d e h. subst (F d) (some-some g m e) (all d h);
 }
@@ -39,19 +39,19 @@ sloop_map k l = record { mark = k; svertices = []; arcs = []; sloop = Some l; gr
 
 module _ (k : Label) (l : MapSloop) where
   only : (i : ℕ) (x : Item) → At (items (sloop_map k l)) i x → (i ≡ zero) × (sloop_item l ≡ x)
-  only zero x e = (refl, e)
-  only (suc i) x e = absurd e
+  only zero x e = (refl, is-at_first e)
+  only (suc i) x e = absurd (is-at_none e)
 
   pub sloop-shaped : IsNormal l.normal → Shaped (sloop_map k l)
   sloop-shaped h = record {
-    svertex_dirs = λ i v a. absurd a;
-    svertices_apart = λ i j u v a b w. absurd a;
+    svertex_dirs = λ i v a. absurd (is-at_none a);
+    svertices_apart = λ i j u v a b w. absurd (is-at_none a);
     normals = λ i x a. subst (λ (y : Item). IsNormal (item_normal y)) (let r = only i x a in r.1) h;
-    arcs_between = λ i x a. absurd a;
-    no_svertex_on_item = λ i j v x a b o. absurd a;
+    arcs_between = λ i x a. absurd (is-at_none a);
+    no_svertex_on_item = λ i j v x a b o. absurd (is-at_none a);
     no_items_meet = λ i j x y d a b o p. (let r = only i x a in r.0) ∙ sym (let r = only j y b in r.0);
-    around_lone = λ i v a n. absurd a;
-    around_not = λ i v a h. absurd a;
+    around_lone = λ i v a n. absurd (is-at_none a);
+    around_not = λ i v a h. absurd (is-at_none a);
     ground_alone = λ e f. cc;
     ground_not = λ m e. cc;
   }
@@ -61,10 +61,10 @@ module _ (k : Label) (l : MapSloop) where
 
   pub sloop-agrees : (F : Vector → Label → Type 0) → ((d : Vector) → IsDirection d → F d (side d)) → ((d : Vector) (m n : Label) → IsDirection d → F d m → F d n → m ≡ n) → Agrees (sloop_map k l) F
   sloop-agrees F all one = record {
-    svertices = λ i v a. absurd a;
+    svertices = λ i v a. absurd (is-at_none a);
     marks = λ i x d a o. mark i x d (only i x a) o;
     beside = λ i x d e a o f. near i x d e (only i x a) o f;
-    lone = λ i v m e a q f. absurd a;
+    lone = λ i v m e a q f. absurd (is-at_none a);
     free = free;
     ground = λ m d e h. cc;
   }
@@ -97,7 +97,7 @@ module _ (k : Label) (l : MapSloop) where
 
   pub sloop-least : (l.pos ≡ l.mark → l.neg ≡ l.mark → ⊥) → Least (sloop_map k l)
   sloop-least n = record {
-    no_plain = λ i v a p. a;
-    no_straight = λ i v a p. a;
+    no_plain = λ i v a p. is-at_none a;
+    no_straight = λ i v a p. is-at_none a;
     items_differ = λ i x a. subst (λ (y : Item). item_pos y ≡ item_mark y → item_neg y ≡ item_mark y → ⊥) (let r = only i x a in r.1) n;
   }

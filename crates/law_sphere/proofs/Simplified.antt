@@ -1,5 +1,5 @@
 -- A simplified star at a plain direction has no ray; at a straight direction all its rays lie in the plane.
-use Rattle.law_sphere.proofs.Prelude.{◌≡◌, ℕ, zero, suc, ◌+◌, ℤ, pos, ◌*ℤ◌, ◌<ℤ◌, arith, refl, ap, sym, ◌∙◌, ◌⊎◌, inl, inr, ⊎_elim, List, ◌∷◌, subst, length, Bool, true, false, cond, [], ints, ring, at, num, ◌⊕◌, ◌⊖◌, ◌⊗◌, follows, given, none, sign, mul_pos, nought-or, Vector, IsDirection, cross, dot, IsZero, SameDirection, opposite, Label, At, Map, NearLabel, Valid, IsStrictlyOn, by_side, NearPlain, NearStraight, Ray, Star, ray_dir, across, NextRay, on_ray, in_sector, IsRay, StarShows, Follows, IsSimplified, dot-comm, self-pos, nought-if, dir-self, apart, direction-opposite, opposite-dot, opposite-twice}
+use Rattle.law_sphere.proofs.Prelude.{◌≡◌, ℕ, zero, suc, ◌+◌, ℤ, pos, ◌*ℤ◌, ◌<ℤ◌, arith, refl, ap, sym, ◌∙◌, ◌⊎◌, inl, inr, ⊎_elim, List, ◌∷◌, subst, length, Bool, true, false, cond, [], ints, ring, at, num, ◌⊕◌, ◌⊖◌, ◌⊗◌, follows, given, none, sign, mul_pos, nought-or, Vector, IsDirection, cross, dot, IsZero, SameDirection, opposite, Label, At, Map, NearLabel, Valid, IsStrictlyOn, by_side, NearPlain, NearStraight, Ray, Star, ray_dir, across, NextRay, on_ray, in_sector, IsRay, StarShows, Follows, IsSimplified, dot-comm, self-pos, nought-if, dir-self, apart, direction-opposite, opposite-dot, opposite-twice, is-at_none}
 use Rattle.law_sphere.proofs.Vectors.{normal-direction}
 use Rattle.law_sphere.proofs.Generic.{amount, far-keeps}
 use Rattle.law_sphere.proofs.Parallel.{past_source, arc-point}
@@ -33,21 +33,21 @@ across-same d e hd he z = record { parallel = par; forward = subst (λ (r : ℤ)
 
 -- ---- the neighbours of a ray
 pub last-of : (rs : List Ray) (r : Ray) → At rs zero r → (j : ℕ) × (q : Ray) × At rs j q × (suc j ≡ length rs)
-last-of [] r a = absurd a
+last-of [] r a = absurd (is-at_none a)
 last-of (p ∷ []) r a = (zero, p, refl, refl)
 last-of (p ∷ q ∷ rs) r a = let x = last-of (q ∷ rs) q refl in (suc x.0, x.1, x.2, ap suc x.3)
 
 first-of_ray : (rs : List Ray) (k : ℕ) (r : Ray) → At rs k r → (p : Ray) × At rs zero p
-first-of_ray [] k r a = absurd a
+first-of_ray [] k r a = absurd (is-at_none a)
 first-of_ray (p ∷ rs) k r a = (p, refl)
 
 pub before : (rs : List Ray) (k : ℕ) (r : Ray) → At rs (suc k) r → (q : Ray) × At rs k q
-before [] k r a = absurd a
+before [] k r a = absurd (is-at_none a)
 before (p ∷ rs) zero r a = (p, refl)
 before (p ∷ rs) (suc k) r a = before rs k r a
 
 after-or : (rs : List Ray) (k : ℕ) (r : Ray) → At rs k r → ((q : Ray) × At rs (suc k) q) ⊎ (suc k ≡ length rs)
-after-or [] k r a = absurd a
+after-or [] k r a = absurd (is-at_none a)
 after-or (p ∷ []) zero r a = inr refl
 after-or (p ∷ q ∷ rs) zero r a = inl (q, refl)
 after-or (p ∷ rs) (suc k) r a = ⊎_elim (λ x. inl x) (λ e. inr (ap suc e)) (after-or rs k r a)

@@ -1,5 +1,5 @@
 -- A plain star says that the direction is plain, a straight star that it is straight.
-use Rattle.law_sphere.proofs.Prelude.{◌≡◌, ℕ, zero, suc, pos, ◌-ℤ◌, ◌*ℤ◌, ◌<ℤ◌, arith, refl, ap, sym, ◌∙◌, ◌⊎◌, inl, inr, ⊎_elim, List, ◌∷◌, subst, length, cond, [], ints, num, ◌⊖◌, ◌⊗◌, neg, follows, given, none, minus, nought, plus, sign, sign-plus, sign-minus, sign-scaled, Vector, IsDirection, cross, triple, dot, SameDirection, IsOpposite, IsNormal, Label, At, Map, NearLabel, IsStrictlyOn, by_side, NearPlain, NearStraight, Ray, Star, ray_dir, across, OnRay, NextRay, StarLabel, on_ray, in_sector, in_only_sector, IsRay, StarOf, IsPlain, IsStraight, dot-comm, self-pos, cross-turned, dir-signs, direction-left, cross_of, dir-self, dot_poly, from-opposite, level_cross_second, nought-if, numbers, opposite-cross, square-cross, triple_of, vec}
+use Rattle.law_sphere.proofs.Prelude.{◌≡◌, ℕ, zero, suc, pos, ◌-ℤ◌, ◌*ℤ◌, ◌<ℤ◌, arith, refl, ap, sym, ◌∙◌, ◌⊎◌, inl, inr, ⊎_elim, List, ◌∷◌, subst, length, cond, [], ints, num, ◌⊖◌, ◌⊗◌, neg, follows, given, none, minus, nought, plus, sign, sign-plus, sign-minus, sign-scaled, Vector, IsDirection, cross, triple, dot, SameDirection, IsOpposite, IsNormal, Label, At, Map, NearLabel, IsStrictlyOn, by_side, NearPlain, NearStraight, Ray, Star, ray_dir, across, OnRay, NextRay, StarLabel, on_ray, in_sector, in_only_sector, IsRay, StarOf, IsPlain, IsStraight, dot-comm, self-pos, cross-turned, dir-signs, direction-left, cross_of, dir-self, dot_poly, from-opposite, level_cross_second, nought-if, numbers, opposite-cross, square-cross, triple_of, vec, is-at_none, is-at_first}
 use Rattle.law_sphere.proofs.Vectors.{normal-direction}
 use Rattle.law_sphere.proofs.Lists.{none-at}
 
@@ -9,7 +9,7 @@ plain-star t M d S P = record { label = t.mark; at_d = S.mark; near = λ e f. by
     only : (e : Vector) (l : Label) → StarLabel t e l → t.mark ≡ l
     only e l (on_ray k r a o q) = absurd (none-at t.rays k r P.no_ray a)
     only e l (in_sector k q r a n o s) = absurd (none-at t.rays k q P.no_ray a)
-    only e l (in_only_sector n s) = subst (λ (r : List Label). At r zero l) P.one_sector s
+    only e l (in_only_sector n s) = is-at_first (subst (λ (r : List Label). At r zero l) P.one_sector s)
 
     by : (e : Vector) → (l : Label) × StarLabel t e l × NearLabel M d e l → NearLabel M d e t.mark
     by e (l, s, n) = subst (NearLabel M d e) (sym (only e l s)) n
@@ -20,7 +20,7 @@ plain_star d m = record { axis = d; rays = []; sectors = m ∷ []; mark = m }
 
 pub star-plain : (M : Map) (d : Vector) (P : NearPlain M d) → StarOf (plain_star d P.label) M d × IsPlain (plain_star d P.label)
 star-plain M d P = (
-  record { rays = λ k r a. absurd a; axis = refl; mark = P.at_d; labels = λ e f. (P.label, in_only_sector refl refl, P.near e f) },
+  record { rays = λ k r a. absurd (is-at_none a); axis = refl; mark = P.at_d; labels = λ e f. (P.label, in_only_sector refl refl, P.near e f) },
   record { no_ray = refl; one_sector = refl },
 )
 
@@ -95,9 +95,9 @@ module _ (t : Star) (rays : (k : ℕ) (r : Ray) → At t.rays k r → IsRay t r)
       sym (side-of e) ∙ sym (sign-scaled (dot d d) (dot n (across d e)) dd) ∙ sign-minus (dot d d *ℤ dot n (across d e)) (omega (arith, ints))
 
   ray-one : (k : ℕ) (r : Ray) → At (K.first ∷ K.second ∷ []) k r → ((k ≡ zero) × (K.first ≡ r)) ⊎ ((k ≡ suc zero) × (K.second ≡ r))
-  ray-one zero r e = inl (refl, e)
-  ray-one (suc zero) r e = inr (refl, e)
-  ray-one (suc (suc k)) r e = absurd e
+  ray-one zero r e = inl (refl, is-at_first e)
+  ray-one (suc zero) r e = inr (refl, is-at_first e)
+  ray-one (suc (suc k)) r e = absurd (is-at_none e)
 
   listed-one : (k : ℕ) (r : Ray) → At t.rays k r → ((k ≡ zero) × (K.first ≡ r)) ⊎ ((k ≡ suc zero) × (K.second ≡ r))
   listed-one k r a = ray-one k r (subst (λ (q : List Ray). At q k r) K.two_rays a)
@@ -123,10 +123,10 @@ module _ (t : Star) (rays : (k : ℕ) (r : Ray) → At t.rays k r → IsRay t r)
       second-next f g h = h ∙ ap (by_side K.pos t.mark K.neg) (sym (past-second e (subst (λ (w : Vector). IsStrictlyOn d w (cross n d) (across d e)) (ap (ray_dir t) (sym f) ∙ behind) (subst (λ (w : Vector). IsStrictlyOn d (ray_dir t q) w (across d e)) (ap (ray_dir t) (sym g) ∙ ahead) o))))
 
       by : ((k ≡ zero) × (K.first ≡ q)) ⊎ ((k ≡ suc zero) × (K.second ≡ q)) → NextRay t.rays k r → l ≡ by_side K.pos t.mark K.neg (sign (dot n e))
-      by (inl c) (inl y) = ⊎_elim (λ z. let p = z.0 in let u = c.0 in absurd (omega arith)) (λ z. first-next c.1 z.1 (sym (subst (λ (i : ℕ). At (K.pos ∷ K.neg ∷ []) i l) c.0 sector))) (listed-one (suc k) r y)
+      by (inl c) (inl y) = ⊎_elim (λ z. let p = z.0 in let u = c.0 in absurd (omega arith)) (λ z. first-next c.1 z.1 (is-at_first (sym (subst (λ (i : ℕ). At (K.pos ∷ K.neg ∷ []) i l) c.0 sector)))) (listed-one (suc k) r y)
       by (inl c) (inr y) = let p = y.0 in let u = c.0 in let w = rays-length in absurd (omega arith)
       by (inr c) (inl y) = ⊎_elim (λ z. let p = z.0 in let u = c.0 in absurd (omega arith)) (λ z. let p = z.0 in let u = c.0 in absurd (omega arith)) (listed-one (suc k) r y)
-      by (inr c) (inr y) = ⊎_elim (λ z. second-next c.1 z.1 (sym (subst (λ (i : ℕ). At (K.pos ∷ K.neg ∷ []) i l) c.0 sector))) (λ z. let p = z.0 in absurd (omega arith)) (listed-one zero r y.1)
+      by (inr c) (inr y) = ⊎_elim (λ z. second-next c.1 z.1 (is-at_first (sym (subst (λ (i : ℕ). At (K.pos ∷ K.neg ∷ []) i l) c.0 sector)))) (λ z. let p = z.0 in absurd (omega arith)) (listed-one zero r y.1)
 
 pub straight-star : (t : Star) (M : Map) (d : Vector) → IsDirection d → StarOf t M d → IsStraight t → NearStraight M d
 straight-star t M d h S K = record {

@@ -1,5 +1,5 @@
 -- Two least maps with one label in every direction hold the same things.
-use Rattle.law_sphere.proofs.Prelude.{◌≡◌, ℕ, zero, arith, refl, ap, sym, ◌∙◌, ◌⊎◌, inl, inr, ⊎_elim, List, ◌∷◌, subst, Option, Some, None, [], ints, cases_lt, Vector, IsDirection, cross, dot, IsZero, SameDirection, Label, At, MapVertex, MapSloop, Map, Item, arc_item, sloop_item, items, dir_of, IsFree, whole, directly, MapLabel, seen, HasArc, Valid, NearPlain, NearStraight, Least, SameLabels, MatchedArc, MatchedSvertex, Within, Decided, decided-or, same-nought, self-pos, cross-turned, SameDirection-turned, SameDirection-trans, dir-self, dir-signs, direction-left, apart, parallel-trans, neg}
+use Rattle.law_sphere.proofs.Prelude.{◌≡◌, ℕ, zero, arith, refl, ap, sym, ◌∙◌, ◌⊎◌, inl, inr, ⊎_elim, List, ◌∷◌, subst, Option, Some, None, [], ints, cases_lt, Vector, IsDirection, cross, dot, IsZero, SameDirection, Label, At, MapVertex, MapSloop, Map, Item, arc_item, sloop_item, items, dir_of, IsFree, whole, directly, MapLabel, seen, HasArc, Valid, NearPlain, NearStraight, Least, SameLabels, MatchedArc, MatchedSvertex, Within, Decided, decided-or, same-nought, self-pos, cross-turned, SameDirection-turned, SameDirection-trans, dir-self, dir-signs, direction-left, apart, parallel-trans, is-at_none}
 use Rattle.law_sphere.proofs.Lists.{search_list, at-one}
 use Rattle.law_sphere.proofs.Places.{axis_x}
 use Rattle.law_sphere.proofs.Forms.{PlaceOf, svertex_place, item_place, free_place, place_of}
@@ -79,11 +79,11 @@ module _ (M N : Map) (V : Valid M) (W : Valid N) (L : Least M) (K : Least N) (s 
 
 -- ---- the face
 pub no-items : (M : Map) → Valid M → M.svertices ≡ [] → M.sloop ≡ None → (k : ℕ) (x : Item) → At (items M) k x → ⊥
-no-items M V e f k (arc_item a) h = let b = V.shaped.arcs_between k a (arc-at M.arcs M.sloop k a h) in subst (λ (r : List MapVertex). At r a.source b.source) e b.has_source
+no-items M V e f k (arc_item a) h = let b = V.shaped.arcs_between k a (arc-at M.arcs M.sloop k a h) in is-at_none (subst (λ (r : List MapVertex). At r a.source b.source) e b.has_source)
 no-items M V e f k (sloop_item l) h = let q = sloop-at M.arcs M.sloop k l h in cc
 
 empty-free : (M : Map) → Valid M → M.svertices ≡ [] → M.sloop ≡ None → (d : Vector) → IsDirection d → IsFree M d
-empty-free M V e f d h = record { direction = h; off_svertices = λ k v a w. subst (λ (r : List MapVertex). At r k v) e a; off_items = λ k x a o. no-items M V e f k x a }
+empty-free M V e f d h = record { direction = h; off_svertices = λ k v a w. is-at_none (subst (λ (r : List MapVertex). At r k v) e a); off_items = λ k x a o. no-items M V e f k x a }
 
 pub ground-label : (M : Map) → Valid M → (m : Label) → M.ground ≡ Some m → (d : Vector) → IsDirection d → MapLabel M d m
 ground-label M V m g d h =
@@ -94,7 +94,7 @@ ground-label M V m g d h =
 module _ (M N : Map) (V : Valid M) (W : Valid N) (L : Least M) (K : Least N) (s : SameLabels M N) where
   -- a map without svertices and sloop
   empty-carried : M.svertices ≡ [] → M.sloop ≡ None → (N.svertices ≡ []) × (N.sloop ≡ None)
-  empty-carried e f = (none-listed N.svertices (λ k u b. let r = svertex-matched N M W V K s k u b in subst (λ (q : List MapVertex). At q r.number r.svertex) e r.listed), no-sloop N.sloop refl)
+  empty-carried e f = (none-listed N.svertices (λ k u b. let r = svertex-matched N M W V K s k u b in is-at_none (subst (λ (q : List MapVertex). At q r.number r.svertex) e r.listed)), no-sloop N.sloop refl)
     where
       none-listed : (us : List MapVertex) → ((k : ℕ) (u : MapVertex) → At us k u → ⊥) → us ≡ []
       none-listed [] n = refl

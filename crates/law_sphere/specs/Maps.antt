@@ -1,14 +1,12 @@
 -- Sphere maps: svertices, arcs, sloops, sides and what a side sees, the labels of directions, and valid maps.
-use Rattle.std.specs.Prelude.{◌≡◌, ℕ, zero, suc, ◌<◌, ◌≤◌, pos, ◌<ℤ◌, List, [], ◌∷◌, ◌⊎◌, Option, Some, None}
+use Rattle.std.specs.Prelude.{◌≡◌, ℕ, zero, suc, ◌<◌, ◌≤◌, pos, ◌<ℤ◌, List, [], ◌∷◌, ◌⊎◌, Option, Some, None, slice_get}
 use Rattle.nef_space.specs.Vectors.{Vector, IsDirection, vector, dot, SameDirection, IsOpposite, IsNormal, blend}
 use Rattle.nef_space.specs.declared.label.Label.{Label}
 use Rattle.law_cyclic.specs.Arcs.{IsOnCircle, IsStrictlyOn}
 
 -- x is the entry with number k of a list, counted from 0
 abbrev pub At : {X : Type 0} → List X → ℕ → X → Type 0
-At [] k x = ⊥
-At (y ∷ ys) zero x = y ≡ x
-At (y ∷ ys) (suc k) x = At ys k x
+At xs k x = slice_get xs k ≡ Some x
 
 -- ---- the parts of a map
 pub record MapVertex : Type 0 where

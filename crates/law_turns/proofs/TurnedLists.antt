@@ -1,5 +1,5 @@
 -- A map whose lists have another map's turned items, in order, is the turned map.
-use Rattle.law_turns.proofs.Prelude.{◌≡◌, ℕ, zero, suc, pos, neg_ℤ, Bool, true, false, refl, ap, sym, ◌∙◌, subst, arith, inl, inr, ⊎_elim, List, [], ◌∷◌, Option, Some, None, ints, cases_order, Vector, IsNormal, VectorBelow, At, MapVertex, Arc, MapSloop, Item, arc_item, sloop_item, Map, items, items_then, InOrder, ArcBelow, arc-at, sloop-at, at-sloop, at-arc, turned_vector, signed, IsTurnedArc, IsTurnedItem, IsTurnedOption, IsTurnedMap, HasTurnedLists}
+use Rattle.law_turns.proofs.Prelude.{◌≡◌, ℕ, zero, suc, pos, neg_ℤ, Bool, true, false, refl, ap, sym, ◌∙◌, subst, arith, inl, inr, ⊎_elim, List, [], ◌∷◌, Option, Some, None, ints, cases_order, Vector, IsNormal, VectorBelow, At, MapVertex, Arc, MapSloop, Item, arc_item, sloop_item, Map, items, items_then, InOrder, ArcBelow, arc-at, sloop-at, at-sloop, at-arc, turned_vector, signed, IsTurnedArc, IsTurnedItem, IsTurnedOption, IsTurnedMap, HasTurnedLists, is-at_none, is-at_first}
 
 -- ---- what is chosen for each element, by its number
 abbrev pub chosen : {A B : Type 0} (xs : List A) → B → ((i : ℕ) (x : A) → At xs i x → B) → ℕ → B
@@ -9,8 +9,8 @@ chosen (x ∷ xs) b F (suc i) = chosen xs b (λ j y a. F (suc j) y a) i
 
 pub chosen-has : {A B : Type 0} (xs : List A) (b : B) (F : (i : ℕ) (x : A) → At xs i x → B) (Q : ℕ → A → B → Type 0) → ((i : ℕ) (x : A) (a : At xs i x) → Q i x (F i x a))
     → (i : ℕ) (x : A) → At xs i x → Q i x (chosen xs b F i)
-chosen-has [] b F Q h i x a = absurd a
-chosen-has {A} (y ∷ ys) b F Q h zero x e = subst (λ (r : A). Q zero r (F zero y refl)) e (h zero y refl)
+chosen-has [] b F Q h i x a = absurd (is-at_none a)
+chosen-has {A} (y ∷ ys) b F Q h zero x e = subst (λ (r : A). Q zero r (F zero y refl)) (is-at_first e) (h zero y refl)
 chosen-has (y ∷ ys) b F Q h (suc i) x a = chosen-has ys b (λ j z c. F (suc j) z c) (λ j z c. Q (suc j) z c) (λ j z c. h (suc j) z c) i x a
 
 -- ---- one normal form
@@ -49,10 +49,10 @@ one-place as' o i j a b h k e f = elim (cases_order i j) [
 ]
 
 sloop-place : (as' : List Arc) (o : Option MapSloop) (i j : ℕ) (l m : MapSloop) → At (items_then as' o) i (sloop_item l) → At (items_then as' o) j (sloop_item m) → i ≡ j
-sloop-place [] None i j l m h k = absurd h
+sloop-place [] None i j l m h k = absurd (is-at_none h)
 sloop-place [] (Some n) zero zero l m h k = refl
-sloop-place [] (Some n) zero (suc j) l m h k = absurd k
-sloop-place [] (Some n) (suc i) j l m h k = absurd h
+sloop-place [] (Some n) zero (suc j) l m h k = absurd (is-at_none k)
+sloop-place [] (Some n) (suc i) j l m h k = absurd (is-at_none h)
 sloop-place (a ∷ as') o zero j l m h k = cc
 sloop-place (a ∷ as') o (suc i) zero l m h k = cc
 sloop-place (a ∷ as') o (suc i) (suc j) l m h k = ap suc (sloop-place as' o i j l m h k)

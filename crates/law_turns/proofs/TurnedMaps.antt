@@ -1,5 +1,5 @@
 -- The turned image of a valid map is valid, of a least one least, and shows the turned set at the turned point.
-use Rattle.law_turns.proofs.Prelude.{◌≡◌, ℕ, pos, Bool, true, false, cond, refl, ap, sym, ◌∙◌, subst, ◌↔◌, ◌⊎◌, inl, inr, ⊎_elim, List, [], ◌∷◌, Option, Some, None, Vector, dot, IsDirection, SameDirection, blend, Place, Set, HasLabel, Germ, Label, IsOnCircle, IsStrictlyOn, At, MapVertex, Arc, MapSloop, Item, arc_item, sloop_item, Map, items, item_normal, item_pos, item_mark, item_neg, dir_of, OnItem, HasSide, Side, MapLabel, NearLabel, HasArc, ArcBetween, Shaped, Valid, Least, Cone, NearPlain, NearStraight, at-one, dir-at, arc-at, ends-of, sloop-at, at-sloop, at-arc, normal-is, turned_vector, unturned_vector, turned_place, turned_set, differ, is_odd, signed, turned_svertex, IsTurnedArc, IsTurnedSloop, IsTurnedItem, IsTurnedMap, dir-self}
+use Rattle.law_turns.proofs.Prelude.{◌≡◌, ℕ, pos, Bool, true, false, cond, refl, ap, sym, ◌∙◌, subst, ◌↔◌, ◌⊎◌, inl, inr, ⊎_elim, List, [], ◌∷◌, Option, Some, None, Vector, dot, IsDirection, SameDirection, blend, Place, Set, HasLabel, Germ, Label, IsOnCircle, IsStrictlyOn, At, MapVertex, Arc, MapSloop, Item, arc_item, sloop_item, Map, items, item_normal, item_pos, item_mark, item_neg, dir_of, OnItem, HasSide, Side, MapLabel, NearLabel, HasArc, ArcBetween, Shaped, Valid, Least, Cone, NearPlain, NearStraight, at-one, dir-at, arc-at, ends-of, sloop-at, at-sloop, at-arc, normal-is, turned_vector, unturned_vector, turned_place, turned_set, differ, is_odd, signed, turned_svertex, IsTurnedArc, IsTurnedSloop, IsTurnedItem, IsTurnedMap, dir-self, is-at_none}
 use Rattle.law_turns.proofs.Turning.{dir-there as way-sense, circle-there, level-there, direction-there, same_direction-there}
 use Rattle.law_turns.proofs.Vectors.{turning, turning-back, blend-turned, vector-back, back-vector, every-vector, signed-turned, signed-twice}
 use Rattle.law_turns.proofs.Meaning.{label-turned, germ-turned}
@@ -228,14 +228,14 @@ module _ (k : ℕ) (M N : Map) (V : Shaped M) (R : IsTurnedMap k M N) where
     where
       by : (vs : List MapVertex) → M.svertices ≡ vs → M.svertices ≡ []
       by [] h = h
-      by (v ∷ vs) h = absurd (subst (λ (us : List MapVertex). At us (R.vertex 0) (turned_svertex k v)) e (R.svertices 0 v (subst (λ (us : List MapVertex). At us 0 v) (sym h) refl)))
+      by (v ∷ vs) h = absurd (is-at_none (subst (λ (us : List MapVertex). At us (R.vertex 0) (turned_svertex k v)) e (R.svertices 0 v (subst (λ (us : List MapVertex). At us 0 v) (sym h) refl))))
 
   no_svertices_there : M.svertices ≡ [] → N.svertices ≡ []
   no_svertices_there e = by N.svertices refl
     where
       by : (vs : List MapVertex) → N.svertices ≡ vs → N.svertices ≡ []
       by [] h = h
-      by (v ∷ vs) h = let (u, b, r) = R.svertices_from 0 v (subst (λ (us : List MapVertex). At us 0 v) (sym h) refl) in absurd (subst (λ (us : List MapVertex). At us (R.vertex_back 0) u) e b)
+      by (v ∷ vs) h = let (u, b, r) = R.svertices_from 0 v (subst (λ (us : List MapVertex). At us 0 v) (sym h) refl) in absurd (is-at_none (subst (λ (us : List MapVertex). At us (R.vertex_back 0) u) e b))
 
   no_sloop : N.sloop ≡ None → M.sloop ≡ None
   no_sloop e = by M.sloop refl

@@ -1,6 +1,6 @@
 -- Where equal numbers stand for one class, their numbers by first appearance number the classes.
 use Rattle.nef_classes.proofs.Prelude.{◌≡◌, ℕ, ◌<◌, List, arith, ◌↔◌, IsAt, Chained, NumbersClasses, AreNumbered}
-use Rattle.nef_classes.proofs.ClassLists.{is-at_within, is-at_some}
+use Rattle.nef_space.proofs.Lists.{is-at_within, is-at_some}
 
 pub numbers-classes : (Link : ℕ → ℕ → Type 0) (cs ns : List ℕ) → AreNumbered cs ns → ((s t c d : ℕ) → IsAt cs s c → IsAt cs t d → (c ≡ d) ↔ Chained Link s t)
     → NumbersClasses Link (λ s t. s < t) 0 (λ s n. IsAt ns s n)

@@ -1,6 +1,7 @@
 -- Places in lists, and the numbering of classes: one more element has its class's number.
 use Rattle.nef_classes.proofs.Prelude.{◌≡◌, ◌≢◌, ℕ, zero, suc, ◌+◌, ◌<◌, ◌≤◌, ◌⊎◌, inl, inr, ⊎_elim, List, [], ◌∷◌, ◌++◌, length, Option, Some, arith, length-append, zero-add, take, drop, get_or, refl, ap, sym, ◌∙◌, subst, ◌↔◌, append-nil, take_all, length-take, get_or-take, slice_get-get_or, slice_get_within, get_or_from_slice_get, drop_of_length-le, IsAt, AreNumbered}
 use Rattle.std.proofs.Math.Seq.{take-suc}
+use Rattle.nef_space.proofs.Lists.{is-at_within, is-at_left, is-at_last, is-at_parts, is-at_more, is-at_get, is-at_is}
 
 -- ---- places
 pub less-or-last : (n k : ℕ) → n < k + 1 → (n < k) ⊎ (n ≡ k)
@@ -9,47 +10,13 @@ less-or-last zero (suc k) h = inl (omega arith)
 less-or-last (suc n) zero h = absurd (omega arith)
 less-or-last (suc n) (suc k) h = ⊎_elim (λ a. inl (omega arith)) (λ a. inr (ap suc a)) (less-or-last n k (omega arith))
 
-pub is-at_one : {X : Type 0} (xs : List X) (k : ℕ) (x y : X) → IsAt xs k x → IsAt xs k y → x ≡ y
-is-at_one xs k x y a b = let e : ◌≡◌ {A = Option _} (Some x) (Some y) = sym a ∙ b in cc
-
-pub is-at_within : {X : Type 0} (xs : List X) (k : ℕ) (x : X) → IsAt xs k x → k < length xs
-is-at_within xs k x a = slice_get_within xs k x a
-
-pub is-at_some : {X : Type 0} (xs : List X) (k : ℕ) → k < length xs → (x : X) × IsAt xs k x
-is-at_some [] k h = absurd (omega arith)
-is-at_some (y ∷ xs) zero h = (y, refl)
-is-at_some (y ∷ xs) (suc k) h = is-at_some xs k (omega arith)
-
-pub is-at_left : {X : Type 0} (xs ys : List X) (k : ℕ) (x : X) → IsAt xs k x → IsAt (xs ++ ys) k x
-is-at_left [] ys k x a = cc
-is-at_left (y ∷ xs) ys zero x a = a
-is-at_left (y ∷ xs) ys (suc k) x a = is-at_left xs ys k x a
-
-pub is-at_right : {X : Type 0} (xs ys : List X) (j : ℕ) (x : X) → IsAt ys j x → IsAt (xs ++ ys) (length xs + j) x
-is-at_right {X} [] ys j x a = subst (λ (n : ℕ). IsAt {X = X} ys n x) {x = j} {y = zero + j} (omega arith) a
-is-at_right {X} (z ∷ xs) ys j x a = subst (λ (n : ℕ). IsAt {X = X} (z ∷ xs ++ ys) n x) {x = suc (length xs + j)} {y = suc (length xs) + j} (omega arith) (is-at_right xs ys j x a)
-
-pub is-at_last : {X : Type 0} (xs : List X) (x : X) → IsAt (xs ++ x ∷ []) (length xs) x
-is-at_last [] x = refl
-is-at_last (y ∷ xs) x = is-at_last xs x
-
--- an element of two lists one after the other is one of the first, or of the second
-pub is-at_parts : {X : Type 0} (xs ys : List X) (k : ℕ) (x : X) → IsAt (xs ++ ys) k x → IsAt xs k x ⊎ ((j : ℕ) × (k ≡ length xs + j) × IsAt ys j x)
-is-at_parts [] ys k x a = inr (k, sym (zero-add k), a)
-is-at_parts (z ∷ xs) ys zero x a = inl a
-is-at_parts (z ∷ xs) ys (suc k) x a = ⊎_elim (λ b. inl b) (λ r. inr (r.0, (let e = r.1 in let h : suc k ≡ suc (length xs) + r.0 = omega arith in h), r.2)) (is-at_parts xs ys k x a)
-
 -- an element of a list with one more is an element of the list, or the last
 pub data Either {X : Type 0} (xs : List X) (k : ℕ) (x y : X) : Type 0 where
   earlier : IsAt xs k x → Either xs k x y
   last : k ≡ length xs → x ≡ y → Either xs k x y
 
 pub is-at_either : {X : Type 0} (xs : List X) (k : ℕ) (x y : X) → IsAt (xs ++ y ∷ []) k x → Either xs k x y
-is-at_either xs k x y a = ⊎_elim (λ b. earlier b) (λ r. by r.0 r.1 r.2) (is-at_parts xs (y ∷ []) k x a)
-  where
-    by : (j : ℕ) → k ≡ length xs + j → IsAt (y ∷ []) j x → Either xs k x y
-    by zero e b = last (omega arith) (let f : ◌≡◌ {A = Option _} (Some y) (Some x) = b in cc)
-    by (suc j) e b = cc
+is-at_either xs k x y a = ⊎_elim (λ b. earlier b) (λ r. last r.0 (sym r.1)) (is-at_more xs y k x a)
 
 -- ---- one more number
 -- what the numbering of the first elements keeps
@@ -125,12 +92,6 @@ module _ (cs ns : List ℕ) (next : ℕ) (N : IsNumberedTo cs ns next) (x : ℕ)
       by s n (last f g) = omega arith
 
 -- ---- the loops
-pub is-at_get : {X : Type 0} (xs : List X) (k : ℕ) (d : X) → k < length xs → IsAt xs k (get_or xs k d)
-is-at_get xs k d h = slice_get-get_or xs k d h
-
-pub is-at_is : {X : Type 0} (xs : List X) (k : ℕ) (x d : X) → IsAt xs k x → get_or xs k d ≡ x
-is-at_is xs k x d a = get_or_from_slice_get xs k x d a
-
 pub is-at_take : {X : Type 0} (n : ℕ) (xs : List X) (k : ℕ) (x : X) → IsAt (take n xs) k x → IsAt xs k x
 is-at_take n xs k x a =
     let h = is-at_within (take n xs) k x a in

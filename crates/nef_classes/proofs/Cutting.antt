@@ -1,7 +1,8 @@
 -- Rows cut from a list, one after the other.
 use Rattle.nef_classes.proofs.Prelude.{◌≡◌, ℕ, zero, suc, ◌+◌, ◌<◌, ◌≤◌, List, [], ◌∷◌, ◌++◌, length, take, drop, get_or, arith, ap, sym, ◌∙◌, subst, Some, Option, length-append, length-drop, take_at, take-append-le, take_all, get_or-take, IsAt, total, HasCounts, AreStarts, AreCut}
 use Rattle.std.proofs.Common.{length-take}
-use Rattle.nef_classes.proofs.ClassLists.{Either, earlier, last, is-at_either, is-at_within, is-at_get, is-at_is, is-at_take}
+use Rattle.nef_classes.proofs.ClassLists.{Either, earlier, last, is-at_either, is-at_take}
+use Rattle.nef_space.proofs.Lists.{is-at_within, is-at_get, is-at_is}
 
 pub total-append : (xs : List ℕ) (y : ℕ) → total (xs ++ y ∷ []) ≡ total xs + y
 total-append [] y = omega arith

@@ -1,18 +1,9 @@
 -- The numbers of places are those of the table's elements.
 use Rattle.nef_classes.proofs.Prelude.{◌≡◌, ℕ, zero, suc, ◌<◌, ⊎_elim, List, [], ◌∷◌, map, arith, refl, ap, sym, ◌∙◌, subst, ◌↔◌, Result, Ok, Err, IfOk, option_map, slice_get-map, IsAt, IsChain, Chained, NumbersClasses, Link, AreLinked, AreClasses, AreNumbered, Cell, Tie, total, IsCellIn, place, AreTiedWithin, AreTied, HasCounts, IsCellNumber, AreNumbers, flat_tie, AreCut}
 use Rattle.nef_classes.proofs.Chains.{chain-here, chain-link, chain-trans, chain-turned, chain-map}
-use Rattle.nef_classes.proofs.ClassLists.{is-at_one, is-at_within, is-at_some}
+use Rattle.nef_space.proofs.Lists.{is-at_one, is-at_within, is-at_some, is-at_map, map-is_at}
 use Rattle.nef_classes.proofs.ByAppearance.{numbers-classes}
 use Rattle.nef_classes.proofs.Places.{same-cell, earlier-cell, cell-at}
-
--- an element of a mapped list is that of an element
-pub is-at_map : {X Y : Type 0} (f : X → Y) (xs : List X) (k : ℕ) (y : Y) → IsAt (map f xs) k y → (x : X) × IsAt xs k x × (f x ≡ y)
-is-at_map f [] k y a = cc
-is-at_map f (x ∷ xs) zero y a = (x, refl, cc)
-is-at_map f (x ∷ xs) (suc k) y a = is-at_map f xs k y a
-
-pub map-is_at : {X Y : Type 0} (f : X → Y) (xs : List X) (k : ℕ) (x : X) → IsAt xs k x → IsAt (map f xs) k (f x)
-map-is_at f xs k x a = slice_get-map f xs k ∙ ap (option_map f) a
 
 module _ (counts : List ℕ) (ts : List Tie) (tied : AreTiedWithin counts ts) where
   abbrev links : List Link

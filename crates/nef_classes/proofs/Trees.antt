@@ -2,8 +2,9 @@
 use Rattle.nef_classes.proofs.Prelude.{◌≡◌, ◌≢◌, ℕ, ◌+◌, ◌<◌, ◌≤◌, ◌⊎◌, inl, inr, ⊎_elim, ◌↔◌, arith, refl, ap, sym, ◌∙◌, subst, List, [], ◌∷◌, ◌++◌, length, take, set, get_or, length-take, length-set, IsAt, Chained, Link, AreLinked, AreClasses, AreOrdered, IsLifted, HasSameTrees, IsParentOrLink, AreTogether, AreRoots}
 use Rattle.std.proofs.lemmas.Bool.Decides.{eqb_tells}
 use Rattle.nef_classes.proofs.Chains.{chain-here, chain-link, chain-trans, chain-turned, chain-keeps, chain-map}
-use Rattle.nef_classes.proofs.ClassLists.{Either, earlier, last, is-at_one, is-at_within, is-at_left, is-at_last, is-at_either}
-use Rattle.nef_classes.proofs.ClassLists.{is-at_is, is-at_take, less-or-last}
+use Rattle.nef_classes.proofs.ClassLists.{Either, earlier, last, is-at_either}
+use Rattle.nef_space.proofs.Lists.{is-at_one, is-at_within, is-at_left, is-at_last, is-at_is}
+use Rattle.nef_classes.proofs.ClassLists.{is-at_take, less-or-last}
 use Rattle.nef_classes.proofs.Cutting.{take-at}
 use Rattle.nef_classes.proofs.Writes.{set-same, set-other, set-at}
 

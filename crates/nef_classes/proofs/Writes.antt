@@ -1,7 +1,7 @@
 -- A list with one element set.
 use Rattle.nef_classes.proofs.Prelude.{◌≡◌, ◌≢◌, ℕ, ◌<◌, List, length, arith, ◌∙◌, ◌⊎◌, inl, inr, ⊎_elim, subst, set, get_or-set_same, get_or-set_other, length-set, IsAt}
 use Rattle.std.proofs.lemmas.Bool.{cases_order}
-use Rattle.nef_classes.proofs.ClassLists.{is-at_one, is-at_within, is-at_some, is-at_get, is-at_is}
+use Rattle.nef_space.proofs.Lists.{is-at_one, is-at_within, is-at_some, is-at_get, is-at_is}
 
 pub set-other : {X : Type 0} (xs : List X) (k i : ℕ) (v x : X) → i ≢ k → IsAt xs i x → IsAt (set xs k v) i x
 set-other xs k i v x n a =

@@ -1,15 +1,11 @@
 -- Reading lists. What holds of the first elements, and of the next, holds of all these.
-use Rattle.nef_complex.proofs.Prelude.{◌≡◌, ℕ, zero, suc, ◌<◌, ◌+◌, ◌≤◌, List, [], ◌∷◌, length, get_or, slice_get, Some, None, arith, sym, subst, ⊎_elim, eq-or-lt_of_le, At, at-one, is-at_within, StandsIn}
+use Rattle.nef_complex.proofs.Prelude.{◌≡◌, ℕ, ◌<◌, ◌+◌, ◌≤◌, List, length, get_or, slice_get, Some, arith, sym, subst, ⊎_elim, eq-or-lt_of_le, At, at-one, is-at_within, StandsIn, is-at_read}
 
 pub got-at : {X : Type 0} (xs : List X) (k : ℕ) (x : X) → slice_get xs k ≡ Some x → At xs k x
-got-at [] k x e = let f : None ≡ Some x = e in cc
-got-at (y ∷ ys) zero x e = let f : Some y ≡ Some x = e in cc
-got-at (y ∷ ys) (suc k) x e = got-at ys k x e
+got-at xs k x e = e
 
 pub read-at : {X : Type 0} (xs : List X) (k : ℕ) (x : X) → k < length xs → x ≡ get_or xs k x → At xs k x
-read-at [] k x l e = absurd (omega arith)
-read-at (y ∷ ys) zero x l e = sym e
-read-at (y ∷ ys) (suc k) x l e = read-at ys k x (omega arith) e
+read-at xs k x l e = is-at_read xs k x l e
 
 -- with none of the first k elements, and not the next, none of the first k + 1
 pub none-more : {X : Type 0} (P : X → Type 0) (hs : List X) (i : ℕ) (g : X) → i < length hs → g ≡ get_or hs i g → ((k : ℕ) (h : X) → k < i → At hs k h → P h → ⊥) → (P g → ⊥)

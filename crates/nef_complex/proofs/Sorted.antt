@@ -1,5 +1,5 @@
 -- Searching sorted vertices.
-use Rattle.nef_complex.proofs.Prelude.{◌≡◌, ℕ, zero, suc, ◌<◌, ◌≤◌, arith, refl, sym, subst, ⊎_elim, List, [], ◌∷◌, length, map, Ok, Err, Result, IfErr, HoldsAt, cases_lt, searchable_from_sorted, get_or_from_slice_get, slice_get_within, ordering_index, IsBinarySearchResult, IsNonDecreasingBy, IsSearchInRange, Ordering, Less, Equal, Greater, IsAt, SamePlace, IsPlaceBelow, place_of, Point, same-place_sym, place_below-apart, At, sorted-from_order, Vertex, vertex_of, AreSorted, AreBelow, AreAbove}
+use Rattle.nef_complex.proofs.Prelude.{◌≡◌, ℕ, zero, suc, ◌<◌, ◌≤◌, arith, refl, sym, subst, ⊎_elim, List, [], ◌∷◌, length, map, Ok, Err, Result, IfErr, HoldsAt, cases_lt, searchable_from_sorted, get_or_from_slice_get, slice_get_within, ordering_index, IsBinarySearchResult, IsNonDecreasingBy, IsSearchInRange, Ordering, Less, Equal, Greater, IsAt, SamePlace, IsPlaceBelow, place_of, Point, same-place_sym, place_below-apart, At, sorted-from_order, Vertex, vertex_of, AreSorted, AreBelow, AreAbove, is-at_none, is-at_first}
 use Rattle.std.proofs.Common.{IfOk}
 use Rattle.law_complex.specs.Complexes.{Vertex as PlainVertex}
 use Rattle.nef_complex.proofs.Order.{one-order, place_order, as-ordered, point_order, point-ordered, point_total}
@@ -45,6 +45,6 @@ none-there vs k l p le below above i (x, a, s) =
     (cases_lt i k)
   where
     listed : (vs : List Vertex) (i : ℕ) (x : PlainVertex) → At (map vertex_of vs) i x → (v : Vertex) × IsAt vs i v × (vertex_of v ≡ x)
-    listed [] i x a = absurd a
-    listed (v ∷ vs) zero x a = (v, refl, a)
+    listed [] i x a = absurd (is-at_none a)
+    listed (v ∷ vs) zero x a = (v, refl, is-at_first a)
     listed (v ∷ vs) (suc i) x a = listed vs i x a

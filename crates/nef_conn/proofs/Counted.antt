@@ -1,5 +1,5 @@
 -- Components are counted by a point of each class.
-use Rattle.nef_conn.proofs.Prelude.{◌≡◌, ℕ, zero, suc, ◌<◌, arith, refl, ap, List, ◌∷◌, length, subst, [], FlatDim, Joined, Place, toward, Set, joined-itself, joined-both, At, IsVertexPoint, IsEdgePoint, near_point, near-between, edge-points, dim-same, edges-complete, same-itself, HasComponents, VerticesCounted, EdgesCounted, direction-left, apart}
+use Rattle.nef_conn.proofs.Prelude.{◌≡◌, ℕ, zero, suc, ◌<◌, arith, refl, ap, List, ◌∷◌, length, subst, [], FlatDim, Joined, Place, toward, Set, joined-itself, joined-both, At, IsVertexPoint, IsEdgePoint, near_point, near-between, edge-points, dim-same, edges-complete, same-itself, HasComponents, VerticesCounted, EdgesCounted, direction-left, is-at_none, is-at_first}
 use Rattle.nef_conn.proofs.OnEdges.{joined-vertices, joined-edges}
 use Rattle.nef_conn.proofs.Reached.{within}
 
@@ -14,7 +14,7 @@ one-more : (n : ℕ) (P : ℕ → Place → Type 0) → (p : Place) → P 0 p �
 one-more n P p here rest = record { points = p ∷ rest.points; as_many = ap suc rest.as_many; each = each; all = all }
   where
     each : (i : ℕ) (q : Place) → At (p ∷ rest.points) i q → P i q
-    each zero q e = subst (λ (r : Place). P 0 r) e here
+    each zero q e = subst (λ (r : Place). P 0 r) (is-at_first e) here
     each (suc i) q a = rest.each i q a
 
     all : (i : ℕ) → i < suc n → (q : Place) × At (p ∷ rest.points) i q
@@ -22,7 +22,7 @@ one-more n P p here rest = record { points = p ∷ rest.points; as_many = ap suc
     all (suc i) l = rest.all i (omega arith)
 
 choose : (n : ℕ) (P : ℕ → Place → Type 0) → ((i : ℕ) → i < n → (p : Place) × P i p) → Chosen n P
-choose zero P f = record { points = []; as_many = refl; each = λ i p a. absurd a; all = λ i l. absurd (omega arith) }
+choose zero P f = record { points = []; as_many = refl; each = λ i p a. absurd (is-at_none a); all = λ i l. absurd (omega arith) }
 choose (suc n) P f = let p = f 0 (omega arith) in one-more n P p.0 p.1 (choose n (λ i. P (suc i)) (λ i l. f (suc i) (omega arith)))
 
 -- where points of one number are joined and those of two aren't, and some have each number below n, the components are n

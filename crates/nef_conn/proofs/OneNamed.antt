@@ -1,5 +1,5 @@
 -- What a ray within a plane first meets, and the corner there, are one.
-use Rattle.nef_conn.proofs.Prelude.{◌≡◌, ℕ, ◌<◌, pos, ◌<ℤ◌, ◌+ℤ◌, ◌*ℤ◌, arith, ap, sym, ◌∙◌, inl, inr, ◌⊎◌, ⊎_elim, ◌∷◌, subst, map, [], cases_order, ints, ring, at, num, ◌⊕◌, ◌⊗◌, Place, Form, normal_of, slope, toward, SamePlace, IsBetween, Set, Vector, dot, cross, opposite, blend, triple, IsDirection, IsZero, IsNormal, SameDirection, Label, between-same, between-turned, between-inner, place_below-apart, same-place_sym, forms, At, MapVertex, Arc, arc_item, items, OnItem, Map, dir_of, Shaped, at-arc, Ends, ends-of, normals-same, amount, at-one, dir-at, dot-comb, Vertex, Edge, Complex, Corner, HasEnds, IsEdge, IsEdgeBelow, Shows, IsEdgePoint, PlaneMeet, meets_vertex, meets_edge, Meets, IsFirstInPlane, IsArcOnSide, IsCornerAt, RayNames, edge-points, source-meets, target-meets, ahead-back, between-way, between-outer, same-itself, same-place_trans, SameDirection-turned, SameDirection-trans, dir-self, parallel-trans, opposite-same, opposite-way, direction-right}
+use Rattle.nef_conn.proofs.Prelude.{◌≡◌, ℕ, ◌<◌, pos, ◌<ℤ◌, ◌+ℤ◌, ◌*ℤ◌, arith, ap, sym, ◌∙◌, inl, inr, ◌⊎◌, ⊎_elim, ◌∷◌, subst, [], cases_order, ints, ring, at, num, ◌⊕◌, ◌⊗◌, Place, Form, normal_of, slope, toward, SamePlace, IsBetween, Set, Vector, dot, cross, opposite, blend, triple, IsDirection, IsZero, IsNormal, SameDirection, Label, between-same, between-turned, between-inner, place_below-apart, same-place_sym, forms, At, MapVertex, Arc, arc_item, items, OnItem, Map, dir_of, Shaped, at-arc, Ends, ends-of, normals-same, amount, at-one, dir-at, dot-comb, Vertex, Edge, Complex, Corner, HasEnds, IsEdge, IsEdgeBelow, Shows, IsEdgePoint, PlaneMeet, meets_vertex, meets_edge, Meets, IsFirstInPlane, IsArcOnSide, IsCornerAt, RayNames, edge-points, source-meets, target-meets, ahead-back, between-way, between-outer, same-itself, same-place_trans, SameDirection-turned, SameDirection-trans, dir-self, parallel-trans, opposite-same, opposite-way, direction-right}
 use Rattle.nef_space.specs.Numbers.{IsBelow}
 use Rattle.nef_conn.proofs.Onward.{level-kept}
 use Rattle.nef_conn.proofs.SamePlanes.{side-turned}

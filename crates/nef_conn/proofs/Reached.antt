@@ -1,12 +1,12 @@
 -- The facet beside each item has a point that names a corner of its class: by the cases of the way inward, and by induction on the vertices ahead of it.
-use Rattle.nef_conn.proofs.Prelude.{◌≡◌, ℕ, ◌<◌, ◌≤◌, ◌+◌, suc, zero, pos, ◌<ℤ◌, List, length, arith, refl, sym, ◌∙◌, ◌⊎◌, inl, inr, ⊎_elim, ◌∷◌, subst, [], ints, Place, form_at, toward, IsPlaceBelow, Set, Vector, opposite, dot, triple, IsDirection, IsNormal, SameDirection, plane_dir, Decided, At, MapVertex, Arc, arc_item, sloop_item, dir_of, OnItem, normal-is, OnItem-decided, SameDirection-decided, dir-at, arc-at, normals-not_opposite, at-arc, Ends, ends-of, Vertex, Edge, Complex, Corner, HasEnds, IsCorner, Shows, item_plane, svertex-edge, through-at, ahead-back, FacetLink, EndsOnSide, end-level, corner_of, EndsAt, way_inward, ItemsName, level-of_opposite, triple-turned, SameDirection-turned, SameDirection-trans, opposite-same, level-way, opposite-twice, from-opposite, right-turn}
+use Rattle.nef_conn.proofs.Prelude.{◌≡◌, ℕ, ◌<◌, ◌≤◌, ◌+◌, suc, zero, pos, ◌<ℤ◌, List, length, arith, refl, sym, ◌∙◌, ◌⊎◌, inl, inr, ⊎_elim, ◌∷◌, subst, [], ints, Place, form_at, toward, IsPlaceBelow, Set, Vector, opposite, dot, triple, IsDirection, IsNormal, SameDirection, plane_dir, Decided, At, MapVertex, Arc, arc_item, sloop_item, dir_of, OnItem, normal-is, OnItem-decided, SameDirection-decided, dir-at, arc-at, normals-not_opposite, at-arc, Ends, ends-of, Vertex, Edge, Complex, Corner, HasEnds, IsCorner, Shows, item_plane, svertex-edge, through-at, ahead-back, FacetLink, EndsOnSide, end-level, corner_of, EndsAt, way_inward, ItemsName, level-of_opposite, triple-turned, SameDirection-turned, SameDirection-trans, opposite-same, level-way, opposite-twice, from-opposite, right-turn, is-at_none}
 use Rattle.nef_conn.proofs.Onward.{EdgeAway, from-low, from-high, arc-there, goes-on, link-up, link-down}
 use Rattle.nef_conn.proofs.WayInward.{dir-level, dir-some, dir-same}
 use Rattle.nef_conn.proofs.Named.{Reaches, carried, onward-named, edge-named, side-same}
 use Rattle.nef_conn.proofs.Faces.{leads-away}
 
 pub within : {A : Type 0} (xs : List A) (k : ℕ) (x : A) → At xs k x → k < length xs
-within [] k x h = absurd h
+within [] k x h = absurd (is-at_none h)
 within (y ∷ ys) zero x h = omega arith
 within (y ∷ ys) (suc k) x h = omega (arith, within ys k x h)
 

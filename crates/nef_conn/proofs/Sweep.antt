@@ -1,5 +1,5 @@
 -- A segment is cut where a line along the way inward, through a vertex of the plane, crosses it; so the converse comes to segments beside which, but on the line of their start, no vertex lies.
-use Rattle.nef_conn.proofs.Prelude.{◌≡◌, ℕ, zero, suc, pos, ◌<ℤ◌, ◌≤ℤ◌, arith, refl, sym, ◌∙◌, ◌⊎◌, inl, inr, ⊎_elim, List, ◌∷◌, subst, [], ints, sign, by_order, sign-plus, sign-minus, minus-is, Chained, FlatDim, IsEven, Place, Form, form_at, normal_of, slope, SamePlace, toward, IsBetween, Set, Vector, opposite, IsZero, IsDirection, IsNormal, SameDirection, plane_dir, signs-same, between-turned, between-inner, toward-place, At, Vertex, Complex, Corner, Shows, RayNames, IsFlatIn, between-outer, same-itself, near_point, near-between, even-by, facet-behind, between-plus, between-minus, cut-at, Cut, below-or, FacetLink, same-between, line_form, NamesOfSteps, ConverseBySteps, zero-decided, level-of_opposite, level-way, direction-right}
+use Rattle.nef_conn.proofs.Prelude.{◌≡◌, ℕ, zero, suc, pos, ◌<ℤ◌, ◌≤ℤ◌, arith, refl, sym, ◌∙◌, ◌⊎◌, inl, inr, ⊎_elim, List, ◌∷◌, subst, [], ints, sign, by_order, sign-plus, sign-minus, minus-is, Chained, FlatDim, IsEven, Place, Form, form_at, normal_of, slope, SamePlace, toward, IsBetween, Set, Vector, opposite, IsZero, IsDirection, IsNormal, SameDirection, plane_dir, signs-same, between-turned, between-inner, toward-place, At, Vertex, Complex, Corner, Shows, RayNames, IsFlatIn, between-outer, same-itself, near_point, near-between, even-by, facet-behind, between-plus, between-minus, cut-at, Cut, below-or, FacetLink, same-between, line_form, NamesOfSteps, ConverseBySteps, zero-decided, level-of_opposite, level-way, direction-right, is-at_none, is-at_first}
 use Rattle.nef_conn.proofs.WayInward.{dir-level}
 use Rattle.nef_conn.proofs.Chain.{chain-both, chain-back}
 use Rattle.nef_conn.proofs.ItemPaths.{even-on, even-flat, converse-by_segments}
@@ -100,7 +100,7 @@ module _ (s : Set) (p r q : Place) (even : IsEven s 2 p q) (b : IsBetween p r q)
 
 -- ---- over the vertices
 later : (x : Vertex) (xs : List Vertex) (u : Vertex) → ((j : ℕ) × At (x ∷ xs) j u) → (x ≡ u → ⊥) → (j : ℕ) × At xs j u
-later x xs u (zero, e) f = absurd (f e)
+later x xs u (zero, e) f = absurd (f (is-at_first e))
 later x xs u (suc j, a) f = (j, a)
 
 pub cut-of : (h : Form) (p q : Place) → Crosses h p q → Cut h p q
@@ -152,7 +152,7 @@ module _ (s : Set) (C : Complex) (S : Shows s C) (steps : NamesOfSteps s C) (h :
 
   sweep : (xs : List Vertex) (y z : Place) (k l : Corner) → form_at h y ≡ pos 0 → IsFlatIn s h y → IsEven s 2 y z → RayNames C h y d k → RayNames C h z d l
       → ((i : ℕ) (u : Vertex) → At C.vertices i u → form_at h u.point ≡ pos 0 → Crosses (Line u) y z → (j : ℕ) × At xs j u) → Chained (FacetLink C) k l
-  sweep [] y z k l on F even a b only = uncrossed y z k l on F even a b (λ i u p q x. (only i u p q x).1)
+  sweep [] y z k l on F even a b only = uncrossed y z k l on F even a b (λ i u p q x. is-at_none (only i u p q x).1)
   sweep (x ∷ xs) y z k l on F even a b only = ⊎_elim
       (λ cr.
       let t = cut-of (Line x) y z cr in

@@ -1,5 +1,5 @@
 -- The edges from the svertices that lead on, collected svertex by svertex.
-use Rattle.nef_edges.proofs.Prelude.{◌≡◌, ℕ, ◌+◌, ◌≤◌, pos, List, [], ◌∷◌, ◌++◌, length, map, arith, refl, sym, ap, subst, ◌∙◌, inl, inr, ◌⊎◌, ⊎_elim, ints, IsNormal, vector_of, At, MapVertex, InOrder, at-one, IsEdge, IsEdgeBelow, Edges, SVertex, svertex_of, Vertex, Edge, vertex_of, edge_of, EdgeEnd, IsBefore, AreJoined, AreEdges}
+use Rattle.nef_edges.proofs.Prelude.{◌≡◌, ℕ, ◌+◌, ◌≤◌, pos, List, [], ◌∷◌, ◌++◌, length, map, arith, refl, sym, ap, subst, ◌∙◌, inl, inr, ◌⊎◌, ⊎_elim, ints, IsNormal, vector_of, At, MapVertex, InOrder, at-one, IsEdge, IsEdgeBelow, Edges, SVertex, svertex_of, Vertex, Edge, vertex_of, edge_of, EdgeEnd, IsBefore, AreJoined, AreEdges, is-at_none}
 use Rattle.law_complex.specs.Complexes.{Vertex as PlainVertex, Edge as PlainEdge}
 use Rattle.nef_edges.proofs.Arrivals.{before-more, before-row}
 use Rattle.nef_edges.proofs.Existing.{edge-same, one-edge}
@@ -19,7 +19,7 @@ order-more {A} Below xs y o f i k x z l a b = by (at-more xs y i x a) (at-more x
 
 module _ (vs : List Vertex) (J : AreJoined (map vertex_of vs)) where
   pub edges-none : AreEdges vs (IsBefore 0 0) []
-  edges-none = record { edges = λ k e a. absurd a; complete = λ e E q. absurd (none e.low e.low_svertex q); ordered = λ i k x y l a b. absurd a }
+  edges-none = record { edges = λ k e a. absurd (is-at_none a); complete = λ e E q. absurd (none e.low e.low_svertex q); ordered = λ i k x y l a b. absurd (is-at_none a) }
     where
       none : (j m : ℕ) → IsBefore 0 0 j m → ⊥
       none j m (inl h) = omega arith

@@ -1,5 +1,5 @@
 -- EdgeEnds that arrive, collected svertex by svertex.
-use Rattle.nef_edges.proofs.Prelude.{◌≡◌, ℕ, zero, suc, ◌+◌, ◌<◌, ◌≤◌, List, [], ◌∷◌, ◌++◌, length, Bool, false, arith, refl, sym, ap, subst, ◌∙◌, inl, inr, ◌⊎◌, ⊎_elim, IsTrue, false≢true, opposite, IsNormal, vector_of, At, at-one, SVertex, Vertex, EdgeEnd, IsBefore, IsArriving, AreArriving}
+use Rattle.nef_edges.proofs.Prelude.{◌≡◌, ℕ, zero, suc, ◌+◌, ◌<◌, ◌≤◌, List, [], ◌∷◌, ◌++◌, length, Bool, false, arith, refl, sym, ap, subst, ◌∙◌, inl, inr, ◌⊎◌, ⊎_elim, IsTrue, false≢true, opposite, IsNormal, vector_of, At, at-one, SVertex, Vertex, EdgeEnd, IsBefore, IsArriving, AreArriving, is-at_none}
 use Rattle.nef_edges.proofs.Places.{at-within, at-before, at-last, at-more}
 
 pub IsTrue-false : (b : Bool) → IsTrue b → b ≡ false → ⊥
@@ -43,7 +43,7 @@ module _ (vs : List Vertex) where
   arriving-weaken P Q hs a f = record { each = a.each; all = λ j m v s b c n q. a.all j m v s b c n (f j m v s b c q) }
 
   pub arriving-none : AreArriving vs (IsBefore 0 0) []
-  arriving-none = record { each = λ k h a. absurd a; all = λ j m v s b c up q. absurd (none j m q) }
+  arriving-none = record { each = λ k h a. absurd (is-at_none a); all = λ j m v s b c up q. absurd (none j m q) }
     where
       none : (j m : ℕ) → IsBefore 0 0 j m → ⊥
       none j m (inl h) = omega arith

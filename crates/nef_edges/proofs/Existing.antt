@@ -1,5 +1,5 @@
 -- Vertices in order, each with at most one svertex in every direction, have a list of all their edges.
-use Rattle.nef_edges.proofs.Prelude.{◌≡◌, ℕ, zero, suc, ◌<◌, pos, arith, refl, ap, sym, ◌∙◌, ◌⊎◌, inl, inr, ⊎_elim, List, [], ◌∷◌, ◌++◌, subst, cases_order, ints, Lies, each, lies-each, lies-left, lies-right, toward, IsAhead, IsBetween, IsPlaceBelow, SameDirection, IsOpposite, Label, Decided, At, MapVertex, Shaped, InOrder, Found, search_list, at-one, lies-at, at-lies, SameDirection-decided, IsOpposite-decided, IsEdge, IsEdgeBelow, Edges, IsFrom}
+use Rattle.nef_edges.proofs.Prelude.{◌≡◌, ℕ, zero, suc, ◌<◌, pos, arith, refl, ap, sym, ◌∙◌, ◌⊎◌, inl, inr, ⊎_elim, List, [], ◌∷◌, ◌++◌, subst, cases_order, ints, Lies, each, lies-each, lies-left, lies-right, toward, IsAhead, IsBetween, IsPlaceBelow, SameDirection, IsOpposite, Label, Decided, At, MapVertex, Shaped, InOrder, Found, search_list, at-one, lies-at, at-lies, SameDirection-decided, IsOpposite-decided, IsEdge, IsEdgeBelow, Edges, IsFrom, is-at_none, is-at_first}
 use Rattle.law_near.proofs.Decided.{decided-lt}
 use Rattle.law_cones.proofs.Listing.{numbers, at-number, at-or, Collected, Sorted, collect, sort, chain-order}
 use Rattle.law_complex.specs.Complexes.{Vertex, Edge}
@@ -141,10 +141,10 @@ svertex_numbers [] = []
 svertex_numbers (v ∷ vs) = each (λ a. (0, a)) (numbers v.map.svertices) ++ each (λ (p : ℕ × ℕ). (suc p.0, p.1)) (svertex_numbers vs)
 
 numbers-have : (vs : List Vertex) (i a : ℕ) (v : Vertex) (u : MapVertex) → At vs i v → At v.map.svertices a u → Lies (svertex_numbers vs) (i, a)
-numbers-have [] i a v u l m = absurd l
+numbers-have [] i a v u l m = absurd (is-at_none l)
 numbers-have (w ∷ vs) zero a v u l m =
     lies-left (each (λ a. (0, a)) (numbers w.map.svertices)) (each (λ (p : ℕ × ℕ). (suc p.0, p.1)) (svertex_numbers vs)) (0, a)
-    (lies-each (λ a. (0, a)) (numbers w.map.svertices) a (at-number w.map.svertices a u (subst (λ (x : Vertex). At x.map.svertices a u) (sym l) m)))
+    (lies-each (λ a. (0, a)) (numbers w.map.svertices) a (at-number w.map.svertices a u (subst (λ (x : Vertex). At x.map.svertices a u) (sym (is-at_first l)) m)))
 numbers-have (w ∷ vs) (suc i) a v u l m =
     lies-right (each (λ a. (0, a)) (numbers w.map.svertices)) (each (λ (p : ℕ × ℕ). (suc p.0, p.1)) (svertex_numbers vs)) (suc i, a)
     (lies-each (λ (p : ℕ × ℕ). (suc p.0, p.1)) (svertex_numbers vs) (i, a) (numbers-have vs i a v u l m))

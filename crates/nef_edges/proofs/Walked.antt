@@ -1,5 +1,5 @@
 -- Edges laid out svertex by svertex, and those that are joined later.
-use Rattle.nef_edges.proofs.Prelude.{◌≡◌, ℕ, zero, suc, ◌+◌, ◌<◌, ◌≤◌, pos, set, List, [], ◌∷◌, ◌++◌, length, map, arith, refl, sym, ap, subst, ◌∙◌, inl, inr, ◌⊎◌, ⊎_elim, Bool, true, cases_order, ints, IsNormal, vector_of, At, MapVertex, InOrder, at-one, IsEdgeBelow, Edges, SVertex, svertex_of, Vertex, Edge, vertex_of, edge_of, IsBefore, AreJoined, IsMatched, AreMatched, AreApart, AreTaken, slot_of, AreLaid, IsPart, IsJoinedAt}
+use Rattle.nef_edges.proofs.Prelude.{◌≡◌, ℕ, zero, suc, ◌+◌, ◌<◌, ◌≤◌, pos, set, List, [], ◌∷◌, ◌++◌, length, map, arith, refl, sym, ap, subst, ◌∙◌, inl, inr, ◌⊎◌, ⊎_elim, Bool, true, cases_order, ints, IsNormal, vector_of, At, MapVertex, InOrder, at-one, IsEdgeBelow, Edges, SVertex, svertex_of, Vertex, Edge, vertex_of, edge_of, IsBefore, AreJoined, IsMatched, AreMatched, AreApart, AreTaken, slot_of, AreLaid, IsPart, IsJoinedAt, is-at_none, is-at_first}
 use Rattle.law_complex.specs.Complexes.{Vertex as PlainVertex, Edge as PlainEdge}
 use Rattle.nef_edges.proofs.Added.{order-more}
 use Rattle.nef_edges.proofs.Arrivals.{before-more, before-row}
@@ -9,14 +9,14 @@ use Rattle.nef_edges.proofs.Places.{at-within, at-before, at-last, at-more, at-m
 -- ---- one element is another
 module _ {A : Type 0} where
   pub set-at : (xs : List A) (n k : ℕ) (y x : A) → At (set xs n y) k x → ((k ≡ n) × (y ≡ x)) ⊎ ((k ≡ n → ⊥) × At xs k x)
-  set-at [] n k y x a = absurd a
-  set-at (z ∷ zs) zero zero y x a = inl (refl, a)
+  set-at [] n k y x a = absurd (is-at_none a)
+  set-at (z ∷ zs) zero zero y x a = inl (refl, is-at_first a)
   set-at (z ∷ zs) zero (suc k) y x a = inr ((λ e. omega (arith, e)), a)
   set-at (z ∷ zs) (suc n) zero y x a = inr ((λ e. omega (arith, e)), a)
   set-at (z ∷ zs) (suc n) (suc k) y x a = ⊎_elim (λ h. inl (ap suc h.0, h.1)) (λ h. inr ((λ e. h.0 (omega (arith, e))), h.1)) (set-at zs n k y x a)
 
   pub set-from : (xs : List A) (n k : ℕ) (y x : A) → At xs k x → ((k ≡ n) × At (set xs n y) n y) ⊎ At (set xs n y) k x
-  set-from [] n k y x a = absurd a
+  set-from [] n k y x a = absurd (is-at_none a)
   set-from (z ∷ zs) zero zero y x a = inl (refl, refl)
   set-from (z ∷ zs) zero (suc k) y x a = inr a
   set-from (z ∷ zs) (suc n) zero y x a = inr a
@@ -34,7 +34,7 @@ part-trans ns ms ls f g j k a = let l = f j k a in g l.0 k l.1
 
 module _ (vs : List Vertex) where
   pub laid-none : (ns : List ℕ) → AreLaid vs (IsBefore 0 0) [] ns 0
-  laid-none ns = record { each = λ k e a. absurd a; matched = λ k e a. absurd a; all = λ i a v s b c n q. absurd (none i a q); ordered = λ i k x y l a b. absurd a }
+  laid-none ns = record { each = λ k e a. absurd (is-at_none a); matched = λ k e a. absurd (is-at_none a); all = λ i a v s b c n q. absurd (none i a q); ordered = λ i k x y l a b. absurd (is-at_none a) }
     where
       none : (j m : ℕ) → IsBefore 0 0 j m → ⊥
       none j m (inl h) = omega arith
@@ -186,7 +186,7 @@ module _ (vs : List Vertex) where
   }
     where
       is-matched : (k : ℕ) (e : Edge) → At es k e → IsMatched (map vertex_of vs) (edge_of e)
-      is-matched k e a = ⊎_elim (λ m. m) (λ l. absurd l.2) (A.matched k e a)
+      is-matched k e a = ⊎_elim (λ m. m) (λ l. absurd (is-at_none l.2)) (A.matched k e a)
 
       all : (i a : ℕ) (v : PlainVertex) (u : MapVertex) → At (map vertex_of vs) i v → At v.map.svertices a u → IsNormal u.dir → (k : ℕ) × (e : PlainEdge) × At (map edge_of es) k e × (e.low ≡ i) × (e.low_svertex ≡ a)
       all i a v u b c n =
@@ -231,7 +231,7 @@ set-one (b ∷ bs) zero h = refl
 set-one (b ∷ bs) (suc k) h = set-one bs k (omega arith)
 
 pub set-kept : (bs : List Bool) (k j : ℕ) → At bs j true → At (set bs k true) j true
-set-kept [] k j a = absurd a
+set-kept [] k j a = absurd (is-at_none a)
 set-kept (b ∷ bs) zero zero a = refl
 set-kept (b ∷ bs) zero (suc j) a = a
 set-kept (b ∷ bs) (suc k) zero a = a

@@ -1,5 +1,5 @@
 -- The side that sees a free direction: that of the item which a way close to it meets first, or the only one.
-use Rattle.nef_smap.proofs.Prelude.{◌≡◌, ℕ, zero, suc, ◌+◌, ◌*◌, ◌^◌, ◌≤◌, ℤ, pos, ◌-ℤ◌, ◌*ℤ◌, ◌<ℤ◌, arith, refl, ap, sym, ◌∙◌, inl, ⊎_elim, List, [], ◌∷◌, ◌++◌, length, Option, Some, None, subst, slice_get, negsuc, nat_abs, ◌≤ℤ◌, Bool, true, false, cond, ◌↔◌, not_true, normal_limit, ints, ring, at, num, ◌⊕◌, ◌⊖◌, ◌⊗◌, follows, given, none, sign, nought-is, by_order, mul_pos, nought-or, square_pos, Vector, vector, IsDirection, IsNormal, IsAtMost, triple, cross, dot, blend, up as upward, Label, IsAt, same-off, At, MapVertex, Arc, MapSloop, Map, Item, arc_item, sloop_item, items, items_then, item_normal, dir_of, OnItem, IsFree, IsClear, around_svertex, pos_item, neg_item, whole, Sees, directly, by_way_of, HasArc, Shaped, Keeps, forms, gather, normal-is, direction-by, amount, far-keeps, far-level, gather-has, at-one, item-forms, normal-form, on-level, on-direction, arc-point, Ends, ends-of, at-arc, product-off, slid, slid-level, slid-square, IsZero-times, cross-self, miss-between, between-off_target, free-around, clear-around, Outlook, outlook, outlook-free, outlook-clear, outlook-svertex, clear-self, IsLarge, SideSees, labelled, svertex_sides, item_sides, meet_of, IsFair, IsFirstMet, self-pos, triple-in_plane, cross-none, dir-self, apart}
+use Rattle.nef_smap.proofs.Prelude.{◌≡◌, ℕ, zero, suc, ◌+◌, ◌*◌, ◌^◌, ◌≤◌, ℤ, pos, ◌-ℤ◌, ◌*ℤ◌, ◌<ℤ◌, arith, refl, ap, sym, ◌∙◌, inl, ⊎_elim, List, [], ◌∷◌, ◌++◌, length, Option, Some, None, subst, slice_get, negsuc, nat_abs, ◌≤ℤ◌, Bool, true, false, cond, ◌↔◌, not_true, normal_limit, ints, ring, at, num, ◌⊕◌, ◌⊖◌, ◌⊗◌, follows, given, none, sign, nought-is, by_order, mul_pos, nought-or, square_pos, Vector, vector, IsDirection, IsNormal, IsAtMost, triple, cross, dot, blend, up as upward, Label, IsAt, same-off, At, MapVertex, Arc, MapSloop, Map, Item, arc_item, sloop_item, items, items_then, item_normal, dir_of, OnItem, IsFree, IsClear, around_svertex, pos_item, neg_item, whole, Sees, directly, by_way_of, HasArc, Shaped, Keeps, forms, gather, normal-is, direction-by, amount, far-keeps, far-level, gather-has, at-one, item-forms, normal-form, on-level, on-direction, arc-point, Ends, ends-of, at-arc, product-off, slid, slid-level, slid-square, IsZero-times, cross-self, miss-between, between-off_target, free-around, clear-around, Outlook, outlook, outlook-free, outlook-clear, outlook-svertex, clear-self, IsLarge, SideSees, labelled, svertex_sides, item_sides, meet_of, IsFair, IsFirstMet, self-pos, triple-in_plane, cross-none, dir-self, apart, is-at_none}
 use Rattle.std.specs.Bool.{IsTrue}
 use Rattle.nef_smap.proofs.FirstMet.{first-clear}
 
@@ -179,10 +179,10 @@ pub bare-seen : (M : Map) → Shaped M → (d : Vector) → IsFree M d → M.arc
 bare-seen M V d F e f = by M.svertices refl
   where
     no_items : (l : ℕ) (x : Item) → At (items M) l x → ⊥
-    no_items l x a = subst (λ (xs : List Item). At xs l x) (ap (λ (as' : List Arc). items_then as' M.sloop) e ∙ ap (items_then []) f) a
+    no_items l x a = is-at_none (subst (λ (xs : List Item). At xs l x) (ap (λ (as' : List Arc). items_then as' M.sloop) e ∙ ap (items_then []) f) a)
 
     no_arc : (k : ℕ) → HasArc M k → ⊥
-    no_arc k (i, a, g, c) = subst (λ (xs : List Arc). At xs i a) e g
+    no_arc k (i, a, g, c) = is-at_none (subst (λ (xs : List Arc). At xs i a) e g)
 
     around : (vs : List MapVertex) (v : MapVertex) (ws : List MapVertex) → vs ≡ v ∷ ws → M.svertices ≡ vs → SideSees M 0 d
     around vs v ws g g' =

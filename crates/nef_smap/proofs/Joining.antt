@@ -1,5 +1,5 @@
 -- What each link of the program joins.
-use Rattle.nef_smap.proofs.Prelude.{◌≡◌, ℕ, zero, suc, ◌<◌, ℤ, pos, ◌*ℤ◌, ◌<ℤ◌, arith, ap, sym, ◌∙◌, List, [], ◌∷◌, map, slice_get, subst, Some, ints, ring, at, num, ◌⊕◌, ◌⊖◌, ◌⊗◌, follows, given, none, mul_pos, normal_limit, svertex_limit, Vector, IsDirection, IsZero, IsAtMost, cross, triple, dot, up, opposite, SameDirection, same-nought, vector_of, At, Item, arc_item, items, item_normal, same-plus, dir-at, at-arc, SArc, SVertex, SphereMap, svertex_of, arc_of, map_of, IsSphereMap, dot-zero, self-pos, triple-dot, dir-signs, apart, direction-left}
+use Rattle.nef_smap.proofs.Prelude.{◌≡◌, ℕ, ℤ, pos, ◌*ℤ◌, ◌<ℤ◌, arith, ap, sym, ◌∙◌, List, [], ◌∷◌, map, slice_get, subst, Some, ints, ring, at, num, ◌⊕◌, ◌⊖◌, ◌⊗◌, follows, given, none, mul_pos, normal_limit, svertex_limit, Vector, IsDirection, IsZero, IsAtMost, cross, triple, dot, up, opposite, SameDirection, same-nought, vector_of, At, Item, arc_item, items, item_normal, same-plus, dir-at, at-arc, SArc, SVertex, SphereMap, svertex_of, arc_of, map_of, IsSphereMap, dot-zero, self-pos, triple-dot, dir-signs, apart, direction-left, map-is_at}
 use Rattle.nef_geo.proofs.Directions.{small-neg}
 use Rattle.nef_smap.proofs.Axes.{x_axis, y_axis}
 use Rattle.nef_smap.proofs.CloseSigns.{dir-from_get}
@@ -9,9 +9,7 @@ use Rattle.nef_smap.proofs.Upward.{map-ahead, map-across}
 
 -- ---- svertices
 pub svertex-listed : (vs : List SVertex) (k : ℕ) (v : SVertex) → slice_get vs k ≡ Some v → At (map svertex_of vs) k (svertex_of v)
-svertex-listed [] k v e = cc
-svertex-listed (w ∷ vs) zero v e = let f : w ≡ v = cc in ap svertex_of f
-svertex-listed (w ∷ vs) (suc k) v e = svertex-listed vs k v e
+svertex-listed = map-is_at svertex_of
 
 module _ (m : SphereMap) (S : IsSphereMap m) (k : ℕ) (v : SVertex) (a : slice_get m.svertices k ≡ Some v) where
   listed : At (map svertex_of m.svertices) k (svertex_of v)
@@ -38,9 +36,7 @@ one-small d s = let x = s.of_x in let y = s.of_y in let z = s.of_z in record { o
 
 -- ---- items
 pub arc-listed : (as' : List SArc) (k : ℕ) (a : SArc) → slice_get as' k ≡ Some a → At (map arc_of as') k (arc_of a)
-arc-listed [] k a e = cc
-arc-listed (b ∷ as') zero a e = let f : b ≡ a = cc in ap arc_of f
-arc-listed (b ∷ as') (suc k) a e = arc-listed as' k a e
+arc-listed = map-is_at arc_of
 
 -- ---- directions in a plane
 pub cross-level : (n x d : Vector) → SameDirection (cross n x) d → dot n d ≡ pos 0

@@ -1,5 +1,5 @@
 -- Lists of links, link by link.
-use Rattle.nef_smap.proofs.Prelude.{◌≡◌, ℕ, zero, suc, ◌+◌, ◌<◌, arith, length-append, refl, ap, sym, ◌∙◌, ◌⊎◌, ⊎_elim, List, [], ◌∷◌, ◌++◌, length, subst, Option, Some, None, Bor, IsAt, up, Label, At, MapVertex, Arc, MapSloop, Map, sloop_item, items, items_then, around_svertex, pos_item, whole, at-one, Link, labelled, svertex_sides, item_sides, sides_of, AreLinked, SphereMap, BelowFirsts, BelowFirst, ArcFirst, SloopFirst, met_number, IsJoin, join_below, join_around, join_arc, join_sloop, join_ground, AreJoins, one_if, arounds_before, number_of, JoinsBelow, JoinsAround, JoinsArc, JoinsSloop, JoinsGround, HasLink, ComesOf, AreEach, AreArounds, AreSloops, AreGrounds, less-or-last, Either, earlier, last, is-at_either, is-at_left, is-at_last, is-at_some, is-at_parts, is-at_right}
+use Rattle.nef_smap.proofs.Prelude.{◌≡◌, ℕ, zero, suc, ◌+◌, ◌<◌, arith, length-append, refl, ap, sym, ◌∙◌, ⊎_elim, List, [], ◌∷◌, ◌++◌, length, subst, Option, Some, None, Bor, IsAt, up, Label, At, MapVertex, Arc, MapSloop, Map, sloop_item, items, items_then, around_svertex, pos_item, whole, at-one, Link, labelled, svertex_sides, item_sides, sides_of, AreLinked, SphereMap, BelowFirsts, BelowFirst, ArcFirst, SloopFirst, met_number, IsJoin, join_below, join_around, join_arc, join_sloop, join_ground, AreJoins, one_if, arounds_before, number_of, JoinsBelow, JoinsAround, JoinsArc, JoinsSloop, JoinsGround, HasLink, ComesOf, AreEach, AreArounds, AreSloops, AreGrounds, less-or-last, Either, earlier, last, is-at_either, is-at_left, is-at_last, is-at_some, is-at_parts, is-at_right, is-at_none, is-at_first}
 use Rattle.nef_smap.proofs.Lists.{at-within}
 use Rattle.nef_smap.proofs.SideLists.{length-item_sides}
 
@@ -28,8 +28,8 @@ pub arounds-next : (vs : List MapVertex) (n : ℕ) (v : MapVertex) → At vs n v
 arounds-next vs n v a = ap (arounds_before vs) (let e : n + 1 ≡ suc n = omega arith in e) ∙ next vs n v a
   where
     next : (vs : List MapVertex) (n : ℕ) (v : MapVertex) → At vs n v → arounds_before vs (suc n) ≡ arounds_before vs n + one_if v.around
-    next [] n v a = absurd a
-    next (w ∷ vs) zero v a = let e = ap (λ (r : MapVertex). one_if r.around) a in let f = arounds-start vs in omega arith
+    next [] n v a = absurd (is-at_none a)
+    next (w ∷ vs) zero v a = let e = ap (λ (r : MapVertex). one_if r.around) (is-at_first a) in let f = arounds-start vs in omega arith
     next (w ∷ vs) (suc n) v a = let e = next vs n v a in omega arith
 
 pub has-more : (P : Link → Type 0) (ls ms : List Link) → HasLink ls P → HasLink (ls ++ ms) P
@@ -67,10 +67,10 @@ arounds-pass M n ls v b e A = record {
 
 -- ---- links for the sloop
 sloops-one : (as' : List Arc) (o : Option MapSloop) (i k : ℕ) (l c : MapSloop) → At (items_then as' o) i (sloop_item l) → At (items_then as' o) k (sloop_item c) → i ≡ k
-sloops-one [] None i k l c a b = absurd a
+sloops-one [] None i k l c a b = absurd (is-at_none a)
 sloops-one [] (Some m) zero zero l c a b = refl
-sloops-one [] (Some m) zero (suc k) l c a b = absurd b
-sloops-one [] (Some m) (suc i) k l c a b = absurd a
+sloops-one [] (Some m) zero (suc k) l c a b = absurd (is-at_none b)
+sloops-one [] (Some m) (suc i) k l c a b = absurd (is-at_none a)
 sloops-one (x ∷ as') o zero k l c a b = cc
 sloops-one (x ∷ as') o (suc i) zero l c a b = cc
 sloops-one (x ∷ as') o (suc i) (suc k) l c a b = ap suc (sloops-one as' o i k l c a b)
@@ -86,7 +86,7 @@ sloops-some M k l (c, a, j) = record {
     only (suc i) x b = cc
 
 sloop-given : (as' : List Arc) (o : Option MapSloop) (k : ℕ) (c : MapSloop) → At (items_then as' o) k (sloop_item c) → o ≡ None → ⊥
-sloop-given [] None k c a e = a
+sloop-given [] None k c a e = is-at_none a
 sloop-given [] (Some l) k c a e = absurd cc
 sloop-given (x ∷ as') o zero c a e = absurd cc
 sloop-given (x ∷ as') o (suc k) c a e = sloop-given as' o k c a e

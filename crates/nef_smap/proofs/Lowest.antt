@@ -1,5 +1,5 @@
 -- The lowest of what lies over a direction.
-use Rattle.nef_smap.proofs.Prelude.{◌≡◌, ℕ, zero, suc, ℤ, pos, ◌+ℤ◌, ◌-ℤ◌, ◌*ℤ◌, ◌≤ℤ◌, ◌<ℤ◌, arith, refl, sym, ◌∙◌, ◌⊎◌, inl, inr, ⊎_elim, List, [], ◌∷◌, subst, Option, Some, None, ints, ring, at, num, ◌⊕◌, ◌⊖◌, ◌⊗◌, follows, given, none, by_order, nought-or, fraction-le-trans, Vector, cross, dot, Decided, At, Map, Item, items, item_normal, OnItem, positive-or, negative-or, OnItem-decided, rise, IsOver, IsFirst}
+use Rattle.nef_smap.proofs.Prelude.{◌≡◌, ℕ, zero, suc, ℤ, pos, ◌+ℤ◌, ◌-ℤ◌, ◌*ℤ◌, ◌≤ℤ◌, ◌<ℤ◌, arith, refl, sym, ◌∙◌, ◌⊎◌, inl, inr, ⊎_elim, List, [], ◌∷◌, subst, Option, Some, None, ints, ring, at, num, ◌⊕◌, ◌⊖◌, ◌⊗◌, follows, given, none, by_order, nought-or, fraction-le-trans, Vector, cross, dot, Decided, At, Map, Item, items, item_normal, OnItem, positive-or, negative-or, OnItem-decided, rise, IsOver, IsFirst, is-at_none, is-at_first}
 use Rattle.nef_smap.proofs.Rise.{rise-is, rise_form-value}
 
 -- ---- the least of a list of fractions
@@ -15,18 +15,18 @@ module _ {A : Type 0} (num den : A → ℤ) where
   NoneOf xs P = (k : ℕ) (x : A) → At xs k x → P k x → ⊥
 
   pub least_or : (xs : List A) (P : ℕ → A → Type 0) → ((k : ℕ) (x : A) → Decided (P k x)) → ((k : ℕ) (x : A) → At xs k x → P k x → pos 0 <ℤ den x) → Least xs P ⊎ NoneOf xs P
-  least_or [] P D h = inr (λ k x a p. a)
+  least_or [] P D h = inr (λ k x a p. is-at_none a)
   least_or (x ∷ xs) P D h = by (D zero x) (least_or xs (λ k y. P (suc k) y) (λ k y. D (suc k) y) (λ k y a p. h (suc k) y a p))
     where
       self : (P zero x) → (l : ℕ) (y : A) → At (x ∷ xs) l y → P l y → ((l : ℕ) (y : A) → At xs l y → P (suc l) y → (num x *ℤ den y) ≤ℤ (num y *ℤ den x)) → (num x *ℤ den y) ≤ℤ (num y *ℤ den x)
-      self p zero y e q f = subst (λ (z : A). (num x *ℤ den z) ≤ℤ (num z *ℤ den x)) e (omega (arith, ints))
+      self p zero y e q f = subst (λ (z : A). (num x *ℤ den z) ≤ℤ (num z *ℤ den x)) (is-at_first e) (omega (arith, ints))
       self p (suc l) y a q f = f l y a q
 
       rest : (r : Least xs (λ k y. P (suc k) y)) → (P zero x → (num r.element *ℤ den x) ≤ℤ (num x *ℤ den r.element)) → Least (x ∷ xs) P
       rest r f = record { number = suc r.number; element = r.element; listed = r.listed; holds = r.holds; least = λ l y a q. later l y a q }
         where
           later : (l : ℕ) (y : A) → At (x ∷ xs) l y → P l y → (num r.element *ℤ den y) ≤ℤ (num y *ℤ den r.element)
-          later zero y e q = subst (λ (z : A). (num r.element *ℤ den z) ≤ℤ (num z *ℤ den r.element)) e (f (subst (λ (z : A). P zero z) (sym e) q))
+          later zero y e q = subst (λ (z : A). (num r.element *ℤ den z) ≤ℤ (num z *ℤ den r.element)) (is-at_first e) (f (subst (λ (z : A). P zero z) (sym (is-at_first e)) q))
           later (suc l) y a q = r.least l y a q
 
       by : Decided (P zero x) → Least xs (λ k y. P (suc k) y) ⊎ NoneOf xs (λ k y. P (suc k) y) → Least (x ∷ xs) P ⊎ NoneOf (x ∷ xs) P
@@ -34,7 +34,7 @@ module _ {A : Type 0} (num den : A → ℤ) where
       by (inr n) (inr m) = inr (λ k. none k)
         where
           none : (k : ℕ) (y : A) → At (x ∷ xs) k y → P k y → ⊥
-          none zero y e p = n (subst (λ (z : A). P zero z) (sym e) p)
+          none zero y e p = n (subst (λ (z : A). P zero z) (sym (is-at_first e)) p)
           none (suc k) y a p = m k y a p
       by (inl p) (inr m) = inl (record { number = zero; element = x; listed = refl; holds = p; least = λ l y a q. self p l y a q (λ k z b w. absurd (m k z b w)) })
       by (inl p) (inl r) = ⊎_elim

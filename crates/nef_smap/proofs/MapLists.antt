@@ -9,12 +9,12 @@ length-items (a ∷ as') l = let e = length-items as' l in omega arith
 
 pub item-arc : (as' : List SArc) (l : Option SLoop) (k : ℕ) (a : SArc) → slice_get as' k ≡ Some a → At (items_then (map arc_of as') (option_map sloop_of l)) k (arc_item (arc_of a))
 item-arc [] l k a e = cc
-item-arc (b ∷ as') l zero a e = let f : b ≡ a = cc in ap (λ (r : SArc). arc_item (arc_of r)) f
+item-arc (b ∷ as') l zero a e = ap (option_map (λ (r : SArc). arc_item (arc_of r))) e
 item-arc (b ∷ as') l (suc k) a e = item-arc as' l k a e
 
 pub item-sloop : (as' : List SArc) (o : Option SLoop) (k : ℕ) (l : SLoop) → k ≡ length as' → o ≡ Some l → At (items_then (map arc_of as') (option_map sloop_of o)) k (sloop_item (sloop_of l))
 item-sloop [] None k l e f = cc
-item-sloop [] (Some m) zero l e f = let g : m ≡ l = cc in ap (λ (r : SLoop). sloop_item (sloop_of r)) g
+item-sloop [] (Some m) zero l e f = ap (option_map (λ (r : SLoop). sloop_item (sloop_of r))) f
 item-sloop [] (Some m) (suc k) l e f = absurd (omega arith)
 item-sloop (b ∷ as') o zero l e f = absurd (omega arith)
 item-sloop (b ∷ as') o (suc k) l e f = item-sloop as' o k l (omega arith) f
@@ -22,7 +22,7 @@ item-sloop (b ∷ as') o (suc k) l e f = item-sloop as' o k l (omega arith) f
 -- the sloop stands after the arcs
 pub sloop-listed : (as' : List SArc) (o : Option SLoop) (l : MapSloop) → option_map sloop_of o ≡ Some l → At (items_then (map arc_of as') (option_map sloop_of o)) (length as') (sloop_item l)
 sloop-listed [] None l e = cc
-sloop-listed [] (Some m) l e = let f : sloop_of m ≡ l = cc in ap sloop_item f
+sloop-listed [] (Some m) l e = ap (option_map sloop_item) e
 sloop-listed (a ∷ as') o l e = sloop-listed as' o l e
 
 pub sloop-was : (o : Option SLoop) (l : MapSloop) → option_map sloop_of o ≡ Some l → (m : SLoop) × (o ≡ Some m) × (sloop_of m ≡ l)

@@ -1,5 +1,5 @@
 -- Stars of directions in faces and on items show the map.
-use Rattle.nef_smap.proofs.Prelude.{◌≡◌, ℕ, zero, List, [], ◌∷◌, length, map, pos, true, false, Option, Some, None, Result, Ok, Err, IfOk, refl, sym, ap, subst, ◌∙◌, sign, normal_limit, svertex_limit, Vector, dot, cross, IsDirection, SameDirection, IsAtMost, IsNormal, IsAt, Label, vector_of, Dir, same_directions_equal, At, MapVertex, Map, HasArc, at_svertex, Item, items, item_normal, item_pos, item_mark, item_neg, OnItem, Side, HasSide, SeenAs, MapLabel, on_item, seen, NearLabel, Valid, by_side, StarLabel, on_ray, in_sector, in_only_sector, StarShows, IsStraight, at-one, none-at, near-lone, straight_star-label, near-free, near-item, sees-free, Ray, Star, ray_of, star_of, sector_at, IsRay, IsStar, at-ray, sector-at, sectors-fill, each_has_one_label, SVertex, SphereMap, svertex_of, map_of, LabelledSide, sides_of, IsSide, SideSees, IsNeighbourhood, IsStarAlong, dir-self}
+use Rattle.nef_smap.proofs.Prelude.{◌≡◌, ℕ, zero, List, [], ◌∷◌, length, map, pos, true, false, Option, Some, None, Result, Ok, Err, IfOk, refl, sym, ap, subst, ◌∙◌, sign, normal_limit, svertex_limit, Vector, dot, cross, IsDirection, SameDirection, IsAtMost, IsNormal, IsAt, Label, vector_of, Dir, same_directions_equal, At, MapVertex, Map, HasArc, at_svertex, Item, items, item_normal, item_pos, item_mark, item_neg, OnItem, Side, HasSide, SeenAs, MapLabel, on_item, seen, NearLabel, Valid, by_side, StarLabel, on_ray, in_sector, in_only_sector, StarShows, IsStraight, at-one, none-at, near-lone, straight_star-label, near-free, near-item, sees-free, Ray, Star, ray_of, star_of, sector_at, IsRay, IsStar, at-ray, sector-at, sectors-fill, each_has_one_label, SVertex, SphereMap, svertex_of, map_of, LabelledSide, sides_of, IsSide, SideSees, IsNeighbourhood, IsStarAlong, dir-self, is-at_first}
 use Rattle.law_sphere.specs.Stars.{Ray as PlainRay}
 use Rattle.nef_star.proofs.Straight.{plane-star}
 use Rattle.nef_smap.proofs.Lists.{map-at, at-from_get}
@@ -43,7 +43,7 @@ lone-shows t M m T empty one mark near = record {
     only : (e : Vector) (l : Label) → StarLabel (star_of t) e l → m ≡ l
     only e l (on_ray k r a o q) = absurd (none-at (star_of t).rays k r none a)
     only e l (in_sector k q r a n o s) = absurd (none-at (star_of t).rays k q none a)
-    only e l (in_only_sector n s) = subst (λ (r : List Label). At r zero l) one s
+    only e l (in_only_sector n s) = is-at_first (subst (λ (r : List Label). At r zero l) one s)
 
 -- ---- in a face
 -- the label of a side is that of what it sees

@@ -1,5 +1,5 @@
 -- The star of a svertex with arcs shows the map: its rays are the ends of the arcs there.
-use Rattle.nef_smap.proofs.Prelude.{◌≡◌, ℕ, zero, suc, ◌+◌, ◌<◌, pos, List, [], ◌∷◌, length, Option, Some, None, Result, Ok, Err, IfOk, ◌⊎◌, inl, inr, arith, refl, sym, ap, subst, ◌∙◌, ints, IsAt, Vector, IsDirection, cross, dot, opposite, SameDirection, blend, Label, IsOnCircle, IsStrictlyOn, Passes, order_is_transitive, vector_of, Dir, At, MapVertex, Arc, Map, arc_item, items, OnItem, HasArc, HasSide, at_svertex, NearLabel, Valid, StarShows, ArcRay, end_left, ray_left, ray_side, Unrayed, at-arc, at-one, left-on, on-end, End, AreApart, IsRound, IsTurning, IsNext, Ray, Star, star_of, left_of, left_at, mark_at, sector_at, IsRay, IsStar, LeftGives, to-left, sectors-fill, sector-at, SArc, SphereMap, arc_of, map_of, IsSmall, IsArcEnd, AreArcEnds, IsNeighbourhood, dot-comm, self-pos, opposite-dot, square-cross, dir-self}
+use Rattle.nef_smap.proofs.Prelude.{◌≡◌, ℕ, zero, suc, ◌+◌, ◌<◌, pos, List, [], ◌∷◌, length, Option, Some, None, Result, Ok, Err, IfOk, ◌⊎◌, inl, inr, arith, refl, sym, ap, subst, ◌∙◌, ints, IsAt, Vector, IsDirection, cross, dot, opposite, SameDirection, blend, Label, IsOnCircle, IsStrictlyOn, Passes, order_is_transitive, vector_of, Dir, At, MapVertex, Arc, Map, arc_item, items, OnItem, HasArc, HasSide, at_svertex, NearLabel, Valid, StarShows, ArcRay, end_left, ray_left, ray_side, Unrayed, at-arc, at-one, left-on, on-end, End, AreApart, IsRound, IsTurning, IsNext, Ray, Star, star_of, left_of, left_at, mark_at, sector_at, IsRay, IsStar, LeftGives, to-left, sectors-fill, sector-at, SArc, SphereMap, arc_of, map_of, IsSmall, IsArcEnd, AreArcEnds, IsNeighbourhood, dot-comm, self-pos, opposite-dot, square-cross, dir-self, is-at_none}
 use Rattle.nef_star.specs.Turning.{on_ray as at_ray, in_sector as of_sector, in_only_sector as of_only_sector}
 use Rattle.nef_star.proofs.Turns.{four, next_in, none_between, not_both}
 use Rattle.nef_smap.proofs.Lists.{map-at, at-map, at-from_get, get-from_at}
@@ -158,7 +158,7 @@ module _ (m : SphereMap) (V : Valid (map_of m)) (k : ℕ) (v : MapVertex) (a : A
         none z (i, b, h, e) =
             let r = ray-end (record { number = i; arc = b; listed = h; end = e }) in
             let s = A.all r.number r.arc r.end r.listed r.is in
-            at-from_get [] s.0 r.end (subst (λ (x : List End). IsAt x s.0 r.end) z s.1)
+            is-at_none (subst (λ (x : List End). IsAt x s.0 r.end) z s.1)
 
         by : (x : List End) → ends ≡ x → 0 < length x
         by [] z = let r = V.shaped.around_lone k v a (none z) in let f : None ≡ Some r.0 = sym n ∙ r.1 in cc

@@ -1,5 +1,5 @@
 -- Labels of sides that agree at the joins are the same for all sides of one sface.
-use Rattle.nef_smap.proofs.Prelude.{◌≡◌, ℕ, ◌+◌, pos, ◌<ℤ◌, arith, refl, ap, sym, ◌∙◌, inl, inr, ⊎_elim, List, [], ◌∷◌, subst, Option, Some, None, ints, sign, nought-is, Lies, Vector, IsDirection, IsZero, cross, dot, opposite, Label, Out, IsStrictlyOn, At, MapVertex, MapSloop, Map, Item, arc_item, sloop_item, items, item_normal, dir_of, OnItem, IsFree, Side, around_svertex, pos_item, neg_item, whole, HasArc, HasSide, Sees, Shaped, Labelling, Near, Plain, PlainAt, StraightAt, IsSmooth, straight, normal-is, on-direction, on-level, axes-forms, amount, past_source, arc-point, dir-at, arc-at, cross-self, Beside, same_way, other_way, beside, cross-direction_left, sloop-at, over_forms, IsFirst, Stands, met, BelowFirst, Firsts, Joins, zero-decided, cross-turned, apart, parallel-trans}
+use Rattle.nef_smap.proofs.Prelude.{◌≡◌, ℕ, ◌+◌, pos, ◌<ℤ◌, arith, refl, ap, sym, ◌∙◌, inl, inr, ⊎_elim, List, [], ◌∷◌, subst, Option, Some, None, ints, sign, nought-is, Lies, Vector, IsDirection, IsZero, cross, dot, opposite, Label, Out, IsStrictlyOn, At, MapVertex, MapSloop, Map, Item, arc_item, sloop_item, items, item_normal, dir_of, OnItem, IsFree, Side, around_svertex, pos_item, neg_item, whole, HasArc, HasSide, Sees, Shaped, Labelling, Near, Plain, PlainAt, StraightAt, IsSmooth, straight, normal-is, on-direction, on-level, axes-forms, amount, past_source, arc-point, dir-at, arc-at, cross-self, Beside, same_way, other_way, beside, cross-direction_left, sloop-at, over_forms, IsFirst, Stands, met, BelowFirst, Firsts, Joins, zero-decided, cross-turned, apart, parallel-trans, is-at_none}
 use Rattle.law_sphere.proofs.Flips.{Axial, directed-by, far_directed-by, sloop-along}
 use Rattle.law_sphere.proofs.ArcLabels.{arc-along}
 use Rattle.nef_smap.proofs.Rise.{form-over}
@@ -157,7 +157,7 @@ module _ (M : Map) (V : Shaped M) (u : Vector) (ahead : (k : ℕ) (x : Item) →
   no_items m q k (arc_item r) a =
       let b = V.arcs_between k r (arc-at M.arcs M.sloop k r a) in
       let g = V.ground_not m q in
-      subst (λ (vs : List MapVertex). At vs r.source b.source) g.0 b.has_source
+      is-at_none (subst (λ (vs : List MapVertex). At vs r.source b.source) g.0 b.has_source)
   no_items m q k (sloop_item l) a = let g = V.ground_not m q in none-some (sym g.1 ∙ sloop-at M.arcs M.sloop k l a)
     where
       none-some : ◌≡◌ {A = Option MapSloop} None (Some l) → ⊥

@@ -42,7 +42,8 @@ pub use Rattle.law_sphere.specs.Forms.{axis_x, axis_y, axis_z}
 pub use Rattle.law_sphere.specs.Labelling.{PlainAt}
 pub use Rattle.law_sphere.specs.Maps.{ArcBetween}
 pub use Rattle.nef_classes.proofs.Chains.{chain-keeps, chain-link, chain-map, chain-trans, chain-turned}
-pub use Rattle.nef_classes.proofs.ClassLists.{Either, earlier, is-at_either, is-at_get, is-at_is, is-at_last, is-at_left, is-at_parts, is-at_right, is-at_some, is-at_within, last, less-or-last}
+pub use Rattle.nef_classes.proofs.ClassLists.{Either, earlier, is-at_either, last, less-or-last}
+pub use Rattle.nef_space.proofs.Lists.{is-at_first, is-at_get, is-at_is, is-at_last, is-at_left, is-at_none, is-at_parts, is-at_right, is-at_some, is-at_within, map-is_at}
 pub use Rattle.nef_classes.specs.Classes.{AreWithin}
 pub use Rattle.nef_classes.specs.declared.forest.Link.{Link}
 pub use Rattle.nef_star.proofs.Labelled.{at-ray, each_has_one_label, sector-at, sectors-fill, to-left}

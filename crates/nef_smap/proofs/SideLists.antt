@@ -1,5 +1,5 @@
 -- The sides of a map by their numbers: how many there are, where each stands, and that the map has it.
-use Rattle.nef_smap.proofs.Prelude.{◌≡◌, ℕ, zero, suc, ◌+◌, ◌*◌, ◌/◌, ◌%◌, ◌⊎◌, inl, inr, ⊎_elim, List, [], ◌∷◌, ◌++◌, length, map, Option, Some, None, cond, is_some, arith, add-zero, zero-add, length-append, refl, sym, ◌∙◌, ap, subst, slice_get, ◌<◌, Bool, true, false, not, filter_map, cons_option, IsAt, Label, At, MapVertex, Item, Map, items, item_pos, item_neg, Side, around_svertex, pos_item, neg_item, whole, HasSide, SVertex, SphereMap, svertex_of, map_of, LabelledSide, labelled, svertex_sides, item_sides, sides_of, IsSide}
+use Rattle.nef_smap.proofs.Prelude.{◌≡◌, ℕ, zero, suc, ◌+◌, ◌*◌, ◌/◌, ◌%◌, ◌⊎◌, inl, inr, ⊎_elim, List, [], ◌∷◌, ◌++◌, length, map, Option, Some, None, cond, is_some, arith, add-zero, zero-add, length-append, refl, sym, ◌∙◌, ap, subst, slice_get, ◌<◌, Bool, true, false, not, filter_map, cons_option, IsAt, Label, At, MapVertex, Item, Map, items, item_pos, item_neg, Side, around_svertex, pos_item, neg_item, whole, HasSide, SVertex, SphereMap, svertex_of, map_of, LabelledSide, labelled, svertex_sides, item_sides, sides_of, IsSide, is-at_none, is-at_first}
 use lib.Dec.{eqb}
 use mir.Val.{bool_byte}
 pub use Rattle.nef_smap.proofs.Lists.{at-from_get, get-from_at, at-left, at-right, InSecond, at-parts, at-some, get-past, either-at}
@@ -41,13 +41,13 @@ around-side k (v ∷ vs) s l e = by v.around s e (around-side (suc k) vs)
         → ((s : ℕ) (l : Label) → slice_get (filter_map (λ (v : SVertex). v.around) vs) s ≡ Some l → (o : Side) × At (svertex_sides (suc k) (map svertex_of vs)) s (o, l))
         → (o : Side) × At (labelled (around_svertex k) f ++ svertex_sides (suc k) (map svertex_of vs)) s (o, l)
     by None s e go = go s l e
-    by (Some m) zero e go = (around_svertex k, let f : m ≡ l = cc in ap (λ (r : Label). (around_svertex k, r)) f)
+    by (Some m) zero e go = (around_svertex k, let f : m ≡ l = cc in ap (λ (r : Label). Some (around_svertex k, r)) f)
     by (Some m) (suc s) e go = go s l e
 
 pub item-side : (n : ℕ) (xs : List Item) (k : ℕ) (x : Item) → At xs k x
     → At (item_sides n xs) (2 * k) (pos_item (n + k), item_pos x) × At (item_sides n xs) (2 * k + 1) (neg_item (n + k), item_neg x)
-item-side n [] k x a = absurd a
-item-side n (y ∷ xs) zero x a = rw (add-zero n) (ap (λ (r : Item). (pos_item n, item_pos r)) a, ap (λ (r : Item). (neg_item n, item_neg r)) a)
+item-side n [] k x a = absurd (is-at_none a)
+item-side n (y ∷ xs) zero x a = let e = is-at_first a in rw (add-zero n) (ap (λ (r : Item). Some (pos_item n, item_pos r)) e, ap (λ (r : Item). Some (neg_item n, item_neg r)) e)
 item-side n (y ∷ xs) (suc k) x a =
     let r = item-side (suc n) xs k x a in
     let e : suc n + k ≡ n + suc k = omega arith in
@@ -91,7 +91,7 @@ module _ (m : SphereMap) where
     where
       by : (g : Option Label) → g ≡ Some l → At (labelled whole g) 0 (whole, l)
       by None e = cc
-      by (Some k) e = let f : k ≡ l = cc in ap (λ (r : Label). (whole, r)) f
+      by (Some k) e = let f : k ≡ l = cc in ap (λ (r : Label). Some (whole, r)) f
 
   pub side-item : (s n : ℕ) (x : Item) (l : Label) → s ≡ arounds_count + n → At (items (map_of m)) (n / 2) x → l ≡ cond (eqb (n % 2) 0) (item_pos x) (item_neg x) → (o : Side) × IsSide (map_of m) s o l
   side-item s n x l e a f = by (n % 2) refl f
@@ -108,12 +108,12 @@ module _ (m : SphereMap) where
 
 -- ---- what a numbered side is
 labelled-has : (p : Side) (f : Option Label) (s : ℕ) (o : Side) (l : Label) → At (labelled p f) s (o, l) → (o ≡ p) × (f ≡ Some l)
-labelled-has p None s o l a = absurd a
-labelled-has p (Some m) zero o l a = (sym (ap (λ (y : LabelledSide). y.0) a), ap (λ (y : LabelledSide). Some y.1) a)
-labelled-has p (Some m) (suc s) o l a = absurd a
+labelled-has p None s o l a = absurd (is-at_none a)
+labelled-has p (Some m) zero o l a = let e = is-at_first a in (sym (ap (λ (y : LabelledSide). y.0) e), ap (λ (y : LabelledSide). Some y.1) e)
+labelled-has p (Some m) (suc s) o l a = absurd (is-at_none a)
 
 svertex-has : (n : ℕ) (vs : List MapVertex) (s : ℕ) (o : Side) (l : Label) → At (svertex_sides n vs) s (o, l) → (i : ℕ) × (v : MapVertex) × At vs i v × (v.around ≡ Some l) × (o ≡ around_svertex (n + i))
-svertex-has n [] s o l a = absurd a
+svertex-has n [] s o l a = absurd (is-at_none a)
 svertex-has n (v ∷ vs) s o l a = by (λ s' b. svertex-has (suc n) vs s' o l b) (either-at (labelled (around_svertex n) v.around) (svertex_sides (suc n) vs) s (o, l) a)
   where
     by : ((s : ℕ) → At (svertex_sides (suc n) vs) s (o, l) → (i : ℕ) × (w : MapVertex) × At vs i w × (w.around ≡ Some l) × (o ≡ around_svertex (suc n + i)))
@@ -124,9 +124,9 @@ svertex-has n (v ∷ vs) s o l a = by (λ s' b. svertex-has (suc n) vs s' o l b)
 
 item-has : (n : ℕ) (xs : List Item) (s : ℕ) (o : Side) (l : Label) → At (item_sides n xs) s (o, l)
     → (i : ℕ) × (x : Item) × At xs i x × (((o ≡ pos_item (n + i)) × (item_pos x ≡ l)) ⊎ ((o ≡ neg_item (n + i)) × (item_neg x ≡ l)))
-item-has n [] s o l a = absurd a
-item-has n (x ∷ xs) zero o l a = (zero, x, refl, inl (sym (ap (λ (y : LabelledSide). y.0) a) ∙ ap pos_item (let e : n ≡ n + zero = omega arith in e), ap (λ (y : LabelledSide). y.1) a))
-item-has n (x ∷ xs) (suc zero) o l a = (zero, x, refl, inr (sym (ap (λ (y : LabelledSide). y.0) a) ∙ ap neg_item (let e : n ≡ n + zero = omega arith in e), ap (λ (y : LabelledSide). y.1) a))
+item-has n [] s o l a = absurd (is-at_none a)
+item-has n (x ∷ xs) zero o l a = let f = is-at_first a in (zero, x, refl, inl (sym (ap (λ (y : LabelledSide). y.0) f) ∙ ap pos_item (let e : n ≡ n + zero = omega arith in e), ap (λ (y : LabelledSide). y.1) f))
+item-has n (x ∷ xs) (suc zero) o l a = let f = is-at_first a in (zero, x, refl, inr (sym (ap (λ (y : LabelledSide). y.0) f) ∙ ap neg_item (let e : n ≡ n + zero = omega arith in e), ap (λ (y : LabelledSide). y.1) f))
 item-has n (x ∷ xs) (suc (suc s)) o l a =
     let r = item-has (suc n) xs s o l a in
     let e : suc n + r.0 ≡ n + suc r.0 = omega arith in

@@ -1,16 +1,16 @@
 -- Each side of a map has its number, and no other.
-use Rattle.nef_smap.proofs.Prelude.{◌≡◌, ℕ, zero, suc, ◌+◌, ◌*◌, ◌⊎◌, inl, inr, ⊎_elim, List, [], ◌∷◌, ◌++◌, length, Option, Some, None, arith, zero-add, length-append, refl, sym, ◌∙◌, ap, subst, Label, At, MapVertex, Item, Map, items, Side, around_svertex, pos_item, neg_item, whole, HasSide, LabelledSide, labelled, svertex_sides, item_sides, sides_of, IsSide, one_if, arounds_before, number_of}
+use Rattle.nef_smap.proofs.Prelude.{◌≡◌, ℕ, zero, suc, ◌+◌, ◌*◌, ◌⊎◌, inl, inr, ⊎_elim, List, [], ◌∷◌, ◌++◌, length, Option, Some, None, arith, zero-add, length-append, refl, sym, ◌∙◌, ap, subst, Label, At, MapVertex, Item, Map, items, Side, around_svertex, pos_item, neg_item, whole, HasSide, LabelledSide, labelled, svertex_sides, item_sides, sides_of, IsSide, one_if, arounds_before, number_of, is-at_none, is-at_first}
 use Rattle.nef_smap.proofs.SideLists.{length-item_sides, item-side}
 use Rattle.nef_smap.proofs.Lists.{at-from_get, get-from_at, at-left, at-right, InSecond, at-parts}
 
 -- ---- where each side stands
 svertex-at : (n : ℕ) (vs : List MapVertex) (k : ℕ) (v : MapVertex) (l : Label) → At vs k v → v.around ≡ Some l → At (svertex_sides n vs) (arounds_before vs k) (around_svertex (n + k), l)
-svertex-at n [] k v l a e = absurd a
-svertex-at n (w ∷ vs) zero v l a e = by w.around (ap (λ (r : MapVertex). r.around) a ∙ e)
+svertex-at n [] k v l a e = absurd (is-at_none a)
+svertex-at n (w ∷ vs) zero v l a e = by w.around (ap (λ (r : MapVertex). r.around) (is-at_first a) ∙ e)
   where
     by : (f : Option Label) → f ≡ Some l → At (labelled (around_svertex n) f ++ svertex_sides (suc n) vs) 0 (around_svertex (n + zero), l)
     by None e = cc
-    by (Some m) e = let g : m ≡ l = cc in let h : n ≡ n + zero = omega arith in ap (λ (r : Label). (around_svertex n, r)) g ∙ ap (λ (r : ℕ). (around_svertex r, l)) h
+    by (Some m) e = let g : m ≡ l = cc in let h : n ≡ n + zero = omega arith in ap (λ (r : Label). Some (around_svertex n, r)) g ∙ ap (λ (r : ℕ). Some (around_svertex r, l)) h
 svertex-at n (w ∷ vs) (suc k) v l a e = by w.around (let h : suc n + k ≡ n + suc k = omega arith in subst (λ (r : ℕ). At (svertex_sides (suc n) vs) (arounds_before vs k) (around_svertex r, l)) h (svertex-at (suc n) vs k v l a e))
   where
     by : (f : Option Label) → At (svertex_sides (suc n) vs) (arounds_before vs k) (around_svertex (n + suc k), l) → At (labelled (around_svertex n) f ++ svertex_sides (suc n) vs) (one_if f + arounds_before vs k) (around_svertex (n + suc k), l)
@@ -47,7 +47,7 @@ module _ (M : Map) where
     where
       by : (g : Option Label) → g ≡ Some l → At (labelled whole g) 0 (whole, l)
       by None e = cc
-      by (Some k) e = let f : k ≡ l = cc in ap (λ (r : Label). (whole, r)) f
+      by (Some k) e = let f : k ≡ l = cc in ap (λ (r : Label). Some (whole, r)) f
 
 -- ---- what stands at each number
 svertex-number : (n : ℕ) (v : MapVertex) (vs : List MapVertex) (s : ℕ) (o : Side) (l : Label) → At (svertex_sides n (v ∷ vs)) s (o, l)
@@ -62,17 +62,17 @@ svertex-number n v vs s o l a go = by v.around refl s a
 
     by : (f : Option Label) → v.around ≡ f → (s : ℕ) → At (labelled (around_svertex n) f ++ svertex_sides (suc n) vs) s (o, l) → (i : ℕ) × (o ≡ around_svertex (n + i)) × (s ≡ arounds_before (v ∷ vs) i)
     by None e s b = let r = later None e s b in (r.0, r.1, sym (zero-add s) ∙ r.2)
-    by (Some m) e zero b = (zero, sym (ap (λ (y : LabelledSide). y.0) b) ∙ ap around_svertex (let h : n ≡ n + zero = omega arith in h), refl)
+    by (Some m) e zero b = (zero, sym (ap (λ (y : LabelledSide). y.0) (is-at_first b)) ∙ ap around_svertex (let h : n ≡ n + zero = omega arith in h), refl)
     by (Some m) e (suc s) b = let r = later (Some m) e s b in (r.0, r.1, (let h : suc s ≡ 1 + s = omega arith in h) ∙ r.2)
 
 svertices-number : (n : ℕ) (vs : List MapVertex) (s : ℕ) (o : Side) (l : Label) → At (svertex_sides n vs) s (o, l) → (i : ℕ) × (o ≡ around_svertex (n + i)) × (s ≡ arounds_before vs i)
-svertices-number n [] s o l a = absurd a
+svertices-number n [] s o l a = absurd (is-at_none a)
 svertices-number n (v ∷ vs) s o l a = svertex-number n v vs s o l a (λ t b. svertices-number (suc n) vs t o l b)
 
 items-number : (n : ℕ) (xs : List Item) (s : ℕ) (o : Side) (l : Label) → At (item_sides n xs) s (o, l) → (i : ℕ) × (((o ≡ pos_item (n + i)) × (s ≡ 2 * i)) ⊎ ((o ≡ neg_item (n + i)) × (s ≡ 2 * i + 1)))
-items-number n [] s o l a = absurd a
-items-number n (x ∷ xs) zero o l a = (zero, inl (sym (ap (λ (y : LabelledSide). y.0) a) ∙ ap pos_item (let e : n ≡ n + zero = omega arith in e), refl))
-items-number n (x ∷ xs) (suc zero) o l a = (zero, inr (sym (ap (λ (y : LabelledSide). y.0) a) ∙ ap neg_item (let e : n ≡ n + zero = omega arith in e), refl))
+items-number n [] s o l a = absurd (is-at_none a)
+items-number n (x ∷ xs) zero o l a = (zero, inl (sym (ap (λ (y : LabelledSide). y.0) (is-at_first a)) ∙ ap pos_item (let e : n ≡ n + zero = omega arith in e), refl))
+items-number n (x ∷ xs) (suc zero) o l a = (zero, inr (sym (ap (λ (y : LabelledSide). y.0) (is-at_first a)) ∙ ap neg_item (let e : n ≡ n + zero = omega arith in e), refl))
 items-number n (x ∷ xs) (suc (suc s)) o l a =
     let r = items-number (suc n) xs s o l a in
     let e : suc n + r.0 ≡ n + suc r.0 = omega arith in
@@ -93,9 +93,9 @@ number-one M s o l g = by (at-parts (around M ++ of_items M) (labelled whole M.g
     part (inr (j, e, a)) = let r = items-number 0 (items M) j o l a in of_item j e r.0 r.1
 
     last : (f : Option Label) (j : ℕ) → At (labelled whole f) j (o, l) → (o ≡ whole) × (j ≡ 0)
-    last None j a = absurd a
-    last (Some m) zero a = (sym (ap (λ (y : LabelledSide). y.0) a), refl)
-    last (Some m) (suc j) a = absurd a
+    last None j a = absurd (is-at_none a)
+    last (Some m) zero a = (sym (ap (λ (y : LabelledSide). y.0) (is-at_first a)), refl)
+    last (Some m) (suc j) a = absurd (is-at_none a)
 
     by : At (around M ++ of_items M) s (o, l) ⊎ InSecond (around M ++ of_items M) (labelled whole M.ground) s (o, l) → s ≡ number_of M o
     by (inl a) = part (at-parts (around M) (of_items M) s (o, l) a)

@@ -1,5 +1,5 @@
 -- The maps of one label and of one plane, as the program's.
-use Rattle.nef_smap.proofs.Prelude.{◌≡◌, ℕ, zero, suc, [], ◌∷◌, refl, sym, ap, ◌∙◌, inl, subst, normal_limit, Vector, dot, IsDirection, IsNormal, IsAtMost, Label, vector_of, IsPrimitive, At, MapSloop, Item, sloop_item, items, item_normal, MapLabel, Valid, by_side, Least, Ordered, Labelling, ground_map, ground-shaped, ground-agrees, sloop_map, sloop-shaped, sloop-agrees, SLoop, sloop_of, IsSmall}
+use Rattle.nef_smap.proofs.Prelude.{◌≡◌, ℕ, zero, suc, [], ◌∷◌, refl, sym, ap, ◌∙◌, inl, subst, normal_limit, Vector, dot, IsDirection, IsNormal, IsAtMost, Label, vector_of, IsPrimitive, At, MapSloop, Item, sloop_item, items, item_normal, MapLabel, Valid, by_side, Least, Ordered, Labelling, ground_map, ground-shaped, ground-agrees, sloop_map, sloop-shaped, sloop-agrees, SLoop, sloop_of, IsSmall, is-at_none, is-at_first}
 use Rattle.nef_space.specs.Signs.{sign}
 use Rattle.law_sphere.proofs.Built.{agrees-valid, label-agrees}
 use Rattle.nef_smap.proofs.Primitive.{dir-primitive}
@@ -16,13 +16,13 @@ module _ (k g : Label) where
   ground-labels d f = label-agrees [] (λ d m. g ≡ m) one-labelling (ground_map k g) (ground-shaped k g) (ground-agrees k g (λ d m. g ≡ m) (λ d f. refl) (λ d m n f x y. sym x ∙ y)) d g f refl
 
   pub ground-least : Least (ground_map k g)
-  ground-least = record { no_plain = λ i v a p. a; no_straight = λ i v a p. a; items_differ = λ i x a. absurd a }
+  ground-least = record { no_plain = λ i v a p. is-at_none a; no_straight = λ i v a p. is-at_none a; items_differ = λ i x a. absurd (is-at_none a) }
 
   pub ground-ordered : Ordered (ground_map k g)
-  ground-ordered = record { dirs_lowest = λ i v a. absurd a; normals_lowest = λ i x a. absurd a; svertices = λ i j u v l a b. absurd a; arcs = λ i j u v l a b. absurd a }
+  ground-ordered = record { dirs_lowest = λ i v a. absurd (is-at_none a); normals_lowest = λ i x a. absurd (is-at_none a); svertices = λ i j u v l a b. absurd (is-at_none a); arcs = λ i j u v l a b. absurd (is-at_none a) }
 
   pub ground-small : IsSmall (ground_map k g)
-  ground-small = record { svertices = λ i v a. absurd a; normals = λ i x a. absurd a }
+  ground-small = record { svertices = λ i v a. absurd (is-at_none a); normals = λ i x a. absurd (is-at_none a) }
 
 -- ---- one plane
 module _ (l : SLoop) where
@@ -30,8 +30,8 @@ module _ (l : SLoop) where
   p = sloop_of l
 
   only : (i : ℕ) (x : Item) → At (items (sloop_map l.mark p)) i x → sloop_item p ≡ x
-  only zero x e = e
-  only (suc i) x e = absurd e
+  only zero x e = is-at_first e
+  only (suc i) x e = absurd (is-at_none e)
 
   abbrev side : Vector → Label
   side d = by_side l.pos l.mark l.neg (sign (dot (vector_of l.normal) d))
@@ -45,11 +45,11 @@ module _ (l : SLoop) where
 
   pub plane-ordered : Ordered (sloop_map l.mark p)
   plane-ordered = record {
-    dirs_lowest = λ i v a. absurd a;
+    dirs_lowest = λ i v a. absurd (is-at_none a);
     normals_lowest = λ i x a. subst (λ (y : Item). IsPrimitive (item_normal y)) (only i x a) (dir-primitive l.normal);
-    svertices = λ i j u v l a b. absurd a;
-    arcs = λ i j u v l a b. absurd a;
+    svertices = λ i j u v l a b. absurd (is-at_none a);
+    arcs = λ i j u v l a b. absurd (is-at_none a);
   }
 
   pub plane-small : IsAtMost normal_limit (vector_of l.normal) → IsSmall (sloop_map l.mark p)
-  plane-small h = record { svertices = λ i v a. absurd a; normals = λ i x a. subst (λ (y : Item). IsAtMost normal_limit (item_normal y)) (only i x a) h }
+  plane-small h = record { svertices = λ i v a. absurd (is-at_none a); normals = λ i x a. subst (λ (y : Item). IsAtMost normal_limit (item_normal y)) (only i x a) h }

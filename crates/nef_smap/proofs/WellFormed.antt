@@ -1,5 +1,5 @@
 -- The program's stars are well formed.
-use Rattle.nef_smap.proofs.Prelude.{◌≡◌, ℕ, zero, suc, List, [], ◌∷◌, length, map, Bool, true, false, cond, arith, refl, sym, ap, subst, ◌∙◌, inl, inr, ◌⊎◌, by_order, IsBelow, Vector, opposite, triple_of, IsDirection, SameDirection, vector_of, Dir, same_directions_equal, IsPrimitive, VectorBelow, At, Ray, Star, ray_of, star_of, left_of, left_at, IsRayBelow, IsRay, IsStar, each_has_one_label, vector-same, dir-self}
+use Rattle.nef_smap.proofs.Prelude.{◌≡◌, ℕ, zero, suc, List, [], ◌∷◌, length, map, Bool, true, false, cond, arith, refl, sym, ap, subst, ◌∙◌, inl, inr, ◌⊎◌, by_order, IsBelow, Vector, opposite, triple_of, IsDirection, SameDirection, vector_of, Dir, same_directions_equal, IsPrimitive, VectorBelow, At, Ray, Star, ray_of, star_of, left_of, left_at, IsRayBelow, IsRay, IsStar, each_has_one_label, vector-same, dir-self, is-at_none, is-at_first}
 use Rattle.law_sphere.specs.Stars.{Ray as PlainRay, IsRay as IsPlainRay}
 use Rattle.law_sphere.specs.Raw.{IsWellFormed, RayBelow, sector_count as plain_count}
 use Rattle.nef_star.specs.Stars.{sector_count}
@@ -55,8 +55,8 @@ one_ahead q r d apart least e = by q.ahead r.ahead refl refl
     by false false f g = absurd (alike (f ∙ sym g))
 
 pub left-at : (rays : List Ray) (k : ℕ) (r : Ray) → At rays k r → left_at rays k ≡ left_of r
-left-at [] k r h = absurd h
-left-at (q ∷ qs) zero r h = ap left_of h
+left-at [] k r h = absurd (is-at_none h)
+left-at (q ∷ qs) zero r h = ap left_of (is-at_first h)
 left-at (q ∷ qs) (suc k) r h = left-at qs k r h
 
 module _ (t : Star) (T : IsStar t) where

@@ -1,5 +1,5 @@
 -- Elements of lists by their places.
-use Rattle.nef_sover.proofs.Prelude.{◌≡◌, ℕ, zero, suc, ◌+◌, ◌<◌, ◌≤◌, List, [], ◌∷◌, ◌++◌, length, take, get_or, Option, Some, None, Result, Ok, Err, refl, sym, ap, subst, ◌∙◌, AllZip, At, at-within, at-get, get-at}
+use Rattle.nef_sover.proofs.Prelude.{◌≡◌, ℕ, zero, suc, ◌+◌, ◌<◌, ◌≤◌, List, [], ◌∷◌, ◌++◌, length, take, get_or, Option, Some, None, Result, Ok, Err, refl, sym, ap, subst, ◌∙◌, AllZip, At, at-within, at-get, get-at, is-at_none, is-at_first}
 use Rattle.std.specs.Option.{MatchOption}
 use Rattle.std.specs.Result.{IfOk}
 use Rattle.std.proofs.lemmas.List.{take_more, take_all}
@@ -9,15 +9,15 @@ read-at xs k x l e = subst (At xs k) (sym e) (get-at xs k x l)
 
 -- two lists place by place
 pub zip-second : {X Y : Type 0} (R : X → Y → Type 0) (xs : List X) (ys : List Y) (k : ℕ) (x : X) → AllZip R xs ys → At xs k x → (y : Y) × At ys k y × R x y
-zip-second R [] ys k x z h = absurd h
+zip-second R [] ys k x z h = absurd (is-at_none h)
 zip-second R (a ∷ as') [] k x z h = absurd z
-zip-second R (a ∷ as') (b ∷ bs) zero x z h = (b, refl, subst (λ c. R c b) h z.0)
+zip-second R (a ∷ as') (b ∷ bs) zero x z h = (b, refl, subst (λ c. R c b) (is-at_first h) z.0)
 zip-second R (a ∷ as') (b ∷ bs) (suc k) x z h = zip-second R as' bs k x z.1 h
 
 pub zip-first : {X Y : Type 0} (R : X → Y → Type 0) (xs : List X) (ys : List Y) (k : ℕ) (y : Y) → AllZip R xs ys → At ys k y → (x : X) × At xs k x × R x y
-zip-first R xs [] k y z h = absurd h
+zip-first R xs [] k y z h = absurd (is-at_none h)
 zip-first R [] (b ∷ bs) k y z h = absurd z
-zip-first R (a ∷ as') (b ∷ bs) zero y z h = (a, refl, subst (λ c. R a c) h z.0)
+zip-first R (a ∷ as') (b ∷ bs) zero y z h = (a, refl, subst (λ c. R a c) (is-at_first h) z.0)
 zip-first R (a ∷ as') (b ∷ bs) (suc k) y z h = zip-first R as' bs k y z.1 h
 
 pub zip-append : {X Y : Type 0} (R : X → Y → Type 0) (xs : List X) (ys : List Y) (us : List X) (vs : List Y) → AllZip R xs ys → AllZip R us vs → AllZip R (xs ++ us) (ys ++ vs)

@@ -1,5 +1,5 @@
 -- The sloop of an overlay.
-use Rattle.nef_sover.proofs.Prelude.{◌≡◌, pos, List, Option, Some, None, option_map, refl, sym, ap, subst, ◌∙◌, inl, inr, ◌⊎◌, neg, normal_limit, Vector, IsAtMost, IsNormal, opposite, Label, vector_of, Dir, IsOnCircle, MapSloop, sloop_item, Map, IsFree, MapLabel, NearLabel, at-sloop, IsAxis, IsLoneSloop, IsMergedSloop, SLoop, SphereMap, sloop_of, map_of, IsSphereMap, dir-primitive, dir-equal, Axis, AreAxes, AreOff, IsUncrossed, HasLabels, HasOpLabels, IsLoneNormal, level-way, SameDirection-turned}
+use Rattle.nef_sover.proofs.Prelude.{◌≡◌, List, Option, Some, None, option_map, refl, sym, ap, subst, ◌∙◌, inl, inr, ◌⊎◌, normal_limit, Vector, IsAtMost, IsNormal, opposite, Label, vector_of, Dir, IsOnCircle, MapSloop, sloop_item, Map, IsFree, MapLabel, NearLabel, at-sloop, IsAxis, IsLoneSloop, IsMergedSloop, SLoop, SphereMap, sloop_of, map_of, IsSphereMap, dir-primitive, dir-equal, Axis, AreAxes, AreOff, IsUncrossed, HasLabels, HasOpLabels, IsLoneNormal, level-way, SameDirection-turned}
 use Rattle.nef_sover.proofs.Bare.{one-label, near-circle, free-circle, sloop-mark, sloop-pos, sloop-neg}
 use Rattle.nef_sover.proofs.Lone.{uncrossed-a, uncrossed-b}
 

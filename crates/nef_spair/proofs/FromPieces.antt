@@ -1,5 +1,5 @@
 -- The map that is made of the pieces of simplified stars is built from these stars, and its numbers are small.
-use Rattle.nef_spair.proofs.Prelude.{◌≡◌, ℕ, zero, suc, List, [], ◌∷◌, map, Option, Some, None, option_map, MatchOption, true, refl, sym, ap, subst, ◌∙◌, inl, inr, All, normal_limit, svertex_limit, Vector, IsAtMost, Label, vector_of, At, MapVertex, Arc, MapSloop, Item, items_then, item_normal, InOrder, ArcBelow, IsStraight, IsBare, IsRawOf, svertex_at, IsArcFrom, IsSloopFrom, raw_sloop, straight_sloop, IsRawLabel, IsBuiltFrom, ray_of, star_of, IsStar, SArc, SLoop, RawStars, SphereMap, svertex_of, arc_of, sloop_of, map_of, raw_of, IsSmall, at-map, map-at, at-within, IsMadeOf, Pieces, ArePiecesOf, IsChosen, not-both as none-some}
+use Rattle.nef_spair.proofs.Prelude.{◌≡◌, ℕ, zero, suc, List, [], ◌∷◌, map, Option, Some, None, option_map, MatchOption, true, refl, sym, ap, subst, ◌∙◌, inl, inr, All, normal_limit, svertex_limit, Vector, IsAtMost, Label, vector_of, At, MapVertex, Arc, MapSloop, Item, items_then, item_normal, InOrder, ArcBelow, IsStraight, IsBare, IsRawOf, svertex_at, IsArcFrom, IsSloopFrom, raw_sloop, straight_sloop, IsRawLabel, IsBuiltFrom, ray_of, star_of, IsStar, SArc, SLoop, RawStars, SphereMap, svertex_of, arc_of, sloop_of, map_of, raw_of, IsSmall, at-map, map-at, at-within, IsMadeOf, Pieces, ArePiecesOf, IsChosen, not-both as none-some, is-at_none, is-at_first}
 use Rattle.law_sphere.specs.Stars.{Ray as PlainRay, Star as PlainStar}
 use Rattle.nef_spair.proofs.OneKind.{no-sloop-was, sloop-was, none-was}
 use Rattle.nef_spair.proofs.Places.{all-at}
@@ -106,10 +106,10 @@ module _ (q : RawStars) (p : Pieces) (m : SphereMap) (pieces : ArePiecesOf q p) 
     items-small : (arcs : List SArc) (o : Option SLoop) → ((k : ℕ) (a : SArc) → At arcs k a → IsAtMost normal_limit (vector_of a.normal))
         → MatchOption o ((d : SLoop) → IsChosen p.kept p.circles q.sloop d → ⊥) (IsChosen p.kept p.circles q.sloop)
         → (k : ℕ) (x : Item) → At (items_then (map arc_of arcs) (option_map sloop_of o)) k x → IsAtMost normal_limit (item_normal x)
-    items-small [] None f w k x a = absurd a
-    items-small [] (Some c) f w zero x a = subst (λ (y : Item). IsAtMost normal_limit (item_normal y)) a (chosen-small c w)
-    items-small [] (Some c) f w (suc k) x a = absurd a
-    items-small (b ∷ arcs) o f w zero x a = subst (λ (y : Item). IsAtMost normal_limit (item_normal y)) a (f 0 b refl)
+    items-small [] None f w k x a = absurd (is-at_none a)
+    items-small [] (Some c) f w zero x a = subst (λ (y : Item). IsAtMost normal_limit (item_normal y)) (is-at_first a) (chosen-small c w)
+    items-small [] (Some c) f w (suc k) x a = absurd (is-at_none a)
+    items-small (b ∷ arcs) o f w zero x a = subst (λ (y : Item). IsAtMost normal_limit (item_normal y)) (is-at_first a) (f 0 b refl)
     items-small (b ∷ arcs) o f w (suc k) x a = items-small arcs o (λ j c h. f (suc j) c h) w k x a
 
     pub small : IsSmall (map_of m)

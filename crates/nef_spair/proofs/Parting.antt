@@ -1,5 +1,5 @@
 -- Circles of straight stars, one star after another, and what they and the kept stars are made of.
-use Rattle.nef_spair.proofs.Prelude.{◌≡◌, List, [], ◌∷◌, ◌++◌, length, map, get_or, sym, ap, subst, ◌∙◌, inl, inr, normal_limit, Vector, IsAtMost, Label, Out, vector_of, MapSloop, IsPlain, IsStraight, sloop_at, Ray, Star, ray_of, star_of, SLoop, sloop_of, IsDropped, AreAllKept, IsCircleOf, AreCircles}
+use Rattle.nef_spair.proofs.Prelude.{◌≡◌, List, [], ◌∷◌, ◌++◌, length, map, get_or, sym, ap, subst, ◌∙◌, inl, inr, normal_limit, Vector, IsAtMost, Label, Out, vector_of, MapSloop, IsPlain, IsStraight, sloop_at, Ray, Star, ray_of, star_of, SLoop, sloop_of, IsDropped, AreAllKept, IsCircleOf, AreCircles, is-at_none}
 use Rattle.law_sphere.specs.Stars.{Ray as PlainRay}
 use Rattle.nef_spair.proofs.Places.{at-before, at-last, at-more, all-at, at-all}
 
@@ -28,9 +28,9 @@ not-dropped t n m (inr s) = m s
 -- ---- the circles of stars that are all kept
 pub no-circles : (ts : List Star) → AreAllKept ts → AreCircles ts []
 no-circles ts n = record {
-  from = λ k c h. absurd h;
+  from = λ k c h. absurd (is-at_none h);
   all = λ j t h s. absurd (n j t h (inr s));
-  small = at-all (λ (c : SLoop). IsAtMost normal_limit (vector_of c.normal)) [] (λ k c h. absurd h);
+  small = at-all (λ (c : SLoop). IsAtMost normal_limit (vector_of c.normal)) [] (λ k c h. absurd (is-at_none h));
 }
 
 -- ---- the circles of more stars

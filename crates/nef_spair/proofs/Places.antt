@@ -1,22 +1,15 @@
 -- Elements by their places in longer lists, and what is left of a list without some.
-use Rattle.nef_spair.proofs.Prelude.{◌≡◌, ℕ, zero, suc, ◌<◌, List, [], ◌∷◌, ◌++◌, length, get_or, slice_get, Some, None, arith, refl, sym, ap, subst, inl, inr, ◌⊎◌, All, At, at-within, at-get, get-at, AreOthers}
+use Rattle.nef_spair.proofs.Prelude.{◌≡◌, ℕ, zero, suc, ◌<◌, List, [], ◌∷◌, ◌++◌, length, get_or, slice_get, Some, arith, refl, sym, ap, subst, inl, inr, ◌⊎◌, All, At, at-within, at-get, get-at, AreOthers, is-at_none, is-at_first, is-at_left, is-at_last, is-at_more}
 
 module _ {A : Type 0} where
   pub at-before : (xs ys : List A) (k : ℕ) (x : A) → At xs k x → At (xs ++ ys) k x
-  at-before [] ys k x h = absurd h
-  at-before (z ∷ zs) ys zero x h = h
-  at-before (z ∷ zs) ys (suc k) x h = at-before zs ys k x h
+  at-before xs ys k x h = is-at_left xs ys k x h
 
   pub at-last : (xs : List A) (x : A) → At (xs ++ x ∷ []) (length xs) x
-  at-last [] x = refl
-  at-last (z ∷ zs) x = at-last zs x
+  at-last xs x = is-at_last xs x
 
   pub at-more : (xs : List A) (y : A) (k : ℕ) (x : A) → At (xs ++ y ∷ []) k x → At xs k x ⊎ ((k ≡ length xs) × (y ≡ x))
-  at-more [] y zero x h = inr (refl, h)
-  at-more [] y (suc k) x h = absurd h
-  at-more (z ∷ zs) y zero x h = inl h
-  at-more (z ∷ zs) y (suc k) x h =
-      elim (at-more zs y k x h) as (λ u. At zs k x ⊎ ((suc k ≡ length (z ∷ zs)) × (y ≡ x))) [ inl i ↦ inl i | inr i ↦ inr (ap suc i.0, i.1) ]
+  at-more xs y k x h = is-at_more xs y k x h
 
   pub all-at : (P : A → Type 0) (xs : List A) → All P xs → (k : ℕ) (x : A) → At xs k x → P x
   all-at P xs a k x h = subst P (at-get xs k x x h) (a k x (at-within xs k x h))
@@ -25,9 +18,7 @@ module _ {A : Type 0} where
   at-all P xs a k d h = a k (get_or xs k d) (get-at xs k d h)
 
   pub some-at : (xs : List A) (k : ℕ) (x : A) → slice_get xs k ≡ Some x → At xs k x
-  some-at [] k x e = let i : None ≡ Some x = e in absurd (cc)
-  some-at (z ∷ zs) zero x e = let i : Some z ≡ Some x = e in cc
-  some-at (z ∷ zs) (suc k) x e = some-at zs k x e
+  some-at xs k x e = e
 
   -- what indexing gives
   pub index-at : (xs : List A) (k : ℕ) (x : A) → k < length xs → x ≡ get_or xs k x → At xs k x
@@ -50,26 +41,26 @@ module _ {A : Type 0} where
     others-same (z ∷ xs) n = inl (n 0 z refl, xs, refl, others-same xs (λ k x a. n (suc k) x a))
 
     pub others-from : (xs ys : List A) → AreOthers P xs ys → (k : ℕ) (y : A) → At ys k y → (j : ℕ) × At xs j y × (P y → ⊥)
-    others-from [] ys e k y h = absurd (subst (λ (l : List A). At l k y) e h)
-    others-from (x ∷ xs) ys (inl (n, zs, e, r)) zero y h = let i : x ≡ y = subst (λ (l : List A). At l 0 y) e h in (0, i, λ p. n (subst P (sym i) p))
+    others-from [] ys e k y h = absurd (is-at_none (subst (λ (l : List A). At l k y) e h))
+    others-from (x ∷ xs) ys (inl (n, zs, e, r)) zero y h = let i = subst (λ (l : List A). At l 0 y) e h in (0, i, λ p. n (subst P (sym (is-at_first i)) p))
     others-from (x ∷ xs) ys (inl (n, zs, e, r)) (suc k) y h = let f = others-from xs zs r k y (subst (λ (l : List A). At l (suc k) y) e h) in (suc f.0, f.1, f.2)
     others-from (x ∷ xs) ys (inr (p, r)) k y h = let f = others-from xs ys r k y h in (suc f.0, f.1, f.2)
 
     pub others-all : (xs ys : List A) → AreOthers P xs ys → (j : ℕ) (x : A) → At xs j x → P x ⊎ ((k : ℕ) × At ys k x)
-    others-all [] ys e j x h = absurd h
+    others-all [] ys e j x h = absurd (is-at_none h)
     others-all (z ∷ xs) ys (inl (n, zs, e, r)) zero x h = inr (0, subst (λ (l : List A). At l 0 x) (sym e) h)
     others-all (z ∷ xs) ys (inl (n, zs, e, r)) (suc j) x h =
         elim (others-all xs zs r j x h) [ inl p ↦ inl p | inr f ↦ inr (suc f.0, subst (λ (l : List A). At l (suc f.0) x) (sym e) f.1) ]
-    others-all (z ∷ xs) ys (inr (p, r)) zero x h = inl (subst P h p)
+    others-all (z ∷ xs) ys (inr (p, r)) zero x h = inl (subst P (is-at_first h) p)
     others-all (z ∷ xs) ys (inr (p, r)) (suc j) x h = others-all xs ys r j x h
 
     -- two of them stand in the same order in both lists
     pub others-in_order : (xs ys : List A) → AreOthers P xs ys → (i k : ℕ) (x y : A) → i < k → At ys i x → At ys k y → (j : ℕ) × (l : ℕ) × (j < l) × At xs j x × At xs l y
-    others-in_order [] ys e i k x y h a b = absurd (subst (λ (l : List A). At l i x) e a)
+    others-in_order [] ys e i k x y h a b = absurd (is-at_none (subst (λ (l : List A). At l i x) e a))
     others-in_order (z ∷ xs) ys (inl (n, zs, e, r)) i zero x y h a b = absurd (omega arith)
     others-in_order (z ∷ xs) ys (inl (n, zs, e, r)) zero (suc k) x y h a b =
         let f = others-from xs zs r k y (subst (λ (l : List A). At l (suc k) y) e b) in
-        let first : z ≡ x = subst (λ (l : List A). At l 0 x) e a in (0, suc f.0, omega arith, first, f.1)
+        let first = subst (λ (l : List A). At l 0 x) e a in (0, suc f.0, omega arith, first, f.1)
     others-in_order (z ∷ xs) ys (inl (n, zs, e, r)) (suc i) (suc k) x y h a b =
         let f = others-in_order xs zs r i k x y (omega arith) (subst (λ (l : List A). At l (suc i) x) e a) (subst (λ (l : List A). At l (suc k) y) e b) in
         let up : suc f.0 < suc f.1 = omega (arith, f.2) in (suc f.0, suc f.1, up, f.3, f.4)

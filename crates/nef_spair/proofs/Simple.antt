@@ -1,5 +1,5 @@
 -- Stars made simple one after another.
-use Rattle.nef_spair.proofs.Prelude.{◌≡◌, ℕ, zero, suc, ◌+◌, ◌<◌, ◌≤◌, List, [], ◌∷◌, length, get_or, slice_set, get_or-set_other, get_or-set_same, length-set, ◌≢◌, arith, sym, subst, ◌∙◌, inl, inr, ◌⊎◌, All, eq-or-lt_of_le, At, at-one, Star, IsStar, at-within, at-get, get-at, IsSimple, AreSimple}
+use Rattle.nef_spair.proofs.Prelude.{◌≡◌, ℕ, zero, suc, ◌+◌, ◌<◌, ◌≤◌, List, [], ◌∷◌, length, get_or, slice_set, get_or-set_other, get_or-set_same, length-set, ◌≢◌, arith, sym, subst, ◌∙◌, inl, inr, ◌⊎◌, All, eq-or-lt_of_le, At, at-one, Star, IsStar, at-within, at-get, get-at, IsSimple, AreSimple, is-at_none}
 use Rattle.nef_spair.proofs.Places.{all-at}
 
 -- the first n are simple, and the others are as they were
@@ -12,7 +12,7 @@ pub simple-all : (n : ℕ) (ts us : List Star) → length us ≤ n → IsSimpleU
 simple-all n ts us h w = record { as_many = w.as_many; each = λ k t s a b. w.done k t s (omega (arith, h, within us k s b)) a b }
   where
     within : (us : List Star) (k : ℕ) (s : Star) → At us k s → k < length us
-    within [] k s a = absurd a
+    within [] k s a = absurd (is-at_none a)
     within (u ∷ us) zero s a = omega arith
     within (u ∷ us) (suc k) s a = omega (arith, within us k s a)
 

@@ -1,5 +1,5 @@
 -- What a star gives a direction e is what its left directions give axis x e.
-use Rattle.nef_star.proofs.Prelude.{◌≡◌, ℕ, zero, suc, ◌<◌, neg_ℤ, ◌*ℤ◌, ◌-ℤ◌, List, [], ◌∷◌, length, map, true, false, cond, arith, refl, sym, ap, subst, ◌∙◌, inl, inr, length-map, ring, at, neg, ◌⊖◌, ◌⊗◌, Vector, cross, opposite, IsDirection, ℤ, Bool, Label, vector_of, IsOnCircle, IsStrictlyOn, Passes, At, ray_dir, NextRay, StarLabel, Ray, Star, IsNext, on_ray as at_ray, in_sector as of_sector, in_only_sector as of_only_sector, ray_of, star_of, left_of, left_at, mark_of, mark_at, sector_at, sector_count, IsTurned, LeftGives, vector-same, square-cross}
+use Rattle.nef_star.proofs.Prelude.{◌≡◌, ℕ, zero, suc, ◌<◌, neg_ℤ, ◌*ℤ◌, ◌-ℤ◌, List, [], ◌∷◌, length, map, true, false, cond, arith, refl, sym, ap, subst, ◌∙◌, inl, inr, length-map, ring, at, neg, ◌⊖◌, ◌⊗◌, Vector, cross, opposite, IsDirection, ℤ, Bool, Label, vector_of, IsOnCircle, IsStrictlyOn, Passes, At, ray_dir, NextRay, StarLabel, Ray, Star, IsNext, on_ray as at_ray, in_sector as of_sector, in_only_sector as of_only_sector, ray_of, star_of, left_of, left_at, mark_of, mark_at, sector_at, sector_count, IsTurned, LeftGives, vector-same, square-cross, is-at_none, is-at_first}
 use Rattle.law_sphere.specs.Stars.{Ray as PlainRay, on_ray, in_sector, in_only_sector}
 use Rattle.nef_star.specs.Laws.{EachHasOneLabel}
 use Rattle.nef_star.proofs.Turns.{next_in, some_label, one_label}
@@ -18,8 +18,8 @@ ray-at (r ∷ rs) zero h = (ray_of r, refl, record { ray = r; is = refl; left = 
 ray-at (r ∷ rs) (suc k) h = let q = ray-at rs k (omega arith) in (q.0, q.1, record { ray = q.2.ray; is = q.2.is; left = q.2.left; mark = q.2.mark })
 
 pub at-ray : (rays : List Ray) (k : ℕ) (p : PlainRay) → At (map ray_of rays) k p → (k < length rays) × IsRayAt rays k p
-at-ray [] k p h = absurd h
-at-ray (r ∷ rs) zero p h = (omega arith, record { ray = r; is = h; left = refl; mark = refl })
+at-ray [] k p h = absurd (is-at_none h)
+at-ray (r ∷ rs) zero p h = (omega arith, record { ray = r; is = is-at_first h; left = refl; mark = refl })
 at-ray (r ∷ rs) (suc k) p h = let q = at-ray rs k p h in (omega (arith, q.0), record { ray = q.1.ray; is = q.1.is; left = q.1.left; mark = q.1.mark })
 
 pub sector-at : (ls : List Label) (k : ℕ) → k < length ls → At ls k (sector_at ls k)
@@ -28,8 +28,8 @@ sector-at (l ∷ ls) zero h = refl
 sector-at (l ∷ ls) (suc k) h = sector-at ls k (omega arith)
 
 pub at-sector : (ls : List Label) (k : ℕ) (l : Label) → At ls k l → sector_at ls k ≡ l
-at-sector [] k l h = absurd h
-at-sector (m ∷ ls) zero l h = h
+at-sector [] k l h = absurd (is-at_none h)
+at-sector (m ∷ ls) zero l h = is-at_first h
 at-sector (m ∷ ls) (suc k) l h = at-sector ls k l h
 
 pub no-rays : (rays : List Ray) → length rays ≡ 0 → map ray_of rays ≡ []

@@ -3,7 +3,7 @@ pub use Rattle.law_near.proofs.Prelude.{In, Not, Out, zero_vector}
 pub use Rattle.nef_geo.proofs.Prelude.{IsAtMost, IsBelow, IsParallel, normal_limit, of_z, rules, svertex_limit, to_z, to_z-of_z, triple_of, vector_of, ◌-◌, ◌^◌}
 pub use Rattle.nef_case.proofs.Prelude.{All, get_or, slice_get-get_or, take, w8}
 pub use Rattle.law_cyclic.proofs.Prelude.{AboutFour, AboutThree, same_or_opposite, triple-back}
-pub use Rattle.law_sphere.proofs.Prelude.{At, Bool, Decided, Follows, IsDirection, IsNormal, IsOnCircle, IsSimplified, IsStraight, IsStrictlyOn, IsZero, Label, List, NextRay, Passes, SameDirection, SameDirection-trans, SameDirection-turned, Some, StarLabel, Vector, [], ap, arith, at, by_order, by_side, cond, cross, cross-turned, dir-self, direction-opposite, dot, dot-comm, dot_poly, false, follows, given, inl, inr, ints, length, level-of_opposite, minus-is, mul_pos, neg, neg_ℤ, none, nought-if, nought-is, num, numbers, opposite, opposite-dot, plus-is, pos, ray_dir, refl, ring, self-pos, square-cross, subst, suc, sym, triple, triple_poly, true, vector-same, zero, zero-decided, ℕ, ℤ, ⊎_elim, ◌*ℤ◌, ◌++◌, ◌+◌, ◌-ℤ◌, ◌<ℤ◌, ◌<◌, ◌↔◌, ◌∙◌, ◌∷◌, ◌≡◌, ◌≤◌, ◌⊎◌, ◌⊕◌, ◌⊖◌, ◌⊗◌}
+pub use Rattle.law_sphere.proofs.Prelude.{At, Bool, Decided, Follows, IsDirection, IsNormal, IsOnCircle, IsSimplified, IsStraight, IsStrictlyOn, IsZero, Label, List, NextRay, Passes, SameDirection, SameDirection-trans, SameDirection-turned, Some, StarLabel, Vector, [], ap, arith, at, by_order, by_side, cond, cross, cross-turned, dir-self, direction-opposite, dot, dot-comm, dot_poly, false, follows, given, inl, inr, ints, is-at_first, is-at_none, length, level-of_opposite, minus-is, mul_pos, neg, neg_ℤ, none, nought-if, nought-is, num, numbers, opposite, opposite-dot, plus-is, pos, ray_dir, refl, ring, self-pos, square-cross, subst, suc, sym, triple, triple_poly, true, vector-same, zero, zero-decided, ℕ, ℤ, ⊎_elim, ◌*ℤ◌, ◌++◌, ◌+◌, ◌-ℤ◌, ◌<ℤ◌, ◌<◌, ◌↔◌, ◌∙◌, ◌∷◌, ◌≡◌, ◌≤◌, ◌⊎◌, ◌⊕◌, ◌⊖◌, ◌⊗◌}
 pub use Rattle.std.proofs.Common.{IsTrue, drop, length-append, length-set, map, not, set, slice_get}
 pub use Rattle.std.proofs.Math.Nat.{eq-or-lt_of_le}
 pub use Rattle.std.proofs.lemmas.List.{drop-map, get_or-append_right, get_or-drop, get_or-set_other, get_or-set_same, get_or-take, get_or_append_left, length-drop, length-map, length-take-le, map-append, map-set, take-map}

@@ -1,5 +1,6 @@
 use Rattle.nef_classes.proofs.Prelude.{arith, List, ℕ, [], ◌∷◌, ◌++◌, get_or, length, take, subst, sym, ap, ◌∙◌, refl, Vec, Global, slice_get_read}
-use Rattle.nef_classes.proofs.ClassLists.{IsNumberedTo, is-at_within, is-at_get, take-more, numbered-earlier, numbered-new}
+use Rattle.nef_classes.proofs.ClassLists.{IsNumberedTo, take-more, numbered-earlier, numbered-new}
+use Rattle.nef_space.proofs.Lists.{is-at_within, is-at_get}
 use Rattle.nef_classes.proofs.Trees.{root-earlier, none-earlier}
 use Rattle.nef_classes.proofs.forest.class_numbers.Goals as goal
 use Rattle.nef_classes.proofs.forest.class_numbers.Goals.{then-root-number+in_ok-push, else-root-number+in_ok-push-2}

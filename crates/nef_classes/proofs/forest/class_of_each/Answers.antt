@@ -1,5 +1,6 @@
 use Rattle.nef_classes.proofs.Prelude.{◌≡◌, ◌<◌, ◌+◌, length, subst, sym, ap, ◌∙◌, arith, List, ℕ, get_or, take, take_all, Link, AreClasses, HasSameTrees, AreTogether}
-use Rattle.nef_classes.proofs.ClassLists.{is-at_get, take-more, refilled}
+use Rattle.nef_classes.proofs.ClassLists.{take-more, refilled}
+use Rattle.nef_space.proofs.Lists.{is-at_get}
 use Rattle.nef_classes.proofs.Trees.{AreTrees, trees-alone, trees-more, trees-classes}
 use Rattle.nef_classes.proofs.forest.class_of_each.Goals as goal
 

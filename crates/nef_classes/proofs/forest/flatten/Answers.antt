@@ -1,5 +1,5 @@
 use Rattle.nef_classes.proofs.Prelude.{arith}
-use Rattle.nef_classes.proofs.ClassLists.{is-at_within}
+use Rattle.nef_space.proofs.Lists.{is-at_within}
 use Rattle.nef_classes.proofs.Trees.{same-trans, lifted-same, lifted-root}
 use Rattle.nef_classes.proofs.forest.flatten.Goals as goal
 

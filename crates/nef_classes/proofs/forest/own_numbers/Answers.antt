@@ -3,7 +3,7 @@ use Rattle.nef_classes.proofs.Prelude.{◌≡◌, ℕ, List, length, arith, refl
 use Rattle.std.specs.List.{range_with_len}
 use Rattle.std.proofs.lemmas.Iterator.{YieldsList-from_range, items_from_collect}
 use Rattle.std.proofs.lemmas.List.FromFn.{length-range_with_len, get_or-range_with_len}
-use Rattle.nef_classes.proofs.ClassLists.{is-at_within, is-at_is}
+use Rattle.nef_space.proofs.Lists.{is-at_within, is-at_is}
 use Rattle.nef_classes.proofs.forest.own_numbers.Goals as goal
 
 -- what holds of the range's list holds of the list that was collected

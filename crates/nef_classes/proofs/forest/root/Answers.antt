@@ -1,5 +1,5 @@
 use Rattle.nef_classes.proofs.Prelude.{arith, subst, IsAt}
-use Rattle.nef_classes.proofs.ClassLists.{is-at_get}
+use Rattle.nef_space.proofs.Lists.{is-at_get}
 use Rattle.nef_classes.proofs.Trees.{same-trans, lifted-same, lifted-chain, lifted-less}
 use Rattle.nef_classes.proofs.forest.root.Goals as goal
 

@@ -1,7 +1,6 @@
 use Rattle.nef_classes.proofs.Prelude.{List, map, arith, subst, ap, ◌∙◌, take_all, IsAt, Link, Tie, flat_tie}
-use Rattle.nef_classes.proofs.ClassLists.{is-at_get}
+use Rattle.nef_space.proofs.Lists.{is-at_get, is-at_map}
 use Rattle.nef_classes.proofs.Places.{cell-within}
-use Rattle.nef_classes.proofs.Numbers.{is-at_map}
 use Rattle.nef_classes.proofs.table.flat_links.Goals as goal
 
 pub place_of-requires-in-loop-tie-clause-within : goal.place_of-requires-in-loop-tie-clause-within

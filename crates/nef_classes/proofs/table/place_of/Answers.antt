@@ -1,5 +1,5 @@
 use Rattle.nef_classes.proofs.Prelude.{arith, get_or}
-use Rattle.nef_classes.proofs.ClassLists.{is-at_get, is-at_within}
+use Rattle.nef_space.proofs.Lists.{is-at_get, is-at_within}
 use Rattle.nef_classes.proofs.Places.{cell-within}
 use Rattle.nef_classes.proofs.table.place_of.Goals as goal
 

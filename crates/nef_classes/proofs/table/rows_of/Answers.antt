@@ -1,5 +1,6 @@
 use Rattle.nef_classes.proofs.Prelude.{rules, ◌≡◌, ◌+◌, ◌-◌, ◌≤◌, ◌∷◌, [], ◌++◌, ℕ, List, length, take, drop, arith, get_or, subst, ap, sym, ◌∙◌, take_all, IsAt, total, HasCounts, AreCut}
-use Rattle.nef_classes.proofs.ClassLists.{take-more, is-at_get}
+use Rattle.nef_classes.proofs.ClassLists.{take-more}
+use Rattle.nef_space.proofs.Lists.{is-at_get}
 use Rattle.nef_classes.proofs.Cutting.{more-cut, more-counts, total-append, total-take}
 use Rattle.nef_classes.proofs.table.rows_of.Goals as goal
 

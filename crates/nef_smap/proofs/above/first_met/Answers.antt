@@ -1,8 +1,16 @@
-use Rattle.nef_smap.proofs.Prelude.{◌≡◌, ◌≢◌, ℕ, pos, ◌≤ℤ◌, arith, sym, ap, ◌∙◌, subst, IsTrue, rules, Option, ints, minus, sign-minus, minus-is, by_order, Vector, dot, up, vector_of, Minus, item_normal, map_of, item_of, rise, rise_form, IsFirstOf, geo_sign, close_sign}
+use Rattle.nef_smap.proofs.Prelude.{◌≡◌, ◌≢◌, ℕ, pos, ◌≤ℤ◌, arith, sym, ap, ◌∙◌, subst, IsTrue, rules, Option, ints, minus, sign-minus, minus-is, by_order, Vector, dot, up, vector_of, Minus, item_normal, map_of, item_of, rise, rise_form, IsFirstOf, geo_sign, close_sign, IsAtMost, normal_limit}
 use Rattle.nef_smap.proofs.CloseSigns.{geo-one}
 use Rattle.nef_smap.proofs.FirstOf.{pass-first, only-first, lower-first, higher-first}
 use Rattle.nef_smap.proofs.Upward.{map-ahead, rise-sign}
 use Rattle.nef_smap.proofs.above.first_met.Goals as goal
+
+pub meeting-requires-clause-first_small : goal.meeting-requires-clause-first_small
+meeting-requires-clause-first_small c =
+    subst (IsAtMost normal_limit) (sym c.normal.ensures.normal) (c.requires.map.small.normals c.args.number (item_of c.item_at-item.result) c.item_at-item.ensures.item)
+
+pub meeting-requires-clause-second_small : goal.meeting-requires-clause-second_small
+meeting-requires-clause-second_small c =
+    subst (IsAtMost normal_limit) (sym c.normal-in-Some.ensures.normal) (c.requires.map.small.normals c.in-Some.best (item_of c.item_at.result) c.item_at.ensures.item)
 
 pub returns-then-not-is_over-clause-first : goal.returns-then-not-is_over-clause-first
 returns-then-not-is_over-clause-first c =

@@ -1,4 +1,4 @@
-use Rattle.nef_smap.proofs.Prelude.{◌≡◌, ℕ, sym, ◌∙◌, subst, IsTrue, ◌↔◌, nat_eq, rules, Bool, Minus, Plus, Vector, cross, triple, up, vector_of, dir_of, map_of, close_sign, ArcPasses}
+use Rattle.nef_smap.proofs.Prelude.{◌≡◌, sym, ◌∙◌, subst, IsTrue, ◌↔◌, nat_eq, rules, Minus, Plus, Vector, cross, triple, up, vector_of, dir_of, map_of, close_sign, ArcPasses}
 use Rattle.nef_space.specs.Signs.{Sign, minus, plus, sign}
 use Rattle.nef_smap.proofs.CloseSigns.{geo-of, sign-test, passes-alike, passes-agreed, dir-from_get}
 use Rattle.nef_smap.proofs.above.passes.Goals as goal

@@ -4,6 +4,12 @@ use Rattle.nef_smap.proofs.FirstSoFar.{so_far-begins, so_far-stays, so_far-chang
 use Rattle.nef_smap.proofs.meets.first_met.Goals as goal
 use Rattle.nef_smap.proofs.meets.first_met.Goals.{then-is_before+then-is_met, else-is_before, else-is_before-via-then-is_before+else-is_met, else-is_before-via-else-is_before}
 
+pub item_values-first_values-requires-clause-normal : goal.item_values-first_values-requires-clause-normal
+item_values-first_values-requires-clause-normal c = c.requires.map.small.normals 0 (item_of c.item_at.result) c.item_at.ensures.item
+
+pub item_values-n-requires-clause-normal : goal.item_values-n-requires-clause-normal
+item_values-n-requires-clause-normal c = c.requires.map.small.normals c.loop-number.number (item_of c.item_at-item.result) c.item_at-item.ensures.item
+
 pub loop-number-init : goal.loop-number-init
 loop-number-init c = so_far-begins c.args.map.now c.args.way.now (item_of c.item_at.result) c.item_values-first_values.result c.item_at.ensures.item c.item_values-first_values.ensures.values c.item_values-first_values.ensures.small
 

@@ -23,6 +23,9 @@ first_met-first-requires-clause-some c = let e = length-items c.args.map.now.arc
 pub item_at-requires : goal.item_at-requires
 item_at-requires c = let f = c.first_met-first.ensures.first in record { within = at-within (items (map_of c.args.map.now)) c.first_met-first.result f.0 f.1 }
 
+pub item_values-requires-clause-normal : goal.item_values-requires-clause-normal
+item_values-requires-clause-normal c = c.requires.map.small.normals c.first_met-first.result (item_of c.item_at.result) c.item_at.ensures.item
+
 pub item_side-requires : goal.item_side-requires
 item_side-requires c = let f = c.first_met-first.ensures.first in record { within = at-within (items (map_of c.args.map.now)) c.first_met-first.result f.0 f.1 }
 
