@@ -5,7 +5,7 @@ use Rattle.law_build.proofs.RayStraight.{ray-after, ray-there}
 use Rattle.law_build.proofs.StarSmooth.{ray-ahead}
 use Rattle.law_build.proofs.BuiltAxes.{IsMade, number-order, kept-shows, kept-simple, svertex-star, star-svertex, axis-at}
 
-arc-below_not : (a b : Arc) → a.normal ≡ b.normal → a.source ≡ b.source → ArcBelow a b → ⊥
+pub arc-below_not : (a b : Arc) → a.normal ≡ b.normal → a.source ≡ b.source → ArcBelow a b → ⊥
 arc-below_not a b e f (inl l) = below-itself b.normal (subst (λ (v : Vector). VectorBelow v b.normal) e l)
 arc-below_not a b e f (inr l) = let p = l.1 in omega arith
 

@@ -10,13 +10,13 @@ use Rattle.law_cones.proofs.Dirs.{Plane, plane-direction, Planes, planes, Dirs}
 abbrev pub SameArc : Arc → Arc → Type 0
 SameArc a b = (a.normal ≡ b.normal) × (a.source ≡ b.source)
 
-arc-trans : (a b c : Arc) → ArcBelow a b → ArcBelow b c → ArcBelow a c
+pub arc-trans : (a b c : Arc) → ArcBelow a b → ArcBelow b c → ArcBelow a c
 arc-trans a b c (inl x) (inl y) = inl (below-trans a.normal b.normal c.normal x y)
 arc-trans a b c (inl x) (inr y) = inl (subst (VectorBelow a.normal) y.0 x)
 arc-trans a b c (inr x) (inl y) = inl (subst (λ (v : Vector). VectorBelow v c.normal) (sym x.0) y)
 arc-trans a b c (inr x) (inr y) = inr (x.0 ∙ y.0, let p = x.1 in let q = y.1 in omega arith)
 
-arc-either : (a b : Arc) → ArcBelow a b ⊎ SameArc a b ⊎ ArcBelow b a
+pub arc-either : (a b : Arc) → ArcBelow a b ⊎ SameArc a b ⊎ ArcBelow b a
 arc-either a b = by (below-either a.normal b.normal)
   where
     by : VectorBelow a.normal b.normal ⊎ (a.normal ≡ b.normal) ⊎ VectorBelow b.normal a.normal → ArcBelow a b ⊎ SameArc a b ⊎ ArcBelow b a

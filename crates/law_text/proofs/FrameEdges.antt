@@ -1,5 +1,6 @@
 -- The edges of a set that holds all of the frame or nothing of it, written out.
-use Rattle.law_text.proofs.Prelude.{◌≡◌, ℕ, ◌+◌, ◌*◌, ◌<◌, ltb, ◌==◌, ◌&&◌, pos, neg_ℤ, nat_abs, arith, refl, sym, ap, Bool, true, false, cond, List, [], ◌∷◌, map, drop, subst, Some, slice_get, ints, ltb-true, lt-ltb, flat_map, IsBetween, IsAhead, toward, Vector, vector, dot, cross, IsZero, IsOpposite, SameDirection, Label, Out, place_of, InOrder, At, MapVertex, Vertex, Edge, IsEdge, Edges, IsEdgeBelow, at-map, map-at, some-at, Ends, ends, all_ends, Axis, on_x, on_y, on_z, end_of, corner_point}
+use Rattle.law_text.proofs.Prelude.{◌≡◌, ℕ, ◌+◌, ◌*◌, ◌<◌, ltb, ◌==◌, ◌&&◌, pos, neg_ℤ, arith, refl, sym, ap, Bool, true, false, cond, List, [], ◌∷◌, map, drop, subst, Some, slice_get, ints, ltb-true, lt-ltb, flat_map, IsBetween, IsAhead, toward, Vector, vector, dot, cross, IsZero, IsOpposite, SameDirection, Label, Out, place_of, InOrder, At, MapVertex, Vertex, Edge, IsEdge, Edges, IsEdgeBelow, at-map, map-at, some-at, Ends, ends, all_ends, Axis, on_x, on_y, on_z, end_of, corner_point}
+use Rattle.law_near.proofs.Near.{length_of}
 use Rattle.law_text.proofs.Corners.{each-slot, each-pair, is_positive, positive-is, is-positive, seek, pair-below, rising}
 use Rattle.law_text.proofs.Octants.{way, order, place, svertex, each-svertex, svertex-at}
 use Rattle.law_text.proofs.FrameVertices.{vertex_at, number, frame_vertices, frame-vertex, each-vertex}
@@ -47,10 +48,7 @@ same-way u v e h = record { parallel = (ap (λ (d : Vector). d.x) e, ap (λ (d :
 opposite-way : (u v : Vector) → cross u v ≡ vector (pos 0) (pos 0) (pos 0) → is_positive (neg_ℤ (dot u v)) ≡ true → IsOpposite u v
 opposite-way u v e h = record { parallel = (ap (λ (d : Vector). d.x) e, ap (λ (d : Vector). d.y) e, ap (λ (d : Vector). d.z) e); backward = let p = is-positive (neg_ℤ (dot u v)) h in omega (arith, ints, p) }
 
-abbrev size : Vector → ℕ
-size d = nat_abs d.x + nat_abs d.y + nat_abs d.z
-
-none-size : (d : Vector) → IsZero d → size d ≡ 0
+none-size : (d : Vector) → IsZero d → length_of d ≡ 0
 none-size d (e, f, g) = omega (arith, ints, e, f, g)
 
 -- the way from one corner to another, and inward along an axis
@@ -70,7 +68,7 @@ no-corner k a j w = absurd (differ (positive-is (dot (lead (at_end k a false) j)
 
 -- an svertex leads up to a corner with an opposite one along the edge alone
 abbrev leads_up : Ends → Axis → Ends → Axis → Bool
-leads_up k a j o = ltb (number k) (number j) && is_positive (dot (lead k j) (inward k a)) && is_positive (neg_ℤ (dot (inward k a) (inward j o))) && size (cross (lead k j) (inward k a)) == 0
+leads_up k a j o = ltb (number k) (number j) && is_positive (dot (lead k j) (inward k a)) && is_positive (neg_ℤ (dot (inward k a) (inward j o))) && length_of (cross (lead k j) (inward k a)) == 0
 
 one-edge : (k : Ends) (a : Axis) (j : Ends) (o : Axis) → number k < number j → SameDirection (lead k j) (inward k a) → IsOpposite (inward k a) (inward j o) → between k a j o ≡ edge_at k a
 one-edge k a j o h w v = subst (λ b. cond b (between k a j o) (edge_at k a) ≡ edge_at k a) up (each-pair (λ i b m c. cond (leads_up i b m c) (between i b m c) (edge_at i b)) (λ i b m c. edge_at i b) refl k a j o)

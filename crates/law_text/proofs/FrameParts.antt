@@ -1,6 +1,7 @@
 -- The parts of the complexes of the whole frame and of the empty set: six facets of one cycle each, and two volumes.
 use Rattle.law_text.proofs.Prelude.{◌≡◌, ℕ, zero, suc, ◌+◌, ◌*◌, ltb, ◌<◌, ◌≤◌, pos, neg_ℤ, nat_abs, arith, refl, sym, ◌∙◌, ap, ⊎_elim, Bool, true, false, cond, List, [], ◌∷◌, ◌++◌, length, map, subst, Option, Some, None, ints, ltb-true, lt-ltb, eq-eqb, All, offset_limit, IsAt, Chained, NumbersClasses, Form, form_at, normal_of, Vector, cross, IsZero, Label, Out, place_of, form_of, Plane, InOrder, At, Item, arc_item, items, item_pos, item_neg, Side, around_svertex, pos_item, neg_item, whole, HasSide, MapVertex, differ, is-at_within, is-at_some, at-map, side-number, number_of, sides_of, Vertex, Complex, Corner, VertexSide, HasSideLabel, FacetLink, VolumeLink, NextCorner, IsCornerBelow, IsCycle, IsCycleBelow, Cycles, IsFacetOf, IsVolumeOf, IsFacetAt, IsFacet, IsParts, cycle_corners, Facet, Parts, end_at, Ends, Axis, on_x, on_y, on_z, end_of, axis_of, corner_point, each-bool}
 use Rattle.std.proofs.Math.Nat.{eq-one_of_dvd-one}
+use Rattle.nef_complex.proofs.SamePlanes.{parallel-equal}
 use Rattle.nef_facets.proofs.FirstCorners.{facet-item, item-facet}
 use Rattle.law_text.proofs.Corners.{of-four, each-axis, each-corner, each-slot, each-pair, is_positive, each-listed, named, pair-below}
 use Rattle.law_text.proofs.Octants.{axes_down, slot, arc, octant, each-svertex, each-item, item-at, lowest}
@@ -9,7 +10,7 @@ use Rattle.law_text.proofs.FrameEdges.{at_end}
 use Rattle.law_text.proofs.FrameLinks.{frame_complex, corner, face, first, are_one, side_of, item_side, inner_side, label_of, has-side, next_corner, second, third, fourth, ring, on-ring, step, facet-chain, inner-label, volume-chain}
 use Rattle.law_text.proofs.Numbering.{IsEarlier, numbers-one, three-ways}
 use Rattle.law_text.proofs.OneCycles.{HasOneNext, cycles-one}
-use Rattle.law_text.proofs.OneParts.{plane-one, as-many, has-label}
+use Rattle.law_text.proofs.OneParts.{as-many, has-label}
 use Rattle.law_text.proofs.Rows.{list-one}
 
 -- ---- the sides of the frame, by a corner and an axis
@@ -126,7 +127,7 @@ module _ (l : Label) (hs : List Form) where
     plane-is : (n : ℕ) (f : Facet) (k : Ends) (a : Axis) → IsFacet C p n f → Numbered (corner k a) n → f.plane ≡ plane_at k a
     plane-is n f k a F h =
         let A = facet-at n f k a F h in
-        plane-one f.plane (plane_at k a) (place_of (corner_point k))
+        parallel-equal f.plane (plane_at k a) (place_of (corner_point k))
         (subst (λ (v : Vector). IsZero (cross (normal_of (form_of f.plane)) v)) (each-slot (λ j o. axis_of o) (λ j o. normal_of (form_of (plane_at j o))) refl k a) A.normal.parallel)
         A.through (each-slot (λ j o. form_at (form_of (plane_at j o)) (place_of (corner_point j))) (λ j o. pos 0) refl k a)
 

@@ -1,7 +1,7 @@
 -- A complex has its parts in one way alone, where each corner has one next corner.
-use Rattle.law_text.proofs.Prelude.{◌≡◌, ℕ, zero, suc, ◌<◌, ◌≤◌, pos, ⊎_elim, Bool, true, false, List, length, map, arith, refl, sym, ◌∙◌, ap, subst, IsInTable, Place, form_at, normal_of, cross, IsZero, Label, form_of, Plane, Item, items, item_normal, sides_of, is-at_within, is-at_some, is-at_one, at-from_get, get-from_at, side-has, number-one, number_of, Vertex, Complex, Corner, IsCorner, VertexSide, HasSideLabel, corner_of, FacetLink, VolumeLink, IsCornerBelow, Cycles, IsSideNumber, count_items, count_sides, IsFacetOf, IsVolumeOf, IsSideBelow, pos_of, neg_of, IsFacet, IsParts, cycle_corners, shell_sides, Shells, Cycle, Facet, Parts, Shell, map-one, cross-turned, parallel-both, direction-right}
-use Rattle.nef_cand.proofs.Planes.{plane_test, tested-equal, tested-other, line-of}
+use Rattle.law_text.proofs.Prelude.{◌≡◌, ℕ, zero, suc, ◌<◌, ◌≤◌, ⊎_elim, List, length, map, arith, refl, sym, ◌∙◌, ap, subst, IsInTable, normal_of, Label, form_of, Item, items, item_normal, sides_of, is-at_within, is-at_some, is-at_one, at-from_get, get-from_at, side-has, number-one, number_of, Vertex, Complex, Corner, IsCorner, VertexSide, HasSideLabel, corner_of, FacetLink, VolumeLink, IsCornerBelow, Cycles, IsSideNumber, count_items, count_sides, IsFacetOf, IsVolumeOf, IsSideBelow, pos_of, neg_of, IsFacet, IsParts, cycle_corners, shell_sides, Shells, Cycle, Facet, Parts, Shell, map-one, cross-turned, parallel-both, direction-right}
 use Rattle.nef_complex.specs.declared.complex.Corner.{Corner as CornerValue}
+use Rattle.nef_complex.proofs.SamePlanes.{parallel-equal}
 use Rattle.law_text.proofs.Numbering.{IsEarlier, numbers-one}
 use Rattle.law_text.proofs.Rows.{list-one, rows-one, rows-both, table-one}
 use Rattle.law_text.proofs.OneCycles.{HasOneNext, cycles-one}
@@ -33,14 +33,6 @@ parts-equal p q a b c d e f =
 
 shell-equal : (g h : Shell) → g.sides ≡ h.sides → g ≡ h
 shell-equal g h e = ap (λ r. record { sides = r }) e
-
--- planes through one point with parallel normals are one
-pub plane-one : (g h : Plane) (y : Place) → IsZero (cross (normal_of (form_of g)) (normal_of (form_of h))) → form_at (form_of g) y ≡ pos 0 → form_at (form_of h) y ≡ pos 0 → g ≡ h
-plane-one g h y z e f = by (plane_test g h) refl
-  where
-    by : (b : Bool) → plane_test g h ≡ b → g ≡ h
-    by true t = tested-equal g h (sym t)
-    by false t = absurd ((line-of g h y y (e, e) (f, f) (λ k. tested-other g h (sym t) (sym k))).independent z)
 
 no-more : (a b : ℕ) → ((n : ℕ) → n < a → n < b) → a ≤ b
 no-more zero b h = omega arith
@@ -141,7 +133,7 @@ module _ (C : Complex) (one : HasOneNext C) (p q : Parts) (P : IsParts C p) (Q :
       let b = G.corners k (c.0) (c.1) h' (c.2) in
       let cycles = subst (λ (rows : List (List ℕ)). Cycles C (λ k. IsFacetOf rows k n) (cycle_corners g.cycles)) (sym facet-numbers) G.cycles in
       facet-equal f g
-      (plane-one f.plane g.plane (c.0).point
+      (parallel-equal f.plane g.plane (c.0).point
       (parallel-both (item_normal (c.1)) (normal_of (form_of f.plane)) (normal_of (form_of g.plane)) (direction-right (normal_of (form_of f.plane)) (item_normal (c.1)) a.normal)
       (cross-turned (normal_of (form_of f.plane)) (item_normal (c.1)) a.normal.parallel) (cross-turned (normal_of (form_of g.plane)) (item_normal (c.1)) b.normal.parallel))
       a.through b.through)

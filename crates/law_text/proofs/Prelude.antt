@@ -3,6 +3,7 @@ pub use Rattle.nef_core.proofs.Prelude.{lt-ltb, nat_lt}
 pub use Rattle.law_complex.proofs.Prelude.{Arc, Cone, Germ-unique, HasEnds, Holds, In, IsCornerAt, IsEdge, IsFacetPoint, IsFirstInPlane, IsNormal, IsOnEdges, IsOpposite, IsStrictlyOn, Least, Lies, LiesIn, Meets, NearLabel, NearPlain, NearStraight, PlaneMeet, Shaped, Sign, amount, by_side, carriers, cross-turned, dir-at, direction-right, dot-comb, dot-zero, item_mark, minus, nought, nought-if, parallel-both, plus, same-minus, self-pos, sign, sign-minus, sign-plus, sign_at, slope, triple, turn-same, ◌&&◌}
 pub use Rattle.law_turns.proofs.Prelude.{ArcBelow, ArcBetween, HasArc, IsClear, IsPlaceBelow, IsPrimitive, IsTurnedArc, IsTurnedItem, IsTurnedMap, MapSloop, Not, Ordered, Reaches, SameSet, VectorBelow, differ, directly, is_odd, turned_place, turned_set, turned_svertex, turned_vector, unturned_vector, whole, ◌%◌, ◌/◌}
 pub use Rattle.nef_smap.proofs.Prelude.{Near, direction_limit, eq-eqb, nat_eq}
+pub use Rattle.nef_smap.proofs.WellFormed.{dir-equal}
 pub use Rattle.nef_complex.proofs.Prelude.{ltb, ltb-true, weight_limit}
 pub use Rattle.nef_result.proofs.Prelude.{Edges, Ends, IsCornerPlace, Point, all_ends, axes, end_at, ends, frame-minus, minus-is, point_limit, sign-neg, sign_turned}
 pub use Rattle.nef_unique.proofs.Prelude.{Dir, FlatDim-by_cone, IsEdgeBelow, SLoop, cone-unique, cones-of_same, option_map, place_below-trans, same-lists, same_places_equal, sloop_of}
@@ -26,6 +27,6 @@ pub use Rattle.nef_result.proofs.CornerPoints.{corner-is, corner-same, corner_po
 pub use Rattle.nef_result.proofs.CornerVertices.{corner-vertex, end_of, inward, inward_way, leads-in, through, vertex-corner}
 pub use Rattle.nef_result.proofs.InOrder.{corner-below, ends-order, in-order, same-corner}
 pub use Rattle.nef_result.proofs.Walls.{Axis, IsWhole, empty-whole, full-whole, germ-inward, germ-outward, on_x, on_y, on_z, wall, wall-listed}
-pub use Rattle.nef_unique.proofs.Injective.{arc-equal, dir-one, map-equal, map-one, sloop-equal, svertex-equal, vertex-equal}
+pub use Rattle.nef_unique.proofs.Injective.{arc-equal, map-equal, map-one, sloop-equal, svertex-equal, vertex-equal}
 pub use Rattle.nef_unique.proofs.Vertices.{cone-carried, edges-one, set-vertices}
 pub use Rattle.nef_facets.proofs.NextCorners.{arc-no_sloop, next-linked, turned-level}

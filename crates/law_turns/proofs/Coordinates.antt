@@ -1,16 +1,11 @@
 -- What holds of each coordinate with its sign holds of turned vectors.
 use Rattle.law_turns.proofs.Prelude.{◌≡◌, ℕ, zero, suc, ◌/◌, ◌%◌, ℤ, ◌+ℤ◌, ◌-ℤ◌, ◌*ℤ◌, neg_ℤ, Bool, true, false, refl, ap, sym, ◌∙◌, subst, arith, [], ◌∷◌, ints, ring, at, neg, ◌⊖◌, ◌⊗◌, vector, Triple, ordered, has_bit, negated_if, turned, differ, is_exchange, is_odd, disordered, unturned}
+use Rattle.nef_case.proofs.TurnLemmas.{same_triple, triple}
 use lib.IntN.{neg_ℤ-neg_ℤ}
 use Rattle.law_turns.proofs.Bools.{each-three}
 
 pub same-vector : (x y z x' y' z' : ℤ) → x ≡ x' → y ≡ y' → z ≡ z' → vector x y z ≡ vector x' y' z'
 same-vector x y z x' y' z' p q r = ap (λ i. vector i y z) p ∙ ap (λ i. vector x' i z) q ∙ ap (λ i. vector x' y' i) r
-
-abbrev triple : ℤ → ℤ → ℤ → Triple
-triple x y z = (x, y, z)
-
-pub same-triple : (a b c x y z : ℤ) → a ≡ x → b ≡ y → c ≡ z → triple a b c ≡ triple x y z
-same-triple a b c x y z p q r = ap (λ (i : ℤ). triple i b c) p ∙ ap (λ (i : ℤ). triple x i c) q ∙ ap (triple x y) r
 
 -- ---- coordinate by coordinate
 abbrev pub zipped : (ℤ → ℤ → ℤ) → Triple → Triple → Triple
@@ -35,7 +30,7 @@ zip-ordered f (suc (suc (suc (suc (suc n))))) v w = refl
 -- what is made of two vectors coordinate by coordinate is turned with them
 pub zip-turned : (f : ℤ → ℤ → ℤ) → IsOddFunction f → (k : ℕ) (v w : Triple) → zipped f (turned k v) (turned k w) ≡ turned k (zipped f v w)
 zip-turned f odd k v w =
-    same-triple _ _ _ _ _ _ (zip-sign f odd (has_bit 1 (k % 8)) _ _) (zip-sign f odd (has_bit 2 (k % 8)) _ _) (zip-sign f odd (has_bit 4 (k % 8)) _ _)
+    same_triple _ _ _ _ _ _ (zip-sign f odd (has_bit 1 (k % 8)) _ _) (zip-sign f odd (has_bit 2 (k % 8)) _ _) (zip-sign f odd (has_bit 4 (k % 8)) _ _)
     ∙ ap (λ (t : Triple). triple (negated_if (has_bit 1 (k % 8)) t.0) (negated_if (has_bit 2 (k % 8)) t.1) (negated_if (has_bit 4 (k % 8)) t.2)) (zip-ordered f (k / 8) v w)
 
 -- ---- what is said of each coordinate
@@ -137,17 +132,17 @@ signed_triple b t = (negated_if b t.0, negated_if b t.1, negated_if b t.2)
 
 crosses-ordered : (o : ℕ) (v w : Triple) → crosses (ordered o v) (ordered o w) ≡ signed_triple (is_exchange o) (ordered o (crosses v w))
 crosses-ordered zero v w = refl
-crosses-ordered (suc zero) v w = same-triple _ _ _ _ _ _ (omega (arith, ints)) (omega (arith, ints)) (omega (arith, ints))
-crosses-ordered (suc (suc zero)) v w = same-triple _ _ _ _ _ _ (omega (arith, ints)) (omega (arith, ints)) (omega (arith, ints))
+crosses-ordered (suc zero) v w = same_triple _ _ _ _ _ _ (omega (arith, ints)) (omega (arith, ints)) (omega (arith, ints))
+crosses-ordered (suc (suc zero)) v w = same_triple _ _ _ _ _ _ (omega (arith, ints)) (omega (arith, ints)) (omega (arith, ints))
 crosses-ordered (suc (suc (suc zero))) v w = refl
 crosses-ordered (suc (suc (suc (suc zero)))) v w = refl
-crosses-ordered (suc (suc (suc (suc (suc n))))) v w = same-triple _ _ _ _ _ _ (omega (arith, ints)) (omega (arith, ints)) (omega (arith, ints))
+crosses-ordered (suc (suc (suc (suc (suc n))))) v w = same_triple _ _ _ _ _ _ (omega (arith, ints)) (omega (arith, ints)) (omega (arith, ints))
 
 abbrev flipped : Bool → Bool → Bool → Triple → Triple
 flipped b c d t = (negated_if b t.0, negated_if c t.1, negated_if d t.2)
 
 crosses-flipped : (b c d : Bool) (v w : Triple) → crosses (flipped b c d v) (flipped b c d w) ≡ signed_triple (differ b (differ c d)) (flipped b c d (crosses v w))
-crosses-flipped b c d v w = same-triple _ _ _ _ _ _
+crosses-flipped b c d v w = same_triple _ _ _ _ _ _
     (area c d v.1 w.2 v.2 w.1 ∙ first-sign b c d (v.1 *ℤ w.2 -ℤ v.2 *ℤ w.1))
     (area d b v.2 w.0 v.0 w.2 ∙ second-sign b c d (v.2 *ℤ w.0 -ℤ v.0 *ℤ w.2))
     (area b c v.0 w.1 v.1 w.0 ∙ third-sign b c d (v.0 *ℤ w.1 -ℤ v.1 *ℤ w.0))
@@ -157,7 +152,7 @@ signs-join : (a e b : Bool) (t : ℤ) → negated_if a (negated_if b (negated_if
 signs-join a e b t = ap (negated_if a) (sign-join b e t) ∙ sign-join a (differ b e) t ∙ ap (λ s. negated_if s t) (each-three (λ x y z. differ x (differ z y)) (λ x y z. differ (differ x y) z) refl a e b) ∙ sym (sign-join (differ a e) b t)
 
 flipped-signed : (a e b c d : Bool) (t : Triple) → signed_triple a (flipped b c d (signed_triple e t)) ≡ signed_triple (differ a e) (flipped b c d t)
-flipped-signed a e b c d t = same-triple _ _ _ _ _ _ (signs-join a e b t.0) (signs-join a e c t.1) (signs-join a e d t.2)
+flipped-signed a e b c d t = same_triple _ _ _ _ _ _ (signs-join a e b t.0) (signs-join a e c t.1) (signs-join a e d t.2)
 
 pub crosses-turned : (k : ℕ) (v w : Triple) → crosses (turned k v) (turned k w) ≡ signed_triple (is_odd k) (turned k (crosses v w))
 crosses-turned k v w =
@@ -169,12 +164,12 @@ crosses-turned k v w =
     ∙ flipped-signed (differ b (differ c d)) (is_exchange (k / 8)) b c d (ordered (k / 8) (crosses v w))
 
 -- ---- the way back
-sign-twice : (b : Bool) (t : ℤ) → negated_if b (negated_if b t) ≡ t
+pub sign-twice : (b : Bool) (t : ℤ) → negated_if b (negated_if b t) ≡ t
 sign-twice true t = omega (arith, ints)
 sign-twice false t = refl
 
 flipped-twice : (b c d : Bool) (t : Triple) → flipped b c d (flipped b c d t) ≡ t
-flipped-twice b c d t = same-triple _ _ _ _ _ _ (sign-twice b t.0) (sign-twice c t.1) (sign-twice d t.2)
+flipped-twice b c d t = same_triple _ _ _ _ _ _ (sign-twice b t.0) (sign-twice c t.1) (sign-twice d t.2)
 
 ordered-back : (o : ℕ) (t : Triple) → ordered o (disordered o t) ≡ t
 ordered-back zero t = refl

@@ -1,12 +1,13 @@
 -- Each ordered map that is well shaped has a turned image whose lists are in order.
-use Rattle.law_turns.proofs.Prelude.{◌≡◌, ℕ, zero, Bool, true, false, cond, refl, ap, sym, ◌∙◌, subst, arith, ◌⊎◌, inl, inr, ⊎_elim, List, map, Option, Some, None, cases_order, Lies, Vector, SameDirection, IsNormal, Form, normal_of, negated_if, IsPrimitive, VectorBelow, At, MapVertex, Arc, MapSloop, Item, arc_item, sloop_item, Map, items, item_normal, Shaped, InOrder, ArcBelow, Ordered, at-one, lies-at, at-lies, arc-at, sloop-at, at-sloop, at-arc, normal-is, below-itself, at-map, map-at, Mapped, map-list, Sorted, sort, chain-order, signed_form, turned_plane, turned_vector, unturned_vector, differ, is_odd, signed, turned_svertex, IsTurnedArc, IsTurnedOption, HasTurnedLists, dir-self}
+use Rattle.law_turns.proofs.Prelude.{◌≡◌, ℕ, zero, Bool, true, false, cond, refl, ap, sym, ◌∙◌, subst, inl, inr, ⊎_elim, List, map, Option, Some, None, cases_order, Lies, Vector, SameDirection, IsNormal, Form, normal_of, negated_if, IsPrimitive, VectorBelow, At, MapVertex, Arc, MapSloop, Item, arc_item, sloop_item, Map, items, item_normal, Shaped, InOrder, ArcBelow, Ordered, at-one, lies-at, at-lies, arc-at, sloop-at, at-sloop, at-arc, normal-is, below-itself, at-map, map-at, Mapped, map-list, Sorted, sort, chain-order, signed_form, turned_plane, turned_vector, unturned_vector, differ, is_odd, signed, turned_svertex, IsTurnedArc, IsTurnedOption, HasTurnedLists, dir-self}
 use Rattle.law_cones.proofs.Lowest.{below-trans, below-either}
-use Rattle.law_turns.proofs.Turning.{sign-twice}
+use Rattle.law_cones.proofs.Rays.{arc-either, arc-trans, SameArc}
 use Rattle.law_turns.proofs.Carriers.{same-form}
 use Rattle.law_turns.proofs.Vectors.{back-vector, direction-turned, signed-turned, signed-twice}
 use Rattle.law_turns.proofs.Numbers.{normal-choice, primitive-turned}
 use Rattle.law_turns.proofs.TurnedLists.{chosen, chosen-has, both-normal}
 use Rattle.law_turns.proofs.ArcEnds.{arcs-begin, arcs-end}
+use Rattle.law_turns.proofs.Coordinates.{sign-twice}
 
 -- ---- the orders of svertices and of arcs
 abbrev WayBelow : MapVertex → MapVertex → Type 0
@@ -21,24 +22,6 @@ one-svertex vs o i j u v a b e = elim (cases_order i j) [
   | inr apart ↦ ⊎_elim (λ l. absurd (below-itself v.dir (subst (λ (r : Vector). VectorBelow r v.dir) e (o i j u v l a b))))
       (λ l. absurd (below-itself v.dir (subst (λ (r : Vector). VectorBelow v.dir r) e (o j i v u l b a)))) apart
 ]
-
-abbrev pub SameArc : Arc → Arc → Type 0
-SameArc a b = (a.normal ≡ b.normal) × (a.source ≡ b.source)
-
-arc_below-trans : (a b c : Arc) → ArcBelow a b → ArcBelow b c → ArcBelow a c
-arc_below-trans a b c (inl h) (inl i) = inl (below-trans a.normal b.normal c.normal h i)
-arc_below-trans a b c (inl h) (inr i) = inl (subst (λ (r : Vector). VectorBelow a.normal r) i.0 h)
-arc_below-trans a b c (inr h) (inl i) = inl (subst (λ (r : Vector). VectorBelow r c.normal) (sym h.0) i)
-arc_below-trans a b c (inr h) (inr i) = inr (h.0 ∙ i.0, let x = h.1 in let y = i.1 in omega (arith, x, y))
-
-arc_below-either : (a b : Arc) → ArcBelow a b ⊎ SameArc a b ⊎ ArcBelow b a
-arc_below-either a b = ⊎_elim (λ l. inl (inl l)) (λ r. ⊎_elim same (λ l. inr (inr (inl l))) r) (below-either a.normal b.normal)
-  where
-    same : a.normal ≡ b.normal → ArcBelow a b ⊎ SameArc a b ⊎ ArcBelow b a
-    same e = elim (cases_order a.source b.source) [
-      | inl f ↦ inr (inl (e, f))
-      | inr apart ↦ ⊎_elim (λ l. inl (inr (e, l))) (λ l. inr (inr (inr (sym e, l)))) apart
-    ]
 
 module _ (k : ℕ) where
   abbrev f : Vector → Vector
@@ -149,7 +132,7 @@ module _ (k : ℕ) (M : Map) (V : Shaped M) (O : Ordered M) where
   A1 = map-list M.arcs IsImage image-arc
 
   A : Sorted ArcBelow SameArc A1.list
-  A = sort ArcBelow SameArc arc_below-trans (λ a. (refl, refl)) arc_below-either A1.list
+  A = sort ArcBelow SameArc arc-trans (λ a. (refl, refl)) arc-either A1.list
 
   arc-origin : (b : Arc) → Lies A.list b → (i : ℕ) × (a : Arc) × At M.arcs i a × IsImage i a b
   arc-origin b l =

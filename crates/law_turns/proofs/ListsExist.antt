@@ -1,6 +1,7 @@
 -- The turned planes and vertices of each complex that shows a set can be listed in order.
 use Rattle.law_turns.proofs.Prelude.{◌≡◌, ℕ, ℤ, pos, ◌*ℤ◌, false, refl, sym, ◌∙◌, arith, ◌⊎◌, inl, inr, List, [], ◌∷◌, map, ints, Lies, by_order, IsBelow, Place, Form, form_numbers, SamePlace, IsPlaceBelow, Set, same-place_sym, At, Map, Ordered, at-map, map-at, Mapped, map-list, Sorted, sort, chain-order, Vertex, Complex, Shows, turned_plane, turned_place, AreTurnedPlanes, AreTurnedVertices, IsTurnedMap, same-place_trans, lies-at, at-lies}
 use Rattle.law_near.proofs.PlaceOrder.{place_below-trans}
+use Rattle.law_complex.proofs.Ways.{same-itself}
 use Rattle.law_turns.proofs.Carriers.{same-form}
 use Rattle.law_turns.proofs.Exists.{turned_map, has-lists, turned-ordered}
 use Rattle.law_turns.proofs.TurnedLists.{lists-turned}
@@ -36,9 +37,6 @@ place-either p q =
     (λ l. inr (inr (inr (sym a, inr (sym b, inl l))))))
     (λ l. inr (inr (inr (sym a, inl l)))))
     (λ l. inr (inr (inl l)))
-
-same-itself : (p : Place) → SamePlace p p
-same-itself p = record { along_x = refl; along_y = refl; along_z = refl }
 
 module _ (k : ℕ) (gs : List Form) where
   abbrev images : List Form

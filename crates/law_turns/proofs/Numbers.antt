@@ -4,8 +4,8 @@ use Rattle.std.specs.Int.{◌∣◌}
 use Rattle.nef_space.specs.Vectors.{triple_of as vector_numbers}
 use Rattle.law_sphere.proofs.Kind.{away}
 use Rattle.law_sphere.proofs.Builder.{normal-or}
-use Rattle.law_turns.proofs.Coordinates.{same-vector, SignBlind, each-turned, each-back}
-use Rattle.law_turns.proofs.Turning.{signed-dot, dot-signed, sign-twice}
+use Rattle.law_turns.proofs.Coordinates.{same-vector, SignBlind, each-turned, each-back, sign-twice}
+use Rattle.law_turns.proofs.Turning.{signed-dot, dot-signed}
 use Rattle.law_turns.proofs.Vectors.{dot-turned}
 
 size-sign : (b : Bool) (x : ℤ) → nat_abs (negated_if b x) ≡ nat_abs x

@@ -1,5 +1,6 @@
 -- A map whose lists have another map's turned items, in order, is the turned map.
-use Rattle.law_turns.proofs.Prelude.{◌≡◌, ℕ, zero, suc, pos, neg_ℤ, Bool, true, false, refl, ap, sym, ◌∙◌, subst, arith, inl, inr, ⊎_elim, List, [], ◌∷◌, Option, Some, None, ints, cases_order, Vector, IsNormal, VectorBelow, At, MapVertex, Arc, MapSloop, Item, arc_item, sloop_item, Map, items, items_then, InOrder, ArcBelow, arc-at, sloop-at, at-sloop, at-arc, turned_vector, signed, IsTurnedArc, IsTurnedItem, IsTurnedOption, IsTurnedMap, HasTurnedLists, is-at_none, is-at_first}
+use Rattle.law_turns.proofs.Prelude.{◌≡◌, ℕ, zero, suc, pos, neg_ℤ, Bool, true, false, refl, ap, sym, ◌∙◌, subst, arith, inl, inr, ⊎_elim, List, [], ◌∷◌, Option, Some, None, ints, cases_order, Vector, IsNormal, At, MapVertex, Arc, MapSloop, Item, arc_item, sloop_item, Map, items, items_then, InOrder, ArcBelow, arc-at, sloop-at, at-sloop, at-arc, turned_vector, signed, IsTurnedArc, IsTurnedItem, IsTurnedOption, IsTurnedMap, HasTurnedLists, is-at_none, is-at_first}
+use Rattle.law_build.proofs.BuiltArcs.{arc-below_not}
 
 -- ---- what is chosen for each element, by its number
 abbrev pub chosen : {A B : Type 0} (xs : List A) → B → ((i : ℕ) (x : A) → At xs i x → B) → ℕ → B
@@ -33,19 +34,10 @@ one-normal false true v h i = absurd (both-normal v i h)
 one-normal false false v h i = refl
 
 -- ---- one place in an order
-below-not : (u : Vector) → VectorBelow u u → ⊥
-below-not u (inl h) = omega (arith, ints, h)
-below-not u (inr (inl h)) = omega (arith, ints, h.1)
-below-not u (inr (inr h)) = omega (arith, ints, h.2)
-
-arc_below-not : (a b : Arc) → a.normal ≡ b.normal → a.source ≡ b.source → ArcBelow a b → ⊥
-arc_below-not a b e f (inl h) = below-not b.normal (subst (λ (r : Vector). VectorBelow r b.normal) e h)
-arc_below-not a b e f (inr h) = let i = h.1 in omega (arith, f, i)
-
 one-place : (as' : List Arc) → InOrder ArcBelow as' → (i j : ℕ) (a b : Arc) → At as' i a → At as' j b → a.normal ≡ b.normal → a.source ≡ b.source → i ≡ j
 one-place as' o i j a b h k e f = elim (cases_order i j) [
   | inl same ↦ same
-  | inr apart ↦ ⊎_elim (λ l. absurd (arc_below-not a b e f (o i j a b l h k))) (λ l. absurd (arc_below-not b a (sym e) (sym f) (o j i b a l k h))) apart
+  | inr apart ↦ ⊎_elim (λ l. absurd (arc-below_not a b e f (o i j a b l h k))) (λ l. absurd (arc-below_not b a (sym e) (sym f) (o j i b a l k h))) apart
 ]
 
 sloop-place : (as' : List Arc) (o : Option MapSloop) (i j : ℕ) (l m : MapSloop) → At (items_then as' o) i (sloop_item l) → At (items_then as' o) j (sloop_item m) → i ≡ j

@@ -1,7 +1,7 @@
 -- Functions that keep products and sums of vectors, and cross products up to one sign: how what they make lies.
 use Rattle.law_turns.proofs.Prelude.{◌≡◌, ℕ, ℤ, pos, ◌+ℤ◌, ◌*ℤ◌, ◌<ℤ◌, neg_ℤ, Bool, true, false, cond, refl, ap, sym, ◌∙◌, subst, arith, ◌↔◌, inl, inr, ⊎_elim, [], ◌∷◌, ints, ring, at, neg, ◌⊕◌, ◌⊗◌, Vector, dot, cross, triple, IsZero, IsDirection, SameDirection, IsOpposite, opposite, blend, IsOnCircle, IsStrictlyOn, way_back_passes_the_same, negated_if, differ, signed}
 use lib.IntN.{neg_ℤ-neg_ℤ}
-use Rattle.law_turns.proofs.Coordinates.{same-vector}
+use Rattle.law_turns.proofs.Coordinates.{same-vector, sign-twice}
 
 pub record Turning (f : Vector → Vector) (odd : Bool) : Type 0 where
   pub dots : (a b : Vector) → dot (f a) (f b) ≡ dot a b
@@ -31,10 +31,6 @@ zero-signed false d = (λ h. h, λ h. h)
 nonzero-sign : (b : Bool) (x : ℤ) → (negated_if b x ≡ pos 0) ↔ (x ≡ pos 0)
 nonzero-sign true x = (λ h. omega (arith, ints, h), λ h. ap neg_ℤ h)
 nonzero-sign false x = (λ h. h, λ h. h)
-
-pub sign-twice : (b : Bool) (t : ℤ) → negated_if b (negated_if b t) ≡ t
-sign-twice true t = neg_ℤ-neg_ℤ t
-sign-twice false t = refl
 
 module _ (f : Vector → Vector) (odd : Bool) (T : Turning f odd) where
   pub triple-there : (a b c : Vector) → triple (f a) (f b) (f c) ≡ negated_if odd (triple a b c)

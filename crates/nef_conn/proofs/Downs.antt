@@ -5,7 +5,7 @@ use Rattle.nef_conn.proofs.SidePaths.{side-label, inside-label}
 use Rattle.nef_conn.proofs.Leaves.{BesideVertex, toward-same}
 use Rattle.nef_conn.proofs.Touch.{no-way}
 
-down-some : IsDirection (opposite up)
+pub down-some : IsDirection (opposite up)
 down-some z = let e = z.2 in omega (arith, ints)
 
 -- along down is along up

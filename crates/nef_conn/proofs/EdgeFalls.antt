@@ -2,7 +2,7 @@
 use Rattle.nef_conn.proofs.Prelude.{◌≡◌, ℕ, ◌+◌, ◌<◌, ◌≤◌, ℤ, pos, ◌-ℤ◌, ◌*ℤ◌, ◌<ℤ◌, ◌≤ℤ◌, neg_ℤ, arith, refl, ap, sym, ◌∙◌, ◌⊎◌, inl, inr, ⊎_elim, List, ◌∷◌, subst, [], ints, nought, sign, Lies, each, lies-each, ring, at, num, ◌⊕◌, ◌⊖◌, ◌⊗◌, by_order, nought-is, sign-scaled, nought-or, Chained, Flat, FlatDim, IsVertex, IsEven, Place, Form, form_at, normal_of, slope, plane_through, SamePlace, InFrame, Within, toward, IsBetween, Set, Vector, blend, dot, cross, triple, opposite, IsDirection, SameDirection, up, sign_at, carriers, SameGerms, FlatDim-one, FlatDim-by_germs, germs-by_cell, between-turned, between-inner, ray-cell, keeps-all, is_nought, ahead, near-ahead, start, start-close, start-between, start-toward, even-germs, flat-nearby, flat-way, joined-germs, joined-turned, span-2, flat_dim-of, near-of_flat, Flat-from_cone, FlatCone-from_flat, steep, signs-same, same-place_sym, all-vertices, reach_all, slope-toward, place-toward, between-same, same-nought, forms, SameSigns, At, cross-self, amount, far-keeps, far-level, turn-last, turn-same, same-plus, same-minus, Vertex, Edge, Complex, HasEnds, Shows, VertexSide, RayDown, IsFlatIn, near_point, near-between, edge-points, through-at, through-slope, angle, turn_form, turn-at, angle-turned, angle-self, between-minus, through-level, plane-between, dim-same, plane-ahead, even-by, between-way, between-outer, between-start, same-itself, VolumeLink, IsUpright, IsEvenAfter, through-same, EdgeWays, edge-ways, free-dim, ahead-close, ahead-toward, dim-cell, tied-ray, tied-turned, AreLinkedWhereJoined, IsInTriangle, sliced, dot-zero, self-pos, cross-turned, triple-turned, SameDirection-turned, SameDirection-trans, dir-self, dir-signs, parallel-trans, dot-opposite, triple-in_plane, direction-left, direction-right, apart}
 use Rattle.nef_conn.proofs.Chain.{chain-both}
 use Rattle.nef_conn.proofs.Claims.{Claim}
-use Rattle.nef_conn.proofs.Downs.{svertex-down}
+use Rattle.nef_conn.proofs.Downs.{svertex-down, down-some}
 use Rattle.nef_conn.proofs.Fall.{corner-edge, lam-down, lam-zero}
 use Rattle.nef_conn.proofs.Fans.{mixed, mixed-between, mixed-toward}
 use Rattle.nef_conn.proofs.Leaves.{Beside-point, turn-beside}
@@ -18,9 +18,6 @@ use Rattle.nef_conn.proofs.Touch.{Seer, bound, Frame, Touch, edge-frame, vertex-
 -- the plane along up through two points
 abbrev pub plane_of : Place → Place → Form
 plane_of p q = plane_through (cross up (toward p q)) p
-
-down-some : IsDirection (opposite up)
-down-some z = let e = z.2 in omega (arith, ints)
 
 -- ---- how flat a slice is at a point beside which it has just the plane's directions
 module _ (s : Set) (h : Form) (hn : IsDirection (normal_of h)) (level : slope h up ≡ pos 0) where

@@ -11,14 +11,10 @@ use Rattle.nef_conn.proofs.OneOver.{over-place}
 use Rattle.nef_conn.proofs.Leaves.{toward-same}
 use Rattle.nef_conn.proofs.RaysEnd.{ray-down}
 use Rattle.nef_conn.proofs.Silhouettes.{germs-inside, two-of}
-use Rattle.nef_conn.proofs.Slice.{germ-on, germ-off}
+use Rattle.nef_conn.proofs.Slice.{germ-on, germ-off, minus-at}
 use Rattle.nef_conn.proofs.SliceStrip.{lam, up_line, lam-at, lam-turned, lam-sum, Clear, lam-plus}
 
 -- ---- the slice by a plane and by its opposite form have one cone at each point of the plane
-minus-level : (h : Form) (p : Place) → form_at (minus_form h) p ≡ neg_ℤ (form_at h p)
-minus-level h p = ring (h.a ∷ h.b ∷ h.c ∷ h.d ∷ p.x ∷ p.y ∷ p.z ∷ pos p.w ∷ [])
-    (neg (at 0) ⊗ at 4 ⊕ neg (at 1) ⊗ at 5 ⊕ neg (at 2) ⊗ at 6 ⊕ neg (at 3) ⊗ at 7) (neg (at 0 ⊗ at 4 ⊕ at 1 ⊗ at 5 ⊕ at 2 ⊗ at 6 ⊕ at 3 ⊗ at 7)) tt
-
 minus-slope : (h : Form) (d : Vector) → slope (minus_form h) d ≡ neg_ℤ (slope h d)
 minus-slope h d = ring (h.a ∷ h.b ∷ h.c ∷ d.x ∷ d.y ∷ d.z ∷ []) (neg (at 0) ⊗ at 3 ⊕ neg (at 1) ⊗ at 4 ⊕ neg (at 2) ⊗ at 5) (neg (at 0 ⊗ at 3 ⊕ at 1 ⊗ at 4 ⊕ at 2 ⊗ at 5)) tt
 
@@ -37,10 +33,10 @@ pub minus-some : (h : Form) → IsDirection (normal_of h) → IsDirection (norma
 minus-some h i z = i (zero-back h.a z.0, zero-back h.b z.1, zero-back h.c z.2)
 
 pub minus-on : (h : Form) (p : Place) → form_at h p ≡ pos 0 → form_at (minus_form h) p ≡ pos 0
-minus-on h p e = minus-level h p ∙ zero-minus (form_at h p) e
+minus-on h p e = minus-at h p ∙ zero-minus (form_at h p) e
 
 pub minus-off : (h : Form) (p : Place) → form_at (minus_form h) p ≡ pos 0 → form_at h p ≡ pos 0
-minus-off h p e = zero-back (form_at h p) (sym (minus-level h p) ∙ e)
+minus-off h p e = zero-back (form_at h p) (sym (minus-at h p) ∙ e)
 
 pub minus-up : (h : Form) → slope h up ≡ pos 0 → slope (minus_form h) up ≡ pos 0
 minus-up h e = minus-slope h up ∙ zero-minus (slope h up) e

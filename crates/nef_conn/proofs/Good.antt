@@ -31,7 +31,7 @@
 -- The claim at r needs no more events, and fewer carriers lie ahead of r downward than of y: r lies on one that up crosses, or up would be flat there. So induction on both, in that order, ends.
 use Rattle.nef_conn.proofs.Prelude.{◌≡◌, ℕ, zero, suc, ◌+◌, ◌<◌, ◌≤◌, ℤ, pos, ◌-ℤ◌, ◌*ℤ◌, ◌<ℤ◌, ◌≤ℤ◌, neg_ℤ, arith, refl, sym, ◌∙◌, ◌⊎◌, inl, inr, ⊎_elim, List, ◌∷◌, ◌++◌, subst, [], ints, nought, sign, Lies, lies-left, lies-right, ring, at, num, neg, ◌⊖◌, ◌⊗◌, by_order, nought-is, mul_nonneg, nought-or, plus-of, minus-of, Chained, Flat, FlatDim, IsVertex, IsEven, Place, Form, form_at, normal_of, slope, SamePlace, InFrame, toward, IsBetween, IsPlaceBelow, Set, Vector, blend, opposite, cross, IsZero, IsDirection, SameDirection, up, sign_at, carriers, between-inner, is_nought, Decided, decided-to, decided-both, decided-or, every, Flat-from_cone, FlatCone-from_flat, FlatCone-from_carriers, place_below-trans, same-place_below, place_below-apart, signs-same, same-place_sym, all-vertices, place-toward, between-same, slope-toward, gather, At, MapVertex, gather-has, same-plus, same-minus, Vertex, Edge, Complex, HasEnds, Shows, VertexSide, RayDown, through-at, between-way, between-outer, same-itself, same-place_trans, VolumeLink, IsUpright, edge-ways, AreLinkedWhereJoined, minus_form, sliced, FlatDim-one, FlatDim-by_germs, ahead, near-ahead, span-1, near-of_flat, steep, forms, amount, at-one, dir-at, near_point, near-between, edge-points, dim-same, IsEvenAfter, free-dim, ahead-cells, dim-cell, tied-ray, tied-turned, dot-zero, SameDirection-turned, SameDirection-trans, dir-self, dir-signs, dot-opposite, direction-left, direction-right}
 use Rattle.nef_conn.proofs.Claims.{Claim, not-flat}
-use Rattle.nef_conn.proofs.Downs.{vertex-down, svertex-down, vertex-falls}
+use Rattle.nef_conn.proofs.Downs.{vertex-down, svertex-down, vertex-falls, down-some}
 use Rattle.nef_conn.proofs.EdgeFalls.{plane_of, hn, level, edge-falls}
 use Rattle.nef_conn.proofs.FreeSegments.{segment-in, minus-off, minus-slice}
 use Rattle.nef_conn.proofs.Leaves.{Beside-point}
@@ -69,9 +69,6 @@ ahead-decided y f = decided-or (decided-both (less-decided (pos 0) (form_at f y)
 
 abbrev pub ahead-of : Set → Place → ℕ
 ahead-of s y = tally (Ahead y) (ahead-decided y) (carriers s)
-
-down-some : IsDirection (opposite up)
-down-some z = let e = z.2 in omega (arith, ints)
 
 -- ---- below a point fewer carriers lie ahead
 module _ (y r : Place) (down : SameDirection (toward y r) (opposite up)) where

@@ -5,7 +5,7 @@ use Rattle.law_near.proofs.Combine.{one_of-label}
 use Rattle.nef_conn.proofs.FirstMet.{all-flat}
 
 -- ---- labels
-minus-at : (h : Form) (q : Place) → form_at (minus_form h) q ≡ neg_ℤ (form_at h q)
+pub minus-at : (h : Form) (q : Place) → form_at (minus_form h) q ≡ neg_ℤ (form_at h q)
 minus-at h q = ring (h.a ∷ h.b ∷ h.c ∷ h.d ∷ q.x ∷ q.y ∷ q.z ∷ pos q.w ∷ [])
     (neg (at 0) ⊗ at 4 ⊕ neg (at 1) ⊗ at 5 ⊕ neg (at 2) ⊗ at 6 ⊕ neg (at 3) ⊗ at 7) (neg (at 0 ⊗ at 4 ⊕ at 1 ⊗ at 5 ⊕ at 2 ⊗ at 6 ⊕ at 3 ⊗ at 7)) tt
 

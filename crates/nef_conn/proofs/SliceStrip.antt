@@ -1,11 +1,8 @@
 -- Triangles that lie between two lines along up, beside which no vertex lies: what falls from the one side comes down to what leaves the other.
-use Rattle.nef_conn.proofs.Prelude.{◌≡◌, ℕ, ◌+◌, ℤ, pos, ◌+ℤ◌, ◌-ℤ◌, ◌*ℤ◌, ◌<ℤ◌, ◌≤ℤ◌, neg_ℤ, arith, ap, sym, ◌∙◌, ◌⊎◌, inl, inr, ⊎_elim, ◌∷◌, List, refl, [], ints, sign, Lies, ring, at, num, neg, ◌⊕◌, ◌⊖◌, ◌⊗◌, Poly, by_order, mul_pos, mul_nonneg, cancel_lt, plus-is, minus-is, nought-is, sign-plus, sign-minus, plus-of, FlatDim, IsVertex, Place, Form, form_at, normal_of, slope, plane_through, SamePlace, toward, IsBetween, Within, Set, Vector, opposite, cross, triple, IsDirection, SameDirection, up, FlatDim-one, same-nought, between-way, dim-same, turn-last, turns, same-plus, same-minus, IsFlatIn, through-at, angle, turn-at, angle-turned, angle-inside, between-plus, IsInTriangle, LiesAlong, vector-same, triple-dot, triple-turned, SameDirection-turned, SameDirection-trans, apart, right-turn, each, lies-each, keeps-all, signs-same, all-vertices, reach_all}
+use Rattle.nef_conn.proofs.Prelude.{◌≡◌, ℕ, ◌+◌, ℤ, pos, ◌+ℤ◌, ◌-ℤ◌, ◌*ℤ◌, ◌<ℤ◌, ◌≤ℤ◌, neg_ℤ, arith, ap, sym, ◌∙◌, ◌⊎◌, inl, inr, ⊎_elim, ◌∷◌, List, refl, [], ints, sign, Lies, ring, at, num, neg, ◌⊕◌, ◌⊖◌, ◌⊗◌, Poly, by_order, mul_pos, mul_nonneg, cancel_lt, plus-is, minus-is, nought-is, sign-plus, sign-minus, plus-of, FlatDim, IsVertex, Place, Form, form_at, normal_of, slope, plane_through, SamePlace, toward, IsBetween, Within, Set, Vector, opposite, cross, triple, IsDirection, SameDirection, up, FlatDim-one, same-nought, between-way, dim-same, turn-last, turns, same-plus, same-minus, IsFlatIn, through-at, angle, turn-at, angle-turned, angle-inside, between-plus, IsInTriangle, LiesAlong, vector-same, triple-dot, triple-turned, SameDirection-turned, SameDirection-trans, apart, right-turn, each, lies-each, keeps-all, signs-same, all-vertices, reach_all, nonneg-of}
 use Rattle.nef_conn.proofs.Triangles.{on-second, at-corner, never-passes, third-side}
 
 -- ---- signs of products
-nonneg-by : (t u : ℤ) → pos 0 <ℤ t → pos 0 ≤ℤ (t *ℤ u) → pos 0 ≤ℤ u
-nonneg-by t u ht h = by_order u (pos 0) (λ l. absurd (let p = mul_pos t (pos 0 -ℤ u) ht (omega (arith, ints)) in let q = ring (t ∷ u ∷ []) (at 0 ⊗ (num (pos 0) ⊖ at 1)) (num (pos 0) ⊖ at 0 ⊗ at 1) tt in omega (arith, ints))) (λ e. omega (arith, ints)) (λ l. omega (arith, ints))
-
 -- a = b c - d e, with a = t u, t > 0, b, d > 0, c >= 0, e <= 0
 sum-nonneg : (t u b c d e : ℤ) → u *ℤ t ≡ b *ℤ c -ℤ d *ℤ e → pos 0 <ℤ t → pos 0 <ℤ b → pos 0 <ℤ d → pos 0 ≤ℤ c → e ≤ℤ pos 0 → pos 0 ≤ℤ u
 sum-nonneg t u b c d e q ht hb hd hc he =
@@ -13,7 +10,7 @@ sum-nonneg t u b c d e q ht hb hd hc he =
     let y = mul_nonneg d (pos 0 -ℤ e) (omega (arith, ints)) (omega (arith, ints)) in
     let z = ring (d ∷ e ∷ []) (at 0 ⊗ (num (pos 0) ⊖ at 1)) (num (pos 0) ⊖ at 0 ⊗ at 1) tt in
     let w = ring (t ∷ u ∷ []) (at 0 ⊗ at 1) (at 1 ⊗ at 0) tt in
-    nonneg-by t u ht (omega (arith, ints))
+    nonneg-of t u ht (omega (arith, ints))
 
 -- where that is nought, so are c and e
 sum-zero : (t b c d e : ℤ) → pos 0 *ℤ t ≡ b *ℤ c -ℤ d *ℤ e → pos 0 <ℤ b → pos 0 <ℤ d → pos 0 ≤ℤ c → e ≤ℤ pos 0 → (c ≡ pos 0) × (e ≡ pos 0)

@@ -1,9 +1,9 @@
 -- The machine's products are the exact ones.
-use Rattle.nef_edges.proofs.Prelude.{◌≡◌, ℕ, ◌≤◌, ℤ, pos, ◌+ℤ◌, ◌-ℤ◌, ◌*ℤ◌, nat_abs, List, [], ◌∷◌, w64, to_z, of_z, FitsSigned, ap, ◌∙◌, Ordering, int_cmp, direction_limit, point_limit, weight_limit, Code, load, const, wrap, run, ◌⊞◌, ◌⊟◌, ◌⊠◌, Limited, fits_of, exact_of, size_of, Point, EdgeEnd, moment_limit, ratio_order}
+use Rattle.nef_edges.proofs.Prelude.{◌≡◌, ℕ, ◌≤◌, ℤ, pos, ◌+ℤ◌, ◌-ℤ◌, ◌*ℤ◌, nat_abs, List, [], ◌∷◌, w64, to_z, of_z, FitsSigned, arith, ap, ◌∙◌, Ordering, int_cmp, direction_limit, point_limit, Code, load, const, wrap, run, ◌⊞◌, ◌⊟◌, ◌⊠◌, Limited, fits_of, exact_of, size_of, Point, EdgeEnd, moment_limit, ratio_order}
 use mir.Syntax.{w128}
 
 -- ---- `a as i128 * f as i128 - b as i128 * e as i128`
-abbrev wide : ℕ → Code
+abbrev pub wide : ℕ → Code
 wide i = wrap w128 (wrap w64 (load i))
 
 abbrev pub difference : Code
@@ -39,21 +39,21 @@ weighed-exact x y z a b c = exact_of (moment_limit ∷ moment_limit ∷ moment_l
 abbrev pub scaled : Code
 scaled = wrap w128 (wrap w128 (load 0) ⊠ wrap w128 (wrap w64 (load 1)))
 
-pub scaled-exact : (n v : ℤ) → nat_abs n ≤ moment_limit → nat_abs v ≤ weight_limit → run (n ∷ v ∷ []) scaled ≡ n *ℤ v
-scaled-exact n v h k = exact_of (moment_limit ∷ weight_limit ∷ []) (n ∷ v ∷ []) scaled (h, (k, tt)) tt
+pub scaled-exact : (n v : ℤ) → nat_abs n ≤ moment_limit → nat_abs v ≤ direction_limit → run (n ∷ v ∷ []) scaled ≡ n *ℤ v
+scaled-exact n v h k = exact_of (moment_limit ∷ direction_limit ∷ []) (n ∷ v ∷ []) scaled (h, (k, tt)) tt
 
-pub cmp-exact : (n w m v : ℤ) (o : Ordering) → nat_abs n ≤ moment_limit → nat_abs m ≤ moment_limit → nat_abs w ≤ weight_limit → nat_abs v ≤ weight_limit
+pub cmp-exact : (n w m v : ℤ) (o : Ordering) → nat_abs n ≤ moment_limit → nat_abs m ≤ moment_limit → nat_abs w ≤ direction_limit → nat_abs v ≤ direction_limit
     → o ≡ int_cmp (run (n ∷ v ∷ []) scaled) (run (m ∷ w ∷ []) scaled) → o ≡ int_cmp (n *ℤ v) (m *ℤ w)
 cmp-exact n w m v o hn hm hw hv e = e ∙ ap (λ x. int_cmp x (run (m ∷ w ∷ []) scaled)) (scaled-exact n v hn hv) ∙ ap (λ x. int_cmp (n *ℤ v) x) (scaled-exact m w hm hw)
 
-pub weight-small : (p : Point) (w : ℤ) → w ≡ p.w → nat_abs w ≤ weight_limit
-weight-small p w e = rw e p.w_small
+pub weight-small : (p : Point) (w : ℤ) → w ≡ p.w → nat_abs w ≤ direction_limit
+weight-small p w e = let h = p.w_small in rw e (omega (arith, h))
 
-pub scaled-fits : (n v : ℤ) → nat_abs n ≤ moment_limit → nat_abs v ≤ weight_limit → FitsSigned w128 (run (n ∷ v ∷ []) (wrap w128 (load 0) ⊠ wrap w128 (wrap w64 (load 1))))
-scaled-fits n v h k = fits_of (moment_limit ∷ weight_limit ∷ []) (n ∷ v ∷ []) w128 (wrap w128 (load 0) ⊠ wrap w128 (wrap w64 (load 1))) (h, (k, tt)) tt
+pub scaled-fits : (n v : ℤ) → nat_abs n ≤ moment_limit → nat_abs v ≤ direction_limit → FitsSigned w128 (run (n ∷ v ∷ []) (wrap w128 (load 0) ⊠ wrap w128 (wrap w64 (load 1))))
+scaled-fits n v h k = fits_of (moment_limit ∷ direction_limit ∷ []) (n ∷ v ∷ []) w128 (wrap w128 (load 0) ⊠ wrap w128 (wrap w64 (load 1))) (h, (k, tt)) tt
 
 -- ---- numbers that pass through their type
-kept : (n : ℤ) → nat_abs n ≤ moment_limit → to_z w128 (of_z w128 n) ≡ n
+pub kept : (n : ℤ) → nat_abs n ≤ moment_limit → to_z w128 (of_z w128 n) ≡ n
 kept n h = exact_of (moment_limit ∷ []) (n ∷ []) (wrap w128 (load 0)) (h, tt) tt
 
 pub ratio-is : (a b : EdgeEnd) (part : EdgeEnd → ℤ) (x y : ℤ) (o : Ordering) → x ≡ part a → y ≡ part b → nat_abs x ≤ moment_limit → nat_abs y ≤ moment_limit

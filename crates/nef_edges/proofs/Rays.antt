@@ -1,7 +1,9 @@
 -- Points on one line: those that come later in the order of points lie ahead.
-use Rattle.nef_edges.proofs.Prelude.{◌≡◌, ℕ, ◌<◌, ℤ, pos, ◌-ℤ◌, ◌*ℤ◌, neg_ℤ, ◌≤ℤ◌, ◌<ℤ◌, arith, ap, ◌∙◌, inl, inr, [], ◌∷◌, ints, ring, at, num, neg, ◌⊕◌, ◌⊖◌, ◌⊗◌, by_order, mul_pos, mul_neg, mul_nonneg, cancel_eq, Place, toward, IsAhead, IsBetween, IsPlaceBelow, Vector, dot, cross, opposite, IsZero, IsNormal, SameDirection, IsOpposite, normals-not_opposite, normal-direction, on_line, nought-if, SameDirection-turned, SameDirection-trans}
+use Rattle.nef_edges.proofs.Prelude.{◌≡◌, ℕ, ◌<◌, ℤ, pos, ◌-ℤ◌, ◌*ℤ◌, neg_ℤ, ◌≤ℤ◌, ◌<ℤ◌, arith, ap, ◌∙◌, inl, inr, [], ◌∷◌, ints, ring, at, num, neg, ◌⊕◌, ◌⊖◌, ◌⊗◌, by_order, mul_pos, mul_neg, mul_nonneg, cancel_eq, Place, toward, IsAhead, IsBetween, IsPlaceBelow, Vector, dot, cross, opposite, IsZero, IsNormal, SameDirection, IsOpposite, on_line, SameDirection-turned, SameDirection-trans}
+use Rattle.nef_space.proofs.Vectors.{dot-opposite}
 use Rattle.law_near.proofs.Directions.{same-factor}
 use Rattle.law_near.proofs.Sums.{some-pos}
+use Rattle.law_sphere.proofs.Compare.{normals-same}
 
 -- q - p for a later point q begins with a positive number
 pub toward-normal : (p q : Place) → IsPlaceBelow p q → IsNormal (toward p q)
@@ -36,31 +38,22 @@ normal-kept a b s n =
       third = λ x y. positive-after f.k f.l f.some_k f.some_l a.z b.z f.is_z (n.third (zero-before f.k f.l f.some_k f.some_l a.x b.x f.is_x x) (zero-before f.k f.l f.some_k f.some_l a.y b.y f.is_y y));
     }
 
-pub normals-same : (a b : Vector) → IsNormal a → IsNormal b → IsZero (cross a b) → SameDirection a b
-normals-same a b h k z = by_order (dot a b) (pos 0)
-    (λ l. absurd (normals-not_opposite a b h k (record { parallel = z; backward = l })))
-    (λ e. absurd (normal-direction b k (nought-if a b (normal-direction a h) z e)))
-    (λ l. record { parallel = z; forward = l })
-
-neg-dot : (d e : Vector) → dot d (opposite e) ≡ neg_ℤ (dot d e)
-neg-dot d e = ring (d.x ∷ d.y ∷ d.z ∷ e.x ∷ e.y ∷ e.z ∷ []) (at 0 ⊗ neg (at 3) ⊕ at 1 ⊗ neg (at 4) ⊕ at 2 ⊗ neg (at 5)) (neg (at 0 ⊗ at 3 ⊕ at 1 ⊗ at 4 ⊕ at 2 ⊗ at 5)) tt
-
 pub to_opposite : (d e : Vector) → IsOpposite d e → SameDirection d (opposite e)
 to_opposite d e o =
     let z = o.parallel in
-    record { parallel = (each d.y d.z e.y e.z z.0, each d.z d.x e.z e.x z.1, each d.x d.y e.x e.y z.2); forward = let h = o.backward in let r = neg-dot d e in omega (arith, ints) }
+    record { parallel = (each d.y d.z e.y e.z z.0, each d.z d.x e.z e.x z.1, each d.x d.y e.x e.y z.2); forward = let h = o.backward in let r = dot-opposite d e in omega (arith, ints) }
   where
     each : (a b c d : ℤ) → a *ℤ d -ℤ b *ℤ c ≡ pos 0 → a *ℤ neg_ℤ d -ℤ b *ℤ neg_ℤ c ≡ pos 0
     each a b c d e = ring (a ∷ b ∷ c ∷ d ∷ []) (at 0 ⊗ neg (at 3) ⊖ at 1 ⊗ neg (at 2)) (neg (at 0 ⊗ at 3 ⊖ at 1 ⊗ at 2)) tt ∙ ap neg_ℤ e
 
 pub from_opposite : (d e : Vector) → SameDirection d (opposite e) → IsOpposite d e
-from_opposite d e w = record { parallel = (each d.y d.z e.y e.z w.parallel.0, each d.z d.x e.z e.x w.parallel.1, each d.x d.y e.x e.y w.parallel.2); backward = let h = w.forward in let r = neg-dot d e in omega (arith, ints) }
+from_opposite d e w = record { parallel = (each d.y d.z e.y e.z w.parallel.0, each d.z d.x e.z e.x w.parallel.1, each d.x d.y e.x e.y w.parallel.2); backward = let h = w.forward in let r = dot-opposite d e in omega (arith, ints) }
   where
     each : (a b c d : ℤ) → a *ℤ neg_ℤ d -ℤ b *ℤ neg_ℤ c ≡ pos 0 → a *ℤ d -ℤ b *ℤ c ≡ pos 0
     each a b c d e = ring (a ∷ b ∷ c ∷ d ∷ []) (at 0 ⊗ at 3 ⊖ at 1 ⊗ at 2) (neg (at 0 ⊗ neg (at 3) ⊖ at 1 ⊗ neg (at 2))) tt ∙ ap neg_ℤ e
 
 pub opposite-self : (d : Vector) → SameDirection d d → IsOpposite d (opposite d)
-opposite-self d w = record { parallel = (each d.y d.z, each d.z d.x, each d.x d.y); backward = let h = w.forward in let r = neg-dot d d in omega (arith, ints) }
+opposite-self d w = record { parallel = (each d.y d.z, each d.z d.x, each d.x d.y); backward = let h = w.forward in let r = dot-opposite d d in omega (arith, ints) }
   where
     each : (a b : ℤ) → a *ℤ neg_ℤ b -ℤ b *ℤ neg_ℤ a ≡ pos 0
     each a b = ring (a ∷ b ∷ []) (at 0 ⊗ neg (at 1) ⊖ at 1 ⊗ neg (at 0)) (num (pos 0)) tt

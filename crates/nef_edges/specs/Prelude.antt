@@ -12,5 +12,5 @@ pub use Rattle.nef_edges.specs.Matched.{AreApart, AreMatchedEnds, EdgesAreMatche
 pub use Rattle.nef_edges.specs.Moments.{key_of, product_of, sum_of, whole_of}
 pub use Rattle.nef_edges.specs.Order.{dir_order, end_lt, end_order, line_order, moment_order}
 pub use Rattle.nef_edges.specs.Pairs.{AreEdges, AreJoined}
-pub use Rattle.nef_edges.specs.Widths.{moment_limit, step_limit, way_limit}
+pub use Rattle.nef_edges.specs.Widths.{moment_limit}
 pub use Rattle.nef_edges.specs.declared.edge_end.EdgeEnd.{EdgeEnd}

@@ -39,7 +39,8 @@ impl EdgeEnd {
     }
 }
 
-fn minor(a: i64, b: i64, e: i64, f: i64) -> i128
+/// The difference a f - b e.
+pub(crate) fn minor(a: i64, b: i64, e: i64, f: i64) -> i128
     requires a_small { nat_abs a ≤ point_limit }
     requires b_small { nat_abs b ≤ point_limit }
     requires e_small { nat_abs e ≤ direction_limit }

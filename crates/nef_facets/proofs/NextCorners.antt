@@ -1,20 +1,13 @@
 -- Each arc has a next corner, and no two corners have one next corner.
-use Rattle.nef_facets.proofs.Prelude.{◌≡◌, ℕ, ◌+◌, pos, ◌<ℤ◌, ◌+ℤ◌, ◌*ℤ◌, ℤ, neg_ℤ, arith, refl, ap, sym, ◌∙◌, inl, inr, ⊎_elim, [], ◌∷◌, subst, ints, sign, ring, at, num, neg, ◌⊕◌, ◌⊖◌, ◌⊗◌, Chained, Germ, Place, toward, Set, Vector, opposite, blend, dot, cross, triple, IsDirection, SameDirection, Label, carriers, SameGerms, FlatDim-by_germs, ahead, near-ahead, joined-germs, steep, forms, At, Arc, MapSloop, Item, arc_item, sloop_item, items, item_normal, Map, OnItem, NearLabel, Valid, normal-is, dot-comb, same-plus, same-minus, amount, far-keeps, at-one, arc-at, direction-around, turn-same, at-arc, Vertex, Complex, IsCorner, Shows, near-label, flats-carried, IsInFacetOf, target-met, FacetLink, facet-near, IsTied, tied-turned, tied-both, tied-ahead, end-level, close_way, on-close, tied-close_way, tied-turn, chain-link, chain-turned, IsNextArc, NextCorner, dot-comm, self-pos, triple-dot, square-cross, nought-if, SameDirection-turned, SameDirection-trans, dir-self, dot-opposite, level-way, opposite-way, direction-right}
+use Rattle.nef_facets.proofs.Prelude.{◌≡◌, ℕ, ◌+◌, pos, ◌<ℤ◌, ◌+ℤ◌, ◌*ℤ◌, neg_ℤ, arith, refl, ap, sym, ◌∙◌, inl, inr, ⊎_elim, [], ◌∷◌, subst, ints, sign, ring, at, num, ◌⊕◌, ◌⊗◌, Chained, Germ, Place, toward, Set, Vector, opposite, blend, dot, cross, triple, IsDirection, SameDirection, Label, carriers, SameGerms, FlatDim-by_germs, ahead, near-ahead, joined-germs, steep, forms, At, Arc, MapSloop, Item, arc_item, sloop_item, items, item_normal, Map, OnItem, NearLabel, Valid, normal-is, dot-comb, same-plus, same-minus, amount, far-keeps, at-one, arc-at, direction-around, turn-same, at-arc, Vertex, Complex, IsCorner, Shows, near-label, flats-carried, IsInFacetOf, target-met, FacetLink, facet-near, IsTied, tied-turned, tied-both, tied-ahead, end-level, close_way, on-close, tied-close_way, tied-turn, chain-link, chain-turned, IsNextArc, NextCorner, dot-comm, square-cross, nought-if, SameDirection-turned, SameDirection-trans, dir-self, dot-opposite, level-way, opposite-way, direction-right}
+use Rattle.nef_space.proofs.Vectors.{back-triple}
 use Rattle.law_complex.specs.Complexes.{Corner}
 use Rattle.law_complex.proofs.FacetCorners.{ItemAt, item-at}
-use Rattle.law_links.proofs.EdgeEnds.{corner_of}
+use Rattle.law_links.proofs.EdgeEnds.{corner_of, left-turn}
 use Rattle.nef_facets.proofs.EdgeViews.{EdgeFrom, edge-from, one-vertex, one-svertex}
 
 pub turned-level : (n m d : Vector) → SameDirection n m → dot n d ≡ pos 0 → dot m d ≡ pos 0
 turned-level n m d w z = dot-comm m d ∙ level-way d n m w (dot-comm d n ∙ z)
-
-left-of : (n u : Vector) → IsDirection n → IsDirection u → dot n u ≡ pos 0 → pos 0 <ℤ triple n u (cross n u)
-left-of n u hn hu z = subst (λ (r : ℤ). pos 0 <ℤ r) (sym (triple-dot n u (cross n u))) (self-pos (cross n u) (λ o. hu (nought-if n u hn o z)))
-
-back-triple : (n u f : Vector) → triple n (opposite u) f ≡ neg_ℤ (triple n u f)
-back-triple n u f = ring (n.x ∷ n.y ∷ n.z ∷ u.x ∷ u.y ∷ u.z ∷ f.x ∷ f.y ∷ f.z ∷ [])
-    (at 0 ⊗ (neg (at 4) ⊗ at 8 ⊖ neg (at 5) ⊗ at 7) ⊕ at 1 ⊗ (neg (at 5) ⊗ at 6 ⊖ neg (at 3) ⊗ at 8) ⊕ at 2 ⊗ (neg (at 3) ⊗ at 7 ⊖ neg (at 4) ⊗ at 6))
-    (neg (at 0 ⊗ (at 4 ⊗ at 8 ⊖ at 5 ⊗ at 7) ⊕ at 1 ⊗ (at 5 ⊗ at 6 ⊖ at 3 ⊗ at 8) ⊕ at 2 ⊗ (at 3 ⊗ at 7 ⊖ at 4 ⊗ at 6))) tt
 
 -- an arc of one normal that ends at a svertex
 pub record ArcInto (M : Map) (b : ℕ) (n : Vector) : Type 0 where
@@ -54,7 +47,7 @@ module _ (s : Set) (C : Complex) (S : Shows s C) (i a j b : ℕ) (V : EdgeFrom s
   level-u = end-level s C S here V.from c corner a V.start V.is_start (inl leaves)
 
   left : pos 0 <ℤ triple n u f
-  left = left-of n u n-some u-some level-u
+  left = left-turn n u n-some u-some level-u
 
   f-some : IsDirection f
   f-some z = u-some (nought-if n u n-some z level-u)
@@ -166,7 +159,7 @@ module _ (s : Set) (C : Complex) (S : Shows s C) (i a j b : ℕ) (V : EdgeFrom s
   g-is z = u-is (nought-if c.normal V.start.dir n-is z level-is)
 
   left-is : pos 0 <ℤ triple c.normal V.start.dir g
-  left-is = left-of c.normal V.start.dir n-is u-is level-is
+  left-is = left-turn c.normal V.start.dir n-is u-is level-is
 
   pub one-arc : k ≡ l
   one-arc = (S.cones i v V.is_from).valid.shaped.no_items_meet k l (arc_item c) (arc_item e)

@@ -1,8 +1,9 @@
 -- The map of the half great circles at the lower end of an edge is the least map with the labels along the edge.
 use Rattle.nef_locate.proofs.Prelude.{◌≡◌, ℕ, zero, suc, ◌<◌, ℤ, pos, negsuc, neg_ℤ, ◌*ℤ◌, ◌+ℤ◌, ◌-ℤ◌, arith, refl, ap, sym, ◌∙◌, ◌⊎◌, inl, inr, ⊎_elim, List, [], ◌∷◌, Some, None, subst, ints, ring, at, num, neg, ◌⊕◌, ◌⊖◌, ◌⊗◌, follows, given, none, by_order, mul_pos, Vector, IsDirection, IsZero, IsNormal, IsOpposite, SameDirection, cross, dot, opposite, blend, Label, IsStrictlyOn, forms, comb, IsPrimitive, VectorBelow, At, MapVertex, Arc, Item, arc_item, sloop_item, Map, items, item_normal, dir_of, OnItem, ArcBetween, HasArc, MapLabel, at_svertex, NearLabel, Valid, by_side, InOrder, ArcBelow, Least, Ordered, Near, StraightAt, IsSmooth, plain, straight, IsBuilt, Kept, Proper, StraightAfter, ArcRay, ray_left, end_left, at-arc, sloop-at, normals-not_opposite, cross-between, lowest-same, near-lone, arc-at, normal-direction, direction-by, dot-comb, below-itself, cross-direction_right, Of, labels-build, to_opposite, from_opposite, normal-kept, two_ends, zero-decided, self-pos, vector-same, cross-turned, opposite-same, direction-opposite, level-of_opposite, opposite-twice, cross-opposite, nought-if, opposites, SameDirection-turned, SameDirection-trans, dir-self, direction-right}
 use Rattle.nef_space.proofs.Order.{sign}
+use Rattle.nef_space.proofs.Vectors.{dot-opposite, opposite-itself}
 use Rattle.law_build.proofs.BuiltAxes.{number-order}
-use Rattle.nef_locate.proofs.FlatLabels.{are-labelling, is-label, off-smooth, off-plane, off-axis, self-opposite, flat-opposite, label-moved, straight-moved}
+use Rattle.nef_locate.proofs.FlatLabels.{are-labelling, is-label, off-smooth, off-plane, off-axis, flat-opposite, label-moved, straight-moved}
 use Rattle.nef_locate.proofs.EdgeLabels.{IsAlong, axis, L, to-near, from-near, way-direction, arc-level, ray-straight, arc-there}
 
 -- the opposite of a normal is the lesser one
@@ -137,9 +138,6 @@ turned-way n w = vector-same (cross (opposite n) w) (cross n (opposite w)) (one 
 way-level : (n w : Vector) → dot (cross n w) w ≡ pos 0
 way-level n w = ring (n.x ∷ n.y ∷ n.z ∷ w.x ∷ w.y ∷ w.z ∷ []) ((at 1 ⊗ at 5 ⊖ at 2 ⊗ at 4) ⊗ at 3 ⊕ (at 2 ⊗ at 3 ⊖ at 0 ⊗ at 5) ⊗ at 4 ⊕ (at 0 ⊗ at 4 ⊖ at 1 ⊗ at 3) ⊗ at 5) (num (pos 0)) tt
 
-dot-back : (n v : Vector) → dot n (opposite v) ≡ neg_ℤ (dot n v)
-dot-back n v = ring (n.x ∷ n.y ∷ n.z ∷ v.x ∷ v.y ∷ v.z ∷ []) (at 0 ⊗ neg (at 3) ⊕ at 1 ⊗ neg (at 4) ⊕ at 2 ⊗ neg (at 5)) (neg (at 0 ⊗ at 3 ⊕ at 1 ⊗ at 4 ⊕ at 2 ⊗ at 5)) tt
-
 neg-level : (x : ℤ) → neg_ℤ x ≡ pos 0 → x ≡ pos 0
 neg-level x e = omega (arith, ints)
 
@@ -194,7 +192,7 @@ module _ (V : Map) (k : ℕ) (u : MapVertex) (N : Map) (A : IsAlong V k u N) (ow
     where
       along : IsZero (cross w d) → IsSmooth F d
       along z = by_order (dot w d) (pos 0)
-          (λ l. absurd (off 0 _ refl (opposites w (opposite w) d hw (self-opposite w hw) (record { parallel = z; backward = l }))))
+          (λ l. absurd (off 0 _ refl (opposites w (opposite w) d hw (opposite-itself w hw) (record { parallel = z; backward = l }))))
           (λ e. absurd (h (nought-if w d hw z e)))
           (λ l. absurd (off 1 u refl (record { parallel = z; forward = l })))
 
@@ -328,7 +326,7 @@ module _ (V : Map) (k : ℕ) (u : MapVertex) (N : Map) (A : IsAlong V k u N) (ow
       let r = arc-high n a m b normal (subst (λ (d : Vector). dot n d ≡ pos 0) e.1 z) proper (subst (StraightAfter F n a m b) e.1 after) in
       (r.0, r.1, r.2, r.3 ∙ sym e.0, r.4)
   arcs-all j v n a m b (inr e) normal z proper after =
-      let y = neg-level (dot n w) (sym (dot-back n w) ∙ subst (λ (d : Vector). dot n d ≡ pos 0) e.1 z) in
+      let y = neg-level (dot n w) (sym (dot-opposite n w) ∙ subst (λ (d : Vector). dot n d ≡ pos 0) e.1 z) in
       let r = arc-low n a m b normal y proper (subst (StraightAfter F n a m b) e.1 after) in
       (r.0, r.1, r.2, r.3 ∙ sym e.0, r.4)
 
@@ -389,7 +387,7 @@ module _ (V : Map) (k : ℕ) (u : MapVertex) (N : Map) (A : IsAlong V k u N) (ow
 
   end-level : (n : Vector) (v : MapVertex) (i : ℕ) → IsHighEnd u i v ⊎ IsLowEnd u i v → dot n v.dir ≡ pos 0 → dot n w ≡ pos 0
   end-level n v i (inl x) z = subst (λ (d : Vector). dot n d ≡ pos 0) x.1 z
-  end-level n v i (inr x) z = neg-level (dot n w) (sym (dot-back n w) ∙ subst (λ (d : Vector). dot n d ≡ pos 0) x.1 z)
+  end-level n v i (inr x) z = neg-level (dot n w) (sym (dot-opposite n w) ∙ subst (λ (d : Vector). dot n d ≡ pos 0) x.1 z)
 
   own-there : (m : Label) → m ≡ u.mark → MapLabel V w m
   own-there m e = at_svertex k u A.listed (dir-self w hw) (sym e)
@@ -469,7 +467,7 @@ module _ (V : Map) (k : ℕ) (u : MapVertex) (N : Map) (A : IsAlong V k u N) (ow
   primitive-by i v (inr e) = subst IsPrimitive (sym e.1) low-primitive
 
   in-order : (i j : ℕ) (v x : MapVertex) → i < j → IsHighEnd u i v ⊎ IsLowEnd u i v → IsHighEnd u j x ⊎ IsLowEnd u j x → VectorBelow v.dir x.dir
-  in-order i j v x l (inr e) (inl f) = rw (e.1, f.1) (opposite-below w (opposite w) A.normal (self-opposite w hw))
+  in-order i j v x l (inr e) (inl f) = rw (e.1, f.1) (opposite-below w (opposite w) A.normal (opposite-itself w hw))
   in-order i j v x l (inl e) (inl f) = absurd (let a = e.0 in let b = f.0 in omega arith)
   in-order i j v x l (inl e) (inr f) = absurd (let a = e.0 in let b = f.0 in omega arith)
   in-order i j v x l (inr e) (inr f) = absurd (let a = e.0 in let b = f.0 in omega arith)

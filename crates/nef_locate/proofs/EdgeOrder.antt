@@ -1,5 +1,6 @@
 -- A point of an edge comes between the edge's ends in the order of vertices, and what comes between on its line lies on it.
-use Rattle.nef_locate.proofs.Prelude.{◌≡◌, ℕ, ◌+◌, ◌<◌, ◌≤◌, sym, pos, Bool, IsTrue, ◌↔◌, List, arith, inl, inr, ⊎_elim, subst, eq-or-lt_of_le, cases_lt, ints, by_order, IsAt, Place as PlainPlace, Form, form_at, toward, SamePlace, IsBetween, IsPlaceBelow, Set, IsNormal, IsZero, cross, form_of, place_of, Point, place_below-same, same-place_below, place_below-trans, place_below-apart, same-place_sym, At, map-at, at-map, get-from_at, at-from_get, is-at_one, Shows, IsVertexPoint, IsEdgePoint, aligned, cross-back, plane-way, between-way, same-itself, Edge, Complex, edge_of, vertex_of, complex_of, AreBelow, AreAbove, EdgeLiesIn, AreNumbersWith, EndBelow, apart, edge-inside, ends, listed_edge, vertex-same, held-between, toward-normal, normal-kept, normals-same, AllThrough, edge-along, lies, lying-ends, level-same, Span, AreAlone, IsInSpan, IsNarrower, span-between, PartsOn, AreThroughEnds, cross-turned, SameDirection-turned}
+use Rattle.nef_locate.proofs.Prelude.{◌≡◌, ℕ, ◌+◌, ◌<◌, ◌≤◌, sym, pos, Bool, IsTrue, ◌↔◌, List, arith, inl, inr, ⊎_elim, subst, eq-or-lt_of_le, cases_lt, ints, by_order, IsAt, Place as PlainPlace, Form, form_at, toward, SamePlace, IsBetween, IsPlaceBelow, Set, IsNormal, IsZero, cross, form_of, place_of, Point, place_below-same, same-place_below, place_below-trans, place_below-apart, same-place_sym, At, map-at, at-map, get-from_at, at-from_get, is-at_one, Shows, IsVertexPoint, IsEdgePoint, aligned, cross-back, plane-way, between-way, same-itself, Edge, Complex, edge_of, vertex_of, complex_of, AreBelow, AreAbove, EdgeLiesIn, AreNumbersWith, EndBelow, apart, edge-inside, ends, listed_edge, vertex-same, held-between, toward-normal, normal-kept, AllThrough, edge-along, lies, lying-ends, level-same, Span, AreAlone, IsInSpan, IsNarrower, span-between, PartsOn, AreThroughEnds, cross-turned, SameDirection-turned}
+use Rattle.law_sphere.proofs.Compare.{normals-same}
 use Rattle.nef_complex.specs.declared.complex.Vertex.{Vertex}
 use Rattle.nef_complex.proofs.Rising.{BeginFrom}
 

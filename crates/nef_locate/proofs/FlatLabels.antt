@@ -1,5 +1,6 @@
 -- The labels of a map that don't change along a direction.
-use Rattle.nef_locate.proofs.Prelude.{◌≡◌, ℕ, zero, suc, ℤ, pos, negsuc, ◌+◌, ◌≤◌, ◌+ℤ◌, ◌*ℤ◌, neg_ℤ, arith, refl, ap, sym, ◌∙◌, [], ◌∷◌, subst, minus, nought, plus, sign, ring, at, num, neg, ◌⊕◌, ◌⊗◌, Vector, IsDirection, IsOpposite, SameDirection, cross, dot, opposite, blend, Label, comb, Map, MapLabel, NearLabel, Valid, forms, FlatMap, by_side, Near, StraightAt, IsSmooth, straight, amount, label-direction, label-unique, near-direction, dot-comb, direction-by, cross-direction_left, Of, IsLabelling, straight-from, from_opposite, vector-same, direction-opposite, opposite-twice, cross-opposite, dir-self}
+use Rattle.nef_locate.proofs.Prelude.{◌≡◌, ℕ, zero, suc, ℤ, pos, negsuc, ◌+◌, ◌≤◌, ◌+ℤ◌, ◌*ℤ◌, neg_ℤ, arith, refl, ap, sym, ◌∙◌, [], ◌∷◌, subst, minus, nought, plus, sign, ring, at, num, neg, ◌⊕◌, ◌⊗◌, Vector, IsDirection, cross, dot, opposite, blend, Label, comb, Map, MapLabel, NearLabel, Valid, forms, FlatMap, by_side, Near, StraightAt, IsSmooth, straight, amount, label-direction, label-unique, near-direction, dot-comb, direction-by, cross-direction_left, Of, IsLabelling, straight-from, vector-same, direction-opposite, opposite-twice, cross-opposite}
+use Rattle.nef_space.proofs.Vectors.{dot-opposite, opposite-itself}
 use Rattle.law_sphere.proofs.Kind.{flat-parallel}
 use Rattle.law_sphere.proofs.FlatMaps.{flat-onward, flat-straight}
 use Rattle.law_build.proofs.Chosen.{chosen, chosen-is, chosen-labelling, map-labels}
@@ -13,12 +14,6 @@ both-sides a m b (pos (suc i)) (negsuc j) e off h k = (h, k)
 both-sides a m b (negsuc i) (pos zero) e off h k = let q : minus ≡ nought = e in cc
 both-sides a m b (negsuc i) (pos (suc j)) e off h k = (k, h)
 both-sides a m b (negsuc i) (negsuc j) e off h k = let q : minus ≡ plus = e in cc
-
-dot-back : (n u : Vector) → dot n (opposite u) ≡ neg_ℤ (dot n u)
-dot-back n u = ring (n.x ∷ n.y ∷ n.z ∷ u.x ∷ u.y ∷ u.z ∷ []) (at 0 ⊗ neg (at 3) ⊕ at 1 ⊗ neg (at 4) ⊕ at 2 ⊗ neg (at 5)) (neg (at 0 ⊗ at 3 ⊕ at 1 ⊗ at 4 ⊕ at 2 ⊗ at 5)) tt
-
-pub self-opposite : (d : Vector) → IsDirection d → IsOpposite d (opposite d)
-self-opposite d h = from_opposite d (opposite d) (subst (SameDirection d) (sym (opposite-twice d)) (dir-self d h))
 
 pub off-axis : (w e : Vector) → IsDirection (cross (opposite w) e) → IsDirection (cross w e)
 off-axis w e f = subst IsDirection (ap opposite (cross-opposite w e) ∙ opposite-twice (cross w e)) (direction-opposite (cross (opposite w) e) f)
@@ -60,14 +55,14 @@ module _ (N : Map) (V : Valid N) where
   -- where opposite directions are off the plane of n, a straight plane has the label of both its sides
   pub off-plane : (w : Vector) → FlatMap N w → FlatMap N (opposite w) → (n y : Vector) (a m b : Label) → IsDirection y → StraightAt (Of labels_of) n a m b y → (dot n w ≡ pos 0 → ⊥) → (a ≡ m) × (b ≡ m)
   off-plane w F G n y a m b h st off =
-      both-sides a m b (dot n w) (dot n (opposite w)) (ap sign (sym (twice-negated (dot n w)) ∙ ap neg_ℤ (sym (dot-back n w)))) off (across w F n y a m b h st off)
-      (across (opposite w) G n y a m b h st (λ z. off (sym (twice-negated (dot n w)) ∙ ap neg_ℤ (sym (dot-back n w) ∙ z))))
+      both-sides a m b (dot n w) (dot n (opposite w)) (ap sign (sym (twice-negated (dot n w)) ∙ ap neg_ℤ (sym (dot-opposite n w)))) off (across w F n y a m b h st off)
+      (across (opposite w) G n y a m b h st (λ z. off (sym (twice-negated (dot n w)) ∙ ap neg_ℤ (sym (dot-opposite n w) ∙ z))))
     where
       twice-negated : (x : ℤ) → neg_ℤ (neg_ℤ x) ≡ x
       twice-negated x = ring (x ∷ []) (neg (neg (at 0))) (at 0) tt
 
   pub flat-opposite : (w : Vector) → IsDirection w → FlatMap N w → FlatMap N (opposite w)
-  flat-opposite w h F = flat-parallel N V w (opposite w) h (self-opposite w h).parallel F
+  flat-opposite w h F = flat-parallel N V w (opposite w) h (opposite-itself w h).parallel F
 
   -- the labels stay along w
   module _ (w : Vector) (F : FlatMap N w) where

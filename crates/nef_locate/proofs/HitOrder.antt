@@ -1,17 +1,11 @@
 -- The vertices of a plane stand in the order of points, so a hit that is none of them parts their numbers.
-use Rattle.nef_locate.proofs.Prelude.{◌≡◌, ℕ, ◌+◌, ◌≤◌, ◌<◌, ℤ, pos, ◌*ℤ◌, ◌<ℤ◌, nat_abs, length, List, [], ◌∷◌, arith, sym, ◌∙◌, subst, ⊎_elim, w64, Ordering, inl, inr, Less, Equal, Greater, eq-or-lt_of_le, cases_lt, MatchOrdering, load, wrap, exact_of, IsAt, Place, Form, SamePlace, IsPlaceBelow, Set, place_of, hit_limit, hit_weight_limit, Hit, Point, place_below-trans, is-at_one, is-at_within, map-at, at-from_get, Shows, IsVertexPoint, Complex, vertex_of, complex_of, LiesOn, AreNumbersWith, PartsOn, pos-abs}
+use Rattle.nef_locate.proofs.Prelude.{◌≡◌, ℕ, ◌+◌, ◌≤◌, ◌<◌, ℤ, pos, ◌*ℤ◌, ◌<ℤ◌, nat_abs, length, List, arith, sym, ◌∙◌, subst, ⊎_elim, w64, Ordering, inl, inr, Less, Equal, Greater, eq-or-lt_of_le, cases_lt, MatchOrdering, IsAt, Place, Form, SamePlace, IsPlaceBelow, Set, place_of, Hit, Point, place_below-trans, is-at_one, is-at_within, map-at, at-from_get, Shows, IsVertexPoint, Complex, vertex_of, complex_of, LiesOn, AreNumbersWith, PartsOn, pos-abs}
 use mir.Syntax.{w128}
 use mir.Val.{to_z, of_z}
 use Rattle.nef_complex.specs.declared.complex.Vertex.{Vertex}
-use Rattle.nef_plane.proofs.Sweep.{exact-of, exact-weight}
+use Rattle.nef_plane.proofs.Sweep.{exact-of, exact-weight, exact-hit, exact-hit_weight}
 
 -- ---- one coordinate of a point and of a hit, by the products of numbers that are read
-exact-hit : (x y : ℤ) → x ≡ y → nat_abs y ≤ hit_limit → to_z w128 (of_z w128 x) ≡ y
-exact-hit x y e l = exact_of (hit_limit ∷ []) (x ∷ []) (wrap w128 (load 0)) (subst (λ r. nat_abs r ≤ hit_limit) (sym e) l, tt) tt ∙ e
-
-exact-hit_weight : (x y : ℤ) → x ≡ y → nat_abs y ≤ hit_weight_limit → to_z w128 (of_z w128 x) ≡ y
-exact-hit_weight x y e l = exact_of (hit_weight_limit ∷ []) (x ∷ []) (wrap w128 (load 0)) (subst (λ r. nat_abs r ≤ hit_weight_limit) (sym e) l, tt) tt ∙ e
-
 abbrev pub Ranks : Ordering → ℤ → ℤ → ℤ → ℤ → Type 0
 Ranks o x w y v = MatchOrdering o ((x *ℤ v) <ℤ (y *ℤ w)) (x *ℤ v ≡ y *ℤ w) ((y *ℤ w) <ℤ (x *ℤ v))
 

@@ -6,7 +6,7 @@ pub use Rattle.law_complex.proofs.Prelude.{Cone, Corner, Drop, FlatDim, Germ, Ge
 pub use Rattle.nef_smap.proofs.Prelude.{Arc, ArcBetween, ArcRay, At, Bool, Decides-int_eq, Dir, Equal, FitsSigned, Global, Greater, HasArc, HasSide, IfOk-weaker, IfSome, InOrder, IsAt, IsAtMost, IsDirection, IsFree, IsNormal, IsOpposite, IsPrimitive, IsSide, IsSmall, IsSmooth, IsSphereMap, IsStrictlyOn, IsTrue, IsZero, Item, Label, LabelledSide, Least, Less, Lies, List, Map, MapLabel, MapSloop, MapVertex, Minus, Near, NearLabel, None, OnItem, OnItem-by_signs, Option, Ordered, Ordering, Out, Plus, SameDirection, SameDirection-decided, SameDirection-trans, SameDirection-turned, SameSigns, Shaped, Side, SideSees, Some, StraightAt, Unrayed, Valid, Vec, Vector, VectorBelow, Zero, [], amount, ap, arc-at, arc_item, arc_of, arith, around_svertex, arounds_before, at, at-arc, at-one, at_svertex, blend, blend-turned, by_order, by_side, cancel_eq, cancel_lt, cases_lt, cond, cross, cross-between, cross-direction_left, cross-none, cross-turned, dir-at, dir-self, dir-signs, dir_of, direction-by, direction-left, direction-right, dot, dot-comb, dot-comm, end_left, ends-of, eq-or-lt_of_le, exact_of, false, far-keeps, far-level, fits_of, follows, forms, get_or, given, inl, inr, int_eq, ints, is-at_get, is-at_within, is_lt, item_mark, item_neg, item_normal, item_of, item_pos, items, label-by_signs, left-on, length, length-map, load, map, map_of, mul_neg, mul_nonneg, mul_pos, nat_abs, nat_eq, near-from_far, near-item, near-lone, neg, neg_item, neg_ℤ, negsuc, none, normal_limit, not_true, nought-if, nought-is, nought-or, num, number_of, of_z, on-end, on-level, on_item, opposite, opposite-dot, pos, pos_item, ray_left, refl, ring, rules, same-minus, same-nought, same-off, same-plus, seen, self-pos, sides_of, sign-minus, sign-plus, sign-scaled, sign_of, slice_get, sloop-at, sloop_item, sloop_of, square-cross, straight, subst, suc, svertex_limit, svertex_of, sym, to_z, to_z-of_z, triple, triple-in_plane, true, true_of, up, vector, vector-same, vector_of, wrap, zero, zero-decided, ℕ, ℤ, ⊎_elim, ◌*ℤ◌, ◌*◌, ◌++◌, ◌+ℤ◌, ◌+◌, ◌-ℤ◌, ◌-◌, ◌/◌, ◌<ℤ◌, ◌<◌, ◌↔◌, ◌∙◌, ◌∷◌, ◌≡◌, ◌≢◌, ◌≤ℤ◌, ◌≤◌, ◌⊎◌, ◌⊕◌, ◌⊖◌, ◌⊗◌, ◌⊠◌}
 pub use Rattle.nef_spair.proofs.Prelude.{AreApart, IsArcBelow, IsLeastMap, IsTwin, MatchOption, SArc, SLoop, SphereMap, level-of_opposite, level-opposite-back}
 pub use Rattle.nef_complex.proofs.Prelude.{AreAbove, AreBelow, AreSorted, AreSpans, Coordinate, HasItemIn, IsPermutation, IsWithin, MatchOrdering, ShowsSet, coordinate_of, coordinate_x, coordinate_y, coordinate_z, dim-same, false≢true, int_cmp, place_below-apart, place_below-same, place_below-trans, same-place_below}
-pub use Rattle.nef_plane.proofs.Prelude.{AllThrough, AreAlone, AreNumbersWith, Code, Complex, Edge, EdgeLiesIn, EndBelow, Flat, Form, Hit, InClosedFrame, IsAhead, IsBetween, IsCrossing, IsEdge, IsEdgePoint, IsFirstInPlane, IsInSpan, IsNarrower, IsPlaceBelow, IsVertexPoint, LiesIn, LiesOn, Limited, Meets, Place, Plane, Point, SamePlace, SamePlane, Set, Shows, Sign, Span, ahead-back, aligned, apart, at-from_get, at-map, at-within, beside_x, beside_y, between-ends, between-inner, between-turned, between-way, carriers, complex_of, cross-back, edge-inside, edge-points, edge_of, ends, form_at, form_of, get-from_at, half_side, held-between, high-within, hit_limit, hit_place, hit_weight_limit, is-at_one, level-way, listed_edge, low-within, map-at, meet_of, meets_edge, meets_vertex, normal_of, one-crossing, opposite-same, place-toward, place_of, plane-point, plane-slope, plane-turned, plane-way, plane_axis, plane_through, point_limit, pos-abs, same-itself, same-place_sym, sign, sign_of-negative, sign_of-positive, slope, span-between, span-same, through-at, toward, upright_limit, upright_weight_limit, vertex-same, vertex_of, w64, weight_limit, zero_sign, ◌&&◌}
+pub use Rattle.nef_plane.proofs.Prelude.{AllThrough, AreAlone, AreNumbersWith, Code, Complex, Edge, EdgeLiesIn, EndBelow, Flat, Form, Hit, InClosedFrame, IsAhead, IsBetween, IsCrossing, IsEdge, IsEdgePoint, IsFirstInPlane, IsInSpan, IsNarrower, IsPlaceBelow, IsVertexPoint, LiesIn, LiesOn, Limited, Meets, Place, Plane, Point, SamePlace, SamePlane, Set, Shows, Sign, Span, ahead-back, aligned, apart, at-from_get, at-map, at-within, beside_x, beside_y, between-ends, between-inner, between-turned, between-way, carriers, complex_of, cross-back, edge-inside, edge-points, edge_of, ends, form_at, form_of, get-from_at, half_side, held-between, high-within, hit_place, is-at_one, level-way, listed_edge, low-within, map-at, meet_of, meets_edge, meets_vertex, normal_of, one-crossing, opposite-same, place-toward, place_of, plane-point, plane-slope, plane-turned, plane-way, plane_axis, plane_through, point_limit, pos-abs, same-itself, same-place_sym, sign, sign_of-negative, sign_of-positive, slope, span-between, span-same, through-at, toward, upright_weight_limit, vertex-same, vertex_of, w64, weight_limit, zero_sign, ◌&&◌}
 pub use Rattle.law_near.proofs.Rays.{Germ-same}
 pub use Rattle.law_sphere.proofs.Labels.{near-direction}
 pub use Rattle.law_sphere.proofs.SectorSees.{turn-from_left}
@@ -33,7 +33,7 @@ pub use Rattle.nef_complex.proofs.Framed.{skeleton-framed}
 pub use Rattle.nef_complex.proofs.Outside.{no_span}
 pub use Rattle.nef_complex.proofs.Spanned.{spanned}
 pub use Rattle.nef_complex.specs.Complexes.{corner_of}
-pub use Rattle.nef_edges.proofs.Rays.{ahead-normal, from_opposite, normal-kept, normals-same, opposites-same, to_opposite, toward-normal}
+pub use Rattle.nef_edges.proofs.Rays.{ahead-normal, from_opposite, normal-kept, opposites-same, to_opposite, toward-normal}
 pub use Rattle.nef_plane.proofs.Crossed.{edge-along, edge-carried}
 pub use Rattle.nef_plane.proofs.Listed.{edge-lies, lies, lying-ends}
 pub use Rattle.nef_plane.proofs.Meeting.{level-same}

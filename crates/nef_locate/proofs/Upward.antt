@@ -1,15 +1,6 @@
 -- The upward direction lies above every plane within the limit, so no plane is along an upright one.
-use Rattle.nef_locate.proofs.Prelude.{◌≡◌, zero, suc, ◌≤◌, ℤ, pos, negsuc, neg_ℤ, ◌<ℤ◌, ◌≤ℤ◌, nat_abs, [], ◌∷◌, inl, inr, arith, refl, subst, ints, ring, at, neg, ◌⊕◌, ◌⊗◌, normal_limit, slope, normal_of, Vector, vector, dot, IsAtMost, IsNormal, IsDirection, up, opposite, IsUpright, form_of, Plane}
-
-pub up-above : (n : Vector) → IsNormal n → IsAtMost normal_limit n → pos 0 <ℤ dot n up
-up-above n h k = leads n.x n.y n.z h k.of_y k.of_z
-  where
-    leads : (a b c : ℤ) → IsNormal (vector a b c) → nat_abs b ≤ normal_limit → nat_abs c ≤ normal_limit → pos 0 <ℤ dot (vector a b c) up
-    leads (negsuc n) b c h sb sc = absurd (let f : pos 0 ≤ℤ negsuc n = h.first in omega (arith, ints))
-    leads (pos (suc n)) b c h sb sc = omega (arith, ints)
-    leads (pos zero) (negsuc n) c h sb sc = absurd (let f : pos 0 ≤ℤ negsuc n = h.second refl in omega (arith, ints))
-    leads (pos zero) (pos (suc n)) c h sb sc = omega (arith, ints)
-    leads (pos zero) (pos zero) c h sb sc = let f : pos 0 <ℤ c = h.third refl refl in omega (arith, ints)
+use Rattle.nef_locate.proofs.Prelude.{◌≡◌, pos, neg_ℤ, ◌<ℤ◌, [], ◌∷◌, inl, inr, arith, subst, ints, ring, at, neg, ◌⊕◌, ◌⊗◌, slope, normal_of, Vector, dot, IsDirection, up, opposite, IsUpright, form_of, Plane}
+use Rattle.nef_smap.proofs.Upward.{normal-ahead}
 
 -- ---- upright directions
 pub upright-some : (d : Vector) → IsUpright d → IsDirection d
@@ -18,7 +9,7 @@ upright-some d (inr e) z = let f = subst (λ (v : Vector). v.z ≡ pos 0) e z.2 
 
 -- no plane of the program is along one
 pub plane-upright : (g : Plane) (d : Vector) → IsUpright d → slope (form_of g) d ≡ pos 0 → ⊥
-plane-upright g d u z = not-along (up-above (normal_of (form_of g)) g.normal (record { of_x = g.a_small; of_y = g.b_small; of_z = g.c_small })) u
+plane-upright g d u z = not-along (normal-ahead (normal_of (form_of g)) g.normal (record { of_x = g.a_small; of_y = g.b_small; of_z = g.c_small })) u
   where
     not-along : pos 0 <ℤ slope (form_of g) up → IsUpright d → ⊥
     not-along u (inl e) = let f = subst (λ (v : Vector). slope (form_of g) v ≡ pos 0) e z in omega (arith, ints)

@@ -85,8 +85,3 @@ pub plus-turn : (z : ℤ) → Plus ≡ sign_of z → pos 0 <ℤ z
 plus-turn (pos zero) e = cc
 plus-turn (pos (suc n)) e = omega (arith, ints)
 plus-turn (negsuc n) e = cc
-
-pub turn-plus : (z : ℤ) → pos 0 <ℤ z → sign_of z ≡ Plus
-turn-plus (pos zero) l = absurd (omega (arith, ints))
-turn-plus (pos (suc n)) l = refl
-turn-plus (negsuc n) l = absurd (omega (arith, ints))

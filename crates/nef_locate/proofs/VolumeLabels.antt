@@ -1,7 +1,7 @@
 -- A point that has a side has the side's label.
 use Rattle.nef_locate.proofs.Prelude.{◌≡◌, ℕ, arith, ap, sym, ◌∙◌, subst, ints, sign-plus, HasLabel, Germ, FlatDim, Place, SamePlace, toward, Set, SameDirection, dot, opposite, up, Label, place-toward, label_of, Germ-unique, Germ-same, At, item_normal, item_pos, item_mark, item_neg, seen, Side, HasSide, by_side, at-one, bounds-sees, at-map, get-from_at, IsSmall, Vertex as PlainVertex, Spot, at_vertex, on_edge, in_facet, IsSpot, IsSkeletonPoint, IsAbove, HasVolumeSide, same-itself, from_opposite, opposites-same, facet-at, facet-of, spot-toward, free-way, free-flat, Complex, vertex_of, complex_of, ShowsSet, vector-same, dir-self, direction-left}
+use Rattle.nef_smap.proofs.Upward.{normal-ahead}
 use Rattle.nef_locate.proofs.Cones.{corner-labels}
-use Rattle.nef_locate.proofs.Upward.{up-above}
 
 module _ (s : Set) (c : Complex) (S : ShowsSet s c) where
   -- off the skeleton all directions are flat
@@ -34,7 +34,7 @@ module _ (s : Set) (c : Complex) (S : ShowsSet s c) where
         let x = h.0 in
         let N = (S.shows.cones i v a).valid.shaped.normals k.item x h.1 in
         let g = (corner-labels s (complex_of c) S.shows z k v x H (record { vertex = b; item = h.1 })).1 up in
-        let p = sign-plus (dot (item_normal x) up) (up-above (item_normal x) N ((small i v a).normals k.item x h.1)) in
+        let p = sign-plus (dot (item_normal x) up) (normal-ahead (item_normal x) N ((small i v a).normals k.item x h.1)) in
         subst (Germ s z up) (ap (by_side (item_pos x) (item_mark x) (item_neg x)) p ∙ h.2) g
 
     pub side-label : (y : Place) → HasVolumeSide (complex_of c) y (record { vertex = i; side = o }) → HasLabel s y l

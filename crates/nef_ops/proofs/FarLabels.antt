@@ -1,5 +1,5 @@
 -- The points past one side of a span of the skeleton, within the open frame, are convex; so between two of them there is nothing of the skeleton, and the set looks the same at both.
-use Rattle.nef_ops.proofs.Prelude.{◌≡◌, ℕ, zero, suc, ◌+◌, ◌<◌, List, [], ◌∷◌, ℤ, pos, ◌+ℤ◌, ◌*ℤ◌, ◌<ℤ◌, ◌≤ℤ◌, length, arith, sym, subst, ⊎_elim, ints, mul_le_right, by_order, IsAt, HasLabel, FlatDim, Place, IsBetween, Set, Label, form_of, place_of, Plane, IsMixed, of_place, SameGerms, mixed-of, even-germs, labels-by_germs, At, coordinate_of, even-by, less-or-last, is-at_one, is-at_within, get-from_at, ShowsSet, IsSpanOn, IsInSpan, IsNarrower, Complex, Span, spanned, span-wider, volume-flat, Axis, X, Y, Z, Below, Above, Side, MeetsFrame, HoldsSkeleton, axis_coordinate, IsPastEnd, IsWithinEnd, IsBeyond, IsFar, IsClear, IsUniform}
+use Rattle.nef_ops.proofs.Prelude.{FitsSigned, w64, to_z, of_z, to_z-of_z, IsSkeletonPoint, complex_of, ◌≡◌, ℕ, zero, suc, ◌+◌, ◌<◌, List, [], ◌∷◌, ℤ, pos, ◌+ℤ◌, ◌*ℤ◌, ◌<ℤ◌, ◌≤ℤ◌, length, arith, sym, subst, ⊎_elim, ints, mul_le_right, by_order, IsAt, HasLabel, FlatDim, Place, IsBetween, Set, Label, form_of, place_of, Plane, IsMixed, of_place, SameGerms, mixed-of, even-germs, labels-by_germs, At, coordinate_of, even-by, less-or-last, is-at_one, is-at_within, get-from_at, ShowsSet, IsSpanOn, IsInSpan, IsNarrower, Complex, Span, spanned, span-wider, volume-flat, Axis, X, Y, Z, Below, Above, Side, MeetsFrame, HoldsSkeleton, axis_coordinate, IsPastEnd, IsWithinEnd, IsFar, IsUniform}
 use Rattle.nef_locate.proofs.CarrierPoints.{skeleton-carrier}
 use Rattle.nef_ops.specs.declared.regions.Way.{Way}
 use Rattle.nef_ops.proofs.Convex.{below-mixed, above-mixed, frame-between}
@@ -32,19 +32,19 @@ skeleton-held c core held s y S i o =
     let at = get-from_at c.carriers k.number k.plane k.listed in
     spanned s c S (form_of k.plane) core (held k.number k.plane (is-at_within c.carriers k.number k.plane at) at (y, i, k.on)) y k.on k.found
 
-under : (n e w : ℤ) → n <ℤ (e *ℤ w) → (e *ℤ w) ≤ℤ n → ⊥
-under n e w l m = omega (arith, ints)
+-- n/w isn't both past the end and within the end
+past-not : (way : Way) (e n w : ℤ) → IsPastEnd way e n w → IsWithinEnd way e n w → ⊥
+past-not Below e n w l m = omega (arith, ints)
+past-not Above e n w l m = omega (arith, ints)
 
-over : (n e w : ℤ) → (e *ℤ w) <ℤ n → n ≤ℤ (e *ℤ w) → ⊥
-over n e w l m = omega (arith, ints)
+-- no skeleton point lies in the open frame past the side
+abbrev pub IsClear : Complex → Side → Type 0
+IsClear c side = (s : Set) (y : Place) → ShowsSet s c → IsFar side y → IsSkeletonPoint (complex_of c) y → ⊥
 
--- so past its sides there is nothing of it
-module _ (c : Complex) (core : Span) (H : HoldsSkeleton c core) where
-  pub clear-low : (axis : Axis) (e : ℤ) → ((p : Place) → IsInSpan core p → (e *ℤ pos p.w) ≤ℤ coordinate_of (axis_coordinate axis) p) → IsClear c (record { axis = axis; way = Below; end = e })
-  clear-low axis e part s y S f o = under (coordinate_of (axis_coordinate axis) y) e (pos y.w) f.1 (part y (H s y S f.0 o))
-
-  pub clear-high : (axis : Axis) (e : ℤ) → ((p : Place) → IsInSpan core p → coordinate_of (axis_coordinate axis) p ≤ℤ (e *ℤ pos p.w)) → IsClear c (record { axis = axis; way = Above; end = e })
-  clear-high axis e part s y S f o = over (coordinate_of (axis_coordinate axis) y) e (pos y.w) f.1 (part y (H s y S f.0 o))
+-- so past an end of the span there is nothing of the skeleton
+pub clear-past : (c : Complex) (core : Span) → HoldsSkeleton c core → (axis : Axis) (way : Way) (e : ℤ) → FitsSigned w64 e → ((p : Place) → IsInSpan core p → IsWithinEnd way e (coordinate_of (axis_coordinate axis) p) (pos p.w)) → IsClear c (record { axis = axis; way = way; end = to_z w64 (of_z w64 e) })
+clear-past c core H axis way e fits part =
+    subst (λ (k : ℤ). IsClear c (record { axis = axis; way = way; end = k })) (sym (to_z-of_z w64 e fits)) (λ s y S f o. past-not way e (coordinate_of (axis_coordinate axis) y) (pos y.w) f.1 (part y (H s y S f.0 o)))
 
 below-none : (end other n w : ℤ) → pos 0 ≤ℤ w → end ≤ℤ other → (other *ℤ w) ≤ℤ n → n <ℤ (end *ℤ w) → ⊥
 below-none end other n w s l i f = let m = mul_le_right end other w s l in omega (arith, ints, m, i, f)
@@ -53,11 +53,11 @@ above-none : (end other n w : ℤ) → pos 0 ≤ℤ w → other ≤ℤ end → n
 above-none end other n w s l i f = let m = mul_le_right other end w s l in omega (arith, ints, m, i, f)
 
 -- where the other end isn't past the end, nothing that lies within the other lies past this one
-pub none-past : (way : Way) (end other n : ℤ) (w : ℕ) → (IsBeyond way end other → ⊥) → IsWithinEnd way other n (pos w) → IsPastEnd way end n (pos w) → ⊥
+pub none-past : (way : Way) (end other n : ℤ) (w : ℕ) → (IsPastEnd way end other (pos 1) → ⊥) → IsWithinEnd way other n (pos w) → IsPastEnd way end n (pos w) → ⊥
 none-past Below end other n w off i f =
-    by_order other end (λ l. off l) (λ e. below-none end other n (pos w) (omega (arith, ints)) (omega (arith, ints, e)) i f) (λ l. below-none end other n (pos w) (omega (arith, ints)) (omega (arith, ints, l)) i f)
+    by_order other end (λ l. off (omega (arith, ints, l))) (λ e. below-none end other n (pos w) (omega (arith, ints)) (omega (arith, ints, e)) i f) (λ l. below-none end other n (pos w) (omega (arith, ints)) (omega (arith, ints, l)) i f)
 none-past Above end other n w off i f =
-    by_order end other (λ l. off l) (λ e. above-none end other n (pos w) (omega (arith, ints)) (omega (arith, ints, e)) i f) (λ l. above-none end other n (pos w) (omega (arith, ints)) (omega (arith, ints, l)) i f)
+    by_order end other (λ l. off (omega (arith, ints, l))) (λ e. above-none end other n (pos w) (omega (arith, ints)) (omega (arith, ints, e)) i f) (λ l. above-none end other n (pos w) (omega (arith, ints)) (omega (arith, ints, l)) i f)
 
 -- ---- between two points
 end-between : (way : Way) (e : ℤ) (k i j : ℕ) (c a b w u v : ℤ) → 0 < k → 0 < i → 0 < j → pos k *ℤ c ≡ pos i *ℤ a +ℤ pos j *ℤ b → pos k *ℤ w ≡ pos i *ℤ u +ℤ pos j *ℤ v

@@ -15,7 +15,7 @@ pub use Rattle.nef_cand.specs.Names.{IsNameAt, operand_of, other_of}
 pub use Rattle.nef_cand.specs.declared.named.Named.{Named}
 pub use Rattle.nef_cand.specs.declared.named.Operand.{Operand}
 pub use Rattle.nef_result.specs.Givens.{given_of, moved_if, moved_of}
-pub use Rattle.nef_ops.specs.Far.{AreHeld, AreTold, AreWithin, HoldsSkeleton, IsBeyond, IsClear, IsFar, IsPastEnd, IsUniform, IsWithinEnd, MeetsFrame, axis_coordinate}
+pub use Rattle.nef_ops.specs.Far.{AreHeld, AreTold, HoldsSkeleton, IsFar, IsPastEnd, IsUniform, IsWithinEnd, MeetsFrame, axis_coordinate}
 pub use Rattle.nef_ops.specs.Nodes.{unary_set}
 pub use Rattle.nef_ops.specs.Rights.{IsAsIn, IsInput, IsOutcomeOf, IsRight, IsWorkedBy, kept_outcome, movable}
 pub use Rattle.nef_ops.specs.Shares.{AreAlike, HasShare, InShare, IsCombined, IsFindingIn, IsFoundAt, ItemLacks, Lacks, Leads, SvertexLacks, either_of, turned_label, turned_set}

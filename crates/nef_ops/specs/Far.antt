@@ -36,11 +36,6 @@ abbrev pub IsWithinEnd : Way → ℤ → ℤ → ℤ → Type 0
 IsWithinEnd Below end n w = (end *ℤ w) ≤ℤ n
 IsWithinEnd Above end n w = n ≤ℤ (end *ℤ w)
 
--- the end `other` lies past `end`
-abbrev pub IsBeyond : Way → ℤ → ℤ → Type 0
-IsBeyond Below end other = other <ℤ end
-IsBeyond Above end other = end <ℤ other
-
 abbrev pub IsPast : Side → Place → Type 0
 IsPast side p = IsPastEnd side.way side.end (coordinate_of (axis_coordinate side.axis) p) (pos p.w)
 
@@ -48,17 +43,9 @@ IsPast side p = IsPastEnd side.way side.end (coordinate_of (axis_coordinate side
 abbrev pub IsFar : Side → Place → Type 0
 IsFar side p = InFrame p × IsPast side p
 
--- no skeleton point lies in the open frame past the side
-abbrev pub IsClear : Complex → Side → Type 0
-IsClear c side = (s : Set) (y : Place) → ShowsSet s c → IsFar side y → IsSkeletonPoint (complex_of c) y → ⊥
-
 -- each of the points in the open frame is a skeleton point, or lies in the span
 abbrev pub AreHeld : Complex → Span → List Point → Type 0
 AreHeld c span ps = (k : ℕ) (p : Point) → At ps k p → InFrame (place_of p) → IsSkeletonPoint (complex_of c) (place_of p) ⊎ IsInSpan span (place_of p)
-
--- the points past the side lie at the end `other` or before this end
-abbrev pub AreWithin : Side → ℤ → List Point → Type 0
-AreWithin side other ps = (k : ℕ) (p : Point) → At ps k p → IsFar side (place_of p) → IsWithinEnd side.way other (coordinate_of (axis_coordinate side.axis) (place_of p)) (pos (place_of p).w)
 
 -- ---- labels
 -- the set has the label at the point and at all close points

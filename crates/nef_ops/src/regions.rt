@@ -1,10 +1,11 @@
 //! Regions of the frame far from a set's skeleton, in each of which the set has one label.
 
-ghost use Rattle.std.specs.Prelude.{◌≡◌, ◌≤◌, ◌<◌, ◌↔◌, ◌⊎◌, []};
-ghost use Rattle.nef_complex.specs.Prelude.{ℕ, length, IfSome, IsNone, IsTrue, InFrame, Set, place_of, Point as PlainPoint, At, coordinate_of, ShowsSet};
+ghost use Rattle.std.specs.Prelude.{◌≡◌, ◌≤◌, ◌<◌, ◌↔◌, ◌⊎◌, [], pos};
+ghost use Rattle.nef_complex.specs.Prelude.{ℕ, length, IfSome, IsNone, IsTrue, InFrame, Set, Place, place_of, Point as PlainPoint, At, coordinate_of, IsInSpan, ShowsSet};
 ghost use Rattle.nef_complex.specs.declared.complex.Complex.{Complex as ShownComplex};
+ghost use Rattle.nef_complex.specs.declared.spans.Span.{Span as ShownSpan};
 ghost use Rattle.nef_ops.specs.declared.regions.Region.{Region as PlainRegion};
-ghost use Rattle.nef_ops.specs.Far.{axis_coordinate, HoldsSkeleton, IsPast, IsPastEnd, IsBeyond, AreHeld, AreWithin, IsFar, IsClear, IsUniformIn, AreTold, IsTold, many_points};
+ghost use Rattle.nef_ops.specs.Far.{axis_coordinate, HoldsSkeleton, IsPast, IsPastEnd, IsWithinEnd, AreHeld, IsFar, IsUniformIn, AreTold, IsTold, many_points};
 
 use nef_cand::misses_frame;
 use nef_complex::{Complex, Span, carrier_spans};
@@ -93,27 +94,39 @@ pub(crate) struct Region {
 /// The regions past the six sides of a span of the set's skeleton within the open frame.
 pub(crate) type Regions = [Region; 6];
 
-// Whether the end `other` lies past `end`.
-fn is_beyond(way: Way, end: i64, other: i64) -> bool
-    ensures beyond { IsTrue result ↔ IsBeyond way end other }
+// The low end of a span along an axis, or the high end.
+fn end_of(span: &Span, axis: Axis, way: Way) -> i64
+    ensures end { (p : Place) → IsInSpan span.now p → IsWithinEnd way result (coordinate_of (axis_coordinate axis) p) (pos p.w) }
 {
-    match way {
-        Way::Below => other < end,
-        Way::Above => end < other,
+    match (axis, way) {
+        (Axis::X, Way::Below) => span.x.low,
+        (Axis::X, Way::Above) => span.x.high,
+        (Axis::Y, Way::Below) => span.y.low,
+        (Axis::Y, Way::Above) => span.y.high,
+        (Axis::Z, Way::Below) => span.z.low,
+        (Axis::Z, Way::Above) => span.z.high,
     }
 }
 
-// The region past an end along an axis, with its label if one of the points lies in the region. Points past `end` lie
-// no further than `other`, so that mostly no point needs to be looked at.
-fn region_past(c: &Complex, axis: Axis, way: Way, end: i64, other: i64, points: &[Point]) -> Region
+// The region past an end of `core` along an axis, with its label if one of the points lies in the region. Points past the
+// end lie in `other`, so that mostly no point needs to be looked at.
+fn region_past(
+    c: &Complex,
+    axis: Axis,
+    way: Way,
+    core: &Span,
+    other: &Span,
+    points: &[Point],
+) -> Region
     requires shows { (s : Set) × ShowsSet s c.now }
-    requires clear { IsClear c.now (record { axis = axis; way = way; end = end }) }
-    requires within { AreWithin (record { axis = axis; way = way; end = end }) other points.now }
+    requires core { HoldsSkeleton c.now core.now }
+    requires held { AreHeld c.now other.now points.now }
     ensures told { IsTold c.now result }
     ensures none { IsNone result.label → (k : ℕ) (p : PlainPoint) → At points.now k p → IsFar result.side (place_of p) → ⊥ }
 {
+    let end = end_of(core, axis, way);
     let side = Side { axis, way, end };
-    if !is_beyond(way, end, other) {
+    if !is_past(way, end, end_of(other, axis, way), 1) {
         return Region { side, label: None };
     }
     for point in points {
@@ -145,6 +158,7 @@ impl Region {
 
 // The points that are looked at: all where there are many, and else none.
 fn asked_of(points: &[Point]) -> &[Point]
+    ensures held { (c : ShownComplex) (span : ShownSpan) → AreHeld c span points.now → AreHeld c span result.now }
     ensures asked { (result.now ≡ points.now) ⊎ ((result.now ≡ []) × (length points.now < many_points)) }
 {
     if points.len() < MANY_POINTS {
@@ -165,12 +179,12 @@ pub(crate) fn regions_of(c: &Complex, core: &Span, other: &Span, points: &[Point
 {
     let asked = asked_of(points);
     [
-        region_past(c, Axis::X, Way::Below, core.x.low, other.x.low, asked),
-        region_past(c, Axis::X, Way::Above, core.x.high, other.x.high, asked),
-        region_past(c, Axis::Y, Way::Below, core.y.low, other.y.low, asked),
-        region_past(c, Axis::Y, Way::Above, core.y.high, other.y.high, asked),
-        region_past(c, Axis::Z, Way::Below, core.z.low, other.z.low, asked),
-        region_past(c, Axis::Z, Way::Above, core.z.high, other.z.high, asked),
+        region_past(c, Axis::X, Way::Below, core, other, asked),
+        region_past(c, Axis::X, Way::Above, core, other, asked),
+        region_past(c, Axis::Y, Way::Below, core, other, asked),
+        region_past(c, Axis::Y, Way::Above, core, other, asked),
+        region_past(c, Axis::Z, Way::Below, core, other, asked),
+        region_past(c, Axis::Z, Way::Above, core, other, asked),
     ]
 }
 

@@ -1,5 +1,6 @@
 -- A coordinate that hardly changes along a direction changes by less than one within the frame.
 use Rattle.nef_plane.proofs.Prelude.{◌≡◌, ℕ, ◌+◌, ◌*◌, ◌<◌, ◌≤◌, ℤ, pos, neg_ℤ, ◌-ℤ◌, ◌*ℤ◌, ◌<ℤ◌, nat_abs, arith, true, ◌⊎◌, ◌↔◌, ⊎_elim, sym, ap, ◌∙◌, subst, w64, cond, ◌&&◌, List, length, [], ◌∷◌, refl, mul-pos, mul-le-mul_left, mul-le-mul_right, int_eq, cases_lt, Decides-int_eq, ints, unsigned_abs-mul, load, wrap, exact_of, abs_minus, abs_times, ring, at, num, ◌⊕◌, ◌⊖◌, ◌⊗◌, half_side, Place, Form, form, form_at, toward, InClosedFrame, IsAhead, Vector, vector, dot, form_of, ray_limit, Plane, through-at, through-slope, is-at_within, Vertex, StaysClose, IsFirst, IsPast, shifted_form, IsSwept, sweep_axis, sweep_form}
+use Rattle.nef_geo.proofs.Cramer.{difference}
 use mir.Val.{to_z, of_z}
 use Rattle.nef_plane.proofs.Sweep.{first-swept}
 
@@ -26,21 +27,18 @@ apart x y v w i j =
     let h = abs_minus (y *ℤ pos v) (x *ℤ pos w) (half_side * w * v) (half_side * v * w) f g in
     omega (arith, h)
 
-from-nought : (a b : ℤ) → a -ℤ b ≡ pos 0 → a ≡ b
-from-nought a b e = omega (arith, ints)
-
 module _ (p q : Place) (i : InClosedFrame p) (j : InClosedFrame q) (d : Vector) (a : IsAhead p d q) where
   abbrev t : Vector
   t = toward p q
 
   x-by-y : 2 * half_side * nat_abs d.x < nat_abs d.y → nat_abs t.x < p.w * q.w
-  x-by-y l = less t.x t.y d.x d.y (p.w * q.w) (from-nought (t.x *ℤ d.y) (t.y *ℤ d.x) a.parallel.2) (apart p.y q.y p.w q.w i.along_y j.along_y) l (mul-pos p.proper q.proper)
+  x-by-y l = less t.x t.y d.x d.y (p.w * q.w) (difference (t.x *ℤ d.y) (t.y *ℤ d.x) a.parallel.2) (apart p.y q.y p.w q.w i.along_y j.along_y) l (mul-pos p.proper q.proper)
 
   x-by-z : 2 * half_side * nat_abs d.x < nat_abs d.z → nat_abs t.x < p.w * q.w
-  x-by-z l = less t.x t.z d.x d.z (p.w * q.w) (sym (from-nought (t.z *ℤ d.x) (t.x *ℤ d.z) a.parallel.1)) (apart p.z q.z p.w q.w i.along_z j.along_z) l (mul-pos p.proper q.proper)
+  x-by-z l = less t.x t.z d.x d.z (p.w * q.w) (sym (difference (t.z *ℤ d.x) (t.x *ℤ d.z) a.parallel.1)) (apart p.z q.z p.w q.w i.along_z j.along_z) l (mul-pos p.proper q.proper)
 
   y-by-z : 2 * half_side * nat_abs d.y < nat_abs d.z → nat_abs t.y < p.w * q.w
-  y-by-z l = less t.y t.z d.y d.z (p.w * q.w) (from-nought (t.y *ℤ d.z) (t.z *ℤ d.y) a.parallel.0) (apart p.z q.z p.w q.w i.along_z j.along_z) l (mul-pos p.proper q.proper)
+  y-by-z l = less t.y t.z d.y d.z (p.w * q.w) (difference (t.y *ℤ d.z) (t.z *ℤ d.y) a.parallel.0) (apart p.z q.z p.w q.w i.along_z j.along_z) l (mul-pos p.proper q.proper)
 
 pub first-product : (v : Vector) → v.x ≡ dot (vector (pos 1) (pos 0) (pos 0)) v
 first-product v = ring (v.x ∷ v.y ∷ v.z ∷ []) (at 0) (num (pos 1) ⊗ at 0 ⊕ num (pos 0) ⊗ at 1 ⊕ num (pos 0) ⊗ at 2) tt

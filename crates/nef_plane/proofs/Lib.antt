@@ -15,6 +15,7 @@ pub mod Holding
 pub mod Either
 pub mod RayPlanes
 pub mod Ordered
+pub mod Ratios
 pub mod Passed
 pub mod Leveled
 mod AxisSizes

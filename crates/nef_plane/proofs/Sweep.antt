@@ -10,10 +10,10 @@ exact-of x y e l = exact_of (point_limit ∷ []) (x ∷ []) (wrap w64 (load 0)) 
 pub exact-weight : (x y : ℤ) → x ≡ y → nat_abs y ≤ weight_limit → to_z w64 (of_z w64 x) ≡ y
 exact-weight x y e l = exact_of (weight_limit ∷ []) (x ∷ []) (wrap w64 (load 0)) (subst (λ r. nat_abs r ≤ weight_limit) (sym e) l, tt) tt ∙ e
 
-exact-hit : (x y : ℤ) → x ≡ y → nat_abs y ≤ hit_limit → to_z w128 (of_z w128 x) ≡ y
+pub exact-hit : (x y : ℤ) → x ≡ y → nat_abs y ≤ hit_limit → to_z w128 (of_z w128 x) ≡ y
 exact-hit x y e l = exact_of (hit_limit ∷ []) (x ∷ []) (wrap w128 (load 0)) (subst (λ r. nat_abs r ≤ hit_limit) (sym e) l, tt) tt ∙ e
 
-exact-hit_weight : (x y : ℤ) → x ≡ y → nat_abs y ≤ hit_weight_limit → to_z w128 (of_z w128 x) ≡ y
+pub exact-hit_weight : (x y : ℤ) → x ≡ y → nat_abs y ≤ hit_weight_limit → to_z w128 (of_z w128 x) ≡ y
 exact-hit_weight x y e l = exact_of (hit_weight_limit ∷ []) (x ∷ []) (wrap w128 (load 0)) (subst (λ r. nat_abs r ≤ hit_weight_limit) (sym e) l, tt) tt ∙ e
 
 pub numbers-same : (x v y w : ℤ) (x' v' y' w' : ℤ) → x ≡ x' → v ≡ v' → y ≡ y' → w ≡ w' → x *ℤ v -ℤ y *ℤ w ≡ x' *ℤ v' -ℤ y' *ℤ w'

@@ -1,6 +1,7 @@
 -- The sides of the frame by their axis and end, and the germs of a set that holds all of the frame or nothing of it.
-use Rattle.nef_result.proofs.Prelude.{◌≡◌, pos, negsuc, arith, refl, sym, ◌∙◌, ◌⊎◌, inl, inr, Bool, true, false, subst, ints, Sign, minus, nought, sign, Lies, lies-left, Place, Form, slope, step, InFrame, Vector, Set, halves, HasLabel, Germ, Label, Out, Not, In, reach_all, step-within, sign_at, side, frame, carriers, keeps-all, coordinate-in, label_of, frame-minus, Germ-from_sample, sample, sample-short, sign-along}
+use Rattle.nef_result.proofs.Prelude.{◌≡◌, pos, negsuc, arith, refl, sym, ◌∙◌, ◌⊎◌, inl, inr, Bool, true, false, subst, ints, Sign, minus, nought, sign, Lies, lies-left, Place, Form, slope, InFrame, Vector, Set, halves, HasLabel, Germ, Label, Out, Not, In, reach_all, step-within, sign_at, side, frame, carriers, keeps-all, coordinate-in, label_of, frame-minus, Germ-from_sample, sample, sample-short, sign-along}
 use Rattle.nef_space.specs.Sets.{Holds}
+use Rattle.law_near.proofs.Decisions.{ahead}
 
 pub data Axis : Type 0 where
   on_x : Axis
@@ -58,31 +59,27 @@ empty-whole = record { inside = λ p i. (i, λ h. h); only = λ h l. l; some = �
 abbrev pub LeadsIn : Place → Vector → Axis → Bool → Type 0
 LeadsIn p d a b = (sign_at (wall a b) p ≡ minus) ⊎ ((sign_at (wall a b) p ≡ nought) × (sign (slope (wall a b) d) ≡ minus))
 
--- one short step in the direction
-abbrev stepped : Set → Place → Vector → Place
-stepped s p d = step p (sample s p d) d
-
 -- a direction that leads inward from all six leads into the frame
-inward-framed : (s : Set) (p : Place) (d : Vector) → ((a : Axis) (b : Bool) → LeadsIn p d a b) → InFrame (stepped s p d)
-inward-framed s p d f = inside-all (stepped s p d) (λ a b. by a b (f a b))
+inward-framed : (s : Set) (p : Place) (d : Vector) → ((a : Axis) (b : Bool) → LeadsIn p d a b) → InFrame (ahead s p d)
+inward-framed s p d f = inside-all (ahead s p d) (λ a b. by a b (f a b))
   where
     differ : (t : Sign) → t ≡ minus → t ≡ nought → ⊥
     differ t e f = cc
 
-    by : (a : Axis) (b : Bool) → LeadsIn p d a b → sign_at (wall a b) (stepped s p d) ≡ minus
-    by a b (inl e) = keeps-all (carriers s) p (stepped s p d) (step-within (reach_all (carriers s) p) p d (sample s p d) (sample-short s p d)) (wall a b)
+    by : (a : Axis) (b : Bool) → LeadsIn p d a b → sign_at (wall a b) (ahead s p d) ≡ minus
+    by a b (inl e) = keeps-all (carriers s) p (ahead s p d) (step-within (reach_all (carriers s) p) p d (sample s p d) (sample-short s p d)) (wall a b)
         (lies-left frame (halves s) (wall a b) (wall-listed a b)) (differ (sign_at (wall a b) p) e) ∙ e
     by a b (inr (z, e)) = sign-along (wall a b) p (sample s p d) d z (sample-short s p d).0 ∙ e
 
 pub germ-inward : (s : Set) (l : Label) → IsWhole s l → (p : Place) (d : Vector) → ((a : Axis) (b : Bool) → LeadsIn p d a b) → Germ s p d l
-germ-inward s l W p d f = Germ-from_sample s p d l (W.inside (stepped s p d) (inward-framed s p d f))
+germ-inward s l W p d f = Germ-from_sample s p d l (W.inside (ahead s p d) (inward-framed s p d f))
 
 -- so the germ there isn't Out, whatever the set
 pub germ-framed : (s : Set) (p : Place) (d : Vector) → ((a : Axis) (b : Bool) → LeadsIn p d a b) → (l : Label) × (l ≡ Out → ⊥) × Germ s p d l
 germ-framed s p d f =
-    let l = label_of s (stepped s p d) in
-    (l.0, λ e. subst (HasLabel s (stepped s p d)) e l.1 (inward-framed s p d f), Germ-from_sample s p d l.0 l.1)
+    let l = label_of s (ahead s p d) in
+    (l.0, λ e. subst (HasLabel s (ahead s p d)) e l.1 (inward-framed s p d f), Germ-from_sample s p d l.0 l.1)
 
 pub germ-outward : (s : Set) (p : Place) (d : Vector) (a : Axis) (b : Bool) → sign_at (wall a b) p ≡ nought → (sign (slope (wall a b) d) ≡ minus → ⊥) → Germ s p d Out
 germ-outward s p d a b z n = Germ-from_sample s p d Out (λ i.
-    n (sym (sign-along (wall a b) p (sample s p d) d z (sample-short s p d).0) ∙ frame-minus (stepped s p d) i (wall a b) (wall-listed a b)))
+    n (sym (sign-along (wall a b) p (sample s p d) d z (sample-short s p d).0) ∙ frame-minus (ahead s p d) i (wall a b) (wall-listed a b)))

@@ -1,6 +1,5 @@
 -- The directions in which two items meet.
 use Rattle.nef_sover.proofs.Prelude.{◌≡◌, ℕ, ◌+◌, ◌<◌, ◌≤◌, List, [], ◌∷◌, ◌++◌, Some, None, length, get_or, refl, sym, ap, subst, inl, inr, ◌⊎◌, svertex_limit, Vector, IsAtMost, IsParallel, SameDirection, cross, opposite, vector_of, Dir, IsOnCircle, arcs_are_of_directions, two_meets_at, SVertex, SphereMap, map-at, at-map, svertex_of, map_of, IsSphereMap, Track, normal_of, number_of, LiesOn, Axis, Crossed, Adds, AreNamed, IsCommon, IsMeetAlong, IsMeet, IsOnSvertex, direction-right, dir-self, level-way, SameDirection-turned}
-use Rattle.nef_geo.proofs.Directions.{small-neg}
 use Rattle.nef_arc.proofs.Ends.{source_on, target_on}
 use Rattle.nef_sover.specs.declared.axes.Track.TheVariants.{Arc, Sloop}
 use Rattle.nef_sover.proofs.Places.{read-at}
@@ -39,13 +38,6 @@ module _ (x y : Track) where
 
       back : (c : Crossed) (f : Vector) → IsMeet x y c f → IsMeetAlong x y d c f ⊎ IsMeetAlong x y e c f
       back c f (b, a, m) = on c f b m (two_meets_at (normal_of x) (normal_of y) d f n (SameDirection-turned (cross (normal_of x) (normal_of y)) d s) (on-circle x f b.0) (on-circle y f b.1))
-
-pub back-small : (k : ℕ) (d e : Vector) → e ≡ opposite d → IsAtMost k d → IsAtMost k e
-back-small k d e q s = record {
-  of_x = small-neg k d.x e.x (ap (λ (v : Vector). v.x) q) s.of_x;
-  of_y = small-neg k d.y e.y (ap (λ (v : Vector). v.y) q) s.of_y;
-  of_z = small-neg k d.z e.z (ap (λ (v : Vector). v.z) q) s.of_z;
-}
 
 -- ---- svertices
 abbrev pub IsAlong : SVertex → Crossed → Vector → Type 0

@@ -1,18 +1,8 @@
 -- The sloop of an overlay.
-use Rattle.nef_sover.proofs.Prelude.{◌≡◌, List, Option, Some, None, option_map, refl, sym, ap, subst, ◌∙◌, inl, inr, ◌⊎◌, normal_limit, Vector, IsAtMost, IsNormal, opposite, Label, vector_of, Dir, IsOnCircle, MapSloop, sloop_item, Map, IsFree, MapLabel, NearLabel, at-sloop, IsAxis, IsLoneSloop, IsMergedSloop, SLoop, SphereMap, sloop_of, map_of, IsSphereMap, dir-primitive, dir-equal, Axis, AreAxes, AreOff, IsUncrossed, HasLabels, HasOpLabels, IsLoneNormal, level-way, SameDirection-turned}
+use Rattle.nef_sover.proofs.Prelude.{◌≡◌, pos, List, Option, Some, option_map, sym, ap, subst, ◌∙◌, inl, inr, ◌⊎◌, neg, normal_limit, Vector, IsAtMost, IsNormal, opposite, Label, vector_of, Dir, IsOnCircle, MapSloop, sloop_item, Map, IsFree, MapLabel, NearLabel, at-sloop, IsAxis, IsLoneSloop, IsMergedSloop, SLoop, SphereMap, sloop_of, map_of, IsSphereMap, dir-primitive, dir-equal, Axis, AreAxes, AreOff, IsUncrossed, HasLabels, HasOpLabels, IsLoneNormal, level-way, SameDirection-turned}
+use Rattle.nef_smap.proofs.MapLists.{sloop-was}
 use Rattle.nef_sover.proofs.Bare.{one-label, near-circle, free-circle, sloop-mark, sloop-pos, sloop-neg}
 use Rattle.nef_sover.proofs.Lone.{uncrossed-a, uncrossed-b}
-
-sloop-from : (o : Option SLoop) (l : MapSloop) → option_map sloop_of o ≡ Some l → (s : SLoop) × (o ≡ Some s) × (sloop_of s ≡ l)
-sloop-from None l e = cc
-sloop-from (Some s) l e = (s, refl, some_is e)
-  where
-    get : MapSloop → Option MapSloop → MapSloop
-    get d None = d
-    get d (Some x) = x
-
-    some_is : {x y : MapSloop} → ◌≡◌ {A = Option MapSloop} (Some x) (Some y) → x ≡ y
-    some_is {x} e = ap (get x) e
 
 -- ---- the lone normal
 module _ (a b : SphereMap) (ds : List Axis) (X : AreAxes (map_of a) (map_of b) ds) where
@@ -50,8 +40,8 @@ module _ (a b : SphereMap) (ds : List Axis) (X : AreAxes (map_of a) (map_of b) d
   lone-none f g l h = by h.0
     where
       by : (A.sloop ≡ Some l) ⊎ (B.sloop ≡ Some l) → ⊥
-      by (inl e) = let s = sloop-from a.sloop l e in f s.0 s.1 (axes-off (vector_of s.0.normal) (subst (λ (k : MapSloop). (d : Vector) → IsOnCircle k.normal d → IsAxis A B d → ⊥) (sym s.2) h.1))
-      by (inr e) = let s = sloop-from b.sloop l e in g s.0 s.1 (axes-off (vector_of s.0.normal) (subst (λ (k : MapSloop). (d : Vector) → IsOnCircle k.normal d → IsAxis A B d → ⊥) (sym s.2) h.1))
+      by (inl e) = let s = sloop-was a.sloop l e in f s.0 s.1 (axes-off (vector_of s.0.normal) (subst (λ (k : MapSloop). (d : Vector) → IsOnCircle k.normal d → IsAxis A B d → ⊥) (sym s.2) h.1))
+      by (inr e) = let s = sloop-was b.sloop l e in g s.0 s.1 (axes-off (vector_of s.0.normal) (subst (λ (k : MapSloop). (d : Vector) → IsOnCircle k.normal d → IsAxis A B d → ⊥) (sym s.2) h.1))
 
 -- ---- a map's labels along a circle
 module _ (m : SphereMap) (S : IsSphereMap m) (n : Dir) where
@@ -71,7 +61,7 @@ module _ (m : SphereMap) (S : IsSphereMap m) (n : Dir) where
   }
     where
       none-there : (c : MapSloop) → (map_of m).sloop ≡ Some c → c.normal ≡ vector_of n → ⊥
-      none-there c e q = let s = sloop-from m.sloop c e in absent s.0 s.1 (dir-equal s.0.normal n (ap (λ (x : MapSloop). x.normal) s.2 ∙ q))
+      none-there c e q = let s = sloop-was m.sloop c e in absent s.0 s.1 (dir-equal s.0.normal n (ap (λ (x : MapSloop). x.normal) s.2 ∙ q))
 
       free : (e : Vector) → IsOnCircle (vector_of n) e → IsFree (map_of m) e
       free = free-circle (map_of m) S.valid S.ordered (vector_of n) N (dir-primitive n) U none-there

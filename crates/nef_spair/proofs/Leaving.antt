@@ -1,5 +1,6 @@
 -- The arcs that leave stars, one ray after another.
 use Rattle.nef_spair.proofs.Prelude.{◌≡◌, ℕ, zero, suc, ◌+◌, ◌<◌, ◌≤◌, List, [], ◌∷◌, ◌++◌, length, map, get_or, true, Bool, cond, arith, sym, ap, subst, ◌∙◌, inl, inr, ◌⊎◌, eq-or-lt_of_le, length-map, normal_limit, opposite, IsAtMost, SameDirection, Label, Out, vector_of, Dir, At, Arc as PlainArc, Follows, at-one, IsArcFrom, IsFirstAfter, Ray, Star, ray_of, star_of, left_of, left_at, IsRay, IsTurned, IsNext, three_ways, count-some, SArc, arc_of, map-at, at-within, get-at, IsEarlier, IsAlong, IsTwin, AreApart, AreArcs, SameDirection-turned, dir-self, is-at_none, is-at_first}
+use Rattle.nef_smap.proofs.WellFormed.{left-at}
 use Rattle.nef_spair.proofs.Places.{at-before, at-last, at-more, all-at}
 
 -- ---- one arc
@@ -48,11 +49,6 @@ module _ (kept : List Star) (a : PlainArc) (t : Star) (r : Ray) (number before :
   }
 
 -- ---- two rays of a star leave in different directions
-left-at : (rays : List Ray) (k : ℕ) (r : Ray) → At rays k r → left_at rays k ≡ left_of r
-left-at [] k r h = absurd (is-at_none h)
-left-at (q ∷ qs) zero r h = ap left_of (is-at_first h)
-left-at (q ∷ qs) (suc k) r h = left-at qs k r h
-
 module _ (t : Star) (T : IsTurned t) where
   later-differs : (i k : ℕ) → i < k → k < length t.rays.items → SameDirection (left_at t.rays.items k) (left_at t.rays.items i) → ⊥
   later-differs zero k h l s = T.counterclockwise.apart k h l (SameDirection-turned (left_at t.rays.items k) (left_at t.rays.items 0) s)

@@ -1,10 +1,12 @@
 -- A map has one kind, and what its fields say of it.
-use Rattle.nef_spair.proofs.Prelude.{◌≡◌, ℤ, pos, negsuc, neg_ℤ, List, [], ◌∷◌, length, map, slice_get, Option, Some, None, option_map, arith, refl, sym, ap, subst, ◌∙◌, ints, ring, at, num, neg, ◌⊕◌, ◌⊖◌, ◌⊗◌, follows, given, none, Place, Set, Vector, dot, opposite, IsDirection, SameDirection, IsOpposite, vector_of, Dir, same_directions_equal, Map, MapVertex, MapSloop, Least, Cone, IsInVolume, IsInFacet, IsOnEdge, SLoop, SphereMap, svertex_of, sloop_of, map_of, dir-equal, Vertex, OnEdge, InFacet, InVolume, IsVertex, IsKind, KindFits, self-pos}
+use Rattle.nef_spair.proofs.Prelude.{◌≡◌, ℤ, List, [], ◌∷◌, length, map, slice_get, Option, Some, None, option_map, arith, refl, sym, ap, subst, ◌∙◌, Place, Set, Vector, opposite, SameDirection, IsOpposite, vector_of, Dir, same_directions_equal, Map, MapVertex, MapSloop, Least, Cone, IsInVolume, IsInFacet, IsOnEdge, SLoop, SphereMap, svertex_of, sloop_of, map_of, dir-equal, Vertex, OnEdge, InFacet, InVolume, IsVertex, IsKind, KindFits}
+use Rattle.nef_space.proofs.Vectors.{opposite-itself, opposite-way}
 use Rattle.law_sphere.proofs.Kind.{flat-parallel}
 use Rattle.law_sphere.proofs.KindFlats.{facet-flat, facet-only}
 use Rattle.law_sphere.proofs.KindLaws.{KindOf, of_volume, of_facet, of_edge, edge-flat, edge-only, edge-direction}
 use Rattle.law_sphere.proofs.Dimensions.{map-flat, flat-map, volume-dimension, facet-dimension, edge-dimension, vertex-dimension}
 use Rattle.nef_smap.specs.declared.map.SVertex.{SVertex}
+use Rattle.nef_smap.proofs.MapLists.{sloop-was}
 use Rattle.nef_spair.specs.declared.answer.Kind.{Kind}
 
 -- ---- no two kinds
@@ -84,10 +86,6 @@ pub no-sloop-was : (o : Option SLoop) → option_map sloop_of o ≡ None → o �
 no-sloop-was None e = refl
 no-sloop-was (Some l) e = let i : Some (sloop_of l) ≡ None = e in absurd (cc)
 
-pub sloop-was : (o : Option SLoop) (l : MapSloop) → option_map sloop_of o ≡ Some l → (c : SLoop) × (o ≡ Some c) × (sloop_of c ≡ l)
-sloop-was None l e = let i : None ≡ Some l = e in absurd (cc)
-sloop-was (Some c) l e = let i : Some (sloop_of c) ≡ Some l = e in (c, refl, cc)
-
 module _ (m : SphereMap) where
   pub volume-then : IsInVolume (map_of m) → (m.svertices ≡ []) × (m.sloop ≡ None) × (m.ground ≡ Some m.mark)
   volume-then v = (none-was m.svertices v.no_svertex, no-sloop-was m.sloop v.no_sloop, v.same_mark)
@@ -139,34 +137,8 @@ two-listed (x ∷ y ∷ z ∷ xs) a b n e f = absurd (omega (arith, n))
 abbrev both : Vector → Vector → List ℤ
 both u v = u.x ∷ u.y ∷ u.z ∷ v.x ∷ v.y ∷ v.z ∷ []
 
-pub back-opposite : (v : Vector) → IsDirection v → IsOpposite v (opposite v)
-back-opposite v h = record {
-  parallel = (
-    ring (both v v) (at 1 ⊗ neg (at 2) ⊖ at 2 ⊗ neg (at 1)) (num (pos 0)) tt,
-    ring (both v v) (at 2 ⊗ neg (at 0) ⊖ at 0 ⊗ neg (at 2)) (num (pos 0)) tt,
-    ring (both v v) (at 0 ⊗ neg (at 1) ⊖ at 1 ⊗ neg (at 0)) (num (pos 0)) tt,
-  );
-  backward =
-      let e : dot v (opposite v) ≡ neg_ℤ (dot v v) = ring (both v v) (at 0 ⊗ neg (at 0) ⊕ at 1 ⊗ neg (at 1) ⊕ at 2 ⊗ neg (at 2)) (neg (at 0 ⊗ at 0 ⊕ at 1 ⊗ at 1 ⊕ at 2 ⊗ at 2)) tt in
-      let p = self-pos v h in omega (arith, ints, e, p);
-}
-
-back-same : (v e : Vector) → IsOpposite v e → SameDirection (opposite v) e
-back-same v e o =
-    let x = o.parallel.0 in let y = o.parallel.1 in let z = o.parallel.2 in let b = o.backward in
-    record {
-      parallel = (
-        follows (both v e) (neg (at 1) ⊗ at 5 ⊖ neg (at 2) ⊗ at 4) (num (pos 0)) (given (num (negsuc 0)) (at 1 ⊗ at 5 ⊖ at 2 ⊗ at 4) (num (pos 0)) x none) tt,
-        follows (both v e) (neg (at 2) ⊗ at 3 ⊖ neg (at 0) ⊗ at 5) (num (pos 0)) (given (num (negsuc 0)) (at 2 ⊗ at 3 ⊖ at 0 ⊗ at 5) (num (pos 0)) y none) tt,
-        follows (both v e) (neg (at 0) ⊗ at 4 ⊖ neg (at 1) ⊗ at 3) (num (pos 0)) (given (num (negsuc 0)) (at 0 ⊗ at 4 ⊖ at 1 ⊗ at 3) (num (pos 0)) z none) tt,
-      );
-      forward =
-          let f : dot (opposite v) e ≡ neg_ℤ (dot v e) = ring (both v e) (neg (at 0) ⊗ at 3 ⊕ neg (at 1) ⊗ at 4 ⊕ neg (at 2) ⊗ at 5) (neg (at 0 ⊗ at 3 ⊕ at 1 ⊗ at 4 ⊕ at 2 ⊗ at 5)) tt in
-          omega (arith, ints, f, b);
-    }
-
 pub opposite-if : (d b e : Dir) → vector_of b ≡ opposite (vector_of d) → b ≡ e → IsOpposite (vector_of d) (vector_of e)
-opposite-if d b e h i = subst (IsOpposite (vector_of d)) (sym h ∙ ap vector_of i) (back-opposite (vector_of d) d.some)
+opposite-if d b e h i = subst (IsOpposite (vector_of d)) (sym h ∙ ap vector_of i) (opposite-itself (vector_of d) d.some)
 
 pub opposite-then : (d b e : Dir) → vector_of b ≡ opposite (vector_of d) → IsOpposite (vector_of d) (vector_of e) → b ≡ e
-opposite-then d b e h o = same_directions_equal b e (subst (λ (v : Vector). SameDirection v (vector_of e)) (sym h) (back-same (vector_of d) (vector_of e) o))
+opposite-then d b e h o = same_directions_equal b e (subst (λ (v : Vector). SameDirection v (vector_of e)) (sym h) (opposite-way (vector_of d) (vector_of e) o))

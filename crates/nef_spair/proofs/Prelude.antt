@@ -3,7 +3,7 @@ pub use Rattle.nef_geo.proofs.Prelude.{MatchOrdering, Place, false≢true, int_c
 pub use Rattle.law_sphere.proofs.Prelude.{Cone, IsInFacet, IsInVolume, IsOnEdge, SameLabels, Set, is-at_first, is-at_none, level-of_opposite, level-opposite-back}
 pub use Rattle.law_build.proofs.Prelude.{ArcBelow, AreSimplified, ByOp, Follows, IsArcFrom, IsBare, IsBuiltFrom, IsKeptRaw, IsKeptStar, IsLabelling, IsPlain, IsRawLabel, IsRawOf, IsSimplified, IsSloopFrom, Raw, label-unique, raw_sloop, sloop_at, straight_sloop, svertex_at}
 pub use Rattle.nef_star.proofs.Prelude.{AboutFour, All, IsTurned, length-set}
-pub use Rattle.nef_smap.proofs.Prelude.{Arc, At, Bool, Dir, Equal, Global, Greater, IfOk-weaker, InOrder, IsAtMost, IsDirection, IsNext, IsOpposite, IsRay, IsSmall, IsStar, IsStraight, IsStrictlyOn, IsTotalOrder, Item, Label, Least, Less, List, Map, MapLabel, MapSloop, MapVertex, None, Option, Ordered, Ordering, Out, Ray, SameDirection, SameDirection-turned, Some, Star, Valid, Vec, Vector, VectorBelow, [], ap, arc_of, arith, at, at-one, cond, dir-self, dot, dot-comm, eq-or-lt_of_le, eq_by_cmp, false, follows, forms, get_or, given, inl, inr, ints, is-at_last, is-at_left, is_eq, is_lt, item_normal, items_then, left_at, left_of, length, length-map, map, map_of, neg, neg_ℤ, negsuc, none, normal_limit, num, opposite, option_map, order_is_transitive, pos, ray_of, refl, ring, rules, same_directions_equal, self-pos, slice_get, sloop_of, star_of, subst, suc, svertex_limit, svertex_of, sym, take, true, vector-same, vector_of, zero, ℕ, ℤ, ⊎_elim, ◌++◌, ◌+◌, ◌-◌, ◌<ℤ◌, ◌<◌, ◌↔◌, ◌∙◌, ◌∷◌, ◌≡◌, ◌≢◌, ◌≤◌, ◌⊎◌, ◌⊕◌, ◌⊖◌, ◌⊗◌}
+pub use Rattle.nef_smap.proofs.Prelude.{Arc, At, Bool, Dir, Equal, Global, Greater, IfOk-weaker, InOrder, IsAtMost, IsDirection, IsNext, IsOpposite, IsRay, IsSmall, IsStar, IsStraight, IsStrictlyOn, IsTotalOrder, Item, Label, Least, Less, List, Map, MapLabel, MapSloop, MapVertex, None, Option, Ordered, Ordering, Out, Ray, SameDirection, SameDirection-turned, Some, Star, Valid, Vec, Vector, VectorBelow, [], ap, arc_of, arith, at-one, cond, dir-self, dot, dot-comm, eq-or-lt_of_le, eq_by_cmp, false, forms, get_or, inl, inr, ints, is-at_last, is-at_left, is_eq, is_lt, item_normal, items_then, left_at, left_of, length, length-map, map, map_of, normal_limit, opposite, option_map, order_is_transitive, pos, ray_of, refl, rules, same_directions_equal, slice_get, sloop_of, star_of, subst, suc, svertex_limit, svertex_of, sym, take, true, vector-same, vector_of, zero, ℕ, ℤ, ⊎_elim, ◌++◌, ◌+◌, ◌-◌, ◌<ℤ◌, ◌<◌, ◌↔◌, ◌∙◌, ◌∷◌, ◌≡◌, ◌≢◌, ◌≤◌, ◌⊎◌}
 pub use Rattle.std.proofs.Common.{MatchOption, get_or-set_other, get_or-set_same, slice_set}
 pub use Rattle.std.proofs.lemmas.Cmp.{by_ranked, eq_by_cmp_equiv, nat_cmp_total, ranked, tied_back}
 pub use Rattle.std.proofs.lemmas.List.Sorted.{Contains-permutation, IsPermutation-sym, answers_always, ranks_by, sorted_far}

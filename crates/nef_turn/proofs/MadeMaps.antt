@@ -1,7 +1,7 @@
 -- A map of the turned svertices, arcs and sloop is the turned map.
 use Rattle.nef_turn.proofs.Prelude.{◌≡◌, ℕ, List, map, length, Some, option_map, ap, sym, ◌∙◌, subst, Vector, IsNormal, vector_of, IsPrimitive, VectorBelow, At, MapVertex, Arc, MapSloop, Item, arc_item, sloop_item, items, item_normal, InOrder, ArcBelow, Ordered, arc-at, sloop-at, at-map, map-at, svertex_of, arc_of, sloop_of, map_of, SLoop, SphereMap, dir-primitive, turned_svertex, IsTurnedArc, IsTurnedOption, HasTurnedLists, Moved, AreImages, AreMoved, AreNumbers, IsOfMoved, AreTurnedArcs, number_in}
 use Rattle.nef_turn.proofs.MovedSvertices.{placed, number-is}
-use Rattle.nef_spair.proofs.OneKind.{sloop-was as sloop-from}
+use Rattle.nef_smap.proofs.MapLists.{sloop-was as sloop-from}
 
 -- what the steps of turning the map m make
 pub record IsMade (k : ℕ) (m n : SphereMap) (us : List Moved) (ns : List ℕ) : Type 0 where

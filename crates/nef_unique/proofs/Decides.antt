@@ -5,11 +5,12 @@ use Rattle.std.specs.Cmp.Lexicographic.{pointwise}
 use Rattle.std.proofs.lemmas.Slice.Eq.{slice_eq-Decides}
 use Rattle.nef_space.specs.contracts.label.LabelPartialEq.TheImpl.{eq-value as label_eq}
 use Rattle.nef_geo.specs.contracts.dir.DirPartialEq.TheImpl.{eq-value as dir_eq}
-use Rattle.nef_geo.specs.contracts.point.PointPartialEq.TheImpl.{eq-value as point_eq}
 use Rattle.nef_smap.specs.contracts.map.SVertexPartialEq.TheImpl.{eq-value as svertex_eq}
 use Rattle.nef_smap.specs.contracts.map.SArcPartialEq.TheImpl.{eq-value as arc_eq}
 use Rattle.nef_smap.specs.contracts.map.SLoopPartialEq.TheImpl.{eq-value as sloop_eq}
-use Rattle.nef_unique.proofs.Injective.{dir-one, svertex-equal, arc-equal, sloop-equal}
+use Rattle.nef_smap.proofs.WellFormed.{dir-equal}
+use Rattle.nef_complex.proofs.SamePoints.{point_test}
+use Rattle.nef_unique.proofs.Injective.{svertex-equal, arc-equal, sloop-equal}
 
 -- the test says whether two values are equal
 abbrev pub IsTest : (A : Type 0) → (A → A → Bool) → Type 0
@@ -52,15 +53,12 @@ dir_test = dir_eq.it
 pub dir-decides : IsTest Dir dir_test
 dir-decides d e =
     Decides-like (dir_test d e)
-    (λ h. dir-one d e (ap (λ r. vector r d.y d.z) h.0 ∙ ap (λ r. vector e.x r d.z) h.1.0 ∙ ap (λ r. vector e.x e.y r) h.1.1))
+    (λ h. dir-equal d e (ap (λ r. vector r d.y d.z) h.0 ∙ ap (λ r. vector e.x r d.z) h.1.0 ∙ ap (λ r. vector e.x e.y r) h.1.1))
     (λ h. (ap (λ (r : Dir). r.x) h, (ap (λ (r : Dir). r.y) h, ap (λ (r : Dir). r.z) h)))
     (Decides-and _ _ (Decides-int_eq d.x e.x) (Decides-and _ _ (Decides-int_eq d.y e.y) (Decides-int_eq d.z e.z)))
 
 point-one : (p q : Point) → p.x ≡ q.x → p.y ≡ q.y → p.z ≡ q.z → p.w ≡ q.w → p ≡ q
 point-one p q a b c d = same_places_equal p q (record { along_x = rw (a, d) refl; along_y = rw (b, d) refl; along_z = rw (c, d) refl })
-
-abbrev pub point_test : Point → Point → Bool
-point_test = point_eq.it
 
 pub point-decides : IsTest Point point_test
 point-decides p q =

@@ -29,7 +29,7 @@ cones-same M s t p C D = record {
 }
 
 -- ---- equal points
-label-moved : (s : Set) (p q : Place) (l : Label) → SamePlace p q → HasLabel s p l → HasLabel s q l
+pub label-moved : (s : Set) (p q : Place) (l : Label) → SamePlace p q → HasLabel s p l → HasLabel s q l
 label-moved s p q l e = Label-cells s l p q (signs-same (carriers s) p q e)
 
 germ-moved : (s : Set) (p q : Place) (d : Vector) (l : Label) → SamePlace p q → Germ s p d l → Germ s q d l

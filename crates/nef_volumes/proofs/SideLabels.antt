@@ -2,7 +2,7 @@
 use Rattle.nef_volumes.proofs.Prelude.{◌≡◌, ℕ, refl, subst, Chained, IsAt, HasLabel, Place, Set, zero_vector, Label, ahead, near-ahead, label-one, Germ-zero, near-germ_zero, joined-germs, labels-by_germs, At, item_normal, seen, IsSmall, IsLeastMap, at-map, get-from_at, label-germ, Vertex, Complex, Shows, VertexSide, HasSideLabel, vertex_of, complex_of, ShowsSet, VolumeLink, IsAtSide, IsUpright, side-sees, at-side, sides-joined}
 use Rattle.nef_complex.specs.declared.complex.Complex.{Complex as ProgramComplex}
 use Rattle.nef_complex.specs.declared.complex.Vertex.{Vertex as ProgramVertex}
-use Rattle.nef_locate.proofs.Upward.{up-above}
+use Rattle.nef_smap.proofs.Upward.{normal-ahead}
 
 -- the maps of the program's complex are least, and within their limits
 abbrev pub HasLeastMaps : ProgramComplex → Type 0
@@ -12,7 +12,7 @@ HasLeastMaps c = (k : ℕ) (v : ProgramVertex) → IsAt c.vertices k v → IsLea
 pub upright-by_maps : (s : Set) (c : ProgramComplex) → Shows s (complex_of c) → HasLeastMaps c → IsUpright (complex_of c)
 upright-by_maps s c S maps k v x K =
     let M = S.cones k.vertex v K.vertex in
-    up-above (item_normal x) (M.valid.shaped.normals k.item x K.item) ((small k.vertex v K.vertex).normals k.item x K.item)
+    normal-ahead (item_normal x) (M.valid.shaped.normals k.item x K.item) ((small k.vertex v K.vertex).normals k.item x K.item)
   where
     small : (i : ℕ) (v : Vertex) → At (complex_of c).vertices i v → IsSmall v.map
     small i v a =

@@ -1,7 +1,7 @@
-use Rattle.nef_locate.proofs.Prelude.{◌≡◌, ◌≢◌, sym, ◌∙◌, rules, subst, triple, up, vector_of, Plus, dir_of, map_of, arc_of, end_of, IsLast}
+use Rattle.nef_locate.proofs.Prelude.{◌≡◌, ◌≢◌, sym, ◌∙◌, rules, subst, triple, up, vector_of, Plus, dir_of, map_of, arc_of, end_of, IsLast, sign_of-positive}
 use Rattle.nef_locate.proofs.LastArcs.{last-skip, last-first, last-kept, last-taken}
 use Rattle.nef_locate.proofs.Marks.{image-within, image-read}
-use Rattle.nef_locate.proofs.UpwardSides.{some-svertex, arc-upward, turn-read, turn-plus, plus-turn}
+use Rattle.nef_locate.proofs.UpwardSides.{some-svertex, arc-upward, turn-read, plus-turn}
 use Rattle.nef_locate.proofs.above.later_arc.Goals as goal
 
 pub returns-then-arc_end-svertex : goal.returns-then-arc_end-svertex
@@ -53,5 +53,5 @@ returns-else-eq c =
     let read = turn-read m s c.in-Some.before c.at.result.now c.at-in-Some.result.now L.arc (vector_of a.normal) c.triple-turn.result c.at.ensures.element c.at-in-Some.ensures.element L.listed c.triple-turn.ensures.triple in
     let other : c.triple-turn.result ≢ Plus = search rules in
     let kept = last-kept (map_of m) V.shaped s v.0 v.1 up (arc-upward m c.requires.map) c.args.begins c.args.number (arc_of a) (image-read arc_of m.arcs c.args.number a c.at-arc.ensures.element) on c.in-Some.before L
-    (λ t. other (read ∙ turn-plus (triple (dir_of (map_of m).svertices s) L.arc.normal (vector_of a.normal)) t)) in
+    (λ t. other (read ∙ sign_of-positive (triple (dir_of (map_of m).svertices s) L.arc.normal (vector_of a.normal)) t)) in
     record { last = kept }

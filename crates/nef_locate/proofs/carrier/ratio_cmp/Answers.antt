@@ -1,19 +1,7 @@
-use Rattle.nef_locate.proofs.Prelude.{ℕ, ℤ, ◌*ℤ◌, ◌≤◌, nat_abs, List, [], ◌∷◌, w64, ap, ◌∙◌, to_z, of_z, int_cmp, int_ranked, point_limit, weight_limit, Code, load, wrap, ◌⊠◌, Limited, exact_of, fits_of, upright_limit, upright_weight_limit}
+use Rattle.nef_locate.proofs.Prelude.{ℤ, ◌*ℤ◌, [], ◌∷◌, w64, ap, ◌∙◌, to_z, of_z, int_cmp, int_ranked, wrap, exact_of, fits_of}
+use Rattle.nef_plane.proofs.Ratios.{limits, sizes, first, second}
 use mir.Syntax.{w128}
 use Rattle.nef_locate.proofs.carrier.ratio_cmp.Goals as goal
-
--- the bounds of x, w, y, v
-abbrev sizes : List ℕ
-sizes = point_limit ∷ weight_limit ∷ upright_limit ∷ upright_weight_limit ∷ []
-
-abbrev first : Code
-first = wrap w128 (wrap w64 (load 0)) ⊠ wrap w128 (load 3)
-
-abbrev second : Code
-second = wrap w128 (load 2) ⊠ wrap w128 (wrap w64 (load 1))
-
-limits : (x w y v : ℤ) → nat_abs x ≤ point_limit → nat_abs w ≤ weight_limit → nat_abs y ≤ upright_limit → nat_abs v ≤ upright_weight_limit → Limited sizes (x ∷ w ∷ y ∷ v ∷ [])
-limits x w y v a b e f = (a, (b, (e, (f, tt))))
 
 pub overflow_mul-x : goal.overflow_mul-x
 overflow_mul-x c = let r = c.requires in let a = c.args in fits_of sizes (a.x ∷ a.w ∷ a.y ∷ a.v ∷ []) w128 first (limits a.x a.w a.y a.v r.x_small r.w_small r.y_small r.v_small) tt

@@ -1,6 +1,7 @@
 use Rattle.nef_sover.proofs.Prelude.{refl, subst, svertex_limit, Vector, cross, IsParallel, SameDirection, vector_of, normal_of}
 use Rattle.std.proofs.lemmas.Result.{on_ok_weaker}
-use Rattle.nef_sover.proofs.Meets.{meets-add, back-small, parallel-adds}
+use Rattle.nef_smap.proofs.Joining.{back-small}
+use Rattle.nef_sover.proofs.Meets.{meets-add, parallel-adds}
 use Rattle.nef_sover.proofs.axes.add_meets.Goals as goal
 
 pub add_common-requires-2 : goal.add_common-requires-2
