@@ -1,6 +1,6 @@
 -- Whether two points of a set are joined is decided, and their components are finitely many: points on the same sides of all carriers are joined, and so are points of which one lies on the sides of the other, or on the carriers
 -- between, where both have as many flat directions. Along an even segment nothing else happens.
-use Rattle.law_exist.proofs.Prelude.{◌≡◌, ℕ, zero, suc, ◌<◌, false, refl, sym, ap, ◌∙◌, ◌⊎◌, inl, inr, ⊎_elim, ◌↔◌, List, ◌∷◌, length, subst, [], Sign, minus, nought, plus, Lies, IsChain, Chained, Place, Form, Within, IsBetween, Set, FlatDim, IsEven, IsEvenPath, Joined, sign_at, carriers, SameSigns, of_place, OnPlaces, FlatDim-one, mixed-of, reach-some, keeps-all, is_nought, Decided, decided-both, decided-to, decided-not, every, joined-turned, joined-both, joined-itself, flat_dim-of, reach_all, dim-cell, joined-cell, joined-even, At, at-one, lies-at, at-or, even-by, chain-here, chain-link, chain-trans, chain-turned, HasComponents, at-within, JoinedIsDecided, ComponentsAreCounted, eq-decided}
+use Rattle.law_exist.proofs.Prelude.{◌≡◌, ℕ, zero, suc, ◌<◌, false, refl, sym, ap, ◌∙◌, ◌⊎◌, inl, inr, ⊎_elim, ◌↔◌, List, ◌∷◌, length, subst, [], Sign, minus, nought, plus, Lies, IsChain, Chained, Place, Form, Within, IsBetween, Set, FlatDim, IsEven, IsEvenPath, Joined, sign_at, carriers, SameSigns, of_place, OnPlaces, FlatDim-one, mixed-of, reach-some, keeps-all, is_nought, Decided, decided-both, decided-to, decided-not, every, joined-turned, joined-both, joined-itself, flat_dim-of, reach_all, dim-cell, joined-cell, joined-even, At, at-one, lies-at, at-or, even-by, chain-here, chain-link, chain-trans, chain-turned, HasComponents, at-within, JoinedIsDecided, ComponentsAreCounted, eq-decided, is-at_none, is-at_first}
 use Rattle.law_near.proofs.Cells.{Keeps}
 use Rattle.law_near.proofs.Crossings.{opposite, joint, sign-mixed}
 use Rattle.law_near.proofs.FlatDecided.{flat_dim-decided}
@@ -161,7 +161,7 @@ module _ (s : Set) where
     all : (p : Place) → Lies ps p → FlatDim s p k → (i : ℕ) × (q : Place) × At list i q × Joined s p q
 
   search : (p : Place) (qs : List Place) → ((i : ℕ) × (q : Place) × At qs i q × Joined s p q) ⊎ ((i : ℕ) (q : Place) → At qs i q → Joined s p q → ⊥)
-  search p [] = inr (λ i q a j. a)
+  search p [] = inr (λ i q a j. is-at_none a)
   search p (r ∷ qs) = by (joined-decided p r) (search p qs)
     where
       by : Decided (Joined s p r) → ((i : ℕ) × (q : Place) × At qs i q × Joined s p q) ⊎ ((i : ℕ) (q : Place) → At qs i q → Joined s p q → ⊥)
@@ -171,11 +171,11 @@ module _ (s : Set) where
       by (inr f) (inr g) = inr none
         where
           none : (i : ℕ) (q : Place) → At (r ∷ qs) i q → Joined s p q → ⊥
-          none zero q e j = f (subst (λ y. Joined s p y) (sym e) j)
+          none zero q e j = f (subst (λ y. Joined s p y) (sym (is-at_first e)) j)
           none (suc i) q a j = g i q a j
 
   choose : (k : ℕ) (ps : List Place) → Chosen k ps
-  choose k [] = record { list = []; flat = λ i p a. absurd a; apart = λ i j p q a b x. absurd a; all = λ p l f. absurd l }
+  choose k [] = record { list = []; flat = λ i p a. absurd (is-at_none a); apart = λ i j p q a b x. absurd (is-at_none a); all = λ p l f. absurd l }
   choose k (p ∷ ps) = by (flat_dim-decided s p k) (choose k ps)
     where
       by : Decided (FlatDim s p k) → Chosen k ps → Chosen k (p ∷ ps)
@@ -187,13 +187,13 @@ module _ (s : Set) where
           then (inr none) = record { list = p ∷ C.list; flat = flat; apart = apart; all = λ q l g. ⊎_elim (λ e. (zero, p, refl, subst (λ y. Joined s y p) e (joined-itself s p))) (λ m. let x = C.all q m g in (suc x.0, x.1, x.2, x.3)) l }
             where
               flat : (i : ℕ) (q : Place) → At (p ∷ C.list) i q → FlatDim s q k
-              flat zero q e = subst (λ y. FlatDim s y k) e f
+              flat zero q e = subst (λ y. FlatDim s y k) (is-at_first e) f
               flat (suc i) q a = C.flat i q a
 
               apart : (i j : ℕ) (q r : Place) → At (p ∷ C.list) i q → At (p ∷ C.list) j r → Joined s q r → i ≡ j
               apart zero zero q r a b x = refl
-              apart zero (suc j) q r e b x = absurd (none j r b (subst (λ y. Joined s y r) (sym e) x))
-              apart (suc i) zero q r a e x = absurd (none i q a (subst (λ y. Joined s y q) (sym e) (joined-turned s q r x)))
+              apart zero (suc j) q r e b x = absurd (none j r b (subst (λ y. Joined s y r) (sym (is-at_first e)) x))
+              apart (suc i) zero q r a e x = absurd (none i q a (subst (λ y. Joined s y q) (sym (is-at_first e)) (joined-turned s q r x)))
               apart (suc i) (suc j) q r a b x = ap suc (C.apart i j q r a b x)
 
   pub components : (k : ℕ) → (n : ℕ) × HasComponents s k n

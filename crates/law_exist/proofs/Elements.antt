@@ -1,5 +1,5 @@
 -- Elements of a table, in order: one for each row and column.
-use Rattle.law_exist.proofs.Prelude.{◌≡◌, ℕ, zero, suc, ◌<◌, refl, sym, ◌∙◌, ◌⊎◌, inl, inr, List, ◌∷◌, ◌++◌, subst, [], Lies, each, lies-each, lies-left, lies-right, lies-append, At, InOrder, Mapped, map-list, Sorted, sort, chain-order, lies-at, at-lies}
+use Rattle.law_exist.proofs.Prelude.{◌≡◌, ℕ, zero, suc, ◌<◌, refl, sym, ◌∙◌, ◌⊎◌, inl, inr, List, ◌∷◌, ◌++◌, subst, [], Lies, each, lies-each, lies-left, lies-right, lies-append, At, InOrder, Mapped, map-list, Sorted, sort, chain-order, lies-at, at-lies, is-at_none, is-at_first}
 use Rattle.law_exist.proofs.Classes.{numbers-to, in-numbers, number-in}
 use Rattle.law_exist.proofs.Numbering.{PairBelow, pair-trans, pair-either}
 use Rattle.law_exist.proofs.Planes.{lies-image}
@@ -14,9 +14,9 @@ pairs-of count (v ∷ vs) = each (λ k. (0, k)) (numbers-to (count v)) ++ each s
 
 pairs-have : {V : Type 0} (count : V → ℕ) (vs : List V) (i k : ℕ) (v : V) → At vs i v → k < count v → Lies (pairs-of count vs) (i, k)
 unfolding pairs-of
-pairs-have count [] i k v a l = absurd a
+pairs-have count [] i k v a l = absurd (is-at_none a)
 pairs-have {V} count (w ∷ vs) zero k v a l =
-    lies-left (each (λ j. (0, j)) (numbers-to (count w))) (each shifted (pairs-of count vs)) (0, k) (lies-each (λ j. (0, j)) (numbers-to (count w)) k (in-numbers (count w) k (subst (λ (u : V). k < count u) (sym a) l)))
+    lies-left (each (λ j. (0, j)) (numbers-to (count w))) (each shifted (pairs-of count vs)) (0, k) (lies-each (λ j. (0, j)) (numbers-to (count w)) k (in-numbers (count w) k (subst (λ (u : V). k < count u) (sym (is-at_first a)) l)))
 pairs-have count (w ∷ vs) (suc i) k v a l = lies-right (each (λ j. (0, j)) (numbers-to (count w))) (each shifted (pairs-of count vs)) (suc i, k) (lies-each shifted (pairs-of count vs) (i, k) (pairs-have count vs i k v a l))
 
 pairs-sound : {V : Type 0} (count : V → ℕ) (vs : List V) (p : ℕ × ℕ) → Lies (pairs-of count vs) p → (v : V) × At vs p.0 v × (p.1 < count v)

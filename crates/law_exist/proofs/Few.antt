@@ -1,5 +1,5 @@
 -- A list without repeats whose elements lie in another is no longer than that.
-use Rattle.law_exist.proofs.Prelude.{◌≡◌, ℕ, zero, suc, ◌+◌, ◌*◌, ◌≤◌, arith, refl, sym, ◌∙◌, ◌⊎◌, inl, inr, ⊎_elim, List, ◌∷◌, length, length-append, [], Lies, each, pairs, At, lies-at}
+use Rattle.law_exist.proofs.Prelude.{◌≡◌, ℕ, zero, suc, ◌+◌, ◌*◌, ◌≤◌, arith, refl, ap, sym, ◌∙◌, ◌⊎◌, inl, inr, ⊎_elim, Some, List, ◌∷◌, length, length-append, [], Lies, each, pairs, At, lies-at}
 
 -- no element stands at two places
 abbrev pub Once : {A : Type 0} → List A → Type 0
@@ -36,7 +36,7 @@ few {A} (x ∷ xs) ys o all = by (remove ys x (all x (inl refl))) (λ zs k. few 
     by : Removed ys x → ((zs : List A) → ((y : A) → Lies xs y → Lies zs y) → length xs ≤ length zs) → length (x ∷ xs) ≤ length ys
     by r go =
         let l = go r.list (λ y m. ⊎_elim
-        (λ e. let k = lies-at xs y m in let f = o zero (suc k.0) y e k.1 in absurd (omega (arith, f)))
+        (λ e. let k = lies-at xs y m in let f = o zero (suc k.0) y (ap Some e) k.1 in absurd (omega (arith, f)))
         (λ n. n) (r.others y (all y (inr m)))) in
         let s = r.shorter in
         omega (arith, l, s)

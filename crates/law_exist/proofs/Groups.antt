@@ -1,5 +1,5 @@
 -- The classes of finitely many things in order, each class in order, and the classes in the order of their first things.
-use Rattle.law_exist.proofs.Prelude.{◌≡◌, ℕ, zero, suc, arith, refl, sym, ◌⊎◌, inl, inr, ⊎_elim, List, ◌∷◌, length, subst, [], IsChain, Chained, Lies, Decided, decided-both, decided-to, decided-not, every, At, InOrder, at-one, lies-at, at-or, Chain, chain-here, chain-link, chain-trans, chain-turned, at-within, eq-decided}
+use Rattle.law_exist.proofs.Prelude.{◌≡◌, ℕ, zero, suc, arith, refl, ap, sym, ◌⊎◌, inl, inr, ⊎_elim, Some, List, ◌∷◌, length, subst, [], IsChain, Chained, Lies, Decided, decided-both, decided-to, decided-not, every, At, InOrder, at-one, lies-at, at-or, Chain, chain-here, chain-link, chain-trans, chain-turned, at-within, eq-decided}
 use Rattle.law_exist.proofs.Classes.{decided-classes}
 
 -- ---- classes of the images of listed things
@@ -108,7 +108,7 @@ module _ {X : Type 0} (Below : X → X → Type 0) where
       where
         by : (ys : List X) → Ordered ys → ((y : X) → Lies ys y → Lies xs y × E y x) → Lies ys x → At ys 0 x
         by [] c sound m = absurd m
-        by (y ∷ ys) c sound (inl e) = e
+        by (y ∷ ys) c sound (inl e) = ap Some e
         by (y ∷ ys) c sound (inr m) = absurd (let q = sound y (inl refl) in L y q.0 q.1 (c.0 x m))
 
     -- the leaders with P, which goes over to all of a class

@@ -1,5 +1,5 @@
 -- Numbers by first appearance, and tables of numbers.
-use Rattle.law_exist.proofs.Prelude.{◌≡◌, ◌≢◌, ℕ, zero, suc, ◌+◌, ◌<◌, ◌≤◌, pos, arith, refl, sym, ap, ◌∙◌, ◌⊎◌, inl, inr, ◌↔◌, List, ◌∷◌, ◌++◌, length, map, take, get_or, Option, Some, None, subst, [], ints, cases_order, length-map, take_all, IsAt, IsInTable, IsBelow, Decided, At, InOrder, is-at_one, is-at_within, is-at_some, take-more, IsNumberedTo, numbered-earlier, numbered-new, at-map, map-at, at-within, at-from_get, get-from_at, eq-decided}
+use Rattle.law_exist.proofs.Prelude.{◌≡◌, ◌≢◌, ℕ, zero, suc, ◌+◌, ◌<◌, ◌≤◌, pos, arith, refl, sym, ap, ◌∙◌, ◌⊎◌, inl, inr, ◌↔◌, List, ◌∷◌, ◌++◌, length, map, take, get_or, Option, Some, None, subst, [], ints, cases_order, length-map, take_all, IsAt, IsInTable, IsBelow, Decided, At, InOrder, is-at_one, is-at_within, is-at_some, take-more, IsNumberedTo, numbered-earlier, numbered-new, at-map, map-at, at-within, at-from_get, get-from_at, eq-decided, is-at_none, is-at_first}
 use Rattle.nef_classes.specs.Classes.{AreNumbered}
 
 -- ---- by first appearance
@@ -8,12 +8,12 @@ find-number [] x = inr (λ k c a e. let l = is-at_within [] k c a in omega (arit
 find-number (c ∷ cs) x = by (eq-decided c x) (find-number cs x)
   where
     by : Decided (c ≡ x) → ((e : ℕ) × IsAt cs e x) ⊎ ((k d : ℕ) → IsAt cs k d → d ≢ x) → ((e : ℕ) × IsAt (c ∷ cs) e x) ⊎ ((k d : ℕ) → IsAt (c ∷ cs) k d → d ≢ x)
-    by (inl e) o = inl (zero, get-from_at (c ∷ cs) zero x e)
+    by (inl e) o = inl (zero, ap Some e)
     by (inr n) (inl (e, a)) = inl (suc e, get-from_at (c ∷ cs) (suc e) x (at-from_get cs e x a))
     by (inr n) (inr f) = inr (λ k d a. none k d (at-from_get (c ∷ cs) k d a))
       where
         none : (k d : ℕ) → At (c ∷ cs) k d → d ≢ x
-        none zero d e g = n (e ∙ g)
+        none zero d e g = n (is-at_first e ∙ g)
         none (suc k) d a g = f k d (get-from_at cs k d a) g
 
 record NumberedTo (cs : List ℕ) : Type 0 where
@@ -80,14 +80,14 @@ number-all {X} xs id = by (numbered-exist (map id xs))
 -- ---- tables
 -- a row of numbers that R says
 pub row-of : (c : ℕ) (R : ℕ → ℕ → Type 0) → ((k : ℕ) → k < c → (n : ℕ) × R k n) → (row : List ℕ) × (length row ≡ c) × ((k n : ℕ) → At row k n → R k n)
-row-of zero R f = ([], refl, λ k n a. absurd a)
+row-of zero R f = ([], refl, λ k n a. absurd (is-at_none a))
 row-of (suc c) R f = by (f zero (omega arith)) (row-of c (λ k n. R (suc k) n) (λ k l. f (suc k) (omega (arith, l))))
   where
     by : ((n : ℕ) × R zero n) → ((row : List ℕ) × (length row ≡ c) × ((k n : ℕ) → At row k n → R (suc k) n)) → (row : List ℕ) × (length row ≡ suc c) × ((k n : ℕ) → At row k n → R k n)
     by (n, r) (row, e, all) = (n ∷ row, ap suc e, each)
       where
         each : (k m : ℕ) → At (n ∷ row) k m → R k m
-        each zero m q = subst (R zero) q r
+        each zero m q = subst (R zero) (is-at_first q) r
         each (suc k) m a = all k m a
 
 pub record Table {V : Type 0} (vs : List V) (count : V → ℕ) (R : ℕ → ℕ → ℕ → Type 0) : Type 0 where
@@ -97,18 +97,18 @@ pub record Table {V : Type 0} (vs : List V) (count : V → ℕ) (R : ℕ → ℕ
   pub each : (i k n : ℕ) (row : List ℕ) → At rows i row → At row k n → R i k n
 
 pub table-of : {V : Type 0} (vs : List V) (count : V → ℕ) (R : ℕ → ℕ → ℕ → Type 0) → ((i k : ℕ) (v : V) → At vs i v → k < count v → (n : ℕ) × R i k n) → Table vs count R
-table-of [] count R f = record { rows = []; as_many = refl; long = λ i v row a. absurd a; each = λ i k n row a. absurd a }
+table-of [] count R f = record { rows = []; as_many = refl; long = λ i v row a. absurd (is-at_none a); each = λ i k n row a. absurd (is-at_none a) }
 table-of {V} (v ∷ vs) count R f = by (row-of (count v) (R zero) (λ k l. f zero k v refl l)) (table-of vs count (λ i k n. R (suc i) k n) (λ i k w a l. f (suc i) k w a l))
   where
     by : ((row : List ℕ) × (length row ≡ count v) × ((k n : ℕ) → At row k n → R zero k n)) → Table vs count (λ i k n. R (suc i) k n) → Table (v ∷ vs) count R
     by (row, e, all) T = record { rows = row ∷ T.rows; as_many = ap suc T.as_many; long = long; each = each }
       where
         long : (i : ℕ) (w : V) (r : List ℕ) → At (v ∷ vs) i w → At (row ∷ T.rows) i r → length r ≡ count w
-        long zero w r a b = ap length (sym b) ∙ e ∙ ap count a
+        long zero w r a b = ap length (sym (is-at_first b)) ∙ e ∙ ap count (is-at_first a)
         long (suc i) w r a b = T.long i w r a b
 
         each : (i k n : ℕ) (r : List ℕ) → At (row ∷ T.rows) i r → At r k n → R i k n
-        each zero k n r b c = all k n (subst (λ z. At z k n) (sym b) c)
+        each zero k n r b c = all k n (subst (λ z. At z k n) (sym (is-at_first b)) c)
         each (suc i) k n r b c = T.each i k n r b c
 
 -- ---- the order of pairs of numbers

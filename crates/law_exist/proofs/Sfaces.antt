@@ -1,5 +1,5 @@
 -- The sides of each map of the program have numbers of sfaces.
-use Rattle.law_exist.proofs.Prelude.{◌≡◌, ℕ, zero, suc, ◌+◌, ◌<◌, ◌≤◌, ℤ, pos, ◌<ℤ◌, ◌≤ℤ◌, arith, refl, sym, ap, ◌∙◌, inl, inr, ⊎_elim, ◌↔◌, List, ◌∷◌, ◌++◌, length, take, Option, Some, None, subst, [], ints, lies-left, lies-right, by_order, Chained, Vector, opposite, dot, cross, up, IsDirection, Label, Decided, decided-both, forms, At, MapVertex, MapSloop, Map, Item, arc_item, sloop_item, items, item_normal, dir_of, around_svertex, pos_item, whole, Shaped, at-sloop, at-arc, item-forms, normal-form, OnItem-decided, circle-point, dir-at, normal-direction, Link, AreLinked, AreWithin, AreClasses, is-at_within, map_of, IsSphereMap, sides_of, AreSfaces, number_of, rise, IsOver, IsFirst, IsFirstOf, meridians, over_forms, FirstNear, JoinsBelow, JoinsArc, AreEach, AreArounds, AreSloops, AreGrounds, met_number, AreJoins, SphereMap, at-some, at-from_get, get-from_at, map-ahead, map-across, self-pos, dir-self, apart, eq-decided}
+use Rattle.law_exist.proofs.Prelude.{◌≡◌, ℕ, zero, suc, ◌+◌, ◌<◌, ◌≤◌, ℤ, pos, ◌<ℤ◌, ◌≤ℤ◌, arith, refl, sym, ap, ◌∙◌, inl, inr, ⊎_elim, ◌↔◌, List, ◌∷◌, ◌++◌, length, take, Option, Some, None, subst, [], ints, lies-left, lies-right, by_order, Chained, Vector, opposite, dot, cross, up, IsDirection, Label, Decided, decided-both, forms, At, MapVertex, MapSloop, Map, Item, arc_item, sloop_item, items, item_normal, dir_of, around_svertex, pos_item, whole, Shaped, at-sloop, at-arc, item-forms, normal-form, OnItem-decided, circle-point, dir-at, normal-direction, Link, AreLinked, AreWithin, AreClasses, is-at_within, map_of, IsSphereMap, sides_of, AreSfaces, number_of, rise, IsOver, IsFirst, IsFirstOf, meridians, over_forms, FirstNear, JoinsBelow, JoinsArc, AreEach, AreArounds, AreSloops, AreGrounds, met_number, AreJoins, SphereMap, at-some, at-from_get, get-from_at, map-ahead, map-across, self-pos, dir-self, apart, eq-decided, is-at_none, is-at_first}
 use Rattle.law_sphere.specs.Forms.{SameSigns}
 use Rattle.nef_geo.proofs.InPlane.{up-direction}
 use Rattle.nef_smap.proofs.FirstOf.{all-first, pass-first, only-first, lower-first, higher-first}
@@ -57,14 +57,14 @@ each-list : (n : ℕ) (P : ℕ → Link → Type 0) → ((k : ℕ) → k < n →
 each-list n P f = by (links n P f)
   where
     links : (n : ℕ) (P : ℕ → Link → Type 0) → ((k : ℕ) → k < n → (l : Link) × P k l) → (ls : List Link) × (length ls ≡ n) × ((k : ℕ) (l : Link) → At ls k l → P k l)
-    links zero P f = ([], refl, λ k l a. absurd a)
+    links zero P f = ([], refl, λ k l a. absurd (is-at_none a))
     links (suc n) P f = more (f zero (omega arith)) (links n (λ k l. P (suc k) l) (λ k h. f (suc k) (omega (arith, h))))
       where
         more : ((l : Link) × P zero l) → ((ls : List Link) × (length ls ≡ n) × ((k : ℕ) (l : Link) → At ls k l → P (suc k) l)) → (ls : List Link) × (length ls ≡ suc n) × ((k : ℕ) (l : Link) → At ls k l → P k l)
         more (l, p) (ls, e, all) = (l ∷ ls, ap suc e, each)
           where
             each : (k : ℕ) (m : Link) → At (l ∷ ls) k m → P k m
-            each zero m q = subst (P zero) q p
+            each zero m q = subst (P zero) (is-at_first q) p
             each (suc k) m a = all k m a
 
     by : ((ls : List Link) × (length ls ≡ n) × ((k : ℕ) (l : Link) → At ls k l → P k l)) → (ls : List Link) × AreEach P n ls
@@ -157,12 +157,12 @@ link-decided (l ∷ ls) s t = by (eq-decided l.first s) (eq-decided l.second t) 
     by (inr n) f (inr g) = inr (λ x. none x.0 x.1 (at-from_get (l ∷ ls) x.0 x.1 x.2) x.3 x.4)
       where
         none : (k : ℕ) (m : Link) → At (l ∷ ls) k m → m.first ≡ s → m.second ≡ t → ⊥
-        none zero m e h i = n (ap (λ (r : Link). r.first) e ∙ h)
+        none zero m e h i = n (ap (λ (r : Link). r.first) (is-at_first e) ∙ h)
         none (suc k) m a h i = g (k, m, get-from_at ls k m a, h, i)
     by (inl e) (inr n) (inr g) = inr (λ x. none x.0 x.1 (at-from_get (l ∷ ls) x.0 x.1 x.2) x.3 x.4)
       where
         none : (k : ℕ) (m : Link) → At (l ∷ ls) k m → m.first ≡ s → m.second ≡ t → ⊥
-        none zero m e h i = n (ap (λ (r : Link). r.second) e ∙ i)
+        none zero m e h i = n (ap (λ (r : Link). r.second) (is-at_first e) ∙ i)
         none (suc k) m a h i = g (k, m, get-from_at ls k m a, h, i)
 
 pub classes-exist : (n : ℕ) (ls : List Link) → AreWithin n ls → (cs : List ℕ) × AreClasses n ls cs

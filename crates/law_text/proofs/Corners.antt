@@ -1,5 +1,5 @@
 -- What is said of all corners of the frame, or of all axes, is one equation that computes.
-use Rattle.law_text.proofs.Prelude.{◌≡◌, ℕ, zero, suc, ◌+◌, ◌*◌, ◌<◌, ltb, ◌==◌, inl, inr, ⊎_elim, ℤ, pos, negsuc, ◌<ℤ◌, arith, refl, ap, Bool, true, false, cond, List, [], ◌∷◌, length, map, subst, ints, ltb-true, IsBelow, InOrder, At, Both, of_three, each-three, is-at_some, at-map, map-at, some-at, Ends, ends, Axis, on_x, on_y, on_z}
+use Rattle.law_text.proofs.Prelude.{◌≡◌, ℕ, zero, suc, ◌+◌, ◌*◌, ◌<◌, ltb, ◌==◌, inl, inr, ⊎_elim, ℤ, pos, negsuc, ◌<ℤ◌, arith, refl, ap, Bool, true, false, cond, List, [], ◌∷◌, length, map, subst, ints, ltb-true, IsBelow, InOrder, At, Both, of_three, each-three, is-at_some, at-map, map-at, some-at, Ends, ends, Axis, on_x, on_y, on_z, is-at_none, is-at_first}
 use Rattle.law_text.proofs.Numbering.{three-ways}
 
 pub record OnAxes (A : Type 0) : Type 0 where
@@ -57,8 +57,8 @@ count_from s zero = []
 count_from s (suc n) = s ∷ count_from (suc s) n
 
 at-count : (n s k m : ℕ) → At (count_from s n) k m → m ≡ k + s
-at-count zero s k m h = absurd h
-at-count (suc n) s zero m h = omega (arith, h)
+at-count zero s k m h = absurd (is-at_none h)
+at-count (suc n) s zero m h = omega (arith, is-at_first h)
 at-count (suc n) s (suc k) m h = let e = at-count n (suc s) k m h in omega (arith, e)
 
 -- where the numbers of a list are its places, what is so of each image by its number is so of the images in the list
@@ -78,11 +78,11 @@ named number xs e n h =
 
 -- what is so of four is so of each in their list
 pub of-four : {X : Type 0} (Q : X → Type 0) (a b c d : X) → Q a → Q b → Q c → Q d → (n : ℕ) (x : X) → At (a ∷ b ∷ c ∷ d ∷ []) n x → Q x
-of-four Q a b c d p q r s zero x h = subst Q h p
-of-four Q a b c d p q r s (suc zero) x h = subst Q h q
-of-four Q a b c d p q r s (suc (suc zero)) x h = subst Q h r
-of-four Q a b c d p q r s (suc (suc (suc zero))) x h = subst Q h s
-of-four Q a b c d p q r s (suc (suc (suc (suc n)))) x h = absurd h
+of-four Q a b c d p q r s zero x h = subst Q (is-at_first h) p
+of-four Q a b c d p q r s (suc zero) x h = subst Q (is-at_first h) q
+of-four Q a b c d p q r s (suc (suc zero)) x h = subst Q (is-at_first h) r
+of-four Q a b c d p q r s (suc (suc (suc zero))) x h = subst Q (is-at_first h) s
+of-four Q a b c d p q r s (suc (suc (suc (suc n)))) x h = absurd (is-at_none h)
 
 -- ---- the order of pairs
 pub pair-below : (v i w j : ℕ) → i < 3 → j < 3 → (v * 3 + i) < (w * 3 + j) → IsBelow (pos v ∷ pos i ∷ []) (pos w ∷ pos j ∷ [])
@@ -93,13 +93,13 @@ Rises n [] = Unit {0}
 Rises n (m ∷ ms) = (ltb n m ≡ true) × Rises m ms
 
 above-all : (n : ℕ) (ms : List ℕ) → Rises n ms → (k m : ℕ) → At ms k m → n < m
-above-all n [] r k m h = absurd h
-above-all n (x ∷ xs) r zero m h = subst (λ y. n < y) h (ltb-true n x r.0)
+above-all n [] r k m h = absurd (is-at_none h)
+above-all n (x ∷ xs) r zero m h = subst (λ y. n < y) (is-at_first h) (ltb-true n x r.0)
 above-all n (x ∷ xs) r (suc k) m h = let p = ltb-true n x r.0 in let q = above-all x xs r.1 k m h in omega (arith, p, q)
 
 pub rising : (n : ℕ) (ms : List ℕ) → Rises n ms → InOrder (λ x y. x < y) (n ∷ ms)
 rising n ms r zero zero x y l a b = absurd (omega (arith, l))
-rising n ms r zero (suc k) x y l a b = subst (λ z. z < y) a (above-all n ms r k y b)
+rising n ms r zero (suc k) x y l a b = subst (λ z. z < y) (is-at_first a) (above-all n ms r k y b)
 rising n ms r (suc i) zero x y l a b = absurd (omega (arith, l))
-rising n [] r (suc i) (suc k) x y l a b = absurd a
+rising n [] r (suc i) (suc k) x y l a b = absurd (is-at_none a)
 rising n (m ∷ ms) r (suc i) (suc k) x y l a b = rising m ms r.1 i k x y (omega (arith, l)) a b

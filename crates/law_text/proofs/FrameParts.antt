@@ -1,5 +1,5 @@
 -- The parts of the complexes of the whole frame and of the empty set: six facets of one cycle each, and two volumes.
-use Rattle.law_text.proofs.Prelude.{◌≡◌, ℕ, zero, suc, ◌+◌, ◌*◌, ltb, ◌<◌, ◌≤◌, pos, neg_ℤ, nat_abs, arith, refl, sym, ◌∙◌, ap, ⊎_elim, Bool, true, false, cond, List, [], ◌∷◌, ◌++◌, length, map, subst, Option, Some, None, ints, ltb-true, lt-ltb, eq-eqb, All, offset_limit, IsAt, Chained, NumbersClasses, Form, form_at, normal_of, Vector, cross, IsZero, Label, Out, place_of, form_of, Plane, InOrder, At, Item, arc_item, items, item_pos, item_neg, Side, around_svertex, pos_item, neg_item, whole, HasSide, MapVertex, differ, is-at_within, is-at_some, at-map, side-number, number_of, sides_of, Vertex, Complex, Corner, VertexSide, HasSideLabel, FacetLink, VolumeLink, NextCorner, IsCornerBelow, IsCycle, IsCycleBelow, Cycles, IsFacetOf, IsVolumeOf, IsFacetAt, IsFacet, IsParts, cycle_corners, Facet, Parts, end_at, Ends, Axis, on_x, on_y, on_z, end_of, axis_of, corner_point, each-bool}
+use Rattle.law_text.proofs.Prelude.{◌≡◌, ℕ, zero, suc, ◌+◌, ◌*◌, ltb, ◌<◌, ◌≤◌, pos, neg_ℤ, nat_abs, arith, refl, sym, ◌∙◌, ap, ⊎_elim, Bool, true, false, cond, List, [], ◌∷◌, ◌++◌, length, map, subst, Option, Some, None, ints, ltb-true, lt-ltb, eq-eqb, All, offset_limit, IsAt, Chained, NumbersClasses, Form, form_at, normal_of, Vector, cross, IsZero, Label, Out, place_of, form_of, Plane, InOrder, At, Item, arc_item, items, item_pos, item_neg, Side, around_svertex, pos_item, neg_item, whole, HasSide, MapVertex, differ, is-at_within, is-at_some, at-map, side-number, number_of, sides_of, Vertex, Complex, Corner, VertexSide, HasSideLabel, FacetLink, VolumeLink, NextCorner, IsCornerBelow, IsCycle, IsCycleBelow, Cycles, IsFacetOf, IsVolumeOf, IsFacetAt, IsFacet, IsParts, cycle_corners, Facet, Parts, end_at, Ends, Axis, on_x, on_y, on_z, end_of, axis_of, corner_point, each-bool, is-at_none, is-at_first}
 use Rattle.std.proofs.Math.Nat.{eq-one_of_dvd-one}
 use Rattle.nef_complex.proofs.SamePlanes.{parallel-equal}
 use Rattle.nef_facets.proofs.FirstCorners.{facet-item, item-facet}
@@ -188,13 +188,13 @@ module _ (l : Label) (hs : List Form) where
     }
       where
         only : (Q : List Corner → Type 0) → Q (wall_cycle k a) → (i : ℕ) (x : List Corner) → At (wall_cycle k a ∷ []) i x → Q x
-        only Q q zero x h = subst Q h q
-        only Q q (suc i) x h = absurd h
+        only Q q zero x h = subst Q (is-at_first h) q
+        only Q q (suc i) x h = absurd (is-at_none h)
 
         single : InOrder IsCycleBelow (wall_cycle k a ∷ [])
         single zero zero x y h g f = absurd (omega (arith, h))
-        single zero (suc k) x y h g f = absurd f
-        single (suc i) k x y h g f = absurd g
+        single zero (suc k) x y h g f = absurd (is-at_none f)
+        single (suc i) k x y h g f = absurd (is-at_none g)
 
     -- ---- the numbers of volumes
     abbrev IsOf : VertexSide → ℕ → Type 0

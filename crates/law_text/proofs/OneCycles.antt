@@ -1,5 +1,5 @@
 -- Where each corner has one next corner, the cycles are the only ones.
-use Rattle.law_text.proofs.Prelude.{◌≡◌, ℕ, zero, suc, ◌<◌, ◌⊎◌, inl, inr, ⊎_elim, List, [], ◌∷◌, length, arith, refl, sym, ◌∙◌, ap, subst, ints, All, At, same-lists, Complex, Corner, NextCorner, IsCornerBelow, StepsTo, IsCycle, IsCycleBelow, Cycles}
+use Rattle.law_text.proofs.Prelude.{◌≡◌, ℕ, zero, suc, ◌<◌, ◌⊎◌, inl, inr, ⊎_elim, List, [], ◌∷◌, length, arith, refl, sym, ◌∙◌, ap, subst, ints, All, At, same-lists, Complex, Corner, NextCorner, IsCornerBelow, StepsTo, IsCycle, IsCycleBelow, Cycles, is-at_none, is-at_first}
 
 below-apart : (j k : Corner) → IsCornerBelow j k → IsCornerBelow k j → ⊥
 below-apart j k (inl h) (inl g) = omega (arith, ints)
@@ -69,18 +69,18 @@ module _ (C : Complex) (one : HasOneNext C) where
 
   -- the rest of a cycle after one of its corners
   rest-of : (a z m : Corner) (ks : List Corner) (i : ℕ) → StepsTo C a ks z → AllAbove z ks → At ks i m → (qs : List Corner) × StepsTo C m qs z × AllAbove z qs
-  rest-of a z m [] i s p h = absurd h
-  rest-of a z m (k ∷ ks) zero (n, s) (b, p) h = (ks, subst (λ (w : Corner). StepsTo C w ks z) h s, p)
+  rest-of a z m [] i s p h = absurd (is-at_none h)
+  rest-of a z m (k ∷ ks) zero (n, s) (b, p) h = (ks, subst (λ (w : Corner). StepsTo C w ks z) (is-at_first h) s, p)
   rest-of a z m (k ∷ ks) (suc i) (n, s) (b, p) h = rest-of k z m ks i s p h
 
   rest-from : (j m : Corner) (ks : List Corner) (i : ℕ) → IsCycle C (j ∷ ks) → At (j ∷ ks) i m → (qs : List Corner) × StepsTo C m qs j × AllAbove j qs
-  rest-from j m ks zero c h = (ks, subst (λ (w : Corner). StepsTo C w ks j) h (c.0), all-above j ks (c.1))
+  rest-from j m ks zero c h = (ks, subst (λ (w : Corner). StepsTo C w ks j) (is-at_first h) (c.0), all-above j ks (c.1))
   rest-from j m ks (suc i) c h = rest-of j j m ks i (c.0) (all-above j ks (c.1)) h
 
   -- cycles with a common corner are one
   cycle-one : (x y : List Corner) (i k : ℕ) (m : Corner) → IsCycle C x → IsCycle C y → At x i m → At y k m → x ≡ y
-  cycle-one [] y i k m c d a b = absurd a
-  cycle-one (j ∷ ks) [] i k m c d a b = absurd b
+  cycle-one [] y i k m c d a b = absurd (is-at_none a)
+  cycle-one (j ∷ ks) [] i k m c d a b = absurd (is-at_none b)
   cycle-one (j ∷ ks) (l ∷ ls) i k m c d a b =
       let r = rest-from j m ks i c a in
       let t = rest-from l m ls k d b in
@@ -89,11 +89,11 @@ module _ (C : Complex) (one : HasOneNext C) where
       (round-one l l ks ls (subst (λ (w : Corner). StepsTo C w ks w) e (c.0)) (d.0) (subst (λ (w : Corner). AllAbove w ks) e (all-above j ks (c.1))) (all-above l ls (d.1)))
 
   cycle-below-apart : (x y : List Corner) → IsCycleBelow x y → IsCycleBelow y x → ⊥
-  cycle-below-apart [] y (j, k, a, b, h) g = absurd a
-  cycle-below-apart (m ∷ x) [] (j, k, a, b, h) g = absurd b
+  cycle-below-apart [] y (j, k, a, b, h) g = absurd (is-at_none a)
+  cycle-below-apart (m ∷ x) [] (j, k, a, b, h) g = absurd (is-at_none b)
   cycle-below-apart (m ∷ x) (n ∷ y) (j, k, a, b, h) (l, o, c, d, g) =
-      below-apart m n (subst (λ (w : Corner). IsCornerBelow m w) (sym b) (subst (λ (w : Corner). IsCornerBelow w k) (sym a) h))
-      (subst (λ (w : Corner). IsCornerBelow n w) (sym d) (subst (λ (w : Corner). IsCornerBelow w o) (sym c) g))
+      below-apart m n (subst (λ (w : Corner). IsCornerBelow m w) (sym (is-at_first b)) (subst (λ (w : Corner). IsCornerBelow w k) (sym (is-at_first a)) h))
+      (subst (λ (w : Corner). IsCornerBelow n w) (sym (is-at_first d)) (subst (λ (w : Corner). IsCornerBelow w o) (sym (is-at_first c)) g))
 
   found : (P : Corner → Type 0) (xs ys : List (List Corner)) → Cycles C P xs → Cycles C P ys → (k : ℕ) (x : List Corner) → At xs k x → (i : ℕ) × At ys i x
   found P xs ys X Y k [] a = absurd (X.cycles k [] a)

@@ -1,6 +1,6 @@
 -- The names that most proofs cite, passed on from one place. Declares nothing.
 pub use Rattle.nef_core.proofs.Prelude.{lt-ltb, nat_lt}
-pub use Rattle.law_complex.proofs.Prelude.{Arc, Cone, Germ-unique, HasEnds, Holds, In, IsCornerAt, IsEdge, IsFacetPoint, IsFirstInPlane, IsNormal, IsOnEdges, IsOpposite, IsStrictlyOn, Least, Lies, LiesIn, Meets, NearLabel, NearPlain, NearStraight, PlaneMeet, Shaped, Sign, amount, by_side, carriers, cross-turned, dir-at, direction-right, dot-comb, dot-zero, item_mark, minus, nought, nought-if, parallel-both, plus, same-minus, self-pos, sign, sign-minus, sign-plus, sign_at, slope, triple, turn-same, ◌&&◌}
+pub use Rattle.law_complex.proofs.Prelude.{Arc, Cone, Germ-unique, HasEnds, Holds, In, IsCornerAt, IsEdge, IsFacetPoint, IsFirstInPlane, IsNormal, IsOnEdges, IsOpposite, IsStrictlyOn, Least, Lies, LiesIn, Meets, NearLabel, NearPlain, NearStraight, PlaneMeet, Shaped, Sign, amount, by_side, carriers, cross-turned, dir-at, direction-right, dot-comb, dot-zero, is-at_first, is-at_none, item_mark, minus, nought, nought-if, parallel-both, plus, same-minus, self-pos, sign, sign-minus, sign-plus, sign_at, slope, triple, turn-same, ◌&&◌}
 pub use Rattle.law_turns.proofs.Prelude.{ArcBelow, ArcBetween, HasArc, IsClear, IsPlaceBelow, IsPrimitive, IsTurnedArc, IsTurnedItem, IsTurnedMap, MapSloop, Not, Ordered, Reaches, SameSet, VectorBelow, differ, directly, is_odd, turned_place, turned_set, turned_svertex, turned_vector, unturned_vector, whole, ◌%◌, ◌/◌}
 pub use Rattle.nef_smap.proofs.Prelude.{Near, direction_limit, eq-eqb, nat_eq}
 pub use Rattle.nef_smap.proofs.WellFormed.{dir-equal}

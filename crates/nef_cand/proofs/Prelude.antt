@@ -1,7 +1,7 @@
 -- The names that most proofs cite, passed on from one place. Declares nothing.
 pub use Rattle.law_near.proofs.Prelude.{HasFlat, HasLabel, In, InFrame, InHalf, IsVertex, Label, Not, Ratio, Within, abs_plus, by_lt_z, combination, mul_le_right, sign-scaled, sign_at, square_pos, step}
 pub use Rattle.nef_geo.proofs.Prelude.{IsNone, IsOnlyCommon, lit≤, ◌&&◌}
-pub use Rattle.law_complex.proofs.Prelude.{HasFlat-fewer, IsNearCut, IsVertexOfBoth, flat_dim-of}
+pub use Rattle.law_complex.proofs.Prelude.{HasFlat-fewer, IsNearCut, IsVertexOfBoth, flat_dim-of, is-at_none}
 pub use Rattle.nef_smap.proofs.Prelude.{eq_by_cmp, fraction-le-trans}
 pub use Rattle.nef_complex.proofs.Prelude.{AreInOrder, Contains, Contains-permutation, Equal, FlatDim, IfSome, IsBelow, IsEdgeBelow, IsPermutation, IsPermutation-sym, IsSamePlane, IsSkeletonIn, IsSorted, IsTotalOrder, IsWithin, Less, Ordering, Out, ShowsSet, append_assoc, coordinate_x, dedup, drop, form_numbers, length-drop, map, on_total, place_below-apart, place_below-same, place_below-trans, same-place_below, same_places_equal, same_planes_equal, take, take_all, ◌++◌}
 pub use Rattle.nef_plane.proofs.Prelude.{AreAlone, AreHolders, At, Bool, Complex, Decides-int_eq, Edge, EdgeSupport, Flat, Form, HasEnds, HasOppositeSigns, HoldsBoth, InClosedFrame, IsAt, IsBetween, IsDirection, IsEdgePoint, IsInSpan, IsNarrower, IsPlaceBelow, IsVertexPoint, IsZero, Lies, List, MatchOption, None, Option, Place, Plane, Point, Poly, SamePlace, SamePlane, Set, Shows, Some, Span, Vector, Vertex, [], abs_times, ap, apart, arith, at, at-map, at-one, at-within, between-ends, between-same, by_order, carriers, cases_lt, complex_of, cross, crossed-parted, edge-points, edge-support, edge_of, ends, eq-or-lt_of_le, false, follows, form_at, form_of, get-from_at, get_or, given, got-at, half_side, held-between, high-within, hit_place, holders-within, inl, inr, int_eq, ints, is-at_get, is-at_is, is-at_one, is-at_some, is-at_within, length, listed_edge, low-within, ltb-true, map-at, minus-is, mul-le-mul_right, mul_nonneg, nat_abs, neg, neg_ℤ, none, normal_of, nought-is, nought-or, num, parallel-both, parted-cut, place_of, plane-point, plane-slope, plane-turned, plane-way, plus-is, point_limit, pos, refl, ring, rules, same-itself, same-place_sym, same-place_trans, sign, sign-minus, sign-plus, slope, span-between, span-wider, start, start-between, subst, suc, sym, through-both, times-nought, toward, true, unsigned_abs-mul, vertex-same, vertex_of, zero, ℕ, ℤ, ⊎_elim, ◌*ℤ◌, ◌*◌, ◌+ℤ◌, ◌+◌, ◌-ℤ◌, ◌-◌, ◌<ℤ◌, ◌<◌, ◌^◌, ◌↔◌, ◌∙◌, ◌∷◌, ◌≡◌, ◌≤ℤ◌, ◌≤◌, ◌⊎◌, ◌⊕◌, ◌⊖◌, ◌⊗◌}
@@ -37,3 +37,4 @@ pub use Rattle.nef_cand.specs.declared.listing.Spanned.{Spanned}
 pub use Rattle.nef_cand.specs.declared.named.Named.{Named}
 pub use Rattle.nef_cand.specs.declared.named.Operand.{Operand}
 pub use Rattle.nef_cand.specs.declared.named.Operand.TheVariants.{First, Second}
+pub use Rattle.nef_space.proofs.Lists.{is-at_more}

@@ -1,5 +1,5 @@
 -- Orbits of the next corners are cycles, and those of one facet are its cycles.
-use Rattle.nef_facets.proofs.Prelude.{◌≡◌, ℕ, zero, suc, ◌<◌, List, [], ◌∷◌, length, map, arith, refl, ap, sym, subst, Option, Some, Result, Ok, Err, IfOk, All, IsAt, Chained, Set, At, chain-here, chain-trans, is-at_one, is-at_within, is-at_some, is-at_is, some-at, at-some, at-map, map-at, Complex as PlainComplex, Shows, Corner, corner_of, FacetLink, Cycle, NextCorner, IsCornerBelow, StepsTo, IsCycle, IsCycleBelow, Cycles, IsFacetOf, FacetNumbers, cycle_corners, AreInOrder, AreCorners, corner_from, AreNext, IsStep, StepsOver, IsOrbit, AreOrbits, AreCornersOf, AreNumbered, IsCycleOf, AreGrouped}
+use Rattle.nef_facets.proofs.Prelude.{◌≡◌, ℕ, zero, suc, ◌<◌, List, [], ◌∷◌, length, map, arith, refl, ap, sym, subst, Option, Some, Result, Ok, Err, IfOk, All, IsAt, Chained, Set, At, chain-here, chain-trans, is-at_one, is-at_within, is-at_some, is-at_is, some-at, at-some, at-map, map-at, Complex as PlainComplex, Shows, Corner, corner_of, FacetLink, Cycle, NextCorner, IsCornerBelow, StepsTo, IsCycle, IsCycleBelow, Cycles, IsFacetOf, FacetNumbers, cycle_corners, AreInOrder, AreCorners, corner_from, AreNext, IsStep, StepsOver, IsOrbit, AreOrbits, AreCornersOf, AreNumbered, IsCycleOf, AreGrouped, is-at_none, is-at_first}
 use Rattle.law_complex.specs.Complexes.{Corner as PlainCorner}
 use Rattle.nef_facets.proofs.FirstCorners.{facet-one, facet-item, item-facet}
 use Rattle.nef_facets.proofs.NextCorners.{next-injective, next-linked}
@@ -61,14 +61,14 @@ module _ (C : PlainComplex) (ks : List Corner) (ns : List ℕ) (O : AreInOrder k
 
 -- ---- the corners of a cycle are of one facet
 steps-chained : (C : PlainComplex) (j : PlainCorner) (ks : List PlainCorner) (z : PlainCorner) → StepsTo C j ks z → (k : ℕ) (x : PlainCorner) → At (j ∷ ks) k x → Chained (FacetLink C) j x
-steps-chained C j [] z s zero x a = subst (λ (y : PlainCorner). Chained (FacetLink C) j y) a (chain-here (FacetLink C) j)
-steps-chained C j [] z s (suc k) x a = absurd a
-steps-chained C j (y ∷ ks) z (s, t) zero x a = subst (λ (w : PlainCorner). Chained (FacetLink C) j w) a (chain-here (FacetLink C) j)
+steps-chained C j [] z s zero x a = subst (λ (y : PlainCorner). Chained (FacetLink C) j y) (is-at_first a) (chain-here (FacetLink C) j)
+steps-chained C j [] z s (suc k) x a = absurd (is-at_none a)
+steps-chained C j (y ∷ ks) z (s, t) zero x a = subst (λ (w : PlainCorner). Chained (FacetLink C) j w) (is-at_first a) (chain-here (FacetLink C) j)
 steps-chained C j (y ∷ ks) z (s, t) (suc k) x a = chain-trans (FacetLink C) j y x (next-linked C j y s) (steps-chained C y ks z t k x a)
 
 cycle-chained : (C : PlainComplex) (ys : List PlainCorner) → IsCycle C ys → (j x : PlainCorner) (k : ℕ) → At ys 0 j → At ys k x → Chained (FacetLink C) j x
 cycle-chained C [] B j x k a b = absurd B
-cycle-chained C (y ∷ ys) B j x k a b = subst (λ (w : PlainCorner). Chained (FacetLink C) w x) a (steps-chained C y ys y B.0 k x b)
+cycle-chained C (y ∷ ys) B j x k a b = subst (λ (w : PlainCorner). Chained (FacetLink C) w x) (is-at_first a) (steps-chained C y ys y B.0 k x b)
 
 -- ---- the cycles of a facet
 module _ (C : PlainComplex) (rows : List (List ℕ)) (F : FacetNumbers C rows) (ks : List Corner) (K : AreCorners C ks) (ns : List ℕ) (N : AreNext C ks ns) (orbits : List (List ℕ)) (B : AreOrbits ns orbits) where

@@ -1,5 +1,5 @@
 -- The names that most proofs cite, passed on from one place. Declares nothing.
-pub use Rattle.nef_conn.proofs.Prelude.{Arc, AreTiedItems, At, Bool, Chained, Complex, Edge, EdgeWays, FacetLink, FlatDim-by_germs, Form, Germ, HasEnds, IsBetween, IsChain, IsCorner, IsCornerAt, IsDirection, IsFirstInPlane, IsInFacetOf, IsNormal, IsOpposite, IsTied, Item, Label, LinkAcross, LinkAlong, List, Map, MapVertex, NearLabel, OnItem, Out, Place, PlaneMeet, RayNames, SameDirection, SameDirection-trans, SameDirection-turned, SameGerms, SamePlace, Set, Shows, Valid, Vector, Vertex, [], across-tied, ahead, ahead-back, ahead-same, along-tied, amount, ap, arc-at, arc_item, arith, at, at-arc, at-one, between-turned, blend, carriers, cases_order, close_way, cross, dir-self, direction-around, direction-left, direction-right, dot, dot-comb, dot-comm, dot-opposite, dot-zero, edge-ways, end-level, ends-of, ends-tied, facet-near, false, far-keeps, flats-carried, form_at, forms, inl, inr, ints, item_normal, item_plane, items, joined-germs, label-one, labels-by_germs, length, level-of_opposite, level-way, map, meets_edge, meets_vertex, nat_abs, near-ahead, near-label, neg, neg_ℤ, normal-is, normal_of, nought-if, num, on-close, on-direction, on-level, on_item-way, opposite, opposite-same, opposite-turned, opposite-way, place-toward, place_below-apart, plane-ahead, plane-back, plane-onward, plane_dir, plane_through, pos, refl, ring, same-itself, same-minus, same-place_sym, same-plus, sign, sloop_item, slope, square-cross, steep, subst, suc, svertex-edge, sym, target-met, through-at, through-level, through-same, tied-ahead, tied-both, tied-close_way, tied-turn, tied-turned, toward, triple, true, turn-same, zero, ℕ, ℤ, ⊎_elim, ◌*ℤ◌, ◌++◌, ◌+ℤ◌, ◌+◌, ◌<ℤ◌, ◌<◌, ◌∙◌, ◌∷◌, ◌≡◌, ◌≤◌, ◌⊎◌, ◌⊕◌, ◌⊗◌}
+pub use Rattle.nef_conn.proofs.Prelude.{Arc, AreTiedItems, At, Bool, Chained, Complex, Edge, EdgeWays, FacetLink, FlatDim-by_germs, Form, Germ, HasEnds, IsBetween, IsChain, IsCorner, IsCornerAt, IsDirection, IsFirstInPlane, IsInFacetOf, IsNormal, IsOpposite, IsTied, Item, Label, LinkAcross, LinkAlong, List, Map, MapVertex, NearLabel, OnItem, Out, Place, PlaneMeet, RayNames, SameDirection, SameDirection-trans, SameDirection-turned, SameGerms, SamePlace, Set, Shows, Valid, Vector, Vertex, [], across-tied, ahead, ahead-back, ahead-same, along-tied, amount, ap, arc-at, arc_item, arith, at, at-arc, at-one, between-turned, blend, carriers, cases_order, close_way, cross, dir-self, direction-around, direction-left, direction-right, dot, dot-comb, dot-comm, dot-opposite, dot-zero, edge-ways, end-level, ends-of, ends-tied, facet-near, false, far-keeps, flats-carried, form_at, forms, inl, inr, ints, is-at_first, is-at_none, item_normal, item_plane, items, joined-germs, label-one, labels-by_germs, length, level-of_opposite, level-way, map, meets_edge, meets_vertex, nat_abs, near-ahead, near-label, neg, neg_ℤ, normal-is, normal_of, nought-if, num, on-close, on-direction, on-level, on_item-way, opposite, opposite-same, opposite-turned, opposite-way, place-toward, place_below-apart, plane-ahead, plane-back, plane-onward, plane_dir, plane_through, pos, refl, ring, same-itself, same-minus, same-place_sym, same-plus, sign, sloop_item, slope, square-cross, steep, subst, suc, svertex-edge, sym, target-met, through-at, through-level, through-same, tied-ahead, tied-both, tied-close_way, tied-turn, tied-turned, toward, triple, true, turn-same, zero, ℕ, ℤ, ⊎_elim, ◌*ℤ◌, ◌++◌, ◌+ℤ◌, ◌+◌, ◌<ℤ◌, ◌<◌, ◌∙◌, ◌∷◌, ◌≡◌, ◌≤◌, ◌⊎◌, ◌⊕◌, ◌⊗◌}
 pub use Rattle.nef_classes.proofs.Prelude.{AreNumbers, AreTied, AreTiedWithin, HasCounts, IfOk, IsCellIn}
 pub use Rattle.nef_smap.proofs.Prelude.{chain-link, chain-map, chain-trans, chain-turned}
 pub use Rattle.nef_complex.proofs.Prelude.{AreHolders, Contains, Either, Err, Global, IsAt, None, Ok, Option, Plane, Result, ShowsSet, Some, Vec, append_assoc, complex_of, earlier, edge_of, eq-or-lt_of_le, form_of, get-from_at, get_or, get_or_from_slice_get, is-at_either, is-at_get, is-at_is, is-at_last, is-at_left, is-at_one, is-at_some, is-at_within, item_mark, last, length-append, length-set, less-or-last, map_of, not_true, place_of, set, slice_get, take, take_all, vector_of, vertex_of, ◌^◌, ◌↔◌, ◌≢◌}

@@ -1,6 +1,6 @@
 -- The names that most proofs cite, passed on from one place. Declares nothing.
 pub use Rattle.nef_space.proofs.Order.{cancel_le, lt_by, mul_nonneg}
-pub use Rattle.nef_space.proofs.Lists.{is-at_one, is-at_some}
+pub use Rattle.nef_space.proofs.Lists.{is-at_get, is-at_is, is-at_last, is-at_left, is-at_one, is-at_some, is-at_within}
 pub use Rattle.nef_space.proofs.Prelude.{cond, fits_signed_from_abs, ltb}
 pub use Rattle.nef_space.specs.Lists.{IsAt}
 pub use Rattle.law_near.proofs.Prelude.{Out, cases_order}
@@ -10,7 +10,7 @@ pub use Rattle.nef_geo.specs.Signs.{sign_number}
 pub use Rattle.nef_geo.specs.declared.plane.Plane.{Plane}
 pub use Rattle.nef_geo.specs.declared.point.Point.{Point}
 pub use Rattle.nef_geo.specs.declared.sign.Sign.TheVariants.{Zero}
-pub use Rattle.nef_classes.proofs.ClassLists.{Either, earlier, is-at_either, is-at_get, is-at_is, is-at_last, is-at_left, is-at_take, is-at_within, last, less-or-last, refilled}
+pub use Rattle.nef_classes.proofs.ClassLists.{Either, earlier, is-at_either, is-at_take, last, less-or-last, refilled}
 pub use Rattle.nef_classes.proofs.Prelude.{Err, Global, List, Ok, Option, Result, Some, Vec, [], ap, append-nil, arith, drop, drop_of_length-le, get_or, get_or-take, inl, inr, ints, length, length-append, length-drop, length-set, length-take, pos, refl, rules, set, slice_get_read, subst, suc, sym, take, take-append-le, take_all, zero, ℕ, ⊎_elim, ◌++◌, ◌+◌, ◌-◌, ◌<◌, ◌^◌, ◌↔◌, ◌∙◌, ◌∷◌, ◌≡◌, ◌≢◌, ◌≤◌, ◌⊎◌}
 pub use Rattle.std.proofs.Common.{IsTrue, append_assoc, eq-eqb, is_some, ne_eqb}
 pub use Rattle.std.proofs.Math.Nat.{div-le_self, div-mul-le_self, lt-div-mul-add}

@@ -1,5 +1,5 @@
 -- What is found at the points of an edge.
-use Rattle.nef_locate.proofs.Prelude.{◌≡◌, ℕ, zero, suc, ◌<◌, ◌*◌, List, map, length, arith, sym, ap, subst, ◌∙◌, slice_get, Some, None, ints, IsPermutation, svertex_limit, normal_limit, HasLabel, Place as PlainPlace, toward, IsAhead, IsBetween, Set, Vector, IsNormal, IsAtMost, opposite, flat-germ, At, MapVertex as PlainSvertex, Map, MapLabel, Item, items, item_normal, arc_item, sloop_item, Valid, Cone, Least, Ordered, InOrder, at-arc, sloop-at, at-one, arc-at, SVertex, SArc, SphereMap, svertex_of, arc_of, map_of, IsSmall, IsLeastMap, Vertex as PlainVertex, IsEdge, Shows, IsEdgePoint, label-germ, germ-label, IsAlongSvertex, along-svertex, near_point, near-between, ahead-normal, Edge, Complex, vertex_of, edge_of, complex_of, ShowsSet, IsArcBelow, two_ends, AreHalves, dir-self, direction-left}
+use Rattle.nef_locate.proofs.Prelude.{◌≡◌, ℕ, zero, suc, ◌<◌, ◌*◌, List, map, length, arith, sym, ap, subst, ◌∙◌, slice_get, Some, None, ints, IsPermutation, svertex_limit, normal_limit, HasLabel, Place as PlainPlace, toward, IsAhead, IsBetween, Set, Vector, IsNormal, IsAtMost, opposite, flat-germ, At, MapVertex as PlainSvertex, Map, MapLabel, Item, items, item_normal, arc_item, sloop_item, Valid, Cone, Least, Ordered, InOrder, at-arc, sloop-at, at-one, arc-at, SVertex, SArc, SphereMap, svertex_of, arc_of, map_of, IsSmall, IsLeastMap, Vertex as PlainVertex, IsEdge, Shows, IsEdgePoint, label-germ, germ-label, IsAlongSvertex, along-svertex, near_point, near-between, ahead-normal, Edge, Complex, vertex_of, edge_of, complex_of, ShowsSet, IsArcBelow, two_ends, AreHalves, dir-self, direction-left, is-at_none, is-at_first}
 use Rattle.law_cones.proofs.Cones.{point-map}
 use Rattle.law_sphere.proofs.Dimensions.{map-flat}
 use Rattle.law_complex.specs.Complexes.{Edge as PlainEdge, Complex as PlainComplex}
@@ -76,9 +76,9 @@ turned-small k v h = record {
 }
 
 two-small : (k : ℕ) (u : PlainSvertex) → IsAtMost k u.dir → (i : ℕ) (z : PlainSvertex) → At (two_ends u) i z → IsAtMost k z.dir
-two-small k u h zero z e = subst (λ (x : PlainSvertex). IsAtMost k x.dir) e (turned-small k u.dir h)
-two-small k u h (suc zero) z e = subst (λ (x : PlainSvertex). IsAtMost k x.dir) e h
-two-small k u h (suc (suc i)) z e = absurd e
+two-small k u h zero z e = subst (λ (x : PlainSvertex). IsAtMost k x.dir) (is-at_first e) (turned-small k u.dir h)
+two-small k u h (suc zero) z e = subst (λ (x : PlainSvertex). IsAtMost k x.dir) (is-at_first e) h
+two-small k u h (suc (suc i)) z e = absurd (is-at_none e)
 
 module _ (s : Set) (c : Complex) (S : ShowsSet s c) (number : ℕ) (e : Edge) (read : slice_get c.edges number ≡ Some e) where
   edge : IsEdge (complex_of c).vertices (edge_of e)

@@ -1,14 +1,14 @@
 -- The half circles that are collected arc by arc, and what is left of them when they are sorted.
-use Rattle.nef_locate.proofs.Prelude.{◌≡◌, ℕ, zero, suc, ◌+◌, ◌*◌, ◌<◌, List, [], ◌∷◌, ◌++◌, length, map, arith, refl, ap, sym, ◌∙◌, ◌⊎◌, inl, inr, ⊎_elim, subst, eq-or-lt_of_le, IsPermutation, Vector, opposite, vector_of, Dir, At, MapVertex, Arc, Valid, InOrder, ArcBelow, ArcRay, ray_left, at-one, SArc, SphereMap, arc_of, map_of, map-at, at-map, at-within, IsTwin, AreApart, IsArcBelow, at-before, at-last, at-more, IsHalf, IsEndAt, IsBefore, AreHalves}
+use Rattle.nef_locate.proofs.Prelude.{◌≡◌, ℕ, zero, suc, ◌+◌, ◌*◌, ◌<◌, List, [], ◌∷◌, ◌++◌, length, map, arith, is-at_none, refl, ap, sym, ◌∙◌, ◌⊎◌, inl, inr, ⊎_elim, subst, eq-or-lt_of_le, IsPermutation, Vector, opposite, vector_of, Dir, At, MapVertex, Arc, Valid, InOrder, ArcBelow, ArcRay, ray_left, at-one, SArc, SphereMap, arc_of, map_of, map-at, at-map, at-within, IsTwin, AreApart, IsArcBelow, at-before, at-last, at-more, IsHalf, IsEndAt, IsBefore, AreHalves}
 use Rattle.nef_spair.proofs.Apart.{was-listed, still-listed}
 use Rattle.nef_locate.proofs.EdgeLabels.{one-arc}
 use Rattle.nef_locate.proofs.EdgeMaps.{HalfEnds, IsHalfOf, AreHalfArcs}
 
 pub halves-none : (as' : List SArc) (k : ℕ) (hs : List SArc) → hs ≡ [] → AreHalves as' k 0 hs
 halves-none as' k hs e = record {
-  each = λ i h a. absurd (subst (λ (l : List SArc). At l i h) e a);
+  each = λ i h a. absurd (is-at_none (subst (λ (l : List SArc). At l i h) e a));
   all = λ j s a b. absurd (omega (arith, b.1));
-  apart = λ i j x y a. absurd (subst (λ (l : List SArc). At l i x) e a);
+  apart = λ i j x y a. absurd (is-at_none (subst (λ (l : List SArc). At l i x) e a));
 }
 
 -- ---- an end of an arc as a ray of the svertex

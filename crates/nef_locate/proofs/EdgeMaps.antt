@@ -1,5 +1,5 @@
 -- The map of the half great circles at the lower end of an edge is the least map with the labels along the edge.
-use Rattle.nef_locate.proofs.Prelude.{◌≡◌, ℕ, zero, suc, ◌<◌, ℤ, pos, negsuc, neg_ℤ, ◌*ℤ◌, ◌+ℤ◌, ◌-ℤ◌, arith, refl, ap, sym, ◌∙◌, ◌⊎◌, inl, inr, ⊎_elim, List, [], ◌∷◌, Some, None, subst, ints, ring, at, num, neg, ◌⊕◌, ◌⊖◌, ◌⊗◌, follows, given, none, by_order, mul_pos, Vector, IsDirection, IsZero, IsNormal, IsOpposite, SameDirection, cross, dot, opposite, blend, Label, IsStrictlyOn, forms, comb, IsPrimitive, VectorBelow, At, MapVertex, Arc, Item, arc_item, sloop_item, Map, items, item_normal, dir_of, OnItem, ArcBetween, HasArc, MapLabel, at_svertex, NearLabel, Valid, by_side, InOrder, ArcBelow, Least, Ordered, Near, StraightAt, IsSmooth, plain, straight, IsBuilt, Kept, Proper, StraightAfter, ArcRay, ray_left, end_left, at-arc, sloop-at, normals-not_opposite, cross-between, lowest-same, near-lone, arc-at, normal-direction, direction-by, dot-comb, below-itself, cross-direction_right, Of, labels-build, to_opposite, from_opposite, normal-kept, two_ends, zero-decided, self-pos, vector-same, cross-turned, opposite-same, direction-opposite, level-of_opposite, opposite-twice, cross-opposite, nought-if, opposites, SameDirection-turned, SameDirection-trans, dir-self, direction-right}
+use Rattle.nef_locate.proofs.Prelude.{◌≡◌, ℕ, zero, suc, ◌<◌, ℤ, pos, negsuc, neg_ℤ, ◌*ℤ◌, ◌+ℤ◌, ◌-ℤ◌, arith, refl, ap, sym, ◌∙◌, ◌⊎◌, inl, inr, ⊎_elim, List, [], ◌∷◌, Some, None, subst, ints, ring, at, num, neg, ◌⊕◌, ◌⊖◌, ◌⊗◌, follows, given, none, by_order, mul_pos, Vector, IsDirection, IsZero, IsNormal, IsOpposite, SameDirection, cross, dot, opposite, blend, Label, IsStrictlyOn, forms, comb, IsPrimitive, VectorBelow, At, MapVertex, Arc, Item, arc_item, sloop_item, Map, items, item_normal, dir_of, OnItem, ArcBetween, HasArc, MapLabel, at_svertex, NearLabel, Valid, by_side, InOrder, ArcBelow, Least, Ordered, Near, StraightAt, IsSmooth, plain, straight, IsBuilt, Kept, Proper, StraightAfter, ArcRay, ray_left, end_left, at-arc, sloop-at, normals-not_opposite, cross-between, lowest-same, near-lone, arc-at, normal-direction, direction-by, dot-comb, below-itself, cross-direction_right, Of, labels-build, to_opposite, from_opposite, normal-kept, two_ends, zero-decided, self-pos, vector-same, cross-turned, opposite-same, direction-opposite, level-of_opposite, opposite-twice, cross-opposite, nought-if, opposites, SameDirection-turned, SameDirection-trans, dir-self, direction-right, is-at_none, is-at_first}
 use Rattle.nef_space.proofs.Order.{sign}
 use Rattle.nef_space.proofs.Vectors.{dot-opposite, opposite-itself}
 use Rattle.law_build.proofs.BuiltAxes.{number-order}
@@ -74,9 +74,9 @@ pub record IsEnd (u : MapVertex) (i : ℕ) (v : MapVertex) : Type 0 where
   pub which : IsHighEnd u i v ⊎ IsLowEnd u i v
 
 end-is : (u : MapVertex) (i : ℕ) (v : MapVertex) → At (two_ends u) i v → IsEnd u i v
-end-is u zero v e = record { mark = sym (ap (λ (x : MapVertex). x.mark) e); around = sym (ap (λ (x : MapVertex). x.around) e); which = inr (refl, sym (ap (λ (x : MapVertex). x.dir) e)) }
-end-is u (suc zero) v e = record { mark = sym (ap (λ (x : MapVertex). x.mark) e); around = sym (ap (λ (x : MapVertex). x.around) e); which = inl (refl, sym (ap (λ (x : MapVertex). x.dir) e)) }
-end-is u (suc (suc i)) v e = absurd e
+end-is u zero v a = let e = is-at_first a in record { mark = sym (ap (λ (x : MapVertex). x.mark) e); around = sym (ap (λ (x : MapVertex). x.around) e); which = inr (refl, sym (ap (λ (x : MapVertex). x.dir) e)) }
+end-is u (suc zero) v a = let e = is-at_first a in record { mark = sym (ap (λ (x : MapVertex). x.mark) e); around = sym (ap (λ (x : MapVertex). x.around) e); which = inl (refl, sym (ap (λ (x : MapVertex). x.dir) e)) }
+end-is u (suc (suc i)) v e = absurd (is-at_none e)
 
 -- ---- half circles
 -- an arc that begins at the svertex leads from its direction to the opposite one, an arc that ends there the other way

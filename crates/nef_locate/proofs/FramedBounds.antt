@@ -4,7 +4,7 @@ use mir.Syntax.{w128}
 use mir.Val.{to_z, of_z}
 use Rattle.std.specs.Int.{int_max, int_min}
 use Rattle.std.proofs.lemmas.Int.{by_lt_z, clamps}
-use Rattle.nef_complex.specs.declared.spans.Bounds.{Bounds}
+use Rattle.nef_index.specs.declared.spans.Bounds.{Bounds}
 
 -- n is at most the frame's half side in size
 abbrev IsOfFrame : ℤ → Type 0

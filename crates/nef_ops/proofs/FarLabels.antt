@@ -1,5 +1,5 @@
 -- The points past one side of a span of the skeleton, within the open frame, are convex; so between two of them there is nothing of the skeleton, and the set looks the same at both.
-use Rattle.nef_ops.proofs.Prelude.{FitsSigned, w64, to_z, of_z, to_z-of_z, IsSkeletonPoint, complex_of, ◌≡◌, ℕ, zero, suc, ◌+◌, ◌<◌, List, [], ◌∷◌, ℤ, pos, ◌+ℤ◌, ◌*ℤ◌, ◌<ℤ◌, ◌≤ℤ◌, length, arith, sym, subst, ⊎_elim, ints, mul_le_right, by_order, IsAt, HasLabel, FlatDim, Place, IsBetween, Set, Label, form_of, place_of, Plane, IsMixed, of_place, SameGerms, mixed-of, even-germs, labels-by_germs, At, coordinate_of, even-by, less-or-last, is-at_one, is-at_within, get-from_at, ShowsSet, IsSpanOn, IsInSpan, IsNarrower, Complex, Span, spanned, span-wider, volume-flat, Axis, X, Y, Z, Below, Above, Side, MeetsFrame, HoldsSkeleton, axis_coordinate, IsPastEnd, IsWithinEnd, IsFar, IsUniform}
+use Rattle.nef_ops.proofs.Prelude.{FitsSigned, w64, to_z, of_z, to_z-of_z, IsSkeletonPoint, complex_of, ◌≡◌, ℕ, zero, suc, ◌+◌, ◌<◌, List, [], ◌∷◌, ℤ, pos, ◌+ℤ◌, ◌*ℤ◌, ◌<ℤ◌, ◌≤ℤ◌, length, arith, sym, subst, ⊎_elim, ints, mul_le_right, by_order, IsAt, HasLabel, FlatDim, Place, IsBetween, Set, Label, form_of, place_of, Plane, IsMixed, of_place, SameGerms, mixed-of, even-germs, labels-by_germs, At, coordinate_of, even-by, less-or-last, is-at_one, is-at_none, is-at_first, is-at_within, get-from_at, ShowsSet, IsSpanOn, IsInSpan, IsNarrower, Complex, Span, spanned, span-wider, volume-flat, Axis, X, Y, Z, Below, Above, Side, MeetsFrame, HoldsSkeleton, axis_coordinate, IsPastEnd, IsWithinEnd, IsFar, IsUniform}
 use Rattle.nef_locate.proofs.CarrierPoints.{skeleton-carrier}
 use Rattle.nef_ops.specs.declared.regions.Way.{Way}
 use Rattle.nef_ops.proofs.Convex.{below-mixed, above-mixed, frame-between}
@@ -93,8 +93,8 @@ module _ (s : Set) (c : Complex) (S : ShowsSet s c) (side : Side) (clear : IsCle
 
 -- ---- listed regions
 pub each-none : {X : Type 0} (P : X → Type 0) (k : ℕ) (y : X) → At [] k y → P y
-each-none P k y a = absurd a
+each-none P k y a = absurd (is-at_none a)
 
 pub each-more : {X : Type 0} (P : X → Type 0) (x : X) (xs : List X) → P x → ((k : ℕ) (y : X) → At xs k y → P y) → (k : ℕ) (y : X) → At (x ∷ xs) k y → P y
-each-more P x xs here rest zero y a = subst P a here
+each-more P x xs here rest zero y a = subst P (is-at_first a) here
 each-more P x xs here rest (suc k) y a = rest k y a

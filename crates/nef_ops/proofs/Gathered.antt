@@ -7,9 +7,7 @@ use Rattle.nef_ops.proofs.OneSet.{unary-carriers, unary-vertex}
 
 -- ---- elements by their places
 pub at-got : {X : Type 0} (xs : List X) (k : ℕ) (x : X) → At xs k x → slice_get xs k ≡ Some x
-at-got [] k x h = absurd h
-at-got (y ∷ ys) zero x h = ap Some h
-at-got (y ∷ ys) (suc k) x h = at-got ys k x h
+at-got xs k x h = h
 
 pub at-listed : {X : Type 0} (xs : List X) (k : ℕ) (x : X) → At xs k x → Contains xs x
 at-listed xs k x h = (k, at-within xs k x h, at-get xs k x x h)

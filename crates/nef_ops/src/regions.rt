@@ -3,7 +3,7 @@
 ghost use Rattle.std.specs.Prelude.{◌≡◌, ◌≤◌, ◌<◌, ◌↔◌, ◌⊎◌, [], pos};
 ghost use Rattle.nef_complex.specs.Prelude.{ℕ, length, IfSome, IsNone, IsTrue, InFrame, Set, Place, place_of, Point as PlainPoint, At, coordinate_of, IsInSpan, ShowsSet};
 ghost use Rattle.nef_complex.specs.declared.complex.Complex.{Complex as ShownComplex};
-ghost use Rattle.nef_complex.specs.declared.spans.Span.{Span as ShownSpan};
+ghost use Rattle.nef_index.specs.declared.spans.Span.{Span as ShownSpan};
 ghost use Rattle.nef_ops.specs.declared.regions.Region.{Region as PlainRegion};
 ghost use Rattle.nef_ops.specs.Far.{axis_coordinate, HoldsSkeleton, IsPast, IsPastEnd, IsWithinEnd, AreHeld, IsFar, IsUniformIn, AreTold, IsTold, many_points};
 

@@ -1,17 +1,17 @@
 -- Maps that are moved out of operands, one after another. Each vertex of an operand stands at one place alone, so its map is
 -- there until the vertex of the result at that place takes it.
-use Rattle.nef_result.proofs.Prelude.{◌≡◌, ℕ, zero, suc, ◌+◌, ◌<◌, List, [], ◌∷◌, length, arith, refl, ap, sym, subst, ◌∙◌, ◌⊎◌, inl, inr, ⊎_elim, set, cases_order, Place, place_of, place_below-apart, same-place_sym, same-place_trans, At, at-one, First, Second, SphereMap, Vertex, MapSource, of_operand, StandsAt, IsOtherOf, vertex_at, IsThere, AreThere, IsFilled, Names, HasNamed, IsFilledAt, AreFilledTo, AreLeft}
+use Rattle.nef_result.proofs.Prelude.{◌≡◌, ℕ, zero, suc, ◌+◌, ◌<◌, List, [], ◌∷◌, length, arith, refl, ap, sym, subst, ◌∙◌, ◌⊎◌, inl, inr, ⊎_elim, set, cases_order, Place, place_of, place_below-apart, same-place_sym, same-place_trans, At, at-one, First, Second, SphereMap, Vertex, MapSource, of_operand, StandsAt, IsOtherOf, vertex_at, IsThere, AreThere, IsFilled, Names, HasNamed, IsFilledAt, AreFilledTo, AreLeft, is-at_none}
 use Rattle.nef_cand.specs.declared.named.Operand.{Operand}
 use Rattle.nef_result.specs.declared.parting.MapSource.TheVariants.{Here, Kept, Turned}
 
 -- ---- a list with one element set
 pub set-here : {A : Type 0} (xs : List A) (k : ℕ) (x y : A) → At xs k x → At (set xs k y) k y
-set-here [] k x y a = absurd a
+set-here [] k x y a = absurd (is-at_none a)
 set-here (z ∷ zs) zero x y a = refl
 set-here (z ∷ zs) (suc k) x y a = set-here zs k x y a
 
 pub set-other : {A : Type 0} (xs : List A) (j : ℕ) (y : A) (k : ℕ) (x : A) → (k ≡ j → ⊥) → At xs k x → At (set xs j y) k x
-set-other [] j y k x n a = absurd a
+set-other [] j y k x n a = absurd (is-at_none a)
 set-other (z ∷ zs) zero y zero x n a = absurd (n refl)
 set-other (z ∷ zs) zero y (suc k) x n a = a
 set-other (z ∷ zs) (suc j) y zero x n a = a

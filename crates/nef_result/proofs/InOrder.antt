@@ -1,5 +1,5 @@
 -- The corners in order, and the planes of the frame in order.
-use Rattle.nef_result.proofs.Prelude.{◌≡◌, ℕ, zero, suc, ℤ, pos, ◌*ℤ◌, ◌<ℤ◌, arith, refl, ◌⊎◌, inl, inr, Bool, true, false, subst, List, [], ◌∷◌, ◌++◌, Some, None, ints, ring, at, num, ◌⊖◌, ◌⊗◌, lt_by, mul_pos, IsAt, half_side, IsBelow, Place, form_numbers, IsPlaceBelow, SamePlace, Label, place_of, At, InOrder, AreSorted, Vertex, sorted_sides, end_at, Ends, ends, all_ends, IsCornerPlace, IsCornerOf, AreCorners}
+use Rattle.nef_result.proofs.Prelude.{◌≡◌, ℕ, zero, suc, ℤ, pos, ◌*ℤ◌, ◌<ℤ◌, arith, refl, ◌⊎◌, inl, inr, Bool, true, false, subst, List, [], ◌∷◌, ◌++◌, Some, None, ints, ring, at, num, ◌⊖◌, ◌⊗◌, lt_by, mul_pos, IsAt, half_side, IsBelow, Place, form_numbers, IsPlaceBelow, SamePlace, Label, place_of, At, InOrder, AreSorted, Vertex, sorted_sides, end_at, Ends, ends, all_ends, IsCornerPlace, IsCornerOf, AreCorners, is-at_none, is-at_first}
 use Rattle.law_complex.proofs.FacetNames.{weight as positive}
 
 -- ---- the order of two corners
@@ -51,14 +51,14 @@ AreRising B [] = Unit {0}
 AreRising B (x ∷ xs) = IsBeforeAll B x xs × AreRising B xs
 
 before-at : {A : Type 0} (B : A → A → Type 0) (x : A) (ys : List A) → IsBeforeAll B x ys → (k : ℕ) (y : A) → At ys k y → B x y
-before-at B x [] r k y a = absurd a
-before-at B x (z ∷ zs) r zero y a = subst (B x) a r.0
+before-at B x [] r k y a = absurd (is-at_none a)
+before-at B x (z ∷ zs) r zero y a = subst (B x) (is-at_first a) r.0
 before-at B x (z ∷ zs) r (suc k) y a = before-at B x zs r.1 k y a
 
 pub in-order : {A : Type 0} (B : A → A → Type 0) (xs : List A) → AreRising B xs → InOrder B xs
-in-order B [] r i k x y l a b = absurd a
+in-order B [] r i k x y l a b = absurd (is-at_none a)
 in-order B (z ∷ zs) r zero zero x y l a b = absurd (omega (arith, l))
-in-order B (z ∷ zs) r zero (suc k) x y l a b = subst (λ u. B u y) a (before-at B z zs r.0 k y b)
+in-order B (z ∷ zs) r zero (suc k) x y l a b = subst (λ u. B u y) (is-at_first a) (before-at B z zs r.0 k y b)
 in-order B (z ∷ zs) r (suc i) zero x y l a b = absurd (omega (arith, l))
 in-order B (z ∷ zs) r (suc i) (suc k) x y l a b = in-order B zs r.1 i k x y (omega arith) a b
 
@@ -113,18 +113,18 @@ sides-order = in-order (λ g h. IsBelow (form_numbers g) (form_numbers h)) sorte
 -- ---- the vertices at the corners
 -- vertex number n is at corner number n
 pub vertex-at : (l : Label) (ks : List Ends) (vs : List Vertex) → AreCorners l ks vs → (n : ℕ) (v : Vertex) → IsAt vs n v → (k : Ends) × At ks n k × IsCornerOf l k v
-vertex-at l [] [] c n v a = let e : None ≡ Some v = a in cc
+vertex-at l [] [] c n v a = absurd (is-at_none a)
 vertex-at l [] (u ∷ us) c n v a = absurd c
 vertex-at l (k ∷ ks) [] c n v a = absurd c
-vertex-at l (k ∷ ks) (u ∷ us) c zero v a = let e : Some u ≡ Some v = a in let f : u ≡ v = cc in (k, refl, subst (IsCornerOf l k) f c.0)
+vertex-at l (k ∷ ks) (u ∷ us) c zero v a = (k, refl, subst (IsCornerOf l k) (is-at_first a) c.0)
 vertex-at l (k ∷ ks) (u ∷ us) c (suc n) v a = vertex-at l ks us c.1 n v a
 
 -- and corner number n has vertex number n
 pub corner-at : (l : Label) (ks : List Ends) (vs : List Vertex) → AreCorners l ks vs → (n : ℕ) (k : Ends) → At ks n k → (v : Vertex) × At vs n v × IsCornerOf l k v
-corner-at l [] [] c n k a = absurd a
+corner-at l [] [] c n k a = absurd (is-at_none a)
 corner-at l [] (u ∷ us) c n k a = absurd c
 corner-at l (j ∷ js) [] c n k a = absurd c
-corner-at l (j ∷ js) (u ∷ us) c zero k a = (u, refl, subst (λ i. IsCornerOf l i u) a c.0)
+corner-at l (j ∷ js) (u ∷ us) c zero k a = (u, refl, subst (λ i. IsCornerOf l i u) (is-at_first a) c.0)
 corner-at l (j ∷ js) (u ∷ us) c (suc n) k a = corner-at l js us c.1 n k a
 
 pub listed : (x y z : Bool) → (n : ℕ) × At all_ends n (ends x y z)

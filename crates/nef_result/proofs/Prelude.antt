@@ -1,7 +1,7 @@
 -- The names that most proofs cite, passed on from one place. Declares nothing.
 pub use Rattle.law_near.proofs.Prelude.{FlatCone, IsShort, frame, halves, side}
 pub use Rattle.nef_geo.proofs.Prelude.{given_form, place_at, turned_form}
-pub use Rattle.law_complex.proofs.Prelude.{Cone, Edge, Flat-from_cone, FlatCone-from_flat, FlatDim-by_germs, FlatDim-one, Germ, Germ-unique, Sign, cases_order, form, germs-by_cell, label_of, minus, nought, plus, reach_all, signs-same, slide, slope-slide}
+pub use Rattle.law_complex.proofs.Prelude.{Cone, Edge, Flat-from_cone, FlatCone-from_flat, FlatDim-by_germs, FlatDim-one, Germ, Germ-unique, Sign, cases_order, form, germs-by_cell, is-at_first, is-at_none, label_of, minus, nought, plus, reach_all, signs-same, slide, slope-slide}
 pub use Rattle.nef_smap.proofs.Prelude.{Bor, Equal, Greater, IsSphereMap, Least, Less, Map, MapLabel, Minus, Ordered, Plus, SameDirection, Valid, Zero, by_side, cond, dot, length-map, length-take-le, lies-left, lies-right, map_of, mul_pos, negsuc, not, not_true, of_z, sign-neg, sign_of, sign_turned, to_z, vector, vector_of}
 pub use Rattle.nef_stopo.proofs.Prelude.{ByOp, IsLeastMap, Op, SphereMap, map-append, op_label}
 pub use Rattle.nef_complex.proofs.Prelude.{AreSorted, AreVertexHolders, append-nil, keeps-all, lt_by, plane-ordered, set, step-within, w64}

@@ -1,5 +1,5 @@
 -- The corners are the vertices of a set that holds all of the frame or nothing of it.
-use Rattle.nef_result.proofs.Prelude.{◌≡◌, ℕ, zero, suc, pos, neg_ℤ, arith, refl, Bool, true, false, subst, List, map, ints, Lies, lies-left, Place, Form, form, SamePlace, IsPlaceBelow, half_side, Set, halves, IsVertex, Label, Out, Not, In, place_of, form_of, Plane, frame, carriers, At, Cone, Least, Ordered, InOrder, at-some, map-at, at-map, Edge as PlainEdge, Edges, SamePlane, Carriers, Shows, vertex_of, AreVerticesOf, Vertex, Ends, ends, all_ends, IsCornerOf, AreCorners, sorted_sides}
+use Rattle.nef_result.proofs.Prelude.{◌≡◌, ℕ, zero, suc, pos, neg_ℤ, arith, refl, Bool, true, false, subst, List, map, ints, Lies, lies-left, Place, Form, form, SamePlace, IsPlaceBelow, half_side, Set, halves, IsVertex, Label, Out, Not, In, place_of, form_of, Plane, frame, carriers, At, Cone, Least, Ordered, InOrder, at-some, map-at, at-map, Edge as PlainEdge, Edges, SamePlane, Carriers, Shows, vertex_of, AreVerticesOf, Vertex, Ends, ends, all_ends, IsCornerOf, AreCorners, sorted_sides, is-at_none, is-at_first}
 use Rattle.law_complex.specs.Complexes.{Vertex as PlainVertex}
 use Rattle.nef_result.proofs.Walls.{Axis, on_x, on_y, on_z, wall, wall-listed, listed-wall, IsWhole, full-whole, empty-whole}
 use Rattle.nef_result.proofs.CornerVertices.{corner-vertex, vertex-corner}
@@ -25,13 +25,13 @@ side-plane on_z true = record { is_plane = (λ z. let e = z.2 in omega (arith, i
 side-plane on_z false = record { is_plane = (λ z. let e = z.2 in omega (arith, ints)); is_other_plane = (λ z. let e = z.2 in omega (arith, ints)); ab = refl; ac = refl; ad = refl; bc = refl; bd = refl; cd = refl }
 
 side-at : (k : ℕ) (h : Form) → At sorted_sides k h → (a : Axis) × (b : Bool) × (planed a b ≡ h)
-side-at zero h e = (on_z, true, e)
-side-at (suc zero) h e = (on_z, false, e)
-side-at (suc (suc zero)) h e = (on_y, true, e)
-side-at (suc (suc (suc zero))) h e = (on_y, false, e)
-side-at (suc (suc (suc (suc zero)))) h e = (on_x, true, e)
-side-at (suc (suc (suc (suc (suc zero))))) h e = (on_x, false, e)
-side-at (suc (suc (suc (suc (suc (suc k)))))) h e = absurd e
+side-at zero h e = (on_z, true, is-at_first e)
+side-at (suc zero) h e = (on_z, false, is-at_first e)
+side-at (suc (suc zero)) h e = (on_y, true, is-at_first e)
+side-at (suc (suc (suc zero))) h e = (on_y, false, is-at_first e)
+side-at (suc (suc (suc (suc zero)))) h e = (on_x, true, is-at_first e)
+side-at (suc (suc (suc (suc (suc zero))))) h e = (on_x, false, is-at_first e)
+side-at (suc (suc (suc (suc (suc (suc k)))))) h e = absurd (is-at_none e)
 
 place-of_side : (a : Axis) (b : Bool) → (k : ℕ) × At sorted_sides k (planed a b)
 place-of_side on_z true = (0, refl)

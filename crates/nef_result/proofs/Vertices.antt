@@ -1,5 +1,5 @@
 -- The vertices of a set among its candidates, with their maps, are all its vertices.
-use Rattle.nef_result.proofs.Prelude.{◌≡◌, ℕ, ◌<◌, ◌+◌, List, [], ◌∷◌, ◌++◌, length, map, arith, refl, ap, sym, subst, ◌∙◌, ◌⊎◌, inl, inr, FlatDim, IsVertex, Place, IsPlaceBelow, SamePlace, Set, place_of, form_of, Plane, Point, carriers, FlatDim-one, FlatDim-by_germs, germs-by_cell, signs-same, same-place_sym, Map, At, at-one, Cone, Least, Ordered, InOrder, Carriers, map_of, IsLeastMap, SphereMap, contains-at, some-at, at-some, map-at, at-map, at-before, at-last, at-more, vertex_of, AreVerticesOf, AreHolders, AreInOrder, AreVertexHolders, Vertex, Outcome, MapSource, ArePointsInOrder, IsOtherOf, IsOutcomeAt, AreOutcomesOf, Begins, vertex_at, IsAdded, AreBegun, IsThere, AreThere, IsFilled, AreFilledTo}
+use Rattle.nef_result.proofs.Prelude.{◌≡◌, ℕ, ◌<◌, ◌+◌, List, [], ◌∷◌, ◌++◌, length, map, arith, refl, ap, sym, subst, ◌∙◌, ◌⊎◌, inl, inr, FlatDim, IsVertex, Place, IsPlaceBelow, SamePlace, Set, place_of, form_of, Plane, Point, carriers, FlatDim-one, FlatDim-by_germs, germs-by_cell, signs-same, same-place_sym, Map, At, at-one, Cone, Least, Ordered, InOrder, Carriers, map_of, IsLeastMap, SphereMap, contains-at, some-at, at-some, map-at, at-map, at-before, at-last, at-more, vertex_of, AreVerticesOf, AreHolders, AreInOrder, AreVertexHolders, Vertex, Outcome, MapSource, ArePointsInOrder, IsOtherOf, IsOutcomeAt, AreOutcomesOf, Begins, vertex_at, IsAdded, AreBegun, IsThere, AreThere, IsFilled, AreFilledTo, is-at_none}
 use Rattle.law_sphere.proofs.Dimensions.{volume-dimension, facet-dimension, edge-dimension}
 use Rattle.law_complex.specs.Complexes.{Vertex as PlainVertex}
 use Rattle.nef_smap.proofs.SideLists.{at-some as element-at}
@@ -11,7 +11,7 @@ use Rattle.nef_result.specs.declared.outcome.Outcome.TheVariants as outcome
 
 -- ---- one point after another
 pub begun-none : (ps : List Point) → AreBegun ps [] [] []
-begun-none ps = record { alike = refl; each = λ i v f a b. absurd a; all = λ k p o a b h. absurd b; ordered = λ i k u v l a b. absurd a }
+begun-none ps = record { alike = refl; each = λ i v f a b. absurd (is-at_none a); all = λ k p o a b h. absurd (is-at_none b); ordered = λ i k u v l a b. absurd (is-at_none a) }
 
 module _ (ps : List Point) (os : List Outcome) (vs : List Vertex) (fs : List MapSource) (B : AreBegun ps os vs fs) (o : Outcome) where
   begun-left : o ≡ outcome.Gone → AreBegun ps (os ++ o ∷ []) vs fs

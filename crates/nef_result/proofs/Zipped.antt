@@ -1,5 +1,5 @@
 -- Points with the outcomes there, pair after pair.
-use Rattle.nef_result.proofs.Prelude.{◌≡◌, ℕ, zero, suc, ◌<◌, List, [], ◌∷◌, ◌++◌, length, map, get_or, arith, refl, sym, ap, subst, ◌∙◌, Bor, zip, map-append, length-map, Point, At, Vertex, Outcome, MapSource, ArePointsInOrder, IsAdded, AreBegun}
+use Rattle.nef_result.proofs.Prelude.{◌≡◌, ℕ, zero, suc, ◌<◌, List, [], ◌∷◌, ◌++◌, length, map, get_or, arith, refl, sym, ap, subst, ◌∙◌, Bor, zip, map-append, length-map, Point, At, Vertex, Outcome, MapSource, ArePointsInOrder, IsAdded, AreBegun, Some}
 use Rattle.std.proofs.lemmas.Slice.Zip.{seconds-zip}
 use Rattle.nef_result.proofs.Vertices.{begun-added}
 
@@ -16,7 +16,7 @@ outcomes_of xs = map (λ (p : Pair). p.1) xs
 at-zip : (ps : List Point) (cs : List Outcome) (n : ℕ) (q : Point × Outcome) → n < length (zip ps cs) → q ≡ get_or (zip ps cs) n q → At ps n q.0
 at-zip [] cs n q l e = absurd (omega (arith, l))
 at-zip (p ∷ ps) [] n q l e = absurd (omega (arith, l))
-at-zip (p ∷ ps) (c ∷ cs) zero q l e = ap (λ (r : Point × Outcome). r.0) (sym e)
+at-zip (p ∷ ps) (c ∷ cs) zero q l e = ap (λ (r : Point × Outcome). Some r.0) (sym e)
 at-zip (p ∷ ps) (c ∷ cs) (suc n) q l e = at-zip ps cs n q (omega (arith, l)) e
 
 -- a pair that is yielded is one of no more than there are points

@@ -1,5 +1,5 @@
 -- What is counted of a set is one, and the same of sets that are the same.
-use Rattle.nef_statement.proofs.Prelude.{◌≡◌, ℕ, zero, suc, refl, sym, ap, ◌∙◌, List, [], ◌∷◌, SameSet, Set, Joined-same, cones-of_same, FlatDim-by_cone, HasComponents, line, numbers, CountTells}
+use Rattle.nef_statement.proofs.Prelude.{◌≡◌, ℕ, zero, suc, refl, sym, ap, ◌∙◌, is-at_none, List, [], ◌∷◌, SameSet, Set, Joined-same, cones-of_same, FlatDim-by_cone, HasComponents, line, numbers, CountTells}
 use Rattle.nef_conn.proofs.OneCount.{one-count}
 use Rattle.nef_statement.proofs.Alike.{same-turned}
 
@@ -40,7 +40,7 @@ four-counted s a b c d h zero = h.0
 four-counted s a b c d h (suc zero) = h.1
 four-counted s a b c d h (suc (suc zero)) = h.2
 four-counted s a b c d h (suc (suc (suc zero))) = h.3
-four-counted s a b c d h (suc (suc (suc (suc k)))) = ([], refl, record { flat = λ i p at. absurd at; apart = λ i j p q at at' l. absurd at; all = λ q flat. absurd flat.0 })
+four-counted s a b c d h (suc (suc (suc (suc k)))) = ([], refl, record { flat = λ i p at. absurd (is-at_none at); apart = λ i j p q at at' l. absurd (is-at_none at); all = λ q flat. absurd flat.0 })
 
 pub counted-by : (s : Set) (a b c d : ℕ) → HasComponents s 0 a × HasComponents s 1 b × HasComponents s 2 c × HasComponents s 3 d → CountTells s (line (numbers (a ∷ b ∷ c ∷ d ∷ [])))
 counted-by s a b c d h = (four a b c d, four-counted s a b c d h, refl)

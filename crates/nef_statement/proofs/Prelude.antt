@@ -1,6 +1,6 @@
 -- The names that most proofs cite, passed on from one place. Declares nothing.
 pub use Rattle.nef_geo.proofs.Prelude.{IsStretched, IsZeroStep, ◌&&◌}
-pub use Rattle.nef_conn.proofs.Prelude.{between-way, dim-same}
+pub use Rattle.nef_conn.proofs.Prelude.{between-way, dim-same, is-at_first, is-at_none}
 pub use Rattle.nef_smap.proofs.Prelude.{Minus, Plus, Zero}
 pub use Rattle.nef_ray.proofs.Prelude.{Changes, Complex, Decided, Germ-same, HasOppositeSigns, IsCrossing, IsRayEnd, IsReachedBy, Label-cells, ahead-back, ahead-same, between-same, between-turned, direction-left, label-one, label_of, near-same, one-crossing, opposite, plane-point, plane-slope, plane-turned, reach_all, same-itself, same-place_sym, sign-toward, signs-same, slope-same, start, start-between, start-close, within-self}
 pub use Rattle.law_turns.proofs.Prelude.{Closure, Interior, ordered}

@@ -1,5 +1,5 @@
 -- An accepted script has an output.
-use Rattle.nef_statement.proofs.Prelude.{◌≡◌, ℕ, zero, suc, ◌+◌, ◌^◌, ◌<◌, ◌≤◌, ℤ, pos, negsuc, ◌<ℤ◌, nat_abs, arith, refl, sym, ap, ◌∙◌, inl, inr, ⊎_elim, List, [], ◌∷◌, ◌++◌, length, take, get_or, Bool, true, false, not, nat_eq, ◌||◌, Option, Some, None, find, slice_get, if◌then◌else◌, subst, append-nil, append_assoc, length-append, nat_lt, int_le, option_map, option_to_list, codes, list_any, zip, bytes_eq, or_parts, and_parts, eqb-true, leb-true, leb-false, ltb-false, ints, normal_limit, offset_limit, query_weight_limit, ray_direction_limit, ray_point_limit, ray_weight_limit, Place, Form, form, InFrame, Set, Lies, Vector, vector, IsDirection, IsAtMost, lies-append, Out, IsPlaceAtMost, place_at, Decided, label_of, InFrame-decided, At, line, numbers, text, TextVersion, IsSmallForm, AreSmall, AreTurnsOf, lines_of, words_of, line_refusal, bound_name, names_of, IsAccepted, verb_of, roles, binds, name_count_limit, line_limit, is_bad_byte, number_or_zero, is_zero, is_from, on_verb, word_test, has_zero_normal, has_zero_direction, command_tests, words_tests, Verb, ScriptKind, Bindings, set_named, made_of, bound_set, turned_set, bound_after, answer_of, framed, line_end, IsSameAnswer, IsJoinedAnswer, IsRayAnswer, IsSaid, IsSaidBy, AreSaid, IsText, CountTells, eq-decided}
+use Rattle.nef_statement.proofs.Prelude.{◌≡◌, ℕ, zero, suc, ◌+◌, ◌^◌, ◌<◌, ◌≤◌, ℤ, pos, negsuc, ◌<ℤ◌, nat_abs, arith, refl, sym, ap, ◌∙◌, inl, inr, ⊎_elim, List, [], ◌∷◌, ◌++◌, length, take, get_or, Bool, true, false, not, nat_eq, ◌||◌, Option, Some, None, find, slice_get, if◌then◌else◌, subst, append-nil, append_assoc, length-append, nat_lt, int_le, option_map, option_to_list, codes, list_any, zip, bytes_eq, or_parts, and_parts, eqb-true, leb-true, leb-false, ltb-false, ints, normal_limit, offset_limit, query_weight_limit, ray_direction_limit, ray_point_limit, ray_weight_limit, Place, Form, form, InFrame, Set, Lies, Vector, vector, IsDirection, IsAtMost, lies-append, Out, IsPlaceAtMost, place_at, Decided, label_of, InFrame-decided, At, line, numbers, text, TextVersion, IsSmallForm, AreSmall, AreTurnsOf, lines_of, words_of, line_refusal, bound_name, names_of, IsAccepted, verb_of, roles, binds, name_count_limit, line_limit, is_bad_byte, number_or_zero, is_zero, is_from, on_verb, word_test, has_zero_normal, has_zero_direction, command_tests, words_tests, Verb, ScriptKind, Bindings, set_named, made_of, bound_set, turned_set, bound_after, answer_of, framed, line_end, IsSameAnswer, IsJoinedAnswer, IsRayAnswer, IsSaid, IsSaidBy, AreSaid, IsText, CountTells, eq-decided, is-at_none, is-at_first}
 use Rattle.std.proofs.Common.{drop, nat_le, ◌&&◌}
 use Rattle.std.specs.Prelude.{map}
 use Rattle.law_exist.proofs.Connected.{joined-is_decided, components-are_counted}
@@ -19,12 +19,12 @@ abbrev pub refusal_in : List (ScriptKind × Bool) → Option ScriptKind
 refusal_in xs = option_map (λ (t : ScriptKind × Bool). t.0) (find (λ (t : ScriptKind × Bool). t.1) xs)
 
 none-holds : (xs : List (ScriptKind × Bool)) → refusal_in xs ≡ None → (k : ℕ) (t : ScriptKind × Bool) → At xs k t → t.1 ≡ false
-none-holds [] e k t a = absurd a
+none-holds [] e k t a = absurd (is-at_none a)
 none-holds ((j, b) ∷ xs) e k t a = by b refl k a (λ f n u c. none-holds xs f n u c)
   where
     by : (d : Bool) → b ≡ d → (k : ℕ) → At ((j, b) ∷ xs) k t → (refusal_in xs ≡ None → (n : ℕ) (u : ScriptKind × Bool) → At xs n u → u.1 ≡ false) → t.1 ≡ false
     by true f k a more = absurd (let g : Some j ≡ None = sym (ap (λ c. refusal_in ((j, c) ∷ xs)) f) ∙ e in cc)
-    by false f zero a more = ap (λ (u : ScriptKind × Bool). u.1) (sym a) ∙ f
+    by false f zero a more = ap (λ (u : ScriptKind × Bool). u.1) (sym (is-at_first a)) ∙ f
     by false f (suc n) a more = more (sym (ap (λ c. refusal_in ((j, c) ∷ xs)) f) ∙ e) n t a
 
 abbrev pub Fails : List (List ℕ) → Verb → List (List ℕ) → ScriptKind → Type 0

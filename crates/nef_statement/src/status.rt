@@ -11,7 +11,7 @@ use nef_script::{ScriptFault, ScriptKind};
 use std::alloc::AllocError;
 
 /// How a run ended, and what it wrote.
-#[derive(Clone, Copy)]
+#[derive(Debug, Clone, Copy)]
 pub enum Status {
     /// The whole output of the script.
     Done,

@@ -1,5 +1,5 @@
 -- Rays with what their marks become, one after another.
-use Rattle.nef_stopo.proofs.Prelude.{◌≡◌, ℕ, ◌+◌, ◌-◌, ◌<◌, List, [], ◌∷◌, ◌++◌, length, get_or, arith, refl, sym, ap, subst, ◌∙◌, inl, inr, length_push, Label, Out, At, at-one, Topology, Ray, Star, sector_count, IsStar, IsNext, sectors-fill, count-some, get-at, at-more, IsMarked, AreMarked}
+use Rattle.nef_stopo.proofs.Prelude.{◌≡◌, ℕ, ◌+◌, ◌-◌, ◌<◌, List, [], ◌∷◌, ◌++◌, length, get_or, arith, refl, sym, ap, subst, ◌∙◌, inl, inr, length_push, Label, Out, At, at-one, Topology, Ray, Star, sector_count, IsStar, IsNext, sectors-fill, count-some, get-at, at-more, IsMarked, AreMarked, is-at_none}
 
 -- l is the label of the sector before ray n
 abbrev pub IsBefore : Star → ℕ → Label → Type 0
@@ -30,7 +30,7 @@ module _ (k : Topology) (t : Star) (T : IsStar t) where
   before-next n l a i x (inr e) h = absurd (omega (arith, e.1))
 
   marked-none : AreMarked k t 0 []
-  marked-none = record { as_many = refl; rays = λ i j r u l m a b. absurd b }
+  marked-none = record { as_many = refl; rays = λ i j r u l m a b. absurd (is-at_none b) }
 
   pub marked-first : (l : Label) → At t.sectors.items (length t.sectors.items - 1) l → IsMarkedUpTo k t 0 [] l
   marked-first l a = record { marked = marked-none; before = before-first l a }

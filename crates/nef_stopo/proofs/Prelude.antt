@@ -1,6 +1,6 @@
 -- The names that most proofs cite, passed on from one place. Declares nothing.
 pub use Rattle.law_near.proofs.Prelude.{label_and, label_less, label_one_of, label_or}
-pub use Rattle.law_border.proofs.Prelude.{Germ, HasLabel, In, IsNormal, IsRemarked, IsRemarkedAt, IsTopologyMap, IsTopologyRaw, MarkLabel, Not, Topology, all_in, arc_labels, at-other, at-sloop, complement, exchanged, exchanged_arc, exchanged_map, exchanged_sloop, exchanged_svertex, face_label, gather, is_in, label_by, label_from, map_labels, marked, option_labels, option_map, ray_mark, set_by, sloop_by, sloop_item, some_in, star_labels, svertex_labels, ◌&&◌, ◌||◌}
+pub use Rattle.law_border.proofs.Prelude.{Germ, HasLabel, In, IsNormal, IsRemarked, IsRemarkedAt, IsTopologyMap, IsTopologyRaw, MarkLabel, Not, Topology, all_in, arc_labels, at-other, at-sloop, complement, exchanged, exchanged_arc, exchanged_map, exchanged_sloop, exchanged_svertex, face_label, gather, is-at_none, is_in, label_by, label_from, map_labels, marked, option_labels, option_map, ray_mark, set_by, sloop_by, sloop_item, some_in, star_labels, svertex_labels, ◌&&◌, ◌||◌}
 pub use Rattle.nef_star.proofs.Prelude.{drop, map-append, map-set, op_label, sector_count, zero_vector}
 pub use Rattle.nef_smap.proofs.Prelude.{Err, IfOk, IsBelow, IsNeighbourhood, IsRayBelow, IsSphereMap, IsTurning, Ok, Result, sectors-fill, triple_of}
 pub use Rattle.nef_sover.proofs.Prelude.{Op, SVertex}

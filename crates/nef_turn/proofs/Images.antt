@@ -1,5 +1,5 @@
 -- Lists of images, made one after the other.
-use Rattle.nef_turn.proofs.Prelude.{◌≡◌, ℕ, ◌+◌, ◌<◌, ◌≤◌, List, [], ◌∷◌, ◌++◌, length, get_or, arith, refl, sym, ap, subst, ◌∙◌, ⊎_elim, At, at-one, at-within, at-more, read-at, AreImages}
+use Rattle.nef_turn.proofs.Prelude.{◌≡◌, ℕ, ◌+◌, ◌<◌, ◌≤◌, List, [], ◌∷◌, ◌++◌, length, get_or, arith, refl, sym, ap, subst, ◌∙◌, ⊎_elim, At, at-one, at-within, at-more, read-at, AreImages, is-at_none}
 use Rattle.nef_smap.proofs.SideLists.{at-some as at-length}
 
 length-more : {A : Type 0} (xs : List A) (x : A) → length (xs ++ x ∷ []) ≡ length xs + 1
@@ -8,7 +8,7 @@ length-more (y ∷ ys) x = let e = length-more ys x in omega (arith, e)
 
 module _ {A B : Type 0} (R : ℕ → A → B → Type 0) (xs : List A) where
   pub images-none : AreImages R 0 xs []
-  images-none = record { count = refl; each = λ j y a. absurd a }
+  images-none = record { count = refl; each = λ j y a. absurd (is-at_none a) }
 
   pub images-more : (n : ℕ) (ys : List B) (x : A) (y : B) → AreImages R n xs ys → At xs n x → R n x y → AreImages R (n + 1) xs (ys ++ y ∷ [])
   images-more n ys x y I a r = record {

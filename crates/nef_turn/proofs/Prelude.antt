@@ -1,6 +1,6 @@
 -- The names that most proofs cite, passed on from one place. Declares nothing.
 pub use Rattle.nef_geo.proofs.Prelude.{IfSome, IsInRange, IsPositiveMultiple, given_form, place_at, turned_form}
-pub use Rattle.law_turns.proofs.Prelude.{Arc, ArcBelow, AreTurnedPlanes, AreTurnedVertices, At, Bool, Form, HasTurnedLists, InOrder, IsAtMost, IsBelow, IsDirection, IsNormal, IsPlaceBelow, IsPrimitive, IsTurnedArc, IsTurnedMap, IsTurnedOption, Item, List, Map, MapSloop, MapVertex, None, Option, Ordered, Place, SameDirection, SamePlace, Set, Shaped, Some, Triple, Vector, VectorBelow, [], ap, arc-at, arc_item, arith, at, at-map, at-one, cond, differ, false, form, form_numbers, ints, is_exchange, item_normal, items, map, map-at, nat_abs, neg, neg_ℤ, negated_if, normal_of, num, pos, refl, ring, same-place_sym, same-place_trans, signed, signed_form, sloop-at, sloop_item, subst, sym, true, turned, turned_place, turned_plane, turned_set, turned_svertex, turned_vector, vector, ℕ, ℤ, ⊎_elim, ◌%◌, ◌*ℤ◌, ◌++◌, ◌-ℤ◌, ◌/◌, ◌<ℤ◌, ◌<◌, ◌∙◌, ◌∷◌, ◌≡◌, ◌≤◌, ◌⊖◌, ◌⊗◌}
+pub use Rattle.law_turns.proofs.Prelude.{Arc, ArcBelow, AreTurnedPlanes, AreTurnedVertices, At, Bool, Form, HasTurnedLists, InOrder, IsAtMost, IsBelow, IsDirection, IsNormal, IsPlaceBelow, IsPrimitive, IsTurnedArc, IsTurnedMap, IsTurnedOption, Item, List, Map, MapSloop, MapVertex, None, Option, Ordered, Place, SameDirection, SamePlace, Set, Shaped, Some, Triple, Vector, VectorBelow, [], ap, arc-at, arc_item, arith, at, at-map, at-one, cond, differ, false, form, form_numbers, ints, is-at_none, is_exchange, item_normal, items, map, map-at, nat_abs, neg, neg_ℤ, negated_if, normal_of, num, pos, refl, ring, same-place_sym, same-place_trans, signed, signed_form, sloop-at, sloop_item, subst, sym, true, turned, turned_place, turned_plane, turned_set, turned_svertex, turned_vector, vector, ℕ, ℤ, ⊎_elim, ◌%◌, ◌*ℤ◌, ◌++◌, ◌-ℤ◌, ◌/◌, ◌<ℤ◌, ◌<◌, ◌∙◌, ◌∷◌, ◌≡◌, ◌≤◌, ◌⊖◌, ◌⊗◌}
 pub use Rattle.nef_smap.proofs.Prelude.{IsAtMost-weaken, not}
 pub use Rattle.nef_spair.proofs.Prelude.{IsArcBelow, IsLeastMap, IsSmall, IsSorted, SArc, SLoop, SphereMap, arc_of, at-get, at-within, dir-equal, eq-or-lt_of_le, length-map, map_of, normal_limit, option_map, sloop_of, svertex_limit}
 pub use Rattle.nef_complex.proofs.Prelude.{AreSorted, IsPlaneBelow, IsSamePlane, always_returns_same, complex_of, get-from_at, length-set, place_below-apart, plane-ordered, plane_order, plane_total, same_planes_equal}
